@@ -1,0 +1,11 @@
+//! What a segment knows of a call.
+
+use crate::done::Done;
+
+/// Whether a call is new to a segment, kept with its reply, or at or below its caller's floor.
+#[derive(Debug)]
+pub enum Past<'a> {
+    New,
+    Kept(&'a Done),
+    Seen,
+}

@@ -1,0 +1,116 @@
+//! Segments.
+ghost use Rattle.std.specs.Prelude.{◌≡◌, ◌+◌, ◌<◌, ◌≤◌, true, IsOk, IfOk, IfErr, OnOk, OnErr};
+ghost use Rattle.chord_ident.specs.Circle.{in_span};
+ghost use Rattle.chord_segment.specs.Marks.{mark_of};
+ghost use Rattle.chord_segment.specs.Segment.{id_of, empty_segment, past_at, append};
+ghost use Rattle.chord_segment.specs.Segment.Past.{New};
+ghost use Rattle.chord_segment.specs.Shown.{shown};
+
+use crate::done::{Done, find_done};
+use crate::mark::{Mark, number_of, raise_mark};
+use crate::past::Past;
+use chord_ident::Span;
+use std::alloc::{AllocError, AllocFailed, Global};
+use std::marker::Model;
+
+/// An interval of the circle, and of each caller a floor and the kept replies above it.
+#[derive(Debug, Drop)]
+pub struct Segment {
+    span: Span,
+    floors: Vec<Mark>,
+    kept: Vec<Done>,
+}
+
+impl Model for Segment {
+    ghost use Rattle.std.specs.Prelude.{nat_lt, ◌&&◌};
+    ghost use Rattle.std.specs.Vec.{vec_len, vec_capacity};
+    ghost use Rattle.chord_segment.specs.Segment.{RoomySegment};
+    ghost use Rattle.chord_segment.specs.Rules.{IsSegment};
+
+    ghost Value = { RoomySegment };
+
+    ghost view = { λ segment. record { known = record { span = segment.span; floors = segment.floors.items; kept = segment.kept.items }; has_room = nat_lt (vec_len segment.floors) (vec_capacity segment.floors) && nat_lt (vec_len segment.kept) (vec_capacity segment.kept) } };
+
+    ghost invariant = { λ segment. IsSegment (record { span = segment.span; floors = segment.floors.items; kept = segment.kept.items }) };
+}
+
+impl Segment {
+    /// A segment with no floor and no reply.
+    pub fn empty(alloc: Global, span: Span) -> Segment
+        ensures { result.known ≡ empty_segment span }
+    {
+        Segment {
+            span,
+            floors: Vec::new(alloc),
+            kept: Vec::new(alloc),
+        }
+    }
+
+    /// Its interval.
+    pub fn span(&self) -> Span
+        ensures { result ≡ self.now.known.span }
+    {
+        self.span
+    }
+
+    /// The caller's floor, 0 where there is none.
+    pub fn floor(&self, caller: u64) -> u64
+        ensures { result ≡ mark_of caller self.now.known.floors }
+    {
+        number_of(&self.floors, caller)
+    }
+
+    /// The kept calls with their replies, in the order that they were executed.
+    pub fn kept(&self) -> &[Done]
+        ensures { result.now ≡ self.now.known.kept }
+    {
+        self.kept.as_slice()
+    }
+
+    /// What it knows of a call.
+    #[tactic(auto, unfolding(crate::specs::Segment::past_at))]
+    pub fn find(&self, caller: u64, number: u64) -> Past<'_>
+        ensures { shown result ≡ past_at caller number self.now.known }
+    {
+        if number <= number_of(&self.floors, caller) {
+            return Past::Seen;
+        }
+        match find_done(&self.kept, caller, number) {
+            Some(done) => Past::Kept(done),
+            None => Past::New,
+        }
+    }
+
+    /// Makes room for one more call, which the next `append` then cannot lack.
+    pub fn reserve(&mut self) -> Result<(), AllocError>
+        ensures same { self.new.known ≡ self.old.known }
+        ensures room { OnOk result (self.new.has_room ≡ true) }
+    {
+        self.floors.reserve(1)?;
+        self.kept.reserve(1)?;
+        Ok(())
+    }
+
+    /// Keeps a call and raises its caller's floor. What is at or below the floor is dropped.
+    pub fn append(&mut self, done: Done, floor: u64) -> Result<(), AllocFailed<Done>>
+        requires key { in_span self.old.known.span (id_of done.request) ≡ true }
+        requires new { past_at done.caller done.number self.old.known ≡ New }
+        requires above { floor < done.number }
+        requires near { done.number ≤ floor + 16 }
+        ensures ok { OnOk result (self.new.known ≡ append done floor self.old.known) }
+        ensures err { OnErr result (self.new.known ≡ self.old.known) }
+        ensures value_returned { IfErr result (λ refused. refused.value ≡ done) }
+        ensures succeeds { self.old.has_room ≡ true → IsOk result }
+    {
+        if self.floors.reserve(1).is_err() || self.kept.reserve(1).is_err() {
+            return Err(AllocFailed { value: done });
+        }
+        let caller = done.caller;
+        raise_mark(&mut self.floors, caller, floor);
+        let lowest = number_of(&self.floors, caller);
+        self.kept.push_reserved(done);
+        self.kept
+            .retain(|done| done.caller != caller || lowest < done.number);
+        Ok(())
+    }
+}
