@@ -1,0 +1,3 @@
+pub mod Clockwise
+pub mod Padding
+pub mod Skipping

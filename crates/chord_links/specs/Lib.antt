@@ -1,0 +1,4 @@
+pub mod Successors
+pub mod PeerList
+pub mod Fingers
+pub mod NodeLinks

@@ -1,0 +1,136 @@
+//! What a node knows of the others.
+
+ghost use Rattle.std.specs.Prelude.{◌≡◌, ℕ, ◌<◌, ◌≤◌, List, [], ◌∷◌, length, None, Some};
+
+use crate::{Fingers, Peer, SuccList};
+use std::marker::Model;
+
+/// A node's links: its predecessor, where it knows one, its list of at most r successors, and its fingers.
+#[derive(Clone, Copy, Debug, PartialEq, Eq)]
+pub struct Links {
+    me: Peer,
+    r: usize,
+    predecessor: Option<Peer>,
+    list: SuccList,
+    fingers: Fingers,
+}
+
+impl Model for Links {
+    ghost use Rattle.std.specs.Prelude.{◌≡◌, ℕ, ◌<◌, ◌≤◌, length};
+    ghost use Rattle.chord_links.specs.NodeLinks.{NodeLinks};
+    ghost use Rattle.std.proofs.Common.{sym};
+
+    ghost Value = { NodeLinks };
+
+    ghost view = { λ links. record { me = links.me; r = links.r; predecessor = links.predecessor; entries = links.list.entries; fingers = links.fingers } };
+
+    ghost invariant = { λ links.
+        (links.list.owner ≡ links.me.id.number) × (2 ≤ links.r) × (links.r ≤ 16) × (length links.list.entries ≤ links.r) × (links.fingers.me ≡ links.me) };
+
+    ghost inverse = { λ links. record {
+      me = links.me;
+      r = links.r;
+      predecessor = links.predecessor;
+      list = record { owner = links.me.id.number; entries = links.entries };
+      fingers = links.fingers;
+    } };
+
+    ghost inverse_ok = { λ links kept i. record {
+      me = links.me;
+      r = links.r;
+      predecessor = links.predecessor;
+      list = record { owner = sym kept.0 i; entries = links.list.entries };
+      fingers = links.fingers;
+    } };
+}
+
+impl Links {
+    ghost use Rattle.chord_links.specs.Fingers.{with_finger};
+    ghost use Rattle.chord_links.specs.Successors.{Rises};
+    ghost use Rattle.chord_links.specs.NodeLinks.{alone, first_of, with_entries};
+
+    /// The links of a node that knows no other, whose list may have r entries.
+    pub fn alone(me: Peer, r: usize) -> Self
+        requires low { 2 ≤ r }
+        requires high { r ≤ 16 }
+        ensures { result ≡ alone me r }
+    {
+        Links {
+            me,
+            r,
+            predecessor: None,
+            list: SuccList::alone(me),
+            fingers: Fingers::none(me),
+        }
+    }
+
+    /// The node itself.
+    pub fn me(&self) -> Peer
+        ensures { result ≡ self.now.me }
+    {
+        self.me
+    }
+
+    /// How many entries its list may have.
+    pub fn r(&self) -> usize
+        ensures value { result ≡ self.now.r }
+        ensures low { 2 ≤ self.now.r }
+        ensures high { self.now.r ≤ 16 }
+    {
+        self.r
+    }
+
+    /// Its predecessor, where it knows one.
+    pub fn predecessor(&self) -> Option<Peer>
+        ensures { result ≡ self.now.predecessor }
+    {
+        self.predecessor
+    }
+
+    /// Its list of successors.
+    pub fn list(&self) -> &SuccList
+        ensures value { result.now ≡ record { owner = self.now.me.id.number; entries = self.now.entries } }
+        ensures short { length self.now.entries ≤ self.now.r }
+    {
+        &self.list
+    }
+
+    /// Its fingers.
+    pub fn fingers(&self) -> &Fingers
+        ensures value { result.now ≡ self.now.fingers }
+        ensures owner { self.now.fingers.me ≡ self.now.me }
+    {
+        &self.fingers
+    }
+
+    /// The first entry of its list.
+    pub fn first(&self) -> Peer
+        ensures { result ≡ first_of self.now }
+    {
+        self.list.first()
+    }
+
+    /// Another predecessor.
+    pub fn set_predecessor(&mut self, predecessor: Option<Peer>)
+        ensures { self.new ≡ record self.old { predecessor = predecessor } }
+    {
+        self.predecessor = predecessor;
+    }
+
+    /// Another list, of the same owner and at most r entries.
+    pub fn set_list(&mut self, list: SuccList)
+        requires owner { list.owner ≡ self.old.me.id.number }
+        requires short { length list.entries ≤ self.old.r }
+        ensures { self.new ≡ with_entries self.old list.entries }
+    {
+        self.list = list;
+    }
+
+    /// Another node for finger `i`.
+    pub fn set_finger(&mut self, i: usize, node: Peer)
+        requires { (1 ≤ i) × (i ≤ 128) }
+        ensures { self.new ≡ record self.old { fingers = with_finger self.old.fingers i node } }
+    {
+        self.fingers.set(i, node);
+    }
+}

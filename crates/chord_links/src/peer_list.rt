@@ -1,0 +1,87 @@
+//! A list of at most 16 peers that lies in the value itself.
+ghost use Rattle.std.specs.Prelude.{◌≡◌, ◌+◌, ◌<◌, ◌≤◌, List, [], ◌∷◌, ◌++◌, length, slice_get, Some};
+
+use crate::Peer;
+use chord_ident::Id;
+use std::marker::Model;
+
+/// At most 16 peers, in order.
+#[derive(Clone, Copy, Debug, PartialEq, Eq)]
+pub struct PeerList {
+    slots: [Peer; 16],
+    len: usize,
+}
+
+impl Model for PeerList {
+    ghost use Rattle.std.specs.Prelude.{◌≡◌, ◌≤◌, List, length, take};
+    ghost use Rattle.chord_links.specs.declared.peer.Peer.{Peer};
+    ghost use Rattle.chord_links.specs.PeerList.{padded};
+
+    ghost Value = { List Peer };
+
+    ghost view = { λ peers. take peers.len peers.slots };
+
+    ghost invariant = { λ peers. (peers.len ≤ 16) × (length peers.slots ≡ 16) × (peers.slots ≡ padded (take peers.len peers.slots)) };
+
+    ghost inverse = { λ peers. record { slots = padded peers; len = length peers } };
+
+    ghost use Rattle.std.proofs.Common.{arith, sym, length-take-le};
+
+    ghost inverse_ok = { λ peers kept i. record {
+      slots = sym kept.2 i;
+      len = length-take-le peers.len peers.slots (omega (arith, kept.0, kept.1)) i;
+    } };
+}
+
+/// What stands in a free place.
+const BLANK: Peer = Peer {
+    no: 0,
+    id: Id { number: 0 },
+};
+
+impl PeerList {
+    /// No peers.
+    pub fn new() -> Self
+        ensures { result ≡ [] }
+    {
+        PeerList {
+            slots: [BLANK; 16],
+            len: 0,
+        }
+    }
+
+    /// How many peers there are.
+    pub fn len(&self) -> usize
+        ensures value { result ≡ length self.now }
+        ensures fits { result ≤ 16 }
+    {
+        self.len
+    }
+
+    /// The peers.
+    pub fn as_slice(&self) -> &[Peer]
+        ensures value { result.now ≡ self.now }
+        ensures fits { length self.now ≤ 16 }
+    {
+        &self.slots[..self.len]
+    }
+
+    /// One more peer, behind the others.
+    pub fn push(&mut self, peer: Peer)
+        requires { length self.old < 16 }
+        ensures { self.new ≡ self.old ++ peer ∷ [] }
+    {
+        self.slots[self.len] = peer;
+        self.len += 1;
+    }
+
+    /// More peers, behind the others.
+    pub fn extend_from_slice(&mut self, more: &[Peer])
+        requires { length self.old + length more.now ≤ 16 }
+        ensures { self.new ≡ self.old ++ more.now }
+    {
+        for peer in more {
+            self.push(*peer);
+        }
+    }
+}
