@@ -1,0 +1,82 @@
+-- What a store's calls do, as the table of requests.
+use Rattle.std.proofs.Common.{◌≡◌, ℕ, Bool, true, false, cond, ◌<◌, ◌≤◌, Result, Ok, Err, List, [], ◌∷◌, ◌||◌, not, filter, ap, ◌∙◌, length, refl, sym, subst, leb, arith}
+use Rattle.std.proofs.lemmas.Bool.{lt-leb, le-leb}
+use Rattle.chord_map.specs.declared.pair.Pair.{Pair}
+use Rattle.chord_map.specs.declared.request.Request.{Request}
+use Rattle.chord_map.specs.declared.request.Request.TheVariants as request
+use Rattle.chord_map.specs.declared.reply.Reply.{Reply}
+use Rattle.chord_map.specs.declared.reply.Reply.TheVariants as reply
+use Rattle.chord_map.specs.Map.{has_pair, same_pair, values_at, reply_to, pairs_by, pairs_after, remove_pair}
+use Rattle.chord_store.specs.declared.outcome.Inserted.{Inserted}
+use Rattle.chord_store.specs.declared.outcome.Inserted.TheVariants.{Added, Present, SetFull}
+use Rattle.chord_store.specs.declared.outcome.StoreFault.{StoreFault}
+use Rattle.chord_store.specs.declared.outcome.StoreFault.TheVariants.{Full, Memory}
+use Rattle.chord_store.specs.Store.{reply_for, InsertIs}
+use Rattle.chord_node.specs.Asked.{adds, is_full_for, Applied}
+
+has_room : (did : Inserted) (pairs : List Pair) (limit : ℕ) → (did ≡ Added → length pairs < limit)
+    → cond (adds (reply_for did)) (leb limit (length pairs)) false ≡ false
+has_room Added pairs limit room = lt-leb limit (length pairs) (room refl)
+has_room Present pairs limit room = refl
+has_room SetFull pairs limit room = refl
+
+-- an insert that was answered so
+pub inserted_is : (pairs new : List Pair) (limit : ℕ) (key value : List ℕ) (did : Inserted) (first second : Reply)
+    → InsertIs (record { key = key; value = value }) pairs limit (Ok did) new → first ≡ reply_for did → second ≡ reply_for did
+    → Applied (request.Insert key value) pairs limit (Ok (first, second)) new
+unfolding is_full_for
+inserted_is pairs new limit key value did first second did_so e f =
+    (e ∙ sym did_so.0, f ∙ sym did_so.0, ap (λ (r : Reply). cond (adds r) (leb limit (length pairs)) false) did_so.0 ∙ has_room did pairs limit did_so.1, did_so.2)
+
+-- an insert that was refused
+refused_is : (pairs new : List Pair) (limit : ℕ) (key value : List ℕ) (fault : StoreFault)
+    → InsertIs (record { key = key; value = value }) pairs limit (Err fault) new → Applied (request.Insert key value) pairs limit (Err fault) new
+unfolding is_full_for
+refused_is pairs new limit key value Full refused =
+    (ap (λ (r : Reply). cond (adds r) (leb limit (length pairs)) false) refused.0 ∙ le-leb limit (length pairs) refused.1, refused.2)
+refused_is pairs new limit key value Memory refused = refused.2
+
+same_pairs : {key value key' value' : List ℕ} → key' ≡ key → value' ≡ value → ◌≡◌ {A = Pair} (record { key = key'; value = value' }) (record { key = key; value = value })
+same_pairs e f = cc
+
+-- the same for bytes that are the key and the value
+pub refused_for : (pairs new : List Pair) (limit : ℕ) (key value key' value' : List ℕ) (fault : StoreFault) → key' ≡ key → value' ≡ value
+    → InsertIs (record { key = key'; value = value' }) pairs limit (Err fault) new → Applied (request.Insert key value) pairs limit (Err fault) new
+refused_for pairs new limit key value key' value' fault e f refused =
+    let at : Pair → Type 0 = λ pair. InsertIs pair pairs limit (Err fault) new in
+    refused_is pairs new limit key value fault (subst at (same_pairs e f) refused)
+
+pub inserted_for : (pairs new : List Pair) (limit : ℕ) (key value key' value' : List ℕ) (did : Inserted) (first second : Reply) → key' ≡ key → value' ≡ value
+    → InsertIs (record { key = key'; value = value' }) pairs limit (Ok did) new → first ≡ reply_for did → second ≡ reply_for did
+    → Applied (request.Insert key value) pairs limit (Ok (first, second)) new
+inserted_for pairs new limit key value key' value' did first second e f did_so g h =
+    let at : Pair → Type 0 = λ pair. InsertIs pair pairs limit (Ok did) new in
+    inserted_is pairs new limit key value did first second (subst at (same_pairs e f) did_so) g h
+
+-- a remove that found the pair, or did not
+pub removed_is : (there : Bool) (pairs new : List Pair) (limit : ℕ) (key value : List ℕ)
+    → there ≡ has_pair (record { key = key; value = value }) pairs → new ≡ remove_pair (record { key = key; value = value }) pairs
+    → there ≡ true → Applied (request.Remove key value) pairs limit (Ok (reply.Removed, reply.Removed)) new
+unfolding is_full_for reply_to pairs_after
+removed_is there pairs new limit key value was change e = rw (sym was, e) (refl, refl, refl, change)
+
+-- what is not there leaves nothing behind
+none_step : (b : Bool) (other : Pair) (found : Bool) (xs ys : List Pair) → (b || found) ≡ false → (found ≡ false → xs ≡ ys) → cond (not b) (other ∷ xs) xs ≡ other ∷ ys
+none_step true other found xs ys e next = cc
+none_step false other found xs ys e next = ap (λ (zs : List Pair). other ∷ zs) (next e)
+
+none_removed : (pair : Pair) (pairs : List Pair) → has_pair pair pairs ≡ false → remove_pair pair pairs ≡ pairs
+unfolding remove_pair
+none_removed pair [] e = refl
+none_removed pair (other ∷ pairs) e = none_step (same_pair pair other) other (has_pair pair pairs) (filter (λ (x : Pair). not (same_pair pair x)) pairs) pairs e (λ f. none_removed pair pairs f)
+
+pub absent_is : (there : Bool) (pairs new : List Pair) (limit : ℕ) (key value : List ℕ)
+    → there ≡ has_pair (record { key = key; value = value }) pairs → new ≡ remove_pair (record { key = key; value = value }) pairs
+    → there ≡ false → Applied (request.Remove key value) pairs limit (Ok (reply.Absent, reply.Absent)) new
+unfolding is_full_for reply_to pairs_after
+absent_is there pairs new limit key value was change e = rw (sym was, e) (refl, refl, refl, change ∙ none_removed (record { key = key; value = value }) pairs (sym was ∙ e))
+
+pub retrieved_is : (pairs : List Pair) (limit : ℕ) (key : List ℕ) (first second : List (List ℕ)) → first ≡ values_at key pairs → second ≡ first
+    → Applied (request.Retrieve key) pairs limit (Ok (reply.Values first, reply.Values second)) pairs
+unfolding is_full_for reply_to pairs_after
+retrieved_is pairs limit key first second e f = (ap reply.Values e, ap reply.Values (f ∙ e), refl, refl)

@@ -1,0 +1,196 @@
+-- What an Ask does to a node, from what it does to a segment and a store.
+use Rattle.std.proofs.Common.{◌≡◌, ℕ, zero, suc, ◌<◌, Bool, true, false, cond, Option, None, Some, Result, Ok, Err, List, [], ◌∷◌, length, get_or, set, map, refl, sym, ◌∙◌, ap, subst, arith, leb}
+use Rattle.std.proofs.lemmas.Bool.{ltb-false, leb-true}
+use Rattle.std.specs.Prelude.{find, position}
+use Rattle.std.specs.List.{position_or_len}
+use Rattle.std.proofs.lemmas.List.Quantifiers.{position-Some}
+use Rattle.std.proofs.lemmas.Option.{slice_get_past}
+use Rattle.std.proofs.lemmas.List.Folds.{find_at}
+use Rattle.std.specs.declared.alloc.AllocError.{AllocError}
+use Rattle.chord_ident.specs.Circle.{in_span}
+use Rattle.chord_map.specs.declared.pair.Pair.{Pair}
+use Rattle.chord_map.specs.declared.reply.Reply.{Reply}
+use Rattle.chord_map.specs.declared.reply.Reply.TheVariants as reply
+use Rattle.chord_map.specs.Map.{reply_to, pairs_after}
+use Rattle.chord_segment.specs.declared.done.Done.{Done}
+use Rattle.chord_segment.specs.Segment.{Segment, RoomySegment, Past, id_of, past_at, append}
+use Rattle.chord_segment.specs.Segment.Past.{New, Kept, Seen}
+use Rattle.chord_caller.specs.declared.ask.Ask.{Ask}
+use Rattle.chord_caller.specs.declared.told.Told.{Told}
+use Rattle.chord_node.specs.declared.answered.Answered.{Answered}
+use Rattle.chord_node.specs.declared.answered.Answered.TheVariants as answer
+use Rattle.chord_node.specs.declared.message.Message.TheVariants.{Ask as AskMessage}
+use Rattle.chord_node.specs.Node.{Node, NodeStep, segment_with, append_at, executed, done_of, told_of}
+use Rattle.chord_node.specs.Node.NodeStep.{Tells_again, Drops_seen, Executes, Answers_full, Drops}
+use Rattle.chord_node.specs.View.{knowns}
+use Rattle.chord_node.specs.Asked.{adds, is_full_for, past_answer, past_done, segment_after, entries_after, AnswersIn, done_in, ask_done, after_done, sent_by, AnswersBy, AskIs, AskSteps}
+
+-- ---- the segment at a place
+
+-- whether the segment's span contains x
+abbrev pub has : ℕ → RoomySegment → Bool
+has x segment = in_span segment.known.span x
+
+find_none : (x : ℕ) (held : List RoomySegment) → find (has x) held ≡ None → segment_with x (knowns held) ≡ None
+unfolding segment_with
+find_none x [] e = refl
+find_none x (s ∷ held) e = step (has x s) s.known (find (has x) held) e (λ rest. find_none x held rest)
+  where
+    step : (b : Bool) (k : Segment) (o : Option RoomySegment) {q : Option Segment} → cond b (Some s) o ≡ None → (o ≡ None → q ≡ None) → cond b (Some k) q ≡ None
+    step true k o e next = cc
+    step false k o e next = next e
+
+-- before the place no span contains x, and the one there does
+pub record IsPlace (x : ℕ) (held : List RoomySegment) (i : ℕ) (s : RoomySegment) : Type 0 where
+  pub in_range : i < length held
+  pub here : has x (get_or held i s) ≡ true
+  pub before : (k : ℕ) → k < i → has x (get_or held k s) ≡ false
+
+pub with_here : (x : ℕ) (held : List RoomySegment) (i : ℕ) (s : RoomySegment) → IsPlace x held i s → segment_with x (knowns held) ≡ Some (get_or held i s).known
+unfolding segment_with
+with_here x [] i s p = absurd (let h = p.in_range in omega arith)
+with_here x (y ∷ held) zero s p = rw p.here refl
+with_here x (y ∷ held) (suc i) s p =
+    rw (p.before zero (omega arith)) (with_here x held i s (record { in_range = let h = p.in_range in omega arith; here = p.here; before = λ k h. p.before (suc k) (omega arith) }))
+
+pub put_here : (x : ℕ) (held : List RoomySegment) (i : ℕ) (s s' : RoomySegment) (done : Done) (floor : ℕ) → IsPlace x held i s
+    → s'.known ≡ append done floor (get_or held i s).known → knowns (set held i s') ≡ append_at x done floor (knowns held)
+unfolding append_at
+put_here x [] i s s' done floor p e = absurd (let h = p.in_range in omega arith)
+put_here x (y ∷ held) zero s s' done floor p e = rw p.here (ap (λ (k : Segment). k ∷ knowns held) e)
+put_here x (y ∷ held) (suc i) s s' done floor p e =
+    rw (p.before zero (omega arith))
+    (ap (λ (ks : List Segment). y.known ∷ ks)
+    (put_here x held i s s' done floor (record { in_range = let h = p.in_range in omega arith; here = p.here; before = λ k h. p.before (suc k) (omega arith) }) e))
+
+pub put_same : (held : List RoomySegment) (i : ℕ) (s s' : RoomySegment) → i < length held → s'.known ≡ (get_or held i s).known → knowns (set held i s') ≡ knowns held
+put_same [] i s s' h e = absurd (omega arith)
+put_same (y ∷ held) zero s s' h e = ap (λ (k : Segment). k ∷ knowns held) e
+put_same (y ∷ held) (suc i) s s' h e = ap (λ (ks : List Segment). y.known ∷ ks) (put_same held i s s' (omega arith) e)
+
+-- ---- the call that is executed
+
+executed_by : (b : Bool) (d done : Done) → cond b None (Some d) ≡ Some done → d ≡ done
+executed_by true d done e = cc
+executed_by false d done e = cc
+
+past_done_is : (past : Past) (ask : Ask) (pairs : List Pair) (limit : ℕ) (done : Done) → past_done past ask pairs limit ≡ Some done → done_of ask (reply_to ask.request pairs) ≡ done
+past_done_is New ask pairs limit done e = executed_by (is_full_for ask.request pairs limit) _ done e
+past_done_is Seen ask pairs limit done e = cc
+past_done_is (Kept d) ask pairs limit done e = cc
+
+-- ---- the node
+same_node : (old : Node) (held : List Segment) (pairs : List Pair) (limit : ℕ) → held ≡ old.held → pairs ≡ old.entries → limit ≡ old.limit
+    → ◌≡◌ {A = Node} (record old { held = held; entries = pairs; limit = limit }) old
+same_node old held pairs limit e f g = rw (e, f, g) refl
+
+-- the node after the call, if one was executed
+after_is : (did : Option Done) (ask : Ask) (old : Node) (held : List RoomySegment) (i : ℕ) (s s' : RoomySegment) (pairs : List Pair) (limit : ℕ)
+    → old.held ≡ knowns held → IsPlace (id_of ask.request) held i s → limit ≡ old.limit
+    → ((done : Done) → did ≡ Some done → done_of ask (reply_to ask.request old.entries) ≡ done)
+    → s'.known ≡ segment_after did ask (get_or held i s).known → pairs ≡ entries_after did ask old.entries
+    → ◌≡◌ {A = Node} (record old { held = knowns (set held i s'); entries = pairs; limit = limit }) (after_done did ask old)
+after_is None ask old held i s s' pairs limit e place same is seg ent =
+    same_node old _ pairs limit (put_same held i s s' place.in_range seg ∙ sym e) ent same
+after_is (Some done) ask old held i s s' pairs limit e place same is seg ent =
+    let d = is done refl in
+    let put = put_here (id_of ask.request) held i s s' (done_of ask (reply_to ask.request old.entries)) ask.floor place (seg ∙ ap (λ (x : Done). append x ask.floor (get_or held i s).known) (sym d)) in
+    rw (put, ent, same, e) refl
+
+-- what the node answers where the segment with the key answered so
+pub asked_here : (ask : Ask) (old : Node) (held : List RoomySegment) (i : ℕ) (s s' : RoomySegment) (result : Result Answered AllocError) (pairs : List Pair) (limit : ℕ)
+    → old.held ≡ knowns held → IsPlace (id_of ask.request) held i s → limit ≡ old.limit
+    → AnswersIn ask (get_or held i s).known old.entries old.limit result s'.known pairs
+    → AskIs ask old result (record old { held = knowns (set held i s'); entries = pairs; limit = limit })
+unfolding ask_done
+asked_here ask old held i s s' (Ok answered) pairs limit e place same h =
+    let found : segment_with (id_of ask.request) old.held ≡ Some (get_or held i s).known = ap (segment_with (id_of ask.request)) e ∙ with_here (id_of ask.request) held i s place in
+    let done : Option Done = past_done (past_at ask.caller ask.number (get_or held i s).known) ask old.entries old.limit in
+    let did : done_in (segment_with (id_of ask.request) old.held) ask old ≡ done = ap (λ o. done_in o ask old) found in (
+      subst (λ o. AnswersBy o ask old answered) (sym found) h.0,
+      after_is done ask old held i s s' pairs limit e place same
+          (λ d is. past_done_is (past_at ask.caller ask.number (get_or held i s).known) ask old.entries old.limit d is) h.1 h.2
+          ∙ ap (λ d. after_done d ask old) (sym did),
+    )
+asked_here ask old held i s s' (Err fault) pairs limit e place same h =
+    same_node old _ pairs limit (put_same held i s s' place.in_range h.0 ∙ sym e) h.1 same
+
+-- what it answers where none has the key
+pub asked_elsewhere : (ask : Ask) (old : Node) (held : List RoomySegment) → old.held ≡ knowns held → find (has (id_of ask.request)) held ≡ None → AskIs ask old (Ok answer.Dropped) old
+unfolding ask_done
+asked_elsewhere ask old held e none =
+    let missed : segment_with (id_of ask.request) old.held ≡ None = ap (segment_with (id_of ask.request)) e ∙ find_none (id_of ask.request) held none in
+    (subst (λ o. AnswersBy o ask old answer.Dropped) (sym missed) refl, ap (λ o. after_done (done_in o ask old) ask old) (sym missed))
+
+-- ---- the step
+
+is_added : (r : Reply) (b : Bool) → cond (adds r) b false ≡ true → (r ≡ reply.Added) × (b ≡ true)
+is_added reply.Added b e = (refl, e)
+is_added reply.Present b e = cc
+is_added reply.SetFull b e = cc
+is_added (reply.Values values) b e = cc
+is_added reply.Removed b e = cc
+is_added reply.Absent b e = cc
+
+full_step : (ask : Ask) (old : Node) (segment : Segment) → segment_with (id_of ask.request) old.held ≡ Some segment → past_at ask.caller ask.number segment ≡ New
+    → (b : Bool) → is_full_for ask.request old.entries old.limit ≡ b
+    → NodeStep old (Some (AskMessage ask)) (after_done (cond b None (Some (done_of ask (reply_to ask.request old.entries)))) ask old)
+    (sent_by ask (cond b answer.Full (answer.Told (told_of ask (reply_to ask.request old.entries)))))
+    (cond b None (Some (done_of ask (reply_to ask.request old.entries))))
+unfolding is_full_for
+full_step ask old segment e p true full =
+    let parts = is_added (reply_to ask.request old.entries) (leb old.limit (length old.entries)) full in
+    Answers_full ask segment e p parts.0 (leb-true _ _ parts.1)
+full_step ask old segment e p false full = Executes ask segment e p
+
+past_step : (ask : Ask) (old : Node) (segment : Segment) → segment_with (id_of ask.request) old.held ≡ Some segment
+    → (past : Past) → past_at ask.caller ask.number segment ≡ past
+    → NodeStep old (Some (AskMessage ask)) (after_done (past_done past ask old.entries old.limit) ask old)
+    (sent_by ask (past_answer past ask old.entries old.limit)) (past_done past ask old.entries old.limit)
+past_step ask old segment e Seen p = Drops_seen ask segment e p
+past_step ask old segment e (Kept done) p = Tells_again ask segment done e p
+past_step ask old segment e New p = full_step ask old segment e p (is_full_for ask.request old.entries old.limit) refl
+
+ask_step : (ask : Ask) (old : Node) (answered : Answered) (o : Option Segment) → segment_with (id_of ask.request) old.held ≡ o → AnswersBy o ask old answered
+    → NodeStep old (Some (AskMessage ask)) (after_done (done_in o ask old) ask old) (sent_by ask answered) (done_in o ask old)
+ask_step ask old answered None e h = rw h (Drops ask e)
+ask_step ask old answered (Some segment) e h = rw h (past_step ask old segment e (past_at ask.caller ask.number segment) refl)
+
+-- the exact answer is one step of the node
+pub asked_steps : (ask : Ask) (old : Node) (result : Result Answered AllocError) (new : Node) → AskIs ask old result new → AskSteps ask old result new
+unfolding ask_done
+asked_steps ask old (Err fault) new h = tt
+asked_steps ask old (Ok answered) new h =
+    subst (λ n. NodeStep old (Some (AskMessage ask)) n (sent_by ask answered) (done_in (segment_with (id_of ask.request) old.held) ask old)) (sym h.1)
+    (ask_step ask old answered (segment_with (id_of ask.request) old.held) refl h.0)
+
+-- ---- in the words of the code
+
+pub place_from : (x : ℕ) (held : List RoomySegment) (i : ℕ) (s : RoomySegment) → Some i ≡ position (has x) held → IsPlace x held i s
+place_from x held i s e = let p = position-Some (has x) held i s (sym e) in record { in_range = p.0; here = p.1; before = λ k h. p.2 k h }
+
+none_step : (b : Bool) (i : ℕ) → cond b (Some i) None ≡ None → b ≡ false
+none_step true i e = cc
+none_step false i e = refl
+
+pub find_from : (x : ℕ) (held : List RoomySegment) → position (has x) held ≡ None → find (has x) held ≡ None
+find_from x held e =
+    find_at (has x) held ∙ slice_get_past held (position_or_len (has x) held) (ltb-false _ _ (none_step _ _ e))
+
+-- the same over the view of the fields, which is the old value, and what the store held
+pub asked_at : (ask : Ask) (view old : Node) → view ≡ old → (held : List RoomySegment) (i : ℕ) (s s' : RoomySegment) (result : Result Answered AllocError)
+    (pairs pairs' : List Pair) (limit limit' : ℕ)
+    → view.held ≡ knowns held → IsPlace (id_of ask.request) held i s → s ≡ get_or held i s → pairs ≡ view.entries → limit ≡ view.limit → limit' ≡ limit
+    → AnswersIn ask s.known pairs limit result s'.known pairs'
+    → AskIs ask old result (record view { held = knowns (set held i s'); entries = pairs'; limit = limit' })
+asked_at ask view old e held i s s' result pairs pairs' limit limit' v place at same_pairs same_limit same h =
+    let P : Node → Type 0 = λ old. AskIs ask old result (record view { held = knowns (set held i s'); entries = pairs'; limit = limit' }) in
+    let Q : RoomySegment → Type 0 = λ r. AnswersIn ask r.known view.entries view.limit result s'.known pairs' in
+    let R : List Pair → Type 0 = λ ps. AnswersIn ask s.known ps limit result s'.known pairs' in
+    let T : ℕ → Type 0 = λ n. AnswersIn ask s.known view.entries n result s'.known pairs' in
+    subst P e (asked_here ask view held i s s' result pairs' limit' v place (same ∙ same_limit) (subst Q at (subst T same_limit (subst R same_pairs h))))
+
+pub asked_past : (ask : Ask) (view old : Node) → view ≡ old → (held : List RoomySegment) → view.held ≡ knowns held → find (has (id_of ask.request)) held ≡ None → AskIs ask old (Ok answer.Dropped) old
+asked_past ask view old e held v none =
+    let P : Node → Type 0 = λ old. AskIs ask old (Ok answer.Dropped) old in
+    subst P e (asked_elsewhere ask view held v none)
