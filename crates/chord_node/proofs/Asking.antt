@@ -23,7 +23,7 @@ use Rattle.chord_node.specs.declared.message.Message.TheVariants.{Ask as AskMess
 use Rattle.chord_node.specs.Node.{Node, NodeStep, segment_with, append_at, executed, done_of, told_of}
 use Rattle.chord_node.specs.Node.NodeStep.{Tells_again, Drops_seen, Executes, Answers_full, Drops}
 use Rattle.chord_node.specs.View.{knowns}
-use Rattle.chord_node.specs.Asked.{adds, is_full_for, past_answer, past_done, segment_after, entries_after, AnswersIn, done_in, ask_done, after_done, sent_by, AnswersBy, AskIs, AskSteps}
+use Rattle.chord_node.specs.Asked.{adds, is_full_for, past_answer, past_done, segment_after, entries_after, AnswersIn, done_in, ask_done, after_done, sent_by, note_of, AnswersBy, AskIs, AskNotes, AskSteps, AskStepsNoting}
 
 -- ---- the segment at a place
 
@@ -98,29 +98,34 @@ after_is (Some done) ask old held i s s' pairs limit e place same is seg ent =
     rw (put, ent, same, e) refl
 
 -- what the node answers where the segment with the key answered so
-pub asked_here : (ask : Ask) (old : Node) (held : List RoomySegment) (i : ℕ) (s s' : RoomySegment) (result : Result Answered AllocError) (pairs : List Pair) (limit : ℕ)
+pub asked_here : (ask : Ask) (noting : Bool) (old : Node) (held : List RoomySegment) (i : ℕ) (s s' : RoomySegment) (result : Result (Answered × Option Done) AllocError) (pairs : List Pair) (limit : ℕ)
     → old.held ≡ knowns held → IsPlace (id_of ask.request) held i s → limit ≡ old.limit
-    → AnswersIn ask (get_or held i s).known old.entries old.limit result s'.known pairs
-    → AskIs ask old result (record old { held = knowns (set held i s'); entries = pairs; limit = limit })
+    → AnswersIn ask noting (get_or held i s).known old.entries old.limit result s'.known pairs
+    → AskNotes ask noting old result (record old { held = knowns (set held i s'); entries = pairs; limit = limit })
 unfolding ask_done
-asked_here ask old held i s s' (Ok answered) pairs limit e place same h =
+asked_here ask noting old held i s s' (Ok both) pairs limit e place same h =
     let found : segment_with (id_of ask.request) old.held ≡ Some (get_or held i s).known = ap (segment_with (id_of ask.request)) e ∙ with_here (id_of ask.request) held i s place in
     let done : Option Done = past_done (past_at ask.caller ask.number (get_or held i s).known) ask old.entries old.limit in
-    let did : done_in (segment_with (id_of ask.request) old.held) ask old ≡ done = ap (λ o. done_in o ask old) found in (
-      subst (λ o. AnswersBy o ask old answered) (sym found) h.0,
+    let did : done_in (segment_with (id_of ask.request) old.held) ask old ≡ done = ap (λ o. done_in o ask old) found in
+    ((subst (λ o. AnswersBy o ask old both.0) (sym found) h.0,
       after_is done ask old held i s s' pairs limit e place same
-          (λ d is. past_done_is (past_at ask.caller ask.number (get_or held i s).known) ask old.entries old.limit d is) h.1 h.2
-          ∙ ap (λ d. after_done d ask old) (sym did),
-    )
-asked_here ask old held i s s' (Err fault) pairs limit e place same h =
+      (λ d is. past_done_is (past_at ask.caller ask.number (get_or held i s).known) ask old.entries old.limit d is) h.2 h.3
+      ∙ ap (λ d. after_done d ask old) (sym did)),
+     h.1 ∙ ap (note_of noting) (sym did))
+asked_here ask noting old held i s s' (Err fault) pairs limit e place same h =
     same_node old _ pairs limit (put_same held i s s' place.in_range h.0 ∙ sym e) h.1 same
 
+note_none : (noting : Bool) → None ≡ note_of noting None
+note_none true = refl
+note_none false = refl
+
 -- what it answers where none has the key
-pub asked_elsewhere : (ask : Ask) (old : Node) (held : List RoomySegment) → old.held ≡ knowns held → find (has (id_of ask.request)) held ≡ None → AskIs ask old (Ok answer.Dropped) old
+pub asked_elsewhere : (ask : Ask) (noting : Bool) (old : Node) (held : List RoomySegment) → old.held ≡ knowns held → find (has (id_of ask.request)) held ≡ None → AskNotes ask noting old (Ok (answer.Dropped, None)) old
 unfolding ask_done
-asked_elsewhere ask old held e none =
+asked_elsewhere ask noting old held e none =
     let missed : segment_with (id_of ask.request) old.held ≡ None = ap (segment_with (id_of ask.request)) e ∙ find_none (id_of ask.request) held none in
-    (subst (λ o. AnswersBy o ask old answer.Dropped) (sym missed) refl, ap (λ o. after_done (done_in o ask old) ask old) (sym missed))
+    ((subst (λ o. AnswersBy o ask old answer.Dropped) (sym missed) refl, ap (λ o. after_done (done_in o ask old) ask old) (sym missed)),
+     note_none noting ∙ ap (λ o. note_of noting (done_in o ask old)) (sym missed))
 
 -- ---- the step
 
@@ -164,6 +169,11 @@ asked_steps ask old (Ok answered) new h =
     subst (λ n. NodeStep old (Some (AskMessage ask)) n (sent_by ask answered) (done_in (segment_with (id_of ask.request) old.held) ask old)) (sym h.1)
     (ask_step ask old answered (segment_with (id_of ask.request) old.held) refl h.0)
 
+pub asked_steps_noting : (ask : Ask) (noting : Bool) (old : Node) (result : Result (Answered × Option Done) AllocError) (new : Node)
+    → AskNotes ask noting old result new → AskStepsNoting ask old result new
+asked_steps_noting ask noting old (Err fault) new h = tt
+asked_steps_noting ask noting old (Ok both) new h = asked_steps ask old (Ok both.0) new h.0
+
 -- ---- in the words of the code
 
 pub place_from : (x : ℕ) (held : List RoomySegment) (i : ℕ) (s : RoomySegment) → Some i ≡ position (has x) held → IsPlace x held i s
@@ -178,19 +188,19 @@ find_from x held e =
     find_at (has x) held ∙ slice_get_past held (position_or_len (has x) held) (ltb-false _ _ (none_step _ _ e))
 
 -- the same over the view of the fields, which is the old value, and what the store held
-pub asked_at : (ask : Ask) (view old : Node) → view ≡ old → (held : List RoomySegment) (i : ℕ) (s s' : RoomySegment) (result : Result Answered AllocError)
+pub asked_at : (ask : Ask) (noting : Bool) (view old : Node) → view ≡ old → (held : List RoomySegment) (i : ℕ) (s s' : RoomySegment) (result : Result (Answered × Option Done) AllocError)
     (pairs pairs' : List Pair) (limit limit' : ℕ)
     → view.held ≡ knowns held → IsPlace (id_of ask.request) held i s → s ≡ get_or held i s → pairs ≡ view.entries → limit ≡ view.limit → limit' ≡ limit
-    → AnswersIn ask s.known pairs limit result s'.known pairs'
-    → AskIs ask old result (record view { held = knowns (set held i s'); entries = pairs'; limit = limit' })
-asked_at ask view old e held i s s' result pairs pairs' limit limit' v place at same_pairs same_limit same h =
-    let P : Node → Type 0 = λ old. AskIs ask old result (record view { held = knowns (set held i s'); entries = pairs'; limit = limit' }) in
-    let Q : RoomySegment → Type 0 = λ r. AnswersIn ask r.known view.entries view.limit result s'.known pairs' in
-    let R : List Pair → Type 0 = λ ps. AnswersIn ask s.known ps limit result s'.known pairs' in
-    let T : ℕ → Type 0 = λ n. AnswersIn ask s.known view.entries n result s'.known pairs' in
-    subst P e (asked_here ask view held i s s' result pairs' limit' v place (same ∙ same_limit) (subst Q at (subst T same_limit (subst R same_pairs h))))
+    → AnswersIn ask noting s.known pairs limit result s'.known pairs'
+    → AskNotes ask noting old result (record view { held = knowns (set held i s'); entries = pairs'; limit = limit' })
+asked_at ask noting view old e held i s s' result pairs pairs' limit limit' v place at same_pairs same_limit same h =
+    let P : Node → Type 0 = λ old. AskNotes ask noting old result (record view { held = knowns (set held i s'); entries = pairs'; limit = limit' }) in
+    let Q : RoomySegment → Type 0 = λ r. AnswersIn ask noting r.known view.entries view.limit result s'.known pairs' in
+    let R : List Pair → Type 0 = λ ps. AnswersIn ask noting s.known ps limit result s'.known pairs' in
+    let T : ℕ → Type 0 = λ n. AnswersIn ask noting s.known view.entries n result s'.known pairs' in
+    subst P e (asked_here ask noting view held i s s' result pairs' limit' v place (same ∙ same_limit) (subst Q at (subst T same_limit (subst R same_pairs h))))
 
-pub asked_past : (ask : Ask) (view old : Node) → view ≡ old → (held : List RoomySegment) → view.held ≡ knowns held → find (has (id_of ask.request)) held ≡ None → AskIs ask old (Ok answer.Dropped) old
-asked_past ask view old e held v none =
-    let P : Node → Type 0 = λ old. AskIs ask old (Ok answer.Dropped) old in
-    subst P e (asked_elsewhere ask view held v none)
+pub asked_past : (ask : Ask) (noting : Bool) (view old : Node) → view ≡ old → (held : List RoomySegment) → view.held ≡ knowns held → find (has (id_of ask.request)) held ≡ None → AskNotes ask noting old (Ok (answer.Dropped, None)) old
+asked_past ask noting view old e held v none =
+    let P : Node → Type 0 = λ old. AskNotes ask noting old (Ok (answer.Dropped, None)) old in
+    subst P e (asked_elsewhere ask noting view held v none)

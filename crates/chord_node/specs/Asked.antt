@@ -13,6 +13,7 @@ use Rattle.chord_segment.specs.Segment.{Segment, Past, id_of, past_at, append}
 use Rattle.chord_segment.specs.Segment.Past.{New, Kept, Seen}
 use Rattle.chord_caller.specs.declared.ask.Ask.{Ask}
 use Rattle.chord_caller.specs.declared.told.Told.{Told}
+use Rattle.chord_node.specs.declared.apply.Replies.{Replies}
 use Rattle.chord_node.specs.declared.answered.Answered.{Answered}
 use Rattle.chord_node.specs.declared.answered.Answered.TheVariants as answer
 use Rattle.chord_node.specs.declared.message.Message.{Message}
@@ -28,12 +29,21 @@ adds other = false
 unfoldable pub is_full_for : Request → List Pair → ℕ → Bool
 is_full_for request pairs limit = if adds (reply_to request pairs) then nat_le limit (length pairs) else false
 
--- what a store was asked, what it held and its limit, what came of it, and what it holds then
-abbrev pub Applied : Request → List Pair → ℕ → Result (Reply × Reply) StoreFault → List Pair → Type 0
-Applied request old limit (Ok replies) new =
-    (replies.0 ≡ reply_to request old) × (replies.1 ≡ reply_to request old) × (is_full_for request old limit ≡ false) × (new ≡ pairs_after request old)
-Applied request old limit (Err fault.Full) new = (is_full_for request old limit ≡ true) × (new ≡ old)
-Applied request old limit (Err fault.Memory) new = new ≡ old
+-- the value, where it is wanted
+abbrev pub only_if : {A : Type 0} → Bool → A → Option A
+only_if true x = Some x
+only_if false x = None
+
+-- each is this reply, and it is there once more where it is to be noted
+abbrev pub AreReplies : Reply → Bool → Replies → Type 0
+AreReplies reply noting replies = (replies.kept ≡ reply) × (replies.told ≡ reply) × (replies.noted ≡ only_if noting reply)
+
+-- what a store was asked, whether to note the reply, what it held and its limit, what came of it, and what it holds then
+abbrev pub Applied : Request → Bool → List Pair → ℕ → Result Replies StoreFault → List Pair → Type 0
+Applied request noting old limit (Ok replies) new =
+    AreReplies (reply_to request old) noting replies × (is_full_for request old limit ≡ false) × (new ≡ pairs_after request old)
+Applied request noting old limit (Err fault.Full) new = (is_full_for request old limit ≡ true) × (new ≡ old)
+Applied request noting old limit (Err fault.Memory) new = new ≡ old
 
 -- the answer to a call that the segment knows so, over a store that holds these pairs
 abbrev pub past_answer : Past → Ask → List Pair → ℕ → Answered
@@ -57,14 +67,25 @@ abbrev pub entries_after : Option Done → Ask → List Pair → List Pair
 entries_after None ask pairs = pairs
 entries_after (Some done) ask pairs = pairs_after ask.request pairs
 
--- what a segment and a store do with a call: the segment, the pairs and the limit, what came of it, and the segment
--- and the pairs then
-abbrev pub AnswersIn : Ask → Segment → List Pair → ℕ → Result Answered AllocError → Segment → List Pair → Type 0
-AnswersIn ask segment pairs limit (Ok answered) segment' pairs' =
+-- the call with this request and this reply, where there are both
+abbrev pub done_with : Ask → Option Request → Option Reply → Option Done
+done_with ask (Some request) (Some reply) = Some (record { caller = ask.caller; number = ask.number; request = request; reply = reply })
+done_with ask (Some request) None = None
+done_with ask None reply = None
+
+-- the call, where it is to be noted
+abbrev pub note_of : Bool → Option Done → Option Done
+note_of true did = did
+note_of false did = None
+
+-- what a segment and a store do with a call: whether to note it, the segment, the pairs and the limit, what came of
+-- it, and the segment and the pairs then
+abbrev pub AnswersIn : Ask → Bool → Segment → List Pair → ℕ → Result (Answered × Option Done) AllocError → Segment → List Pair → Type 0
+AnswersIn ask noting segment pairs limit (Ok both) segment' pairs' =
     let past = past_at ask.caller ask.number segment in
-    let done = past_done past ask pairs limit in
-    (answered ≡ past_answer past ask pairs limit) × (segment' ≡ segment_after done ask segment) × (pairs' ≡ entries_after done ask pairs)
-AnswersIn ask segment pairs limit (Err fault) segment' pairs' = (segment' ≡ segment) × (pairs' ≡ pairs)
+    let did = past_done past ask pairs limit in
+    (both.0 ≡ past_answer past ask pairs limit) × (both.1 ≡ note_of noting did) × (segment' ≡ segment_after did ask segment) × (pairs' ≡ entries_after did ask pairs)
+AnswersIn ask noting segment pairs limit (Err fault) segment' pairs' = (segment' ≡ segment) × (pairs' ≡ pairs)
 
 -- the call that an Ask executes at the segment, if it does
 abbrev pub done_in : Option Segment → Ask → Node → Option Done
@@ -98,7 +119,16 @@ AskIs ask old (Ok answered) new =
     AnswersBy (segment_with (id_of ask.request) old.held) ask old answered × (new ≡ after_done (ask_done ask old) ask old)
 AskIs ask old (Err fault) new = new ≡ old
 
+-- the same, with the call that it executed where that is to be noted
+abbrev pub AskNotes : Ask → Bool → Node → Result (Answered × Option Done) AllocError → Node → Type 0
+AskNotes ask noting old (Ok both) new = AskIs ask old (Ok both.0) new × (both.1 ≡ note_of noting (ask_done ask old))
+AskNotes ask noting old (Err fault) new = new ≡ old
+
 -- the same is one step of the node, if memory was not wanting
 abbrev pub AskSteps : Ask → Node → Result Answered AllocError → Node → Type 0
 AskSteps ask old (Ok answered) new = NodeStep old (Some (AskMessage ask)) new (sent_by ask answered) (ask_done ask old)
 AskSteps ask old (Err fault) new = Unit {0}
+
+abbrev pub AskStepsNoting : Ask → Node → Result (Answered × Option Done) AllocError → Node → Type 0
+AskStepsNoting ask old (Ok both) new = AskSteps ask old (Ok both.0) new
+AskStepsNoting ask old (Err fault) new = Unit {0}

@@ -1,10 +1,10 @@
 //! A node with one store.
-ghost use Rattle.std.specs.Prelude.{◌≡◌, ◌≤◌, ◌∷◌, [], Some, position, slice_get, IfOk, IfErr, option_copied};
+ghost use Rattle.std.specs.Prelude.{◌≡◌, ◌≤◌, true, [], position, IfOk, IfErr};
 ghost use Rattle.chord_ident.specs.Circle.{in_span};
 ghost use Rattle.chord_links.specs.NodeLinks.{alone};
 ghost use Rattle.chord_segment.specs.Segment.{RoomySegment};
 ghost use Rattle.chord_node.specs.Node.{founder};
-ghost use Rattle.chord_node.specs.Asked.{AskIs, AskSteps, ask_done};
+ghost use Rattle.chord_node.specs.Asked.{AskIs, AskNotes, AskSteps, AskStepsNoting};
 
 use crate::answered::Answered;
 use crate::execute::answer_in;
@@ -12,7 +12,7 @@ use crate::phase::Phase;
 use chord_caller::Ask;
 use chord_ident::{Id, Span};
 use chord_links::{Links, Peer};
-use chord_segment::Segment;
+use chord_segment::{Done, Segment};
 use chord_store::EntryStore;
 use std::alloc::{AllocError, Global};
 use std::marker::Model;
@@ -76,13 +76,30 @@ impl<S: EntryStore> Node<S> {
         ensures answer { AskIs ask.now self.old result self.new }
         ensures step { AskSteps ask.now self.old result self.new }
     {
+        let (answered, _) = self.answer(ask, false)?;
+        Ok(answered)
+    }
+
+    /// The same, and a copy of the call that was executed, if one was.
+    pub fn on_ask_noting(&mut self, ask: &Ask) -> Result<(Answered, Option<Done>), AllocError>
+        ensures answer { AskNotes ask.now true self.old result self.new }
+        ensures step { AskStepsNoting ask.now self.old result self.new }
+    {
+        self.answer(ask, true)
+    }
+
+    /// Answers a call, and gives a copy of the call that was executed, if that is wanted.
+    fn answer(&mut self, ask: &Ask, noting: bool) -> Result<(Answered, Option<Done>), AllocError>
+        ensures answer { AskNotes ask.now noting self.old result self.new }
+        ensures step { AskStepsNoting ask.now self.old result self.new }
+    {
         let x = Id::of_bytes(ask.request.key());
         let Some(place) = place_with(&self.held, x) else {
-            return Ok(Answered::Dropped);
+            return Ok((Answered::Dropped, None));
         };
         let segment = &mut self.held[place];
         let store = self.store.as_mut().unwrap();
-        answer_in(self.alloc, segment, store, ask)
+        answer_in(self.alloc, segment, store, ask, noting)
     }
 
     /// What the node knows of the others.
