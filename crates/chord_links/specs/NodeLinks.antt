@@ -17,8 +17,8 @@ abbrev pub alone : Peer → ℕ → NodeLinks
 alone me r = record { me = me; r = r; predecessor = None; entries = me ∷ []; fingers = no_fingers me }
 
 -- the first entry; the node itself where there is none
-abbrev pub first_of : NodeLinks → Peer
-first_of links = slice_index_or links.entries 0 links.me
+abbrev pub first_entry : NodeLinks → Peer
+first_entry links = slice_index_or links.entries 0 links.me
 
 -- the links with this list
 abbrev pub with_entries : NodeLinks → List Peer → NodeLinks

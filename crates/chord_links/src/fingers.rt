@@ -27,13 +27,6 @@ impl Fingers {
         }
     }
 
-    /// Whose fingers they are.
-    pub fn owner(&self) -> Peer
-        ensures { result ≡ self.now.me }
-    {
-        self.me
-    }
-
     /// Where finger `i` starts.
     pub fn start(&self, i: usize) -> Id
         requires { (1 ≤ i) × (i ≤ 128) }

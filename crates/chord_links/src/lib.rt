@@ -10,5 +10,7 @@ mod successors;
 pub use fingers::Fingers;
 pub use links::Links;
 pub use peer::Peer;
-pub use peer_list::PeerList;
 pub use successors::{Empty, SuccList};
+
+#[cfg(test)]
+mod tests;

@@ -47,7 +47,7 @@ impl Model for Links {
 impl Links {
     ghost use Rattle.chord_links.specs.Fingers.{with_finger};
     ghost use Rattle.chord_links.specs.Successors.{Rises};
-    ghost use Rattle.chord_links.specs.NodeLinks.{alone, first_of, with_entries};
+    ghost use Rattle.chord_links.specs.NodeLinks.{alone, first_entry, with_entries};
 
     /// The links of a node that knows no other, whose list may have r entries.
     pub fn alone(me: Peer, r: usize) -> Self
@@ -105,7 +105,7 @@ impl Links {
 
     /// The first entry of its list.
     pub fn first(&self) -> Peer
-        ensures { result ≡ first_of self.now }
+        ensures { result ≡ first_entry self.now }
     {
         self.list.first()
     }

@@ -50,14 +50,6 @@ impl PeerList {
         }
     }
 
-    /// How many peers there are.
-    pub fn len(&self) -> usize
-        ensures value { result ≡ length self.now }
-        ensures fits { result ≤ 16 }
-    {
-        self.len
-    }
-
     /// The peers.
     pub fn as_slice(&self) -> &[Peer]
         ensures value { result.now ≡ self.now }

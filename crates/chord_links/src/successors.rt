@@ -3,7 +3,8 @@ ghost use Rattle.std.specs.Prelude.{◌≡◌, ℕ, ◌+◌, ◌-◌, ◌<◌, �
 ghost use Rattle.chord_ident.specs.Circle.{walk};
 ghost use Rattle.chord_links.specs.Successors.{Rises, rising_front, behind_successor, behind_predecessor};
 
-use crate::{Peer, PeerList};
+use crate::Peer;
+use crate::peer_list::PeerList;
 use chord_ident::{Id, between};
 use std::marker::Model;
 
@@ -122,7 +123,7 @@ impl SuccList {
         ensures ok { OnOk result (self.new ≡ record self.old { entries = drop 1 self.old.entries }) }
         ensures err { OnErr result (self.new ≡ self.old) }
     {
-        let entries = self.peers.as_slice();
+        let entries = self.entries();
         if entries.len() == 1 {
             return Err(Empty);
         }

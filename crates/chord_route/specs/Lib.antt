@@ -1,0 +1,4 @@
+pub mod Course
+pub mod Hops
+pub mod IdealRing
+pub mod Network

@@ -1,0 +1,95 @@
+//! Lookups, which follow the hops from node to node.
+
+ghost use Rattle.std.specs.Prelude.{◌≡◌, ℕ, ◌*◌, ◌≤◌, List, Option, None, IfOk, IsOkAnd};
+ghost use Rattle.chord_links.specs.declared.peer.Peer.{Peer};
+ghost use Rattle.chord_links.specs.NodeLinks.{NodeLinks, first_entry};
+ghost use Rattle.chord_route.specs.IdealRing.{IsSuccessor, IsPredecessor};
+ghost use Rattle.chord_route.specs.Network.{ReadsSettledRing, ReadsIdealRing};
+ghost use Rattle.chord_route.specs.Course.{ComesTo, EndsAt, IsUnsettled};
+
+use crate::hop::{Hop, next_hop};
+use chord_ident::Id;
+use chord_links::{Links, Peer};
+use thiserror::Error;
+
+/// Where a lookup reads the links of nodes.
+pub trait LinkReader {
+    /// What may be answered for a node's number.
+    ghost answers: { Self → ℕ → Option NodeLinks → Type 0 };
+
+    /// How many numbers there are.
+    ghost slot_count: { Self → ℕ };
+
+    /// The links of the node of this number, if there is one.
+    fn links(&self, no: u64) -> Option<Links>
+        ensures { answers self.now no result };
+
+    /// All numbers are below this one.
+    fn slots(&self) -> u64
+        ensures { result ≡ slot_count self.now };
+}
+
+/// Why a lookup found nothing.
+#[derive(Clone, Copy, Debug, PartialEq, Eq, Error)]
+pub enum LookupFault {
+    #[error("no node has the number")]
+    NoSuchNode,
+    #[error("the links led to no end")]
+    Unsettled,
+}
+
+/// The links of the last node before the target, by the hops from node `from`: at most twice as many as there are
+/// numbers.
+fn look_up<R: LinkReader>(reader: &R, from: u64, target: Id) -> Result<Links, LookupFault>
+    ensures found { IfOk result (λ last. EndsAt (R.answers reader.now) from target.number (2 * R.slot_count reader.now) last) }
+    ensures unsettled { result ≡ Err LookupFault.Unsettled → IsUnsettled (R.answers reader.now) from target.number (2 * R.slot_count reader.now) }
+    ensures missing { result ≡ Err LookupFault.NoSuchNode → R.answers reader.now from None }
+    ensures on_settled_ring { (ring : List Peer) → ReadsSettledRing (R.answers reader.now) (R.slot_count reader.now) from ring →
+        IsOkAnd result (λ last. IsPredecessor ring target.number last.me × IsSuccessor ring target.number (first_entry last)) }
+{
+    let Some(mut here) = reader.links(from) else {
+        return Err(LookupFault::NoSuchNode);
+    };
+    for forwards in 0..2 * u128::from(reader.slots()) {
+        match next_hop(&here, target) {
+            Hop::Last(_) => return Ok(here),
+            Hop::Near(peer) => match reader.links(peer.no) {
+                Some(links) => here = links,
+                None => return Err(LookupFault::Unsettled),
+            },
+        }
+    }
+    Err(LookupFault::Unsettled)
+}
+
+/// The node that the target belongs to, by a lookup from node `from`.
+pub fn find_successor<R: LinkReader>(reader: &R, from: u64, target: Id) -> Result<Peer, LookupFault>
+    ensures found { IfOk result (λ node. (last : NodeLinks) × EndsAt (R.answers reader.now) from target.number (2 * R.slot_count reader.now) last × (node ≡ first_entry last)) }
+    ensures unsettled { result ≡ Err LookupFault.Unsettled → IsUnsettled (R.answers reader.now) from target.number (2 * R.slot_count reader.now) }
+    ensures missing { result ≡ Err LookupFault.NoSuchNode → R.answers reader.now from None }
+    ensures on_settled_ring { (ring : List Peer) → ReadsSettledRing (R.answers reader.now) (R.slot_count reader.now) from ring →
+        IsOkAnd result (IsSuccessor ring target.number) }
+    ensures on_ideal_ring { (ring : List Peer) → ReadsIdealRing (R.answers reader.now) (R.slot_count reader.now) from ring →
+        IsOkAnd result (IsSuccessor ring target.number) }
+    ensures few_forwards { (ring : List Peer) → ReadsIdealRing (R.answers reader.now) (R.slot_count reader.now) from ring →
+        (n : ℕ) (here : NodeLinks) → ComesTo (R.answers reader.now) from target.number n here → n ≤ 128 }
+{
+    Ok(look_up(reader, from, target)?.first())
+}
+
+/// The last node before the target, by a lookup from node `from`.
+pub fn find_predecessor<R: LinkReader>(
+    reader: &R,
+    from: u64,
+    target: Id,
+) -> Result<Peer, LookupFault>
+    ensures found { IfOk result (λ node. (last : NodeLinks) × EndsAt (R.answers reader.now) from target.number (2 * R.slot_count reader.now) last × (node ≡ last.me)) }
+    ensures unsettled { result ≡ Err LookupFault.Unsettled → IsUnsettled (R.answers reader.now) from target.number (2 * R.slot_count reader.now) }
+    ensures missing { result ≡ Err LookupFault.NoSuchNode → R.answers reader.now from None }
+    ensures on_settled_ring { (ring : List Peer) → ReadsSettledRing (R.answers reader.now) (R.slot_count reader.now) from ring →
+        IsOkAnd result (IsPredecessor ring target.number) }
+    ensures on_ideal_ring { (ring : List Peer) → ReadsIdealRing (R.answers reader.now) (R.slot_count reader.now) from ring →
+        IsOkAnd result (IsPredecessor ring target.number) }
+{
+    Ok(look_up(reader, from, target)?.me())
+}
