@@ -1,5 +1,5 @@
 -- What an Ask does to a node, from what it does to a segment and a store.
-use Rattle.std.proofs.Common.{◌≡◌, ℕ, zero, suc, ◌<◌, Bool, true, false, cond, Option, None, Some, Result, Ok, Err, List, [], ◌∷◌, length, get_or, set, map, refl, sym, ◌∙◌, ap, subst, arith, leb}
+use Rattle.std.proofs.Common.{◌≡◌, ◌≢◌, ◌-◌, ◌||◌, ◌==◌, ℕ, zero, suc, ◌<◌, Bool, true, false, cond, Option, None, Some, Result, Ok, Err, List, [], ◌∷◌, length, get_or, set, map, refl, sym, ◌∙◌, ap, subst, arith, leb}
 use Rattle.std.proofs.lemmas.Bool.{ltb-false, leb-true}
 use Rattle.std.specs.Prelude.{find, position}
 use Rattle.std.specs.List.{position_or_len}
@@ -21,8 +21,10 @@ use Rattle.chord_node.specs.declared.answered.Answered.{Answered}
 use Rattle.chord_node.specs.declared.answered.Answered.TheVariants as answer
 use Rattle.chord_node.specs.declared.message.Message.TheVariants.{Ask as AskMessage}
 use Rattle.chord_node.specs.Node.{Node, NodeStep, segment_with, append_at, executed, done_of, told_of}
-use Rattle.chord_node.specs.Node.NodeStep.{Tells_again, Drops_seen, Executes, Answers_full, Drops}
+use Rattle.chord_node.specs.Node.NodeStep.{Tells_again, Drops_seen, Executes, Answers_full, Forwards, Drops}
 use Rattle.chord_node.specs.View.{knowns}
+use Rattle.chord_segment.proofs.MarkLemmas.{eqb_same}
+use Rattle.chord_node.specs.Passed.{peer_of, PassesOn}
 use Rattle.chord_node.specs.Asked.{adds, is_full_for, past_answer, past_done, segment_after, entries_after, AnswersIn, done_in, ask_done, after_done, sent_by, note_of, AnswersBy, AskIs, AskNotes, AskSteps, AskStepsNoting}
 
 -- ---- the segment at a place
@@ -120,11 +122,12 @@ note_none true = refl
 note_none false = refl
 
 -- what it answers where none has the key
-pub asked_elsewhere : (ask : Ask) (noting : Bool) (old : Node) (held : List RoomySegment) → old.held ≡ knowns held → find (has (id_of ask.request)) held ≡ None → AskNotes ask noting old (Ok (answer.Dropped, None)) old
+pub asked_elsewhere : (ask : Ask) (noting : Bool) (old : Node) (held : List RoomySegment) (answered : Answered) → old.held ≡ knowns held → find (has (id_of ask.request)) held ≡ None
+    → PassesOn old.links ask answered → AskNotes ask noting old (Ok (answered, None)) old
 unfolding ask_done
-asked_elsewhere ask noting old held e none =
+asked_elsewhere ask noting old held answered e none passed =
     let missed : segment_with (id_of ask.request) old.held ≡ None = ap (segment_with (id_of ask.request)) e ∙ find_none (id_of ask.request) held none in
-    ((subst (λ o. AnswersBy o ask old answer.Dropped) (sym missed) refl, ap (λ o. after_done (done_in o ask old) ask old) (sym missed)),
+    ((subst (λ o. AnswersBy o ask old answered) (sym missed) passed, ap (λ o. after_done (done_in o ask old) ask old) (sym missed)),
      note_none noting ∙ ap (λ o. note_of noting (done_in o ask old)) (sym missed))
 
 -- ---- the step
@@ -156,9 +159,21 @@ past_step ask old segment e Seen p = Drops_seen ask segment e p
 past_step ask old segment e (Kept done) p = Tells_again ask segment done e p
 past_step ask old segment e New p = full_step ask old segment e p (is_full_for ask.request old.entries old.limit) refl
 
+-- a call that is passed on has fewer hops
+passed_by : (ask : Ask) (old : Node) → segment_with (id_of ask.request) old.held ≡ None → (to : ℕ) (spent : Bool) → (spent ≡ false → ask.hops ≢ 0)
+    → NodeStep old (Some (AskMessage ask)) old (sent_by ask (cond spent answer.Dropped (answer.Forward to (record ask { hops = ask.hops - 1 })))) None
+passed_by ask old e to true some = Drops ask e
+passed_by ask old e to false some = let there : ask.hops ≢ 0 = some refl in Forwards ask (ask.hops - 1) e (omega arith)
+
+passed_step : (ask : Ask) (old : Node) → segment_with (id_of ask.request) old.held ≡ None → (to : ℕ)
+    → NodeStep old (Some (AskMessage ask)) old (sent_by ask (cond ((ask.hops == 0) || (to == old.links.me.no)) answer.Dropped (answer.Forward to (record ask { hops = ask.hops - 1 })))) None
+passed_step ask old e to =
+    passed_by ask old e to ((ask.hops == 0) || (to == old.links.me.no))
+    (λ none zero_hops. let yes : ((ask.hops == 0) || (to == old.links.me.no)) ≡ true = ap (λ b. b || (to == old.links.me.no)) (eqb_same ask.hops 0 zero_hops) in cc)
+
 ask_step : (ask : Ask) (old : Node) (answered : Answered) (o : Option Segment) → segment_with (id_of ask.request) old.held ≡ o → AnswersBy o ask old answered
     → NodeStep old (Some (AskMessage ask)) (after_done (done_in o ask old) ask old) (sent_by ask answered) (done_in o ask old)
-ask_step ask old answered None e h = rw h (Drops ask e)
+ask_step ask old answered None e (hop, next, is) = subst (λ a. NodeStep old (Some (AskMessage ask)) old (sent_by ask a) None) (sym is) (passed_step ask old e (peer_of hop).no)
 ask_step ask old answered (Some segment) e h = rw h (past_step ask old segment e (past_at ask.caller ask.number segment) refl)
 
 -- the exact answer is one step of the node
@@ -200,7 +215,8 @@ asked_at ask noting view old e held i s s' result pairs pairs' limit limit' v pl
     let T : ℕ → Type 0 = λ n. AnswersIn ask noting s.known view.entries n result s'.known pairs' in
     subst P e (asked_here ask noting view held i s s' result pairs' limit' v place (same ∙ same_limit) (subst Q at (subst T same_limit (subst R same_pairs h))))
 
-pub asked_past : (ask : Ask) (noting : Bool) (view old : Node) → view ≡ old → (held : List RoomySegment) → view.held ≡ knowns held → find (has (id_of ask.request)) held ≡ None → AskNotes ask noting old (Ok (answer.Dropped, None)) old
-asked_past ask noting view old e held v none =
-    let P : Node → Type 0 = λ old. AskNotes ask noting old (Ok (answer.Dropped, None)) old in
-    subst P e (asked_elsewhere ask noting view held v none)
+pub asked_past : (ask : Ask) (noting : Bool) (view old : Node) → view ≡ old → (held : List RoomySegment) (answered : Answered) → view.held ≡ knowns held
+    → find (has (id_of ask.request)) held ≡ None → PassesOn view.links ask answered → AskNotes ask noting old (Ok (answered, None)) old
+asked_past ask noting view old e held answered v none passed =
+    let P : Node → Type 0 = λ old. AskNotes ask noting old (Ok (answered, None)) old in
+    subst P e (asked_elsewhere ask noting view held answered v none passed)

@@ -18,6 +18,7 @@ use Rattle.chord_node.specs.declared.answered.Answered.{Answered}
 use Rattle.chord_node.specs.declared.answered.Answered.TheVariants as answer
 use Rattle.chord_node.specs.declared.message.Message.{Message}
 use Rattle.chord_node.specs.declared.message.Message.TheVariants.{Ask as AskMessage, Told as ToldMessage, Full as FullMessage}
+use Rattle.chord_node.specs.Passed.{PassesOn}
 use Rattle.chord_node.specs.Node.{Node, NodeStep, segment_with, executed, told_of, done_of}
 
 -- whether a reply adds a pair
@@ -110,7 +111,7 @@ sent_by ask answer.Dropped = None
 
 -- what a node answers by the segment that holds the key, if one does
 abbrev pub AnswersBy : Option Segment → Ask → Node → Answered → Type 0
-AnswersBy None ask node answered = answered ≡ answer.Dropped
+AnswersBy None ask node answered = PassesOn node.links ask answered
 AnswersBy (Some segment) ask node answered = answered ≡ past_answer (past_at ask.caller ask.number segment) ask node.entries node.limit
 
 -- what a node answers to an Ask, and what it is then. Where memory is wanting it is as it was

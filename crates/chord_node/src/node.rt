@@ -8,6 +8,7 @@ ghost use Rattle.chord_node.specs.Asked.{AskIs, AskNotes, AskSteps, AskStepsNoti
 
 use crate::answered::Answered;
 use crate::execute::answer_in;
+use crate::pass_on::pass_on;
 use crate::phase::Phase;
 use chord_caller::Ask;
 use chord_ident::{Id, Span};
@@ -71,7 +72,7 @@ impl<S: EntryStore> Node<S> {
     }
 
     /// Answers a call: again or for the first time where the node holds the key, with Full where its store has no
-    /// room for what the call would add.
+    /// room for what the call would add. A call for a key that it does not hold is passed on or dropped.
     pub fn on_ask(&mut self, ask: &Ask) -> Result<Answered, AllocError>
         ensures answer { AskIs ask.now self.old result self.new }
         ensures step { AskSteps ask.now self.old result self.new }
@@ -95,7 +96,8 @@ impl<S: EntryStore> Node<S> {
     {
         let x = Id::of_bytes(ask.request.key());
         let Some(place) = place_with(&self.held, x) else {
-            return Ok((Answered::Dropped, None));
+            let answered = pass_on(&self.links, ask)?;
+            return Ok((answered, None));
         };
         let segment = &mut self.held[place];
         let store = self.store.as_mut().unwrap();

@@ -13,10 +13,10 @@ returns-in_default-clause-answer g c =
     let held = c.self.inside.held.items in
     let x = c.of_bytes-x.ensures ∙ ap key_id c.key.ensures in
     let at = c.place_with.ensures ∙ ap (position (has c.of_bytes-x.result.number)) c.deref.ensures.value ∙ ap (λ (n : ℕ). position (has n) held) x in
-    asked_past c.args.ask.now c.args.noting _ _ c.self.view_is held refl (find_from (id_of c.args.ask.now.request) held (sym at ∙ c.in_default.is))
+    asked_past c.args.ask.now c.args.noting _ _ c.self.view_is held c.in_ok-answered.answered refl (find_from (id_of c.args.ask.now.request) held (sym at ∙ c.in_default.is)) c.in_ok-answered.ensures
 
 pub returns-in_default-clause-step : goal.returns-in_default-clause-step
-returns-in_default-clause-step g c = asked_steps_noting c.args.ask.now c.args.noting c.args.self.now (Ok (Dropped, None)) c.args.self.now (returns-in_default-clause-answer g c)
+returns-in_default-clause-step g c = asked_steps_noting c.args.ask.now c.args.noting c.args.self.now (Ok (c.in_ok-answered.answered, None)) c.args.self.now (returns-in_default-clause-answer g c)
 
 pub answer_in-requires : goal.answer_in-requires
 answer_in-requires g c =

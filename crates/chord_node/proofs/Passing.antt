@@ -1,0 +1,41 @@
+-- Calls that are passed on.
+use Rattle.std.proofs.Common.{◌≡◌, ◌≢◌, ℕ, ◌+◌, ◌-◌, ◌<◌, ◌≤◌, ◌||◌, ◌==◌, Bool, true, false, cond, refl, sym, ◌∙◌, ap, subst}
+use Rattle.std.proofs.Math.Bridge.{le_prop}
+use Rattle.chord_segment.proofs.MarkLemmas.{eqb_other}
+use Rattle.chord_segment.specs.Segment.{id_of}
+use Rattle.chord_links.specs.declared.peer.Peer.{Peer}
+use Rattle.chord_links.specs.NodeLinks.{NodeLinks}
+use Rattle.chord_route.specs.declared.hop.Hop.{Hop}
+use Rattle.chord_route.specs.Hops.{IsNextHop}
+use Rattle.chord_map.specs.declared.request.Request.{Request}
+use Rattle.chord_caller.specs.declared.ask.Ask.{Ask}
+use Rattle.chord_node.specs.declared.answered.Answered.{Answered}
+use Rattle.chord_node.specs.declared.answered.Answered.TheVariants.{Dropped, Forward}
+use Rattle.chord_node.specs.Passed.{peer_of, PassesOn}
+
+-- a copy of the call with a hop less
+same_passed : (ask : Ask) (request : Request) (above : ask.floor < ask.number) (near : ask.number ≤ ask.floor + 16) → request ≡ ask.request
+    → ◌≡◌ {A = Ask} (record { caller = ask.caller; number = ask.number; floor = ask.floor; request = request; hops = ask.hops - 1; above = above; near = near })
+    (record ask { hops = ask.hops - 1 })
+same_passed ask request above near e = λ i. record {
+  caller = ask.caller;
+  number = ask.number;
+  floor = ask.floor;
+  request = e i;
+  hops = ask.hops - 1;
+  above = le_prop above ask.above i;
+  near = le_prop near ask.near i;
+}
+
+-- it goes on to the next hop, which is another node
+pub passed_is : (links : NodeLinks) (ask : Ask) (hop : Hop) (peer : Peer) (target : ℕ) (me : ℕ) (request : Request) (above : ask.floor < ask.number) (near : ask.number ≤ ask.floor + 16)
+    → IsNextHop links target hop → target ≡ id_of ask.request → peer ≡ peer_of hop → me ≡ links.me.no → ask.hops ≢ 0 → peer.no ≢ me → request ≡ ask.request
+    → PassesOn links ask (Forward peer.no (record { caller = ask.caller; number = ask.number; floor = ask.floor; request = request; hops = ask.hops - 1; above = above; near = near }))
+passed_is links ask hop peer target me request above near next e p m some other r =
+    let spent : (ask.hops == 0) ≡ false = eqb_other ask.hops 0 some in
+    let itself : ((peer_of hop).no == links.me.no) ≡ false =
+        ap (λ (q : Peer). q.no == links.me.no) (sym p) ∙ ap (λ (n : ℕ). peer.no == n) (sym m) ∙ eqb_other peer.no me other in
+    let goes : cond ((ask.hops == 0) || ((peer_of hop).no == links.me.no)) Dropped (Forward (peer_of hop).no (record ask { hops = ask.hops - 1 })) ≡ Forward (peer_of hop).no (record ask { hops = ask.hops - 1 }) =
+        rw (spent, itself) refl in
+    (hop, subst (λ t. IsNextHop links t hop) e next,
+     ap (Forward peer.no) (same_passed ask request above near r) ∙ ap (λ (q : Peer). Forward q.no (record ask { hops = ask.hops - 1 })) p ∙ sym goes)

@@ -1,0 +1,25 @@
+-- What becomes of a call for a key that the node does not hold.
+use Rattle.std.specs.Prelude.{◌≡◌, ℕ, ◌-◌, ◌==◌, ◌||◌, if◌then◌else◌}
+use Rattle.chord_links.specs.declared.peer.Peer.{Peer}
+use Rattle.chord_links.specs.NodeLinks.{NodeLinks}
+use Rattle.chord_route.specs.declared.hop.Hop.{Hop}
+use Rattle.chord_route.specs.declared.hop.Hop.TheVariants.{Last, Near}
+use Rattle.chord_route.specs.Hops.{IsNextHop}
+use Rattle.chord_segment.specs.Segment.{id_of}
+use Rattle.chord_caller.specs.declared.ask.Ask.{Ask}
+use Rattle.chord_node.specs.declared.answered.Answered.{Answered}
+use Rattle.chord_node.specs.declared.answered.Answered.TheVariants.{Dropped, Forward}
+
+-- the node that a hop goes to
+abbrev pub peer_of : Hop → Peer
+peer_of (Last peer) = peer
+peer_of (Near peer) = peer
+
+-- it goes on to that node with one hop less, and is dropped where its hops are spent or that node is this one
+abbrev pub passed_to : NodeLinks → Ask → Peer → Answered
+passed_to links ask peer =
+    if (ask.hops == 0) || (peer.no == links.me.no) then Dropped else Forward peer.no (record ask { hops = ask.hops - 1 })
+
+-- the call goes on by the next hop
+abbrev pub PassesOn : NodeLinks → Ask → Answered → Type 0
+PassesOn links ask answered = (hop : Hop) × IsNextHop links (id_of ask.request) hop × (answered ≡ passed_to links ask (peer_of hop))

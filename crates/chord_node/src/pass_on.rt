@@ -1,0 +1,41 @@
+//! Calls for keys that the node does not hold.
+ghost use Rattle.std.specs.Prelude.{◌≡◌, IfOk};
+ghost use Rattle.chord_node.specs.Passed.{peer_of, PassesOn};
+
+use crate::answered::Answered;
+use chord_caller::Ask;
+use chord_ident::Id;
+use chord_links::{Links, Peer};
+use chord_route::{Hop, next_hop};
+use std::alloc::AllocError;
+
+/// The node that a hop goes to.
+fn peer_of_hop(hop: Hop) -> Peer
+    ensures { result ≡ peer_of hop }
+{
+    match hop {
+        Hop::Last(peer) => peer,
+        Hop::Near(peer) => peer,
+    }
+}
+
+/// Passes the call on to the next hop, with one hop less. It is dropped where its hops are spent or the node knows no
+/// other.
+pub(crate) fn pass_on(links: &Links, ask: &Ask) -> Result<Answered, AllocError>
+    ensures { IfOk result (λ answered. PassesOn links.now ask.now answered) }
+{
+    let target = Id::of_bytes(ask.request.key());
+    let peer = peer_of_hop(next_hop(links, target));
+    if ask.hops == 0 || peer.no == links.me().no {
+        return Ok(Answered::Dropped);
+    }
+    let request = ask.request.try_copy()?;
+    let passed = Ask {
+        caller: ask.caller,
+        number: ask.number,
+        floor: ask.floor,
+        request,
+        hops: ask.hops - 1,
+    };
+    Ok(Answered::Forward(peer.no, passed))
+}
