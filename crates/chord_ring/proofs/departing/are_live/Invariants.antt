@@ -1,0 +1,11 @@
+use Rattle.std.proofs.Common.{◌≡◌, ℕ, ◌<◌, None, Some}
+use Rattle.std.specs.Prelude.{slice_set, IsSome}
+use Rattle.chord_links.specs.NodeLinks.{NodeLinks}
+use Rattle.chord_ring.specs.Ring.{links_of, first_live}
+use Rattle.chord_ring.proofs.departing.are_live.Given as goal
+
+-- each member so far has a live entry
+abbrev pub invariant-loop-no : goal.invariant-loop-no
+invariant-loop-no l =
+    (node : ℕ) → node < l.no → (links : NodeLinks) → links_of (slice_set l.members l.gone None) node ≡ Some links
+    → IsSome (first_live (slice_set l.members l.gone None) links.entries)

@@ -1,0 +1,126 @@
+-- The steps of a ring.
+use Rattle.std.specs.Prelude.{◌≡◌, ℕ, ◌<◌, List, [], ◌∷◌, ◌++◌, Option, Some, None, Bool, IsTrue, slice_set, length, drop, true, false, not, ◌||◌, ◌^◌, if◌then◌else◌}
+use Rattle.std.specs.List.{Contains}
+use Rattle.chord_ident.specs.declared.id.Id.{Id}
+use Rattle.chord_ident.specs.Circle.{IsBetween, cuts}
+use Rattle.chord_links.specs.Fingers.{no_fingers}
+use Rattle.chord_links.specs.declared.peer.Peer.{Peer}
+use Rattle.chord_links.specs.NodeLinks.{NodeLinks, alone, first_entry, with_entries}
+use Rattle.chord_links.specs.Successors.{behind_successor, behind_predecessor}
+use Rattle.chord_ring.specs.Ring.{Members, links_of, is_member, CanDepart}
+use Rattle.chord_ring.specs.declared.ring_step.RingStep.{RingStep}
+use Rattle.chord_ring.specs.declared.ring_step.RingStep.TheVariants.{Join, Stabilise, Candidate, DropDead, Rectify}
+
+-- the identifier of each node that ever was, and the links of each member, by number
+pub record Ring : Type 0 where
+  pub ids : List ℕ
+  pub members : Members
+
+-- the links of a new node, behind its predecessor
+abbrev pub joined : Peer → NodeLinks → NodeLinks
+joined new pred = record { me = new; r = pred.r; predecessor = Some pred.me; entries = behind_predecessor new.id.number pred.r pred.entries; fingers = no_fingers new }
+
+-- the links with the list of this first entry behind it
+abbrev pub behind : NodeLinks → NodeLinks → NodeLinks
+behind links head = with_entries links (behind_successor links.me.id.number links.r head.me head.entries)
+
+-- the links without the first entry
+abbrev pub without_head : NodeLinks → NodeLinks
+without_head links = with_entries links (drop 1 links.entries)
+
+-- the test of IsBetween: whether the identifier lies between two others
+abbrev pub is_between : Id → Id → Id → Bool
+is_between after x upto = cuts (record { after = after; upto = upto }) x
+
+-- a peer that lies between a node and another
+abbrev pub peer_between : NodeLinks → NodeLinks → Option Peer → Option Peer
+peer_between links head None = None
+peer_between links head (Some peer) = if is_between links.me.id peer.id head.me.id then Some peer else None
+
+-- what a member learns of its first entry: that entry's predecessor, where it lies between the two
+abbrev pub candidate_of : NodeLinks → NodeLinks → Option Peer
+candidate_of links head = peer_between links head head.predecessor
+
+-- this predecessor gives way: there is none, or it is dead, or the notifier lies between it and the node
+abbrev pub gives_way : Peer → Peer → Bool → Option Peer → Bool
+gives_way me notifier live None = true
+gives_way me notifier live (Some predecessor) =
+    not live || is_between predecessor.id notifier.id me.id
+
+-- the links with the notifier as predecessor, where the old one gives way
+abbrev pub rectified : NodeLinks → Peer → Bool → NodeLinks
+rectified links notifier gives = if gives then record links { predecessor = Some notifier } else links
+
+-- the peer, if there is one, is live
+abbrev pub is_live : Members → Option Peer → Bool
+is_live members None = false
+is_live members (Some peer) = is_member members peer.no
+
+-- the ring with other links of one member
+abbrev pub with_links : Ring → ℕ → NodeLinks → Ring
+with_links ring node links = record ring { members = slice_set ring.members node (Some links) }
+
+-- a node with this identifier joins behind a member
+pub record Joins (old : Ring) (id pred : ℕ) (new : Ring) : Type 0 where
+  pub links : NodeLinks
+  pub is_its : links_of old.members pred ≡ Some links
+  pub is_id : id < 2 ^ 128
+  pub is_unused : ¬ (Contains old.ids id)
+  pub is_between : IsBetween links.me.id.number id (first_entry links).id.number
+  pub ids : new.ids ≡ old.ids ++ id ∷ []
+  pub members : new.members ≡ old.members ++ Some (joined (record { no = length old.ids; id = record { number = id } }) links) ∷ []
+
+-- a member copies the list of its first entry, which is live
+pub record Stabilises (old : Ring) (node head : ℕ) (new : Ring) : Type 0 where
+  pub links : NodeLinks
+  pub theirs : NodeLinks
+  pub is_its : links_of old.members node ≡ Some links
+  pub is_live : links_of old.members head ≡ Some theirs
+  pub is_first : first_entry links ≡ theirs.me
+  pub result : new ≡ with_links old node (behind links theirs)
+
+-- a member takes a live node between itself and its first entry as its first entry
+pub record TakesCandidate (old : Ring) (node peer : ℕ) (new : Ring) : Type 0 where
+  pub links : NodeLinks
+  pub theirs : NodeLinks
+  pub is_its : links_of old.members node ≡ Some links
+  pub is_live : links_of old.members peer ≡ Some theirs
+  pub is_between : IsBetween links.me.id.number theirs.me.id.number (first_entry links).id.number
+  pub result : new ≡ with_links old node (behind links theirs)
+
+-- a member drops its first entry, which is dead
+pub record DropsDead (old : Ring) (node : ℕ) (new : Ring) : Type 0 where
+  pub links : NodeLinks
+  pub is_its : links_of old.members node ≡ Some links
+  pub is_dead : ¬ (IsTrue (is_member old.members (first_entry links).no))
+  pub result : new ≡ with_links old node (without_head links)
+
+-- a member hears of a member that may be its predecessor
+pub record Rectifies (old : Ring) (node notifier : ℕ) (new : Ring) : Type 0 where
+  pub links : NodeLinks
+  pub theirs : NodeLinks
+  pub is_its : links_of old.members node ≡ Some links
+  pub is_theirs : links_of old.members notifier ≡ Some theirs
+  pub result : new ≡ with_links old node (rectified links theirs.me (gives_way links.me theirs.me (is_live old.members links.predecessor) links.predecessor))
+
+-- one step of the ring
+abbrev pub Step : Ring → RingStep → Ring → Type 0
+Step old (Join id pred) new = Joins old id.number pred new
+Step old (Stabilise node head) new = Stabilises old node head new
+Step old (Candidate node peer) new = TakesCandidate old node peer new
+Step old (DropDead node) new = DropsDead old node new
+Step old (Rectify node notifier) new = Rectifies old node notifier new
+
+-- the ring of one node, which knows no other
+abbrev pub founded : ℕ → ℕ → Ring
+founded id r = record { ids = id ∷ []; members = Some (alone (record { no = 0; id = record { number = id } }) r) ∷ [] }
+
+-- the ring without this member
+abbrev pub without : Ring → ℕ → Ring
+without ring node = record ring { members = slice_set ring.members node None }
+
+-- a ring that a list of steps and departures leads to, each departure leaving the others settled
+pub data IsReached : Ring → Type 0 where
+  is_founded : (id r : ℕ) → id < 2 ^ 128 → 0 < r → IsReached (founded id r)
+  after_step : {old new : Ring} (step : RingStep) → IsReached old → Step old step new → IsReached new
+  after_departure : {old : Ring} (node : ℕ) → IsReached old → CanDepart old.members node → IsReached (without old node)
