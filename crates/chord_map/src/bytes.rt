@@ -1,5 +1,8 @@
 //! Byte strings that contracts see as lists.
-ghost use Rattle.std.specs.Prelude.{◌≡◌, ℕ, List, [], IfOk};
+ghost use Rattle.std.specs.Prelude.{◌≡◌, ◌↔◌, ℕ, List, IsTrue, IfOk};
+ghost use Rattle.std.specs.Str.{bytes_eq};
+ghost use Rattle.std.specs.Cmp.{partial_equiv_from_equiv};
+ghost use Rattle.std.specs.Cmp.Lexicographic.{nat_list_eq_equiv};
 
 use std::alloc::{AllocError, Global};
 use std::marker::Model;
@@ -23,6 +26,20 @@ impl Bytes {
         Bytes { items }
     }
 
+    /// A copy of the bytes.
+    pub fn from_slice(alloc: Global, bytes: &[u8]) -> Result<Bytes, AllocError>
+        ensures { IfOk result (λ copy. copy ≡ bytes.now) }
+    {
+        let items = Vec::from_slice(alloc, bytes)?;
+        Ok(Bytes { items })
+    }
+
+    pub fn into_vec(self) -> Vec<u8>
+        ensures { result.items ≡ self }
+    {
+        self.items
+    }
+
     pub fn as_slice(&self) -> &[u8]
         ensures { result.now ≡ self.now }
     {
@@ -33,44 +50,23 @@ impl Bytes {
     pub fn try_copy(&self) -> Result<Bytes, AllocError>
         ensures { IfOk result (λ copy. copy ≡ self.now) }
     {
-        let items = Vec::from_slice(*self.items.allocator(), self.items.as_slice())?;
-        Ok(Bytes { items })
+        Bytes::from_slice(*self.items.allocator(), self.items.as_slice())
     }
 }
 
-/// A list of values.
-#[derive(Debug, Drop)]
-pub struct Values {
-    items: Vec<Bytes>,
+impl PartialEq for Bytes {
+    ghost eq = { bytes_eq };
+
+    ghost laws = { partial_equiv_from_equiv nat_list_eq_equiv };
+
+    fn eq(&self, other: &Bytes) -> bool
+        ensures test { result ≡ bytes_eq self.now other.now }
+        ensures same { IsTrue result ↔ (self.now ≡ other.now) }
+    {
+        self.items.as_slice() == other.items.as_slice()
+    }
 }
 
-impl Model for Values {
-    ghost Value = { List (List ℕ) };
-
-    ghost view = { λ values. values.items.items };
-}
-
-impl Values {
-    pub fn from_vec(items: Vec<Bytes>) -> Values
-        ensures { result ≡ items.items }
-    {
-        Values { items }
-    }
-
-    pub fn as_slice(&self) -> &[Bytes]
-        ensures { result.now ≡ self.now }
-    {
-        self.items.as_slice()
-    }
-
-    /// An equal copy.
-    pub fn try_copy(&self) -> Result<Values, AllocError>
-        ensures { IfOk result (λ copy. copy ≡ self.now) }
-    {
-        let mut items = Vec::with_capacity(*self.items.allocator(), self.items.len())?;
-        for bytes in self.items.iter() {
-            items.push(bytes.try_copy()?)?;
-        }
-        Ok(Values { items })
-    }
+impl Eq for Bytes {
+    ghost laws = { nat_list_eq_equiv };
 }

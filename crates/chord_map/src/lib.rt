@@ -1,12 +1,15 @@
-//! Requests, replies and the map of sets.
+//! Requests, replies and the plain map of sets.
 #![tactic(auto)]
 
 pub mod bytes;
+pub mod limits;
 pub mod pair;
 pub mod reply;
 pub mod request;
+pub mod values;
 
-pub use bytes::{Bytes, Values};
+pub use bytes::Bytes;
 pub use pair::Pair;
 pub use reply::Reply;
-pub use request::Request;
+pub use request::{Request, RequestFault};
+pub use values::Values;

@@ -1,9 +1,9 @@
 //! What a caller may be told.
-ghost use Rattle.std.specs.Prelude.{◌≡◌, IfOk};
+ghost use Rattle.std.specs.Prelude.{◌≡◌, ◌↔◌, IsTrue, IfOk};
 ghost use Rattle.chord_map.specs.Map.{fits};
 
-use crate::bytes::Values;
 use crate::request::Request;
+use crate::values::Values;
 use std::alloc::AllocError;
 
 #[derive(Debug, Drop)]
@@ -42,4 +42,35 @@ impl Reply {
             _ => false,
         }
     }
+}
+
+impl PartialEq for Reply {
+    ghost use Rattle.std.specs.Prelude.{◌≡◌, ◌↔◌, IsTrue};
+    ghost use Rattle.std.specs.Cmp.{partial_equiv_from_equiv};
+    ghost use Rattle.chord_map.specs.Same.{same_reply, same_reply-equiv};
+
+    ghost eq = { same_reply };
+
+    ghost laws = { partial_equiv_from_equiv same_reply-equiv };
+
+    fn eq(&self, other: &Reply) -> bool
+        ensures test { result ≡ same_reply self.now other.now }
+        ensures same { IsTrue result ↔ (self.now ≡ other.now) }
+    {
+        match (self, other) {
+            (Reply::Added, Reply::Added) => true,
+            (Reply::Present, Reply::Present) => true,
+            (Reply::SetFull, Reply::SetFull) => true,
+            (Reply::Values(values), Reply::Values(others)) => values == others,
+            (Reply::Removed, Reply::Removed) => true,
+            (Reply::Absent, Reply::Absent) => true,
+            _ => false,
+        }
+    }
+}
+
+impl Eq for Reply {
+    ghost use Rattle.chord_map.specs.Same.{same_reply-equiv};
+
+    ghost laws = { same_reply-equiv };
 }

@@ -1,0 +1,91 @@
+//! Lists of values.
+ghost use Rattle.std.specs.Prelude.{◌≡◌, ◌↔◌, ◌++◌, ◌∷◌, ℕ, List, [], IsTrue, IfOk, OnOk, OnErr};
+
+use crate::bytes::Bytes;
+use std::alloc::{AllocError, Global};
+use std::marker::Model;
+
+/// The values under a key.
+#[derive(Debug, Drop)]
+pub struct Values {
+    items: Vec<Bytes>,
+}
+
+impl Model for Values {
+    ghost use Rattle.std.specs.Prelude.{ℕ, List};
+
+    ghost Value = { List (List ℕ) };
+
+    ghost view = { λ values. values.items.items };
+}
+
+impl Values {
+    pub fn new(alloc: Global) -> Values
+        ensures { result ≡ [] }
+    {
+        Values {
+            items: Vec::new(alloc),
+        }
+    }
+
+    pub fn from_vec(items: Vec<Bytes>) -> Values
+        ensures { result ≡ items.items }
+    {
+        Values { items }
+    }
+
+    pub fn into_vec(self) -> Vec<Bytes>
+        ensures { result.items ≡ self }
+    {
+        self.items
+    }
+
+    pub fn as_slice(&self) -> &[Bytes]
+        ensures { result.now ≡ self.now }
+    {
+        self.items.as_slice()
+    }
+
+    /// Adds a value at the end.
+    pub fn push(&mut self, value: Bytes) -> Result<(), AllocError>
+        ensures ok { OnOk result (self.new ≡ self.old ++ value ∷ []) }
+        ensures err { OnErr result (self.new ≡ self.old) }
+    {
+        self.items.push(value)?;
+        Ok(())
+    }
+
+    /// An equal copy.
+    pub fn try_copy(&self) -> Result<Values, AllocError>
+        ensures { IfOk result (λ copy. copy ≡ self.now) }
+    {
+        let mut items = Vec::with_capacity(*self.items.allocator(), self.items.len())?;
+        for bytes in self.items.iter() {
+            items.push(bytes.try_copy()?)?;
+        }
+        Ok(Values { items })
+    }
+}
+
+impl PartialEq for Values {
+    ghost use Rattle.std.specs.Prelude.{◌≡◌, ◌↔◌, IsTrue};
+    ghost use Rattle.std.specs.Cmp.{partial_equiv_from_equiv};
+    ghost use Rattle.chord_map.specs.Same.{same_values, same_values-equiv};
+
+    ghost eq = { same_values };
+
+    ghost laws = { partial_equiv_from_equiv same_values-equiv };
+
+    fn eq(&self, other: &Values) -> bool
+        ensures test { result ≡ same_values self.now other.now }
+        ensures same { IsTrue result ↔ (self.now ≡ other.now) }
+    {
+        self.items.as_slice() == other.items.as_slice()
+    }
+}
+
+impl Eq for Values {
+    ghost use Rattle.chord_map.specs.Same.{same_values-equiv};
+
+    ghost laws = { same_values-equiv };
+}

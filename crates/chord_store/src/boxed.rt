@@ -1,0 +1,40 @@
+//! A boxed store is a store.
+use crate::outcome::{Inserted, StoreFault};
+use crate::store::EntryStore;
+use chord_ident::Span;
+use chord_map::{Pair, Values};
+use std::alloc::{AllocError, Global};
+
+impl EntryStore for Box<dyn EntryStore + Send> {
+    ghost content = { λ b. (EntryStore-box b).content b.value };
+
+    ghost limit = { λ b. (EntryStore-box b).limit b.value };
+
+    fn insert(&mut self, key: &[u8], value: &[u8]) -> Result<Inserted, StoreFault> {
+        (**self).insert(key, value)
+    }
+
+    fn remove(&mut self, key: &[u8], value: &[u8]) -> bool {
+        (**self).remove(key, value)
+    }
+
+    fn take_out(&mut self, span: &Span) {
+        (**self).take_out(span)
+    }
+
+    fn count(&self) -> u64 {
+        (**self).count()
+    }
+
+    fn values(&self, alloc: Global, key: &[u8]) -> Result<Values, AllocError> {
+        (**self).values(alloc, key)
+    }
+
+    fn copy_span(&self, alloc: Global, span: &Span) -> Result<Vec<Pair>, AllocError> {
+        (**self).copy_span(alloc, span)
+    }
+
+    fn put_all(&mut self, span: &Span, pairs: &[Pair]) -> Result<(), StoreFault> {
+        (**self).put_all(span, pairs)
+    }
+}

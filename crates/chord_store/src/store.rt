@@ -1,0 +1,57 @@
+//! What every store does.
+ghost use Rattle.std.specs.Prelude.{◌≡◌, ◌≤◌, ℕ, [], List, length, IfOk};
+ghost use Rattle.chord_map.specs.declared.pair.Pair.{Pair};
+ghost use Rattle.chord_map.specs.Map.{has_pair, remove_pair, values_at};
+ghost use Rattle.chord_map.specs.Pairs.{IsRising};
+ghost use Rattle.chord_store.specs.Inside.{pairs_inside, pairs_outside};
+ghost use Rattle.chord_store.specs.Store.{InsertIs, PutAllIs};
+
+use crate::outcome::{Inserted, StoreFault};
+use chord_ident::Span;
+use chord_map::{Pair, Values};
+use std::alloc::{AllocError, Global};
+
+/// A map of sets, as the rising list of its pairs, with a limit on how many they are.
+pub trait EntryStore: Drop {
+    ghost content: { Self → List Pair };
+
+    ghost limit: { Self → ℕ };
+
+    /// Adds the value to the set under the key. A value that is there and a set that is full are
+    /// seen before the limit, and want of memory last.
+    fn insert(&mut self, key: &[u8], value: &[u8]) -> Result<Inserted, StoreFault>
+        ensures answer { InsertIs (record { key = key.now; value = value.now }) (content self.old) (limit self.old) result (content self.new) }
+        ensures limit { limit self.new ≡ limit self.old };
+
+    /// Takes the value out of the set under the key, and says whether it was there.
+    fn remove(&mut self, key: &[u8], value: &[u8]) -> bool
+        ensures was_there { result ≡ has_pair (record { key = key.now; value = value.now }) (content self.old) }
+        ensures change { content self.new ≡ remove_pair (record { key = key.now; value = value.now }) (content self.old) }
+        ensures limit { limit self.new ≡ limit self.old };
+
+    /// Drops the pairs whose keys lie in the span.
+    fn take_out(&mut self, span: &Span)
+        ensures change { content self.new ≡ pairs_outside span.now (content self.old) }
+        ensures limit { limit self.new ≡ limit self.old };
+
+    /// How many pairs it has.
+    fn count(&self) -> u64
+        ensures { result ≡ length (content self.now) };
+
+    /// The values under the key, in byte order.
+    fn values(&self, alloc: Global, key: &[u8]) -> Result<Values, AllocError>
+        ensures { IfOk result (λ values. values ≡ values_at key.now (content self.now)) };
+
+    /// Copies of the pairs whose keys lie in the span, by key bytes and then by value bytes.
+    fn copy_span(&self, alloc: Global, span: &Span) -> Result<Vec<Pair>, AllocError>
+        ensures { IfOk result (λ pairs. pairs.items ≡ pairs_inside span.now (content self.now)) };
+
+    /// Adds the pairs, which lie in a span where the store has nothing: all of them or none.
+    fn put_all(&mut self, span: &Span, pairs: &[Pair]) -> Result<(), StoreFault>
+        requires vacant { pairs_inside span.now (content self.old) ≡ [] }
+        requires within { pairs_inside span.now pairs.now ≡ pairs.now }
+        requires rising { IsRising pairs.now }
+        requires few { (key : List ℕ) → length (values_at key pairs.now) ≤ 1000 }
+        ensures answer { PutAllIs pairs.now (content self.old) (limit self.old) result (content self.new) }
+        ensures limit { limit self.new ≡ limit self.old };
+}
