@@ -1,0 +1,19 @@
+-- What a call answers is a caller's event.
+use Rattle.std.proofs.Common.{None, Some, Ok, sym, subst}
+use Rattle.chord_map.specs.declared.request.Request.{Request}
+use Rattle.chord_caller.specs.declared.ask.Ask.{Ask}
+use Rattle.chord_caller.specs.declared.told.Told.{Told}
+use Rattle.chord_caller.specs.declared.heard.Heard.TheVariants.{Fresh, Known}
+use Rattle.chord_caller.specs.Caller.{Caller, AskLetter, ToldLetter, CallerStep}
+use Rattle.chord_caller.specs.Caller.CallerStep.{Submits, Takes, Ignores}
+use Rattle.chord_caller.specs.Answers.{SubmitIs, TakeIs}
+use Rattle.chord_caller.proofs.Views.{known_stale}
+
+pub submit_steps : (request : Request) (old : Caller) (ask : Ask) (new : Caller) → SubmitIs request old (Ok ask) new → CallerStep old None new (Some (AskLetter ask))
+submit_steps request old ask new h = subst (λ (caller : Caller). CallerStep old None caller (Some (AskLetter ask))) (sym h.4) (Submits request ask h.1 h.3)
+
+pub fresh_steps : (told : Told) (old new : Caller) → TakeIs told old (Ok Fresh) new → CallerStep old (Some (ToldLetter told)) new None
+fresh_steps told old new h = subst (λ (caller : Caller). CallerStep old (Some (ToldLetter told)) caller None) (sym h.2) (Takes told h.0 h.1)
+
+pub known_steps : (told : Told) (old new : Caller) → TakeIs told old (Ok Known) new → CallerStep old (Some (ToldLetter told)) new None
+known_steps told old new h = subst (λ (caller : Caller). CallerStep old (Some (ToldLetter told)) caller None) (sym h.2) (Ignores told (known_stale told old h.1))

@@ -1,0 +1,72 @@
+-- What a caller's fields say of the caller that it is.
+use Rattle.std.proofs.Common.{◌≡◌, ℕ, ◌+◌, Bool, true, false, not, ◌&&◌, eqb, Option, None, Some, List, length, option_map, refl, sym, ◌∙◌, ap}
+use Rattle.std.proofs.lemmas.List.{length-map}
+use Rattle.std.proofs.lemmas.Bool.{cond-true, cond-false, and_from}
+use Rattle.chord_map.specs.Map.{fits}
+use Rattle.chord_segment.specs.declared.done.Done.{Done}
+use Rattle.chord_segment.proofs.MarkLemmas.{eqb_same}
+use Rattle.chord_caller.specs.declared.told.Told.{Told}
+use Rattle.chord_caller.specs.declared.submitted.Submitted.{Submitted}
+use Rattle.chord_caller.specs.Caller.{Submission, Caller, submission_at, is_taken, floor_of, next_number, fitting, fresh_for}
+use Rattle.chord_caller.specs.Submitted.{submitted_at, progress_of, is_over, IsFloor, IsTied, submission_of, caller_of}
+use Rattle.chord_caller.specs.Answers.{is_pending}
+use Rattle.chord_caller.proofs.Floors.{is_taken_is, floor_of_is}
+use Rattle.chord_caller.proofs.Waiting.{is_waiting, submission_at_is, is_pending_is}
+
+-- the caller's number, window, floor and next number
+pub record Shows (number window floor count : ℕ) (caller : Caller) : Type 0 where
+  pub number_is : number ≡ caller.number
+  pub window_is : window ≡ caller.window
+  pub floor_is : floor ≡ floor_of caller
+  pub next_is : count + 1 ≡ next_number caller
+
+pub shows : (number window floor : ℕ) (submitted : List Submitted) (mine told : List Done) (caller : Caller) → caller_of number window submitted mine told ≡ caller
+    → IsTied number submitted mine → IsFloor floor submitted → Shows number window floor (length submitted) caller
+shows number window floor submitted mine told caller view tied floors = record {
+  number_is = ap (λ (c : Caller). c.number) view;
+  window_is = ap (λ (c : Caller). c.window) view;
+  floor_is = sym (floor_of_is number window floor submitted mine told tied floors) ∙ ap floor_of view;
+  next_is = ap (λ n. n + 1) (sym (length-map submitted (submission_of mine))) ∙ ap next_number view;
+}
+
+-- a number is pending where its request waits
+pub pending_asked : (number window : ℕ) (submitted : List Submitted) (mine told : List Done) (caller : Caller) → caller_of number window submitted mine told ≡ caller
+    → IsTied number submitted mine → (asked : ℕ) (o : Option Submitted) → o ≡ submitted_at asked submitted → is_waiting (progress_of o) ≡ is_pending asked caller
+pending_asked number window submitted mine told caller view tied asked o e =
+    ap (λ s. is_waiting (progress_of s)) e ∙ sym (is_pending_is number window submitted mine told tied asked) ∙ ap (is_pending asked) view
+
+-- a number is taken where its request is over
+pub taken_asked : (number window : ℕ) (submitted : List Submitted) (mine told : List Done) (caller : Caller) → caller_of number window submitted mine told ≡ caller
+    → IsTied number submitted mine → (asked : ℕ) (o : Option Submitted) → o ≡ submitted_at asked submitted → is_taken caller asked ≡ is_over (progress_of o)
+taken_asked number window submitted mine told caller view tied asked o e =
+    ap (λ c. is_taken c asked) (sym view) ∙ is_taken_is number window submitted mine told tied asked ∙ ap (λ s. is_over (progress_of s)) (sym e)
+
+-- the submission of a number is what is kept of it
+pub submission_asked : (number window : ℕ) (submitted : List Submitted) (mine told : List Done) (caller : Caller) → caller_of number window submitted mine told ≡ caller
+    → (asked : ℕ) (o : Option Submitted) → o ≡ submitted_at asked submitted → submission_at asked caller.submitted ≡ option_map (submission_of mine) o
+submission_asked number window submitted mine told caller view asked o e =
+    ap (λ (c : Caller). submission_at asked c.submitted) (sym view) ∙ submission_at_is mine submitted asked ∙ ap (option_map (submission_of mine)) (sym e)
+
+fitting_is : (told : Told) (o : Option Submission) (submission : Submission) → o ≡ Some submission → fits told.reply submission.request ≡ true → fitting told.reply o ≡ Some submission.request
+fitting_is told o submission e fit = ap (fitting told.reply) e ∙ cond-true (fits told.reply submission.request) (Some submission.request) None fit
+
+-- the pending request that a reply fits
+pub fresh_is : (told : Told) (caller : Caller) (submission : Submission) → told.caller ≡ caller.number → is_taken caller told.number ≡ false
+    → submission_at told.number caller.submitted ≡ Some submission → fits told.reply submission.request ≡ true → fresh_for told caller ≡ Some submission.request
+unfolding fresh_for
+fresh_is told caller submission own waits at fit =
+    cond-true (eqb told.caller caller.number && not (is_taken caller told.number)) (fitting told.reply (submission_at told.number caller.submitted)) None
+    (and_from (eqb told.caller caller.number) (not (is_taken caller told.number)) (eqb_same told.caller caller.number own) (ap not waits))
+    ∙ fitting_is told (submission_at told.number caller.submitted) submission at fit
+
+-- a reply to a taken call is not fresh
+pub known_stale : (told : Told) (caller : Caller) → is_taken caller told.number ≡ true → fresh_for told caller ≡ None
+unfolding fresh_for
+known_stale told caller taken =
+    cond-false (eqb told.caller caller.number && not (is_taken caller told.number)) (fitting told.reply (submission_at told.number caller.submitted)) None
+    (off (eqb told.caller caller.number) (is_taken caller told.number) taken)
+  where
+    off : (own taken : Bool) → taken ≡ true → (own && not taken) ≡ false
+    off true true e = refl
+    off true false e = cc
+    off false taken e = refl

@@ -1,0 +1,90 @@
+-- What a caller keeps of each submitted request: while it waits the request, and then its place among the calls taken.
+use Rattle.std.specs.Prelude.{◌≡◌, ℕ, zero, suc, ◌+◌, ◌≤◌, Bool, true, false, Option, None, Some, List, [], ◌∷◌, ◌++◌, map, length, slice_get, slice_set}
+use Rattle.chord_map.specs.declared.request.Request.{Request}
+use Rattle.chord_map.specs.declared.request.Request.TheVariants.{Retrieve}
+use Rattle.chord_segment.specs.declared.done.Done.{Done}
+use Rattle.chord_caller.specs.declared.submitted.Progress.{Progress}
+use Rattle.chord_caller.specs.declared.submitted.Progress.TheVariants.{Pending, Taken}
+use Rattle.chord_caller.specs.declared.submitted.Submitted.{Submitted}
+use Rattle.chord_caller.specs.declared.told.Told.{Told}
+use Rattle.chord_caller.specs.Caller.{Submission, Caller}
+
+-- what is kept of the request of this number
+abbrev pub submitted_at : ℕ → List Submitted → Option Submitted
+submitted_at zero submitted = None
+submitted_at (suc place) submitted = slice_get submitted place
+
+-- how far that request has come
+abbrev pub progress_of : Option Submitted → Option Progress
+progress_of None = None
+progress_of (Some entry) = Some entry.progress
+
+abbrev pub progress_at : ℕ → List Submitted → Option Progress
+progress_at number submitted = progress_of (submitted_at number submitted)
+
+-- its reply was taken
+abbrev pub is_over : Option Progress → Bool
+is_over None = false
+is_over (Some (Pending request)) = false
+is_over (Some (Taken place)) = true
+
+-- all numbers up to this one are taken
+abbrev pub AreTaken : ℕ → List Submitted → Type 0
+AreTaken floor submitted = (number : ℕ) → 1 ≤ number → number ≤ floor → is_over (progress_at number submitted) ≡ true
+
+-- this is the greatest number with all up to it taken
+pub record IsFloor (floor : ℕ) (submitted : List Submitted) : Type 0 where
+  pub within : floor ≤ length submitted
+  pub taken : AreTaken floor submitted
+  pub next : is_over (progress_at (suc floor) submitted) ≡ false
+
+-- the calls taken are those that are kept as taken, each at its place
+pub record IsTied (caller : ℕ) (submitted : List Submitted) (mine : List Done) : Type 0 where
+  pub stands : (number place : ℕ) → progress_at number submitted ≡ Some (Taken place)
+      → (done : Done) × (slice_get mine place ≡ Some done) × (done.caller ≡ caller) × (done.number ≡ number)
+  pub taken : (place : ℕ) (done : Done) → slice_get mine place ≡ Some done → progress_at done.number submitted ≡ Some (Taken place)
+
+-- what every caller keeps
+pub record IsCaller (caller window floor : ℕ) (submitted : List Submitted) (mine : List Done) : Type 0 where
+  pub some_window : 1 ≤ window
+  pub small_window : window ≤ 16
+  pub floor_is : IsFloor floor submitted
+  pub near : length submitted ≤ floor + window
+  pub tied : IsTied caller submitted mine
+
+-- the request of a taken call
+abbrev pub request_in : Option Done → Request
+request_in None = Retrieve []
+request_in (Some done) = done.request
+
+abbrev pub request_of : List Done → Progress → Request
+request_of mine (Pending request) = request
+request_of mine (Taken place) = request_in (slice_get mine place)
+
+abbrev pub submission_of : List Done → Submitted → Submission
+submission_of mine entry = record { request = request_of mine entry.progress; mine_seen = entry.mine_seen; told_seen = entry.told_seen }
+
+-- a caller by what it keeps
+abbrev pub caller_of : ℕ → ℕ → List Submitted → List Done → List Done → Caller
+caller_of number window submitted mine told = record {
+  number = number;
+  window = window;
+  submitted = map (submission_of mine) submitted;
+  mine = mine;
+  told = told;
+}
+
+-- the request of this number waits for its reply
+abbrev pub IsPending : ℕ → List Submitted → Type 0
+IsPending number submitted = (request : Request) × (progress_at number submitted ≡ Some (Pending request))
+
+-- the pending request that a reply is to stands with the reply at the end of the calls taken, and is kept as taken there
+pub record Settles (told : Told) (submitted : List Submitted) (mine : List Done) (submitted' : List Submitted) (mine' : List Done) : Type 0 where
+  pub request : Request
+  pub place : ℕ
+  pub entry : Submitted
+  pub number_is : told.number ≡ suc place
+  pub entry_is : slice_get submitted place ≡ Some entry
+  pub waits : entry.progress ≡ Pending request
+  pub submitted_is : submitted' ≡ slice_set submitted place (record entry { progress = Taken (length mine) })
+  pub mine_is : mine' ≡ mine ++ record { caller = told.caller; number = told.number; request = request; reply = told.reply } ∷ []

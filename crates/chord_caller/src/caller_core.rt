@@ -1,0 +1,151 @@
+//! The core of a caller.
+ghost use Rattle.std.specs.Prelude.{◌≡◌, ◌≤◌, None, Some, IfOk, OnOk, OnErr};
+ghost use Rattle.chord_caller.specs.Caller.{floor_of, AskLetter, ToldLetter, CallerStep};
+ghost use Rattle.chord_caller.specs.Answers.{new_caller, is_pending, PendingIs, SubmitIs, TakeIs};
+
+use crate::ask::Ask;
+use crate::fault::{SubmitFault, TakeFault};
+use crate::heard::Heard;
+use crate::submitted::{Progress, Submitted, raise_floor, settle, submission};
+use crate::told::Told;
+use chord_map::Request;
+use chord_segment::Done;
+use std::alloc::Global;
+use std::marker::Model;
+
+/// What a caller submitted, took and was told of. At most 16 requests wait at a time.
+#[derive(Debug, Drop)]
+pub struct CallerCore {
+    number: u64,
+    window: u64,
+    floor: u64,
+    submitted: Vec<Submitted>,
+    mine: Vec<Done>,
+    told: Vec<Done>,
+}
+
+impl Model for CallerCore {
+    ghost use Rattle.chord_caller.specs.Caller.{Caller};
+    ghost use Rattle.chord_caller.specs.Submitted.{caller_of, IsCaller};
+
+    ghost Value = { Caller };
+
+    ghost view = { λ core. caller_of core.number core.window core.submitted.items core.mine.items core.told.items };
+
+    ghost invariant = { λ core. IsCaller core.number core.window core.floor core.submitted.items core.mine.items };
+}
+
+impl CallerCore {
+    /// A caller that has submitted nothing.
+    pub fn new(alloc: Global, number: u64, window: u64) -> CallerCore
+        requires some { 1 ≤ window }
+        requires small { window ≤ 16 }
+        ensures { result ≡ new_caller number window }
+    {
+        CallerCore {
+            number,
+            window,
+            floor: 0,
+            submitted: Vec::new(alloc),
+            mine: Vec::new(alloc),
+            told: Vec::new(alloc),
+        }
+    }
+
+    /// The calls whose replies it took, in the order taken.
+    pub fn mine(&self) -> &[Done]
+        ensures { result.now ≡ self.now.mine }
+    {
+        self.mine.as_slice()
+    }
+
+    /// The calls that others' notes told it of.
+    pub fn told(&self) -> &[Done]
+        ensures { result.now ≡ self.now.told }
+    {
+        self.told.as_slice()
+    }
+
+    /// The greatest number with all at or below it taken.
+    pub fn floor(&self) -> u64
+        ensures { result ≡ floor_of self.now }
+    {
+        self.floor
+    }
+
+    /// Whether the request of this number waits for its reply.
+    pub fn is_pending(&self, number: u64) -> bool
+        ensures { result ≡ is_pending number self.now }
+    {
+        match submission(&self.submitted, number) {
+            Some(submitted) => matches!(&submitted.progress, Progress::Pending(_)),
+            None => false,
+        }
+    }
+
+    /// The least pending number.
+    pub fn pending(&self) -> Option<u64>
+        ensures { PendingIs self.now result }
+    {
+        if self.floor < self.submitted.len() as u64 {
+            Some(self.floor + 1)
+        } else {
+            None
+        }
+    }
+
+    /// Submits a request under the next number. What is refused is dropped.
+    pub fn submit(&mut self, request: Request) -> Result<Ask, SubmitFault>
+        ensures answer { SubmitIs request self.old result self.new }
+        ensures step { IfOk result (λ ask. CallerStep self.old None self.new (Some (AskLetter ask))) }
+    {
+        if let Err(fault) = request.check() {
+            return Err(SubmitFault::Bad(fault));
+        }
+        let last = self.submitted.len() as u64;
+        if last - self.floor >= self.window {
+            return Err(SubmitFault::WindowFull);
+        }
+        if last == u64::MAX {
+            return Err(SubmitFault::NumbersSpent);
+        }
+        let copy = request.try_copy()?;
+        self.submitted.reserve(1)?;
+        let submitted = Submitted {
+            progress: Progress::Pending(request),
+            mine_seen: self.mine.len() as u64,
+            told_seen: self.told.len() as u64,
+        };
+        self.submitted.push_reserved(submitted);
+        Ok(Ask {
+            caller: self.number,
+            number: last + 1,
+            floor: self.floor,
+            request: copy,
+            hops: 255,
+        })
+    }
+
+    /// Takes a reply. What is refused is dropped.
+    pub fn take(&mut self, told: Told) -> Result<Heard, TakeFault>
+        ensures answer { TakeIs told self.old result self.new }
+        ensures step { IfOk result (λ heard. CallerStep self.old (Some (ToldLetter told)) self.new None) }
+    {
+        if told.caller != self.number {
+            return Err(TakeFault::Foreign);
+        }
+        let Some(submitted) = submission(&self.submitted, told.number) else {
+            return Err(TakeFault::Foreign);
+        };
+        let Progress::Pending(request) = &submitted.progress else {
+            return Ok(Heard::Known);
+        };
+        if !told.reply.fits(request) {
+            return Err(TakeFault::Foreign);
+        }
+        self.mine.reserve(1)?;
+        settle(&mut self.submitted, &mut self.mine, told);
+        self.floor = raise_floor(&self.submitted, self.floor);
+        Ok(Heard::Fresh)
+    }
+}

@@ -1,0 +1,70 @@
+//! What a caller submitted, by number.
+ghost use Rattle.std.specs.Prelude.{◌≡◌, ◌<◌, ◌≤◌, length};
+ghost use Rattle.std.specs.Option.{option_copied};
+ghost use Rattle.std.specs.Vec.{vec_len, vec_capacity};
+ghost use Rattle.chord_caller.specs.Submitted.{submitted_at, IsFloor, AreTaken, IsPending, Settles};
+
+use crate::told::Told;
+use chord_map::Request;
+use chord_segment::Done;
+use std::mem::replace;
+
+/// How far a submitted request has come.
+#[derive(Debug, Drop)]
+pub enum Progress {
+    Pending(Request),
+    /// Its reply was taken. The request stands with it, at this place of the calls taken.
+    Taken(usize),
+}
+
+/// A submitted request, and how many calls its caller had taken and been told of by then.
+#[derive(Debug, Drop)]
+pub struct Submitted {
+    pub progress: Progress,
+    pub mine_seen: u64,
+    pub told_seen: u64,
+}
+
+/// The submission of this number, counted from 1.
+pub fn submission(submitted: &[Submitted], number: u64) -> Option<&Submitted>
+    ensures { option_copied result ≡ submitted_at number submitted.now }
+{
+    if number == 0 {
+        return None;
+    }
+    submitted.get((number - 1) as usize)
+}
+
+/// Raises a floor to the greatest number with all at or below it taken.
+pub fn raise_floor(submitted: &[Submitted], floor: u64) -> u64
+    requires within { floor ≤ length submitted.now }
+    requires taken { AreTaken floor submitted.now }
+    ensures { IsFloor result submitted.now }
+{
+    let mut floor = floor as usize;
+    while floor < submitted.len() {
+        if let Progress::Pending(_) = submitted[floor].progress {
+            break;
+        }
+        floor += 1;
+    }
+    floor as u64
+}
+
+/// Moves the pending request that the reply is to, with the reply, behind the calls taken.
+pub fn settle(submitted: &mut Vec<Submitted>, mine: &mut Vec<Done>, told: Told)
+    requires pending { IsPending told.number submitted.old.items }
+    requires room { vec_len mine.old < vec_capacity mine.old }
+    ensures { Settles told submitted.old.items mine.old.items submitted.new.items mine.new.items }
+{
+    let place = mine.len();
+    let entry = &mut submitted[(told.number - 1) as usize];
+    if let Progress::Pending(request) = replace(&mut entry.progress, Progress::Taken(place)) {
+        mine.push_reserved(Done {
+            caller: told.caller,
+            number: told.number,
+            request,
+            reply: told.reply,
+        });
+    }
+}
