@@ -1,7 +1,7 @@
 //! The core of a caller.
 ghost use Rattle.std.specs.Prelude.{◌≡◌, ◌≤◌, None, Some, IfOk, OnOk, OnErr};
 ghost use Rattle.chord_caller.specs.Caller.{floor_of, AskLetter, ToldLetter, CallerStep};
-ghost use Rattle.chord_caller.specs.Answers.{new_caller, is_pending, PendingIs, SubmitIs, TakeIs};
+ghost use Rattle.chord_caller.specs.Answers.{new_caller, is_pending, PendingIs, RefusalIs, SubmitIs, TakeIs};
 
 use crate::ask::Ask;
 use crate::fault::{SubmitFault, TakeFault};
@@ -92,6 +92,23 @@ impl CallerCore {
         } else {
             None
         }
+    }
+
+    /// Why the request would be refused now, want of memory apart.
+    pub fn refusal(&self, request: &Request) -> Option<SubmitFault>
+        ensures { RefusalIs request.now self.now result }
+    {
+        if let Err(fault) = request.check() {
+            return Some(SubmitFault::Bad(fault));
+        }
+        let last = self.submitted.len() as u64;
+        if last - self.floor >= self.window {
+            return Some(SubmitFault::WindowFull);
+        }
+        if last == u64::MAX {
+            return Some(SubmitFault::NumbersSpent);
+        }
+        None
     }
 
     /// Submits a request under the next number. What is refused is dropped.

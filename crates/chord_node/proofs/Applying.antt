@@ -26,9 +26,11 @@ inserted_is : (pairs new : List Pair) (limit : ℕ) (key value : List ℕ) (did 
     → InsertIs (record { key = key; value = value }) pairs limit (Ok did) new → AreReplies (reply_for did) noting replies
     → Applied (request.Insert key value) noting pairs limit (Ok replies) new
 unfolding is_full_for
-inserted_is pairs new limit key value did noting replies did_so are =
-    (subst (λ (r : Reply). AreReplies r noting replies) (sym did_so.0) are,
-     ap (λ (r : Reply). cond (adds r) (leb limit (length pairs)) false) did_so.0 ∙ has_room did pairs limit did_so.1, did_so.2)
+inserted_is pairs new limit key value did noting replies did_so are = (
+  subst (λ (r : Reply). AreReplies r noting replies) (sym did_so.0) are,
+  ap (λ (r : Reply). cond (adds r) (leb limit (length pairs)) false) did_so.0 ∙ has_room did pairs limit did_so.1,
+  did_so.2,
+)
 
 -- an insert that was refused
 refused_is : (pairs new : List Pair) (limit : ℕ) (key value : List ℕ) (noting : Bool) (fault : StoreFault)

@@ -108,12 +108,15 @@ unfolding ask_done
 asked_here ask noting old held i s s' (Ok both) pairs limit e place same h =
     let found : segment_with (id_of ask.request) old.held ≡ Some (get_or held i s).known = ap (segment_with (id_of ask.request)) e ∙ with_here (id_of ask.request) held i s place in
     let done : Option Done = past_done (past_at ask.caller ask.number (get_or held i s).known) ask old.entries old.limit in
-    let did : done_in (segment_with (id_of ask.request) old.held) ask old ≡ done = ap (λ o. done_in o ask old) found in
-    ((subst (λ o. AnswersBy o ask old both.0) (sym found) h.0,
-      after_is done ask old held i s s' pairs limit e place same
-      (λ d is. past_done_is (past_at ask.caller ask.number (get_or held i s).known) ask old.entries old.limit d is) h.2 h.3
-      ∙ ap (λ d. after_done d ask old) (sym did)),
-     h.1 ∙ ap (note_of noting) (sym did))
+    let did : done_in (segment_with (id_of ask.request) old.held) ask old ≡ done = ap (λ o. done_in o ask old) found in (
+      (
+        subst (λ o. AnswersBy o ask old both.0) (sym found) h.0,
+        after_is done ask old held i s s' pairs limit e place same
+            (λ d is. past_done_is (past_at ask.caller ask.number (get_or held i s).known) ask old.entries old.limit d is) h.2 h.3
+            ∙ ap (λ d. after_done d ask old) (sym did),
+      ),
+      h.1 ∙ ap (note_of noting) (sym did),
+    )
 asked_here ask noting old held i s s' (Err fault) pairs limit e place same h =
     same_node old _ pairs limit (put_same held i s s' place.in_range h.0 ∙ sym e) h.1 same
 
@@ -126,9 +129,10 @@ pub asked_elsewhere : (ask : Ask) (noting : Bool) (old : Node) (held : List Room
     → PassesOn old.links ask answered → AskNotes ask noting old (Ok (answered, None)) old
 unfolding ask_done
 asked_elsewhere ask noting old held answered e none passed =
-    let missed : segment_with (id_of ask.request) old.held ≡ None = ap (segment_with (id_of ask.request)) e ∙ find_none (id_of ask.request) held none in
-    ((subst (λ o. AnswersBy o ask old answered) (sym missed) passed, ap (λ o. after_done (done_in o ask old) ask old) (sym missed)),
-     note_none noting ∙ ap (λ o. note_of noting (done_in o ask old)) (sym missed))
+    let missed : segment_with (id_of ask.request) old.held ≡ None = ap (segment_with (id_of ask.request)) e ∙ find_none (id_of ask.request) held none in (
+      (subst (λ o. AnswersBy o ask old answered) (sym missed) passed, ap (λ o. after_done (done_in o ask old) ask old) (sym missed)),
+      note_none noting ∙ ap (λ o. note_of noting (done_in o ask old)) (sym missed),
+    )
 
 -- ---- the step
 

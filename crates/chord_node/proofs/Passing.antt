@@ -34,8 +34,10 @@ pub passed_is : (links : NodeLinks) (ask : Ask) (hop : Hop) (peer : Peer) (targe
 passed_is links ask hop peer target me request above near next e p m some other r =
     let spent : (ask.hops == 0) ≡ false = eqb_other ask.hops 0 some in
     let itself : ((peer_of hop).no == links.me.no) ≡ false =
-        ap (λ (q : Peer). q.no == links.me.no) (sym p) ∙ ap (λ (n : ℕ). peer.no == n) (sym m) ∙ eqb_other peer.no me other in
+    ap (λ (q : Peer). q.no == links.me.no) (sym p) ∙ ap (λ (n : ℕ). peer.no == n) (sym m) ∙ eqb_other peer.no me other in
     let goes : cond ((ask.hops == 0) || ((peer_of hop).no == links.me.no)) Dropped (Forward (peer_of hop).no (record ask { hops = ask.hops - 1 })) ≡ Forward (peer_of hop).no (record ask { hops = ask.hops - 1 }) =
-        rw (spent, itself) refl in
-    (hop, subst (λ t. IsNextHop links t hop) e next,
-     ap (Forward peer.no) (same_passed ask request above near r) ∙ ap (λ (q : Peer). Forward q.no (record ask { hops = ask.hops - 1 })) p ∙ sym goes)
+    rw (spent, itself) refl in (
+      hop,
+      subst (λ t. IsNextHop links t hop) e next,
+      ap (Forward peer.no) (same_passed ask request above near r) ∙ ap (λ (q : Peer). Forward q.no (record ask { hops = ask.hops - 1 })) p ∙ sym goes,
+    )

@@ -41,7 +41,11 @@ fn replies_to_insert(did: Inserted, noting: bool) -> Replies
     Replies {
         kept: reply_to_insert(did),
         told: reply_to_insert(did),
-        noted: if noting { Some(reply_to_insert(did)) } else { None },
+        noted: if noting {
+            Some(reply_to_insert(did))
+        } else {
+            None
+        },
     }
 }
 
@@ -52,11 +56,20 @@ fn replies_to_remove(found: bool, noting: bool) -> Replies
     Replies {
         kept: reply_to_remove(found),
         told: reply_to_remove(found),
-        noted: if noting { Some(reply_to_remove(found)) } else { None },
+        noted: if noting {
+            Some(reply_to_remove(found))
+        } else {
+            None
+        },
     }
 }
 
-fn apply_insert<S: EntryStore>(store: &mut S, key: &Bytes, value: &Bytes, noting: bool) -> Result<Replies, StoreFault>
+fn apply_insert<S: EntryStore>(
+    store: &mut S,
+    key: &Bytes,
+    value: &Bytes,
+    noting: bool,
+) -> Result<Replies, StoreFault>
     ensures applied { Applied (Request.Insert key.now value.now) noting (S.content store.old) (S.limit store.old) result (S.content store.new) }
     ensures limit { S.limit store.new ≡ S.limit store.old }
 {
@@ -79,7 +92,12 @@ fn noted_values(values: &Values, noting: bool) -> Result<Option<Reply>, AllocErr
 }
 
 /// The replies to a retrieve.
-fn replies_to_retrieve<S: EntryStore>(alloc: Global, store: &S, key: &[u8], noting: bool) -> Result<Replies, AllocError>
+fn replies_to_retrieve<S: EntryStore>(
+    alloc: Global,
+    store: &S,
+    key: &[u8],
+    noting: bool,
+) -> Result<Replies, AllocError>
     ensures { IfOk result (λ replies. AreReplies (Reply.Values (values_at key.now (S.content store.now))) noting replies) }
 {
     let values = store.values(alloc, key)?;
@@ -92,7 +110,12 @@ fn replies_to_retrieve<S: EntryStore>(alloc: Global, store: &S, key: &[u8], noti
     })
 }
 
-fn apply_retrieve<S: EntryStore>(alloc: Global, store: &S, key: &Bytes, noting: bool) -> Result<Replies, StoreFault>
+fn apply_retrieve<S: EntryStore>(
+    alloc: Global,
+    store: &S,
+    key: &Bytes,
+    noting: bool,
+) -> Result<Replies, StoreFault>
     ensures { Applied (Request.Retrieve key.now) noting (S.content store.now) (S.limit store.now) result (S.content store.now) }
 {
     let Ok(replies) = replies_to_retrieve(alloc, store, key.as_slice(), noting) else {
@@ -110,7 +133,12 @@ fn apply_remove<S: EntryStore>(store: &mut S, key: &Bytes, value: &Bytes, noting
 }
 
 /// Does the request. A refusal leaves the store as it was.
-pub(crate) fn apply<S: EntryStore>(alloc: Global, store: &mut S, request: &Request, noting: bool) -> Result<Replies, StoreFault>
+pub(crate) fn apply<S: EntryStore>(
+    alloc: Global,
+    store: &mut S,
+    request: &Request,
+    noting: bool,
+) -> Result<Replies, StoreFault>
     ensures applied { Applied request.now noting (S.content store.old) (S.limit store.old) result (S.content store.new) }
     ensures limit { S.limit store.new ≡ S.limit store.old }
 {

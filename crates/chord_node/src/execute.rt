@@ -40,7 +40,13 @@ fn noted_done(ask: &Ask, request: Option<Request>, reply: Option<Reply>) -> Opti
 }
 
 /// Executes a new call, unless the store has no room. All that can fail comes before the first change.
-fn execute_in<S: EntryStore>(alloc: Global, segment: &mut Segment, store: &mut S, ask: &Ask, noting: bool) -> Result<(Answered, Option<Done>), AllocError>
+fn execute_in<S: EntryStore>(
+    alloc: Global,
+    segment: &mut Segment,
+    store: &mut S,
+    ask: &Ask,
+    noting: bool,
+) -> Result<(Answered, Option<Done>), AllocError>
     requires key { in_span segment.old.known.span (id_of ask.now.request) ≡ true }
     requires new { past_at ask.now.caller ask.now.number segment.old.known ≡ New }
     ensures answers { AnswersIn ask.now noting segment.old.known (S.content store.old) (S.limit store.old) result segment.new.known (S.content store.new) }
@@ -54,7 +60,11 @@ fn execute_in<S: EntryStore>(alloc: Global, segment: &mut Segment, store: &mut S
         Err(StoreFault::Full) => return Ok((Answered::Full, None)),
         Err(StoreFault::Memory) => return Err(AllocError),
     };
-    let Replies { kept, told, noted: noted_reply } = replies;
+    let Replies {
+        kept,
+        told,
+        noted: noted_reply,
+    } = replies;
     let done = Done {
         caller: ask.caller,
         number: ask.number,
@@ -76,7 +86,13 @@ fn execute_in<S: EntryStore>(alloc: Global, segment: &mut Segment, store: &mut S
 
 /// Answers a call whose key lies in the segment's span, and gives a copy of the call that it executed, if that is
 /// wanted.
-pub(crate) fn answer_in<S: EntryStore>(alloc: Global, segment: &mut Segment, store: &mut S, ask: &Ask, noting: bool) -> Result<(Answered, Option<Done>), AllocError>
+pub(crate) fn answer_in<S: EntryStore>(
+    alloc: Global,
+    segment: &mut Segment,
+    store: &mut S,
+    ask: &Ask,
+    noting: bool,
+) -> Result<(Answered, Option<Done>), AllocError>
     requires key { in_span segment.old.known.span (id_of ask.now.request) ≡ true }
     ensures answers { AnswersIn ask.now noting segment.old.known (S.content store.old) (S.limit store.old) result segment.new.known (S.content store.new) }
     ensures limit { S.limit store.new ≡ S.limit store.old }

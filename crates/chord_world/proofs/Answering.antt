@@ -1,0 +1,300 @@
+-- Messages that are delivered.
+use Rattle.std.proofs.Common.{◌≡◌, ◌≢◌, ℕ, zero, suc, ◌+◌, ◌<◌, ◌≤◌, ◌⊎◌, ⊎_elim, inl, inr, Bool, true, false, cond, Option, None, Some, Result, Ok, Err, List, [], ◌∷◌, ◌++◌, length, set, get_or, refl, sym, ◌∙◌, ap, subst, arith}
+use Rattle.std.proofs.lemmas.Option.{slice_get_past, slice_get_within, get_or_from_slice_get, slice_get_cases}
+use Rattle.std.proofs.lemmas.List.{length-set}
+use Rattle.std.specs.Prelude.{slice_get, slice_set, Contains}
+use Rattle.std.specs.declared.alloc.AllocError.{AllocError}
+use Rattle.chord_map.specs.declared.reply.Reply.{Reply}
+use Rattle.chord_map.specs.Map.{fits}
+use Rattle.chord_segment.specs.declared.done.Done.{Done}
+use Rattle.chord_segment.specs.Segment.{Segment, Past, id_of, past_at}
+use Rattle.chord_segment.specs.Segment.Past.{New, Kept, Seen}
+use Rattle.chord_caller.specs.declared.ask.Ask.{Ask}
+use Rattle.chord_caller.specs.declared.told.Told.{Told}
+use Rattle.chord_caller.specs.declared.heard.Heard.{Heard}
+use Rattle.chord_caller.specs.declared.heard.Heard.TheVariants.{Fresh, Known}
+use Rattle.chord_caller.specs.Caller.{Caller, CallerStep, Submission, submission_at}
+use Rattle.chord_caller.specs.Caller.Letter.{ToldLetter, FullLetter}
+use Rattle.chord_caller.specs.Caller.CallerStep.{Hears_full}
+use Rattle.chord_caller.specs.Answers.{IsForeign, TakeIs}
+use Rattle.chord_caller.proofs.Steps.{fresh_steps, known_steps}
+use Rattle.chord_node.specs.declared.answered.Answered.{Answered}
+use Rattle.chord_node.specs.declared.answered.Answered.TheVariants as answer
+use Rattle.chord_node.specs.declared.message.Message.{Message}
+use Rattle.chord_node.specs.declared.message.Message.TheVariants.{Ask as AskMessage, Told as ToldMessage, Full as FullMessage}
+use Rattle.chord_node.specs.Headline.{Headline, request_with, submitted_by, answers}
+use Rattle.chord_node.specs.Node.{Node, segment_with}
+use Rattle.chord_node.specs.Passed.{peer_of}
+use Rattle.chord_node.specs.Asked.{AskIs, AskNotes, AnswersBy, ask_done, after_done, past_answer, is_full_for, sent_by, note_of}
+use Rattle.chord_node.specs.World.{World, WorldStep, node_at, put_node, caller_at, put_caller, with_one}
+use Rattle.chord_node.specs.World.WorldStep.{Calls, Acts}
+use Rattle.chord_node.proofs.Asking.{asked_steps}
+use Rattle.chord_world.specs.State.{WorldState, NodesFrom, CallersFrom, IsCall, AreCalls, IsWorld}
+use Rattle.chord_world.specs.Steps.{target_of, outcome_of, outcome_heard, with_answer, with_heard, IsAstray, Delivers}
+use Rattle.chord_world.specs.Steps.Delivers.{To_node, To_caller, Full_to_caller}
+use Rattle.chord_world.specs.declared.outcome.Outcome.{Outcome}
+use Rattle.chord_world.specs.declared.outcome.Outcome.TheVariants as did
+use Rattle.chord_world.specs.Delivering.{Answers, AnswersAt, Hears, IsOwed, message_by}
+use Rattle.chord_world.proofs.Placing.{node_at_place, put_node_place, nodes_set, node_number, caller_at_place, put_caller_place, callers_set, caller_number, calls_pushed, call_at}
+use Rattle.chord_world.proofs.Keeping.{further}
+use Rattle.chord_world.proofs.Posting.{length_pushed, got, set_same}
+
+-- a message at its place was sent
+pub was_sent : (sent : List Message) (place : ℕ) (message : Message) → slice_get sent place ≡ Some message → Contains sent message
+was_sent sent place message e = (place, slice_get_within sent place message e, get_or_from_slice_get sent place message message e)
+
+-- ---- a call at its node
+
+after_number : (did : Option Done) (ask : Ask) (node : Node) → (after_done did ask node).number ≡ node.number
+after_number None ask node = refl
+after_number (Some done) ask node = refl
+
+pub answered_number : (ask : Ask) (node after : Node) (answered : Answered) → AskIs ask node (Ok answered) after → after.number ≡ node.number
+answered_number ask node after answered h = ap (λ (n : Node). n.number) h.1 ∙ after_number (ask_done ask node) ask node
+
+pub message_is : (ask : Ask) (answered : Answered) → message_by ask.caller ask.number answered ≡ sent_by ask answered
+message_is ask (answer.Told told) = refl
+message_is ask (answer.Forward to passed) = refl
+message_is ask answer.Dropped = refl
+message_is ask answer.Full = refl
+
+-- what an answer sends is a message of the same caller
+abbrev SendsCall : ℕ → Option Message → Type 0
+SendsCall count None = Unit {0}
+SendsCall count (Some message) = IsCall count message
+
+new_call : (count : ℕ) (ask : Ask) (told : Told) (full : Bool) → ask.caller < count → told.caller < count → SendsCall count (sent_by ask (cond full answer.Full (answer.Told told)))
+new_call count ask told true within own = within
+new_call count ask told false within own = own
+
+past_call : (count : ℕ) (ask : Ask) (node : Node) (past : Past) → ask.caller < count → SendsCall count (sent_by ask (past_answer past ask node.entries node.limit))
+past_call count ask node Seen within = tt
+past_call count ask node (Kept done) within = within
+past_call count ask node New within = new_call count ask _ (is_full_for ask.request node.entries node.limit) within within
+
+pass_call : (count : ℕ) (ask passed : Ask) (to : ℕ) (spent : Bool) → passed.caller ≡ ask.caller → ask.caller < count → SendsCall count (sent_by ask (cond spent answer.Dropped (answer.Forward to passed)))
+pass_call count ask passed to true same within = tt
+pass_call count ask passed to false same within = omega arith
+
+answer_call : (count : ℕ) (ask : Ask) (node : Node) (answered : Answered) (o : Option Segment) → AnswersBy o ask node answered → ask.caller < count → SendsCall count (sent_by ask answered)
+answer_call count ask node answered None (hop, next, is) within = subst (λ a. SendsCall count (sent_by ask a)) (sym is) (pass_call count ask _ _ _ refl within)
+answer_call count ask node answered (Some segment) is within = subst (λ a. SendsCall count (sent_by ask a)) (sym is) (past_call count ask node (past_at ask.caller ask.number segment) within)
+
+calls_with : (count : ℕ) (sent : List Message) (o : Option Message) → AreCalls count sent → SendsCall count o → AreCalls count (with_one sent o)
+calls_with count sent None all here = all
+calls_with count sent (Some message) all here = calls_pushed count sent message all here
+
+lengths : (targets : List ℕ) (sent : List Message) (ask : Ask) (answered : Answered) → length targets ≡ length sent → length (with_one targets (target_of answered)) ≡ length (with_one sent (sent_by ask answered))
+lengths targets sent ask (answer.Told told) e = length_pushed targets 0 ∙ ap (λ n. n + 1) e ∙ sym (length_pushed sent (ToldMessage told))
+lengths targets sent ask (answer.Forward to passed) e = length_pushed targets to ∙ ap (λ n. n + 1) e ∙ sym (length_pushed sent (AskMessage passed))
+lengths targets sent ask answer.Dropped e = e
+lengths targets sent ask answer.Full e = length_pushed targets 0 ∙ ap (λ n. n + 1) e ∙ sym (length_pushed sent (FullMessage ask.caller ask.number))
+
+-- a delivered call, by what the node at its place did
+pub record Asked (place to : ℕ) (ask : Ask) (view : WorldState) (answered : Answered) (node after : Node) : Type 0 where
+  pub sent : slice_get view.known.sent place ≡ Some (AskMessage ask)
+  pub target : slice_get view.targets place ≡ Some to
+  pub here : slice_get view.known.nodes to ≡ Some node
+  pub answers : AskIs ask node (Ok answered) after
+
+pub answer_step : (place to : ℕ) (ask : Ask) (view : WorldState) (answered : Answered) (node after : Node) → IsWorld view → Asked place to ask view answered node after
+    → WorldStep view.known (with_answer ask node after answered view).known
+answer_step place to ask view answered node after kept asked =
+    Acts to node after (Some (AskMessage ask)) (sent_by ask answered) (ask_done ask node)
+    (node_at_place 0 to to view.known.nodes kept.nodes (omega arith) ∙ asked.here) (was_sent view.known.sent place (AskMessage ask) asked.sent)
+    (asked_steps ask node (Ok answered) after asked.answers)
+
+pub answer_is_world : (place to : ℕ) (ask : Ask) (view : WorldState) (answered : Answered) (node after : Node) → IsWorld view → Asked place to ask view answered node after
+    → IsWorld (with_answer ask node after answered view)
+answer_is_world place to ask view answered node after kept asked =
+    let at = answered_number ask node after answered asked.answers ∙ node_number 0 to node view.known.nodes kept.nodes asked.here in
+    let put : put_node after view.known.nodes ≡ set view.known.nodes to after = put_node_place 0 to after view.known.nodes kept.nodes at in
+    let own : ask.caller < length view.known.callers = call_at (length view.known.callers) view.known.sent place (AskMessage ask) kept.calls asked.sent in
+    record {
+      reached = further view.known (with_answer ask node after answered view).known kept.reached (answer_step place to ask view answered node after kept asked);
+      nodes = subst (NodesFrom 0) (sym put) (nodes_set 0 to after view.known.nodes kept.nodes at);
+      callers = kept.callers;
+      targets = lengths view.targets view.known.sent ask answered kept.targets;
+      calls = calls_with (length view.known.callers) view.known.sent (sent_by ask answered) kept.calls
+          (answer_call (length view.known.callers) ask node answered (segment_with (id_of ask.request) node.held) asked.answers.0 own);
+      low = kept.low;
+      high = kept.high;
+    }
+
+pub answer_delivers : (place to : ℕ) (ask : Ask) (view old : WorldState) (answered : Answered) (node after : Node) → view ≡ old → IsWorld view → Asked place to ask view answered node after
+    → Delivers place old (outcome_of answered (length view.known.sent)) (with_answer ask node after answered view)
+answer_delivers place to ask view old answered node after same kept asked =
+    subst (λ (w : WorldState). Delivers place w (outcome_of answered (length view.known.sent)) (with_answer ask node after answered view)) same
+    (To_node ask to node after answered asked.sent asked.target (node_at_place 0 to to view.known.nodes kept.nodes (omega arith) ∙ asked.here) asked.answers)
+
+-- in the words of the code
+abbrev pub after_answer : List Node → List Message → List Done → List ℕ → WorldState → WorldState
+after_answer nodes sent history targets view = record view { known = record view.known { nodes = nodes; sent = sent; history = history }; targets = targets }
+
+pub answered_is : (place to : ℕ) (ask : Ask) (view : WorldState) (answered : Answered) (did : Option Done) (nodes : List Node) (sent before : List Message) (history earlier : List Done) (targets known : List ℕ)
+    → IsWorld view → (done : Answers to ask view.known.nodes answered did nodes) → sent ≡ with_one before (message_by ask.caller ask.number answered) → before ≡ view.known.sent
+    → history ≡ with_one earlier did → earlier ≡ view.known.history → targets ≡ with_one known (target_of answered) → known ≡ view.targets
+    → after_answer nodes sent history targets view ≡ with_answer ask done.node done.after answered view
+answered_is place to ask view answered did nodes sent before history earlier targets known kept done s s' h h' t t' =
+    let at = answered_number ask done.node done.after answered done.answers.0 ∙ node_number 0 to done.node view.known.nodes kept.nodes done.here in
+    let put : nodes ≡ put_node done.after view.known.nodes = done.new_is ∙ sym (put_node_place 0 to done.after view.known.nodes kept.nodes at) in
+    let messages : sent ≡ with_one view.known.sent (sent_by ask answered) = s ∙ ap (λ xs. with_one xs (message_by ask.caller ask.number answered)) s' ∙ ap (with_one view.known.sent) (message_is ask answered) in
+    let noted : history ≡ with_one view.known.history (ask_done ask done.node) = h ∙ ap (λ xs. with_one xs did) h' ∙ ap (with_one view.known.history) done.answers.1 in
+    let nodes_of : targets ≡ with_one view.targets (target_of answered) = t ∙ ap (λ xs. with_one xs (target_of answered)) t' in
+    λ i. after_answer (put i) (messages i) (noted i) (nodes_of i) view
+
+-- ---- a reply at its caller
+
+heard_step : (told : Told) (heard : Heard) (core after : Caller) → TakeIs told core (Ok heard) after → CallerStep core (Some (ToldLetter told)) after None
+heard_step told Fresh core after h = fresh_steps told core after h
+heard_step told Known core after h = known_steps told core after h
+
+heard_number : (told : Told) (heard : Heard) (core after : Caller) → TakeIs told core (Ok heard) after → after.number ≡ core.number
+heard_number told Fresh core after h = ap (λ (c : Caller). c.number) h.2
+heard_number told Known core after h = ap (λ (c : Caller). c.number) h.2
+
+-- a delivered reply, by what the caller at its place did
+pub record ToldTo (place : ℕ) (told : Told) (view : WorldState) (heard : Heard) (core after : Caller) : Type 0 where
+  pub sent : slice_get view.known.sent place ≡ Some (ToldMessage told)
+  pub here : slice_get view.known.callers told.caller ≡ Some core
+  pub hears : TakeIs told core (Ok heard) after
+
+pub told_step : (place : ℕ) (told : Told) (view : WorldState) (heard : Heard) (core after : Caller) → IsWorld view → ToldTo place told view heard core after
+    → WorldStep view.known (with_heard after view).known
+told_step place told view heard core after kept to =
+    Calls told.caller core after (Some (ToldLetter told)) None (caller_at_place 0 told.caller told.caller view.known.callers kept.callers (omega arith) ∙ to.here)
+    (was_sent view.known.sent place (ToldMessage told) to.sent) (heard_step told heard core after to.hears)
+
+pub told_is_world : (place : ℕ) (told : Told) (view : WorldState) (heard : Heard) (core after : Caller) → IsWorld view → ToldTo place told view heard core after → IsWorld (with_heard after view)
+told_is_world place told view heard core after kept to =
+    let at = heard_number told heard core after to.hears ∙ caller_number 0 told.caller core view.known.callers kept.callers to.here in
+    let put : put_caller after view.known.callers ≡ set view.known.callers told.caller after = put_caller_place 0 told.caller after view.known.callers kept.callers at in
+    let count : length (put_caller after view.known.callers) ≡ length view.known.callers = ap (λ (cs : List Caller). length cs) put ∙ length-set view.known.callers told.caller after in
+    record {
+      reached = further view.known (with_heard after view).known kept.reached (told_step place told view heard core after kept to);
+      nodes = kept.nodes;
+      callers = subst (CallersFrom 0) (sym put) (callers_set 0 told.caller after view.known.callers kept.callers at);
+      targets = kept.targets;
+      calls = subst (λ n. AreCalls n view.known.sent) (sym count) kept.calls;
+      low = kept.low;
+      high = kept.high;
+    }
+
+pub told_delivers : (place : ℕ) (told : Told) (view old : WorldState) (heard : Heard) (core after : Caller) → view ≡ old → IsWorld view → ToldTo place told view heard core after
+    → Delivers place old (outcome_heard heard told.caller) (with_heard after view)
+told_delivers place told view old heard core after same kept to =
+    subst (λ (w : WorldState). Delivers place w (outcome_heard heard told.caller) (with_heard after view)) same
+    (To_caller told core after heard to.sent (caller_at_place 0 told.caller told.caller view.known.callers kept.callers (omega arith) ∙ to.here) to.hears)
+
+-- in the words of the code
+abbrev pub after_hearing : List Caller → WorldState → WorldState
+after_hearing callers view = record view { known = record view.known { callers = callers } }
+
+pub heard_is : (told : Told) (view : WorldState) (heard : Heard) (callers : List Caller) → IsWorld view → (did : Hears told.caller told view.known.callers heard callers)
+    → after_hearing callers view ≡ with_heard did.after view
+heard_is told view heard callers kept did =
+    let at = heard_number told heard did.core did.after did.hears ∙ caller_number 0 told.caller did.core view.known.callers kept.callers did.here in
+    ap (λ (cs : List Caller). after_hearing cs view) (did.new_is ∙ sym (put_caller_place 0 told.caller did.after view.known.callers kept.callers at))
+
+-- a reply that was sent answers a request of its caller's own
+foreign_none : (told : Told) (core : Caller) → told.caller ≡ core.number → answers told.reply (submitted_by (Some core) told.number) ≡ true → IsForeign told core → ⊥
+foreign_none told core own owed (inl other) = other own
+foreign_none told core own owed (inr (inl none)) =
+    let bad : false ≡ true = sym (ap (λ o. answers told.reply (request_with o)) none) ∙ owed in cc
+foreign_none told core own owed (inr (inr (submission, at, pending, unfit))) =
+    let bad : false ≡ true = sym unfit ∙ sym (ap (λ o. answers told.reply (request_with o)) at) ∙ owed in cc
+
+pub told_owed : (told : Told) (place : ℕ) (view : WorldState) → IsWorld view → Headline view.known → slice_get view.known.sent place ≡ Some (ToldMessage told) → IsOwed told.caller told view.known.callers
+told_owed told place view kept headline sent core here foreign =
+    let at : caller_at told.caller view.known.callers ≡ Some core = caller_at_place 0 told.caller told.caller view.known.callers kept.callers (omega arith) ∙ here in
+    let number = caller_number 0 told.caller core view.known.callers kept.callers here in
+    let owed : answers told.reply (submitted_by (Some core) told.number) ≡ true =
+    ap (λ o. answers told.reply (submitted_by o told.number)) (sym at) ∙ headline.owed told (was_sent view.known.sent place (ToldMessage told) sent) in
+    foreign_none told core (omega arith) owed foreign
+
+-- ---- Full
+
+pub full_there : (place caller number : ℕ) (view : WorldState) → IsWorld view → slice_get view.known.sent place ≡ Some (FullMessage caller number)
+    → (core : Caller) × (slice_get view.known.callers caller ≡ Some core)
+full_there place caller number view kept sent =
+    let within : caller < length view.known.callers = call_at (length view.known.callers) view.known.sent place (FullMessage caller number) kept.calls sent in
+    ⊎_elim (λ h. (h.0, h.2)) (λ h. absurd (let past = h.0 in omega arith)) (slice_get_cases view.known.callers caller).1
+
+pub full_delivers : (place caller number : ℕ) (view old : WorldState) → view ≡ old → IsWorld view → slice_get view.known.sent place ≡ Some (FullMessage caller number)
+    → Delivers place old did.HeardFull old
+full_delivers place caller number view old same kept sent =
+    let there = full_there place caller number view kept sent in
+    subst (λ (w : WorldState). Delivers place w did.HeardFull w) same
+    (Full_to_caller caller number there.0 sent (caller_at_place 0 caller caller view.known.callers kept.callers (omega arith) ∙ there.1))
+
+pub full_step : (place caller number : ℕ) (view old : WorldState) → view ≡ old → IsWorld view → slice_get view.known.sent place ≡ Some (FullMessage caller number)
+    → WorldStep old.known old.known
+full_step place caller number view old same kept sent =
+    let there = full_there place caller number view kept sent in
+    let core = there.0 in
+    let at = caller_number 0 caller core view.known.callers kept.callers there.1 in
+    let put : put_caller core view.known.callers ≡ view.known.callers = put_caller_place 0 caller core view.known.callers kept.callers at ∙ set_same view.known.callers caller core there.1 in
+    subst (λ (w : WorldState). WorldStep w.known w.known) same
+    (subst (λ cs. WorldStep view.known (record view.known { callers = cs })) put
+    (Calls caller core core (Some (FullLetter caller number)) None (caller_at_place 0 caller caller view.known.callers kept.callers (omega arith) ∙ there.1)
+    (was_sent view.known.sent place (FullMessage caller number) sent) (Hears_full caller number)))
+
+-- ---- in the words of the code
+
+pub answers_from : (place : ℕ) (ask : Ask) (old : List Node) (node after : Node) (result : Result (Answered × Option Done) AllocError) (new : List Node) → place < length old → node ≡ get_or old place node
+    → AskNotes ask true node result after → new ≡ set old place after → AnswersAt place ask old result new
+answers_from place ask old node after (Ok both) new within here h is =
+    record { node = node; after = after; here = got old place node within here; answers = h; new_is = is }
+answers_from place ask old node after (Err fault) new within here h is =
+    is ∙ ap (set old place) h ∙ set_same old place node (got old place node within here)
+
+-- what was read at a place is what stands there
+pub read : {A : Type 0} (items before : List A) (place : ℕ) (x : A) → items ≡ before → place < length items → x ≡ get_or items place x → slice_get before place ≡ Some x
+read items before place x same within e = ap (λ xs. slice_get xs place) (sym same) ∙ got items place x within e
+
+pub read_is : {A : Type 0} (items before : List A) (place : ℕ) (x y : A) → items ≡ before → place < length items → x ≡ get_or items place x → slice_get before place ≡ Some y → x ≡ y
+read_is items before place x y same within e here = let both : Some x ≡ Some y = sym (read items before place x same within e) ∙ here in cc
+
+-- the message that is asked for, over the view of the fields
+pub sent_here : (view old : WorldState) (place : ℕ) (message : Message) → view ≡ old → slice_get old.known.sent place ≡ Some message → slice_get view.known.sent place ≡ Some message
+sent_here view old place message same here = ap (λ (w : WorldState). slice_get w.known.sent place) same ∙ here
+
+pub sent_there : (view old : WorldState) (place : ℕ) (message : Message) → view ≡ old → slice_get view.known.sent place ≡ Some message → slice_get old.known.sent place ≡ Some message
+sent_there view old place message same here = ap (λ (w : WorldState). slice_get w.known.sent place) (sym same) ∙ here
+
+pub astray : (place to : ℕ) (ask : Ask) (view old : WorldState) → view ≡ old → IsWorld view → slice_get view.known.sent place ≡ Some (AskMessage ask) → slice_get view.targets place ≡ Some to
+    → length view.known.nodes ≤ to → IsAstray place old
+astray place to ask view old same kept sent target past =
+    subst (IsAstray place) same
+    (record { ask = ask; to = to; sent = sent; target = target; missing = node_at_place 0 to to view.known.nodes kept.nodes (omega arith) ∙ slice_get_past view.known.nodes to past })
+
+-- the calls that are delivered
+pub asked_of : (place to : ℕ) (ask : Ask) (view : WorldState) (answered : Answered) (did : Option Done) (nodes : List Node) → slice_get view.known.sent place ≡ Some (AskMessage ask)
+    → slice_get view.targets place ≡ Some to → (done : Answers to ask view.known.nodes answered did nodes) → Asked place to ask view answered done.node done.after
+asked_of place to ask view answered did nodes sent target done = record { sent = sent; target = target; here = done.here; answers = done.answers.0 }
+
+pub world_after : (view new next : WorldState) → new ≡ next → IsWorld next → IsWorld new
+world_after view new next e h = subst IsWorld (sym e) h
+
+pub step_after : (view old new next : WorldState) → view ≡ old → new ≡ next → WorldStep view.known next.known → WorldStep old.known new.known
+step_after view old new next same e h =
+    subst (λ (w : WorldState). WorldStep w.known new.known) same (subst (λ (w : WorldState). WorldStep view.known w.known) (sym e) h)
+
+pub delivers_after : (place : ℕ) (old new next : WorldState) (outcome outcome' : Outcome) → new ≡ next → outcome ≡ outcome' → Delivers place old outcome' next → Delivers place old outcome new
+delivers_after place old new next outcome outcome' e f h =
+    subst (λ o. Delivers place old o new) (sym f) (subst (Delivers place old outcome') (sym e) h)
+
+pub told_copy : (told : Told) (reply : Reply) → reply ≡ told.reply → ◌≡◌ {A = Told} (record { caller = told.caller; number = told.number; reply = reply }) told
+told_copy told reply e = λ i. record { caller = told.caller; number = told.number; reply = e i }
+
+pub same_fields : (view : WorldState) (nodes : List Node) (sent : List Message) (history : List Done) (targets : List ℕ) → nodes ≡ view.known.nodes → sent ≡ view.known.sent
+    → history ≡ view.known.history → targets ≡ view.targets → after_answer nodes sent history targets view ≡ view
+same_fields view nodes sent history targets n s h t = λ i. after_answer (n i) (s i) (h i) (t i) view
+
+pub stays : (view old new : WorldState) (place : ℕ) (message : Message) → view ≡ old → old.known.nodes ≢ [] → slice_get old.known.sent place ≡ Some message → new ≡ view
+    → (old.known.nodes ≢ []) × (place < length old.known.sent) × (new ≡ old)
+stays view old new place message same created here e = (created, slice_get_within old.known.sent place message here, e ∙ same)
+
+pub told_to : (place : ℕ) (told : Told) (view : WorldState) (heard : Heard) (callers : List Caller) → slice_get view.known.sent place ≡ Some (ToldMessage told)
+    → (did : Hears told.caller told view.known.callers heard callers) → ToldTo place told view heard did.core did.after
+told_to place told view heard callers sent did = record { sent = sent; here = did.here; hears = did.hears }

@@ -1,0 +1,114 @@
+-- Each step leads to a world that is kept.
+use Rattle.std.proofs.Common.{◌≡◌, ◌≢◌, ℕ, zero, suc, ◌+◌, ◌<◌, ◌≤◌, Option, None, Some, Ok, List, [], ◌∷◌, ◌++◌, length, set, get_or, map, refl, sym, ◌∙◌, ap, subst, arith, length-append}
+use Rattle.std.proofs.lemmas.Option.{slice_get_past, slice_get_within}
+use Rattle.std.specs.Prelude.{slice_get, ◌^◌}
+use mathlib.Core.Logic.{∥∥₁_map}
+use Rattle.chord_ident.specs.declared.id.Id.{Id}
+use Rattle.chord_links.specs.NodeLinks.{alone}
+use Rattle.chord_caller.specs.Caller.{Caller}
+use Rattle.chord_caller.specs.Answers.{new_caller}
+use Rattle.chord_node.specs.Node.{Node, founder}
+use Rattle.chord_node.specs.World.{World, WorldStep, Reached, empty_world, caller_at}
+use Rattle.chord_node.specs.World.WorldStep.{Creates, Opens, Calls, Acts}
+use Rattle.chord_node.specs.World.Run.{Stays, Goes_on}
+use Rattle.chord_world.specs.State.{WorldState, new_world, NodesFrom, CallersFrom, AreCalls, IsWorld}
+use Rattle.chord_world.specs.declared.outcome.Outcome.TheVariants as did
+use Rattle.chord_world.specs.Steps.{with_founder, CreateIs, IsWindow, with_caller}
+use Rattle.chord_world.proofs.Placing.{callers_pushed, caller_at_place, calls_of_more}
+
+-- the world after one more step is reached
+pub further : (old new : World) → ∥ Reached old ∥₁ → WorldStep old new → ∥ Reached new ∥₁
+further old new reached step = ∥∥₁_map reached (λ run. Goes_on run step)
+
+pub new_is_world : (r : ℕ) → 2 ≤ r → r ≤ 16 → IsWorld (new_world r)
+new_is_world r low high = record { reached = ∣ Stays ∣₁; nodes = tt; callers = tt; targets = refl; calls = tt; low = low; high = high }
+
+-- ---- a first node
+
+pub founds : (id : Id) (limit : ℕ) (old : WorldState) → id.number < 2 ^ 128 → old.known.nodes ≡ [] → WorldStep old.known (with_founder id limit old).known
+founds id limit old circle none = Creates (alone (record { no = 0; id = id }) old.r) limit circle none
+
+pub founded_is_world : (id : Id) (limit : ℕ) (old : WorldState) → id.number < 2 ^ 128 → old.known.nodes ≡ [] → IsWorld old → IsWorld (with_founder id limit old)
+founded_is_world id limit old circle none kept = record {
+  reached = further old.known (with_founder id limit old).known kept.reached (founds id limit old circle none);
+  nodes = (refl, tt);
+  callers = kept.callers;
+  targets = kept.targets;
+  calls = kept.calls;
+  low = kept.low;
+  high = kept.high;
+}
+
+-- ---- a caller
+
+pub opens : (window : ℕ) (old : WorldState) → IsWindow window → IsWorld old → WorldStep old.known (with_caller window old).known
+opens window old fits kept =
+    Opens (length old.known.callers) window fits.0 fits.1
+    (caller_at_place 0 (length old.known.callers) (length old.known.callers) old.known.callers kept.callers (omega arith)
+    ∙ slice_get_past old.known.callers (length old.known.callers) (omega arith))
+
+pub opened_is_world : (window : ℕ) (old : WorldState) → IsWindow window → IsWorld old → IsWorld (with_caller window old)
+opened_is_world window old fits kept = record {
+  reached = further old.known (with_caller window old).known kept.reached (opens window old fits kept);
+  nodes = kept.nodes;
+  callers = callers_pushed 0 (new_caller (length old.known.callers) window) old.known.callers kept.callers (omega arith);
+  targets = kept.targets;
+  calls = calls_of_more (length old.known.callers) _ old.known.sent (let more = length-append old.known.callers (new_caller (length old.known.callers) window ∷ []) in omega arith) kept.calls;
+  low = kept.low;
+  high = kept.high;
+}
+
+-- ---- over the view of the fields, which is the old value
+
+-- the world with these nodes
+abbrev pub with_nodes : List Node → WorldState → WorldState
+with_nodes nodes view = record view { known = record view.known { nodes = nodes } }
+
+abbrev pub with_callers : List Caller → WorldState → WorldState
+with_callers callers view = record view { known = record view.known { callers = callers } }
+
+-- a first node, in the words of the code
+pub founded_items : (id : Id) (limit : ℕ) (view : WorldState) (nodes before : List Node) (node : Node) → view.known.nodes ≡ []
+    → nodes ≡ before ++ node ∷ [] → before ≡ view.known.nodes → node ≡ founder (alone (record { no = 0; id = id }) view.r) limit
+    → nodes ≡ founder (alone (record { no = 0; id = id }) view.r) limit ∷ []
+founded_items id limit view nodes before node none items same is =
+    items ∙ ap (λ (ns : List Node). ns ++ node ∷ []) (same ∙ none) ∙ ap (λ (n : Node). n ∷ []) is
+
+pub founded_at : (id : Id) (limit : ℕ) (view : WorldState) (nodes before : List Node) (node : Node) → id.number < 2 ^ 128 → view.known.nodes ≡ [] → IsWorld view
+    → nodes ≡ before ++ node ∷ [] → before ≡ view.known.nodes → node ≡ founder (alone (record { no = 0; id = id }) view.r) limit → IsWorld (with_nodes nodes view)
+founded_at id limit view nodes before node circle none kept items same is =
+    subst (λ ns. IsWorld (with_nodes ns view)) (sym (founded_items id limit view nodes before node none items same is)) (founded_is_world id limit view circle none kept)
+
+pub limit_first : {S : Type 0} (f : S → ℕ) (xs : List S) (x : S) → 0 < length xs → x ≡ get_or xs 0 x → slice_get (map f xs) 0 ≡ Some (f x)
+limit_first f [] x some e = absurd (omega arith)
+limit_first f (y ∷ xs) x some e = ap (λ z. Some (f z)) (sym e)
+
+pub founded_answer : (id : Id) (limits : List ℕ) (limit : ℕ) (view old : WorldState) (nodes : List Node) → view ≡ old → view.known.nodes ≡ []
+    → slice_get limits 0 ≡ Some limit → nodes ≡ founder (alone (record { no = 0; id = id }) view.r) limit ∷ []
+    → CreateIs id limits old (Ok (did.Node 0)) (with_nodes nodes view)
+founded_answer id limits limit view old nodes same none first is =
+    subst (λ w. CreateIs id limits w (Ok (did.Node 0)) (with_nodes nodes view)) same
+    (none, refl, (limit, first, ap (λ ns. with_nodes ns view) is))
+
+pub founded_step : (id : Id) (limit : ℕ) (view old : WorldState) (nodes : List Node) → view ≡ old → id.number < 2 ^ 128 → view.known.nodes ≡ []
+    → nodes ≡ founder (alone (record { no = 0; id = id }) view.r) limit ∷ [] → WorldStep old.known (with_nodes nodes view).known
+founded_step id limit view old nodes same circle none is =
+    subst (λ w. WorldStep w.known (with_nodes nodes view).known) same
+    (subst (λ ns. WorldStep view.known (with_nodes ns view).known) (sym is) (founds id limit view circle none))
+
+-- a caller, in the words of the code
+pub opened_items : (window number : ℕ) (view : WorldState) (callers before : List Caller) (caller : Caller)
+    → callers ≡ before ++ caller ∷ [] → before ≡ view.known.callers → caller ≡ new_caller number window → number ≡ length view.known.callers
+    → callers ≡ view.known.callers ++ new_caller (length view.known.callers) window ∷ []
+opened_items window number view callers before caller items same is at =
+    items ∙ ap (λ (cs : List Caller). cs ++ caller ∷ []) same ∙ ap (λ (x : Caller). view.known.callers ++ x ∷ []) (is ∙ ap (λ n. new_caller n window) at)
+
+pub opened_at : (window : ℕ) (view : WorldState) (callers : List Caller) → IsWindow window → IsWorld view
+    → callers ≡ view.known.callers ++ new_caller (length view.known.callers) window ∷ [] → IsWorld (with_callers callers view)
+opened_at window view callers fits kept is = subst (λ cs. IsWorld (with_callers cs view)) (sym is) (opened_is_world window view fits kept)
+
+pub opened_step : (window : ℕ) (view old : WorldState) (callers : List Caller) → view ≡ old → IsWindow window → IsWorld view
+    → callers ≡ view.known.callers ++ new_caller (length view.known.callers) window ∷ [] → WorldStep old.known (with_callers callers view).known
+opened_step window view old callers same fits kept is =
+    subst (λ w. WorldStep w.known (with_callers callers view).known) same
+    (subst (λ cs. WorldStep view.known (with_callers cs view).known) (sym is) (opens window view fits kept))

@@ -1,0 +1,5 @@
+pub mod Placing
+pub mod Keeping
+pub mod Posting
+pub mod Answering
+pub mod RunLemmas

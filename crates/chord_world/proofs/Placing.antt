@@ -1,0 +1,111 @@
+-- Nodes and callers stand in the order of their numbers: a look-up is by place, and a put is a write.
+use Rattle.std.proofs.Common.{◌≡◌, ◌≢◌, ℕ, zero, suc, ◌+◌, ◌<◌, ◌≤◌, Option, None, Some, List, [], ◌∷◌, ◌++◌, length, set, refl, sym, ◌∙◌, ap, subst, arith}
+use Rattle.std.specs.Prelude.{slice_get}
+use Rattle.chord_segment.proofs.MarkLemmas.{eqb_same, eqb_other}
+use Rattle.chord_caller.specs.Caller.{Caller}
+use Rattle.chord_node.specs.declared.message.Message.{Message}
+use Rattle.chord_node.specs.declared.message.Message.TheVariants.{Ask as AskMessage, Told as ToldMessage, Full as FullMessage, Part as PartMessage, Got as GotMessage, Declined as DeclinedMessage, Note as NoteMessage}
+use Rattle.chord_node.specs.Node.{Node}
+use Rattle.chord_node.specs.World.{node_at, put_node, caller_at, put_caller}
+use Rattle.chord_world.specs.State.{NodesFrom, CallersFrom, IsCall, AreCalls}
+
+-- ---- nodes
+
+pub node_at_place : (start place number : ℕ) (nodes : List Node) → NodesFrom start nodes → number ≡ start + place → node_at number nodes ≡ slice_get nodes place
+unfolding node_at
+node_at_place start place number [] numbered e = refl
+node_at_place start zero number (node ∷ rest) numbered e =
+    let here : node.number ≡ number = numbered.0 ∙ omega arith in
+    rw (eqb_same node.number number here) refl
+node_at_place start (suc place) number (node ∷ rest) numbered e =
+    let first = numbered.0 in
+    let apart : node.number ≢ number = omega arith in
+    rw (eqb_other node.number number apart) (node_at_place (start + 1) place number rest numbered.1 (omega arith))
+
+pub put_node_place : (start place : ℕ) (node : Node) (nodes : List Node) → NodesFrom start nodes → node.number ≡ start + place → put_node node nodes ≡ set nodes place node
+unfolding put_node
+put_node_place start zero node [] numbered e = refl
+put_node_place start (suc place) node [] numbered e = refl
+put_node_place start zero node (other ∷ rest) numbered e =
+    let here : other.number ≡ node.number = numbered.0 ∙ omega arith in
+    rw (eqb_same other.number node.number here) refl
+put_node_place start (suc place) node (other ∷ rest) numbered e =
+    let first = numbered.0 in
+    let apart : other.number ≢ node.number = omega arith in
+    rw (eqb_other other.number node.number apart) (ap (λ (nodes : List Node). other ∷ nodes) (put_node_place (start + 1) place node rest numbered.1 (omega arith)))
+
+pub nodes_set : (start place : ℕ) (node : Node) (nodes : List Node) → NodesFrom start nodes → node.number ≡ start + place → NodesFrom start (set nodes place node)
+nodes_set start zero node [] numbered e = tt
+nodes_set start (suc place) node [] numbered e = tt
+nodes_set start zero node (other ∷ rest) numbered e = (omega arith, numbered.1)
+nodes_set start (suc place) node (other ∷ rest) numbered e = (numbered.0, nodes_set (start + 1) place node rest numbered.1 (omega arith))
+
+pub node_number : (start place : ℕ) (node : Node) (nodes : List Node) → NodesFrom start nodes → slice_get nodes place ≡ Some node → node.number ≡ start + place
+node_number start place node [] numbered e = cc
+node_number start zero node (other ∷ rest) numbered e = let same : other ≡ node = cc in subst (λ (n : Node). n.number ≡ start + 0) same (omega (arith, numbered.0))
+node_number start (suc place) node (other ∷ rest) numbered e = let number = node_number (start + 1) place node rest numbered.1 e in omega arith
+
+-- ---- callers
+
+pub caller_at_place : (start place number : ℕ) (callers : List Caller) → CallersFrom start callers → number ≡ start + place → caller_at number callers ≡ slice_get callers place
+unfolding caller_at
+caller_at_place start place number [] numbered e = refl
+caller_at_place start zero number (caller ∷ rest) numbered e =
+    let here : caller.number ≡ number = numbered.0 ∙ omega arith in
+    rw (eqb_same caller.number number here) refl
+caller_at_place start (suc place) number (caller ∷ rest) numbered e =
+    let first = numbered.0 in
+    let apart : caller.number ≢ number = omega arith in
+    rw (eqb_other caller.number number apart) (caller_at_place (start + 1) place number rest numbered.1 (omega arith))
+
+pub put_caller_place : (start place : ℕ) (caller : Caller) (callers : List Caller) → CallersFrom start callers → caller.number ≡ start + place → put_caller caller callers ≡ set callers place caller
+unfolding put_caller
+put_caller_place start zero caller [] numbered e = refl
+put_caller_place start (suc place) caller [] numbered e = refl
+put_caller_place start zero caller (other ∷ rest) numbered e =
+    let here : other.number ≡ caller.number = numbered.0 ∙ omega arith in
+    rw (eqb_same other.number caller.number here) refl
+put_caller_place start (suc place) caller (other ∷ rest) numbered e =
+    let first = numbered.0 in
+    let apart : other.number ≢ caller.number = omega arith in
+    rw (eqb_other other.number caller.number apart) (ap (λ (callers : List Caller). other ∷ callers) (put_caller_place (start + 1) place caller rest numbered.1 (omega arith)))
+
+pub callers_set : (start place : ℕ) (caller : Caller) (callers : List Caller) → CallersFrom start callers → caller.number ≡ start + place → CallersFrom start (set callers place caller)
+callers_set start zero caller [] numbered e = tt
+callers_set start (suc place) caller [] numbered e = tt
+callers_set start zero caller (other ∷ rest) numbered e = (omega arith, numbered.1)
+callers_set start (suc place) caller (other ∷ rest) numbered e = (numbered.0, callers_set (start + 1) place caller rest numbered.1 (omega arith))
+
+pub callers_pushed : (start : ℕ) (caller : Caller) (callers : List Caller) → CallersFrom start callers → caller.number ≡ start + length callers → CallersFrom start (callers ++ caller ∷ [])
+callers_pushed start caller [] numbered e = (omega arith, tt)
+callers_pushed start caller (other ∷ rest) numbered e = (numbered.0, callers_pushed (start + 1) caller rest numbered.1 (omega arith))
+
+pub caller_number : (start place : ℕ) (caller : Caller) (callers : List Caller) → CallersFrom start callers → slice_get callers place ≡ Some caller → caller.number ≡ start + place
+caller_number start place caller [] numbered e = cc
+caller_number start zero caller (other ∷ rest) numbered e = let same : other ≡ caller = cc in subst (λ (n : Caller). n.number ≡ start + 0) same (omega (arith, numbered.0))
+caller_number start (suc place) caller (other ∷ rest) numbered e = let number = caller_number (start + 1) place caller rest numbered.1 e in omega arith
+
+-- ---- messages
+
+-- with more callers
+pub call_of_more : (count more : ℕ) (message : Message) → count ≤ more → IsCall count message → IsCall more message
+call_of_more count more (AskMessage ask) le h = omega arith
+call_of_more count more (ToldMessage told) le h = omega arith
+call_of_more count more (FullMessage caller number) le h = omega arith
+call_of_more count more (PartMessage part) le h = h
+call_of_more count more (GotMessage ticket) le h = h
+call_of_more count more (DeclinedMessage ticket) le h = h
+call_of_more count more (NoteMessage note) le h = h
+
+pub calls_of_more : (count more : ℕ) (sent : List Message) → count ≤ more → AreCalls count sent → AreCalls more sent
+calls_of_more count more [] le h = tt
+calls_of_more count more (message ∷ sent) le h = (call_of_more count more message le h.0, calls_of_more count more sent le h.1)
+
+pub calls_pushed : (count : ℕ) (sent : List Message) (message : Message) → AreCalls count sent → IsCall count message → AreCalls count (sent ++ message ∷ [])
+calls_pushed count [] message all here = (here, tt)
+calls_pushed count (other ∷ sent) message all here = (all.0, calls_pushed count sent message all.1 here)
+
+pub call_at : (count : ℕ) (sent : List Message) (place : ℕ) (message : Message) → AreCalls count sent → slice_get sent place ≡ Some message → IsCall count message
+call_at count [] place message all e = cc
+call_at count (other ∷ sent) zero message all e = let same : other ≡ message = cc in subst (IsCall count) same all.0
+call_at count (other ∷ sent) (suc place) message all e = call_at count sent place message all.1 e

@@ -1,0 +1,153 @@
+-- Calls that are submitted.
+use Rattle.std.proofs.Common.{◌≡◌, ◌≢◌, ℕ, zero, suc, ◌+◌, ◌<◌, ◌≤◌, Option, None, Some, Ok, Err, List, [], ◌∷◌, ◌++◌, length, set, get_or, refl, sym, ◌∙◌, ap, subst, arith, length-append}
+use Rattle.std.proofs.lemmas.Option.{slice_get_past, slice_get_within, slice_get_cases}
+use Rattle.std.proofs.lemmas.List.{length-set}
+use Rattle.std.specs.Prelude.{slice_get, slice_set}
+use Rattle.chord_map.specs.declared.request.Request.{Request}
+use Rattle.chord_map.specs.declared.request.RequestFault.TheVariants.{KeyEmpty, KeyLong, ValueLong}
+use Rattle.chord_caller.specs.declared.ask.Ask.{Ask}
+use Rattle.chord_caller.specs.declared.fault.SubmitFault.{SubmitFault}
+use Rattle.chord_caller.specs.declared.fault.SubmitFault.TheVariants.{Bad, WindowFull, NumbersSpent, Memory}
+use Rattle.chord_caller.specs.Caller.{Caller}
+use Rattle.chord_caller.specs.Caller.Letter.{AskLetter}
+use Rattle.chord_caller.specs.Answers.{SubmitIs}
+use Rattle.chord_caller.proofs.Steps.{submit_steps}
+use Rattle.chord_node.specs.declared.message.Message.{Message}
+use Rattle.chord_node.specs.declared.message.Message.TheVariants.{Ask as AskMessage}
+use Rattle.chord_node.specs.World.{World, WorldStep, caller_at, put_caller}
+use Rattle.chord_node.specs.World.WorldStep.{Calls}
+use Rattle.chord_world.specs.State.{WorldState, CallersFrom, AreCalls, IsWorld}
+use Rattle.chord_world.specs.declared.refusal.Refusal.{Refusal}
+use Rattle.chord_world.specs.Refusals.{refusal_of}
+use Rattle.chord_world.specs.Steps.{with_ask, IsThere, Sends, RefusesCall, SubmitStepIs}
+use Rattle.chord_world.specs.Sending.{CanSubmit, Submitted}
+use Rattle.chord_world.proofs.Placing.{caller_at_place, put_caller_place, callers_set, caller_number, calls_pushed}
+use Rattle.chord_world.proofs.Keeping.{further}
+
+-- nothing but memory can be wanting
+pub submit_memory : (request : Request) (core after : Caller) (fault : SubmitFault) → SubmitIs request core (Err Memory) core → SubmitIs request core (Err fault) after → after ≡ core
+submit_memory request core after (Bad KeyEmpty) can refused = absurd (let a = can.0.0.0 in let b = refused.0 in omega arith)
+submit_memory request core after (Bad KeyLong) can refused = absurd (let a = can.0.0.1 in let b = refused.0 in omega arith)
+submit_memory request core after (Bad ValueLong) can refused = absurd (let a = can.0.1 in let b = refused.0.1 in omega arith)
+submit_memory request core after WindowFull can refused = absurd (let a = can.1 in let b = refused.1 in omega arith)
+submit_memory request core after NumbersSpent can refused = absurd (let a = can.2 in let b = refused.2 in omega arith)
+submit_memory request core after Memory can refused = refused.3
+
+-- what is read at a place
+pub got : {A : Type 0} (xs : List A) (place : ℕ) (x : A) → place < length xs → x ≡ get_or xs place x → slice_get xs place ≡ Some x
+got [] place x within e = absurd (omega arith)
+got (y ∷ xs) zero x within e = ap (λ z. Some z) (sym e)
+got (y ∷ xs) (suc place) x within e = got xs place x (omega arith) e
+
+-- writing what stands there changes nothing
+pub set_same : {A : Type 0} (xs : List A) (place : ℕ) (x : A) → slice_get xs place ≡ Some x → set xs place x ≡ xs
+set_same [] place x e = cc
+set_same (y ∷ xs) zero x e = let same : y ≡ x = cc in ap (λ z. z ∷ xs) (sym same)
+set_same (y ∷ xs) (suc place) x e = ap (λ zs. y ∷ zs) (set_same xs place x e)
+
+-- the caller that stands at its place
+pub caller_there : (caller via : ℕ) (view old : WorldState) (core : Caller) → view ≡ old → IsWorld view → via < length view.known.nodes → slice_get view.known.callers caller ≡ Some core
+    → IsThere caller via old core
+caller_there caller via view old core same kept node here =
+    subst (λ w. IsThere caller via w core) same (node, caller_at_place 0 caller caller view.known.callers kept.callers (omega arith) ∙ here)
+
+pub caller_stands : (caller : ℕ) (view old : WorldState) (core : Caller) → view ≡ old → IsWorld view → slice_get view.known.callers caller ≡ Some core → caller_at caller old.known.callers ≡ Some core
+caller_stands caller view old core same kept here =
+    subst (λ (w : WorldState). caller_at caller w.known.callers ≡ Some core) same (caller_at_place 0 caller caller view.known.callers kept.callers (omega arith) ∙ here)
+
+pub caller_missing : (caller : ℕ) (view old : WorldState) → view ≡ old → IsWorld view → length view.known.callers ≤ caller → caller_at caller old.known.callers ≡ None
+caller_missing caller view old same kept past =
+    subst (λ (w : WorldState). caller_at caller w.known.callers ≡ None) same
+    (caller_at_place 0 caller caller view.known.callers kept.callers (omega arith) ∙ slice_get_past view.known.callers caller past)
+
+-- from the world to its callers
+pub can_submit : (caller via : ℕ) (request : Request) (view old : WorldState) → view ≡ old → IsWorld view → RefusesCall caller via request old Memory → CanSubmit caller request view.known.callers
+can_submit caller via request view old same kept may = record {
+  core = may.core;
+  here = sym (caller_at_place 0 caller caller view.known.callers kept.callers (omega arith)) ∙ ap (λ (w : WorldState). caller_at caller w.known.callers) same ∙ may.there.1;
+  can = may.refuses;
+}
+
+-- ---- the world after it
+
+pub sent_number : (request : Request) (core after : Caller) (ask : Ask) → SubmitIs request core (Ok ask) after → after.number ≡ core.number
+sent_number request core after ask submits = ap (λ (c : Caller). c.number) submits.4
+
+pub sends_step : (caller via : ℕ) (request : Request) (old : WorldState) (core after : Caller) (ask : Ask) → IsThere caller via old core → SubmitIs request core (Ok ask) after
+    → WorldStep old.known (with_ask after ask via old).known
+sends_step caller via request old core after ask there submits = Calls caller core after None (Some (AskLetter ask)) there.1 tt (submit_steps request core ask after submits)
+
+pub length_pushed : {A : Type 0} (xs : List A) (x : A) → length (xs ++ x ∷ []) ≡ length xs + 1
+length_pushed xs x = length-append xs (x ∷ [])
+
+pub sent_is_world : (caller via : ℕ) (request : Request) (old : WorldState) (core after : Caller) (ask : Ask) → IsThere caller via old core → SubmitIs request core (Ok ask) after
+    → IsWorld old → IsWorld (with_ask after ask via old)
+sent_is_world caller via request old core after ask there submits kept =
+    let here : slice_get old.known.callers caller ≡ Some core = sym (caller_at_place 0 caller caller old.known.callers kept.callers (omega arith)) ∙ there.1 in
+    let at = caller_number 0 caller core old.known.callers kept.callers here in
+    let number : core.number ≡ caller = omega arith in
+    let number' : after.number ≡ caller = sent_number request core after ask submits ∙ number in
+    let within : caller < length old.known.callers = slice_get_within old.known.callers caller core here in
+    let put : put_caller after old.known.callers ≡ set old.known.callers caller after = put_caller_place 0 caller after old.known.callers kept.callers (omega arith) in
+    let own : ask.caller ≡ caller = submits.3.caller ∙ number in
+    let count : length (put_caller after old.known.callers) ≡ length old.known.callers = ap (λ (cs : List Caller). length cs) put ∙ length-set old.known.callers caller after in
+    record {
+      reached = further old.known (with_ask after ask via old).known kept.reached (sends_step caller via request old core after ask there submits);
+      nodes = kept.nodes;
+      callers = subst (CallersFrom 0) (sym put) (callers_set 0 caller after old.known.callers kept.callers (omega arith));
+      targets = length_pushed old.targets via ∙ ap (λ n. n + 1) kept.targets ∙ sym (length_pushed old.known.sent (AskMessage ask));
+      calls = subst (λ n. AreCalls n (old.known.sent ++ AskMessage ask ∷ [])) (sym count) (calls_pushed (length old.known.callers) old.known.sent (AskMessage ask) kept.calls (omega arith));
+      low = kept.low;
+      high = kept.high;
+    }
+
+-- in the words of the code: the callers, the messages and the targets as they are then
+abbrev pub posted : List Caller → List Message → List ℕ → WorldState → WorldState
+posted callers sent targets view = record view { known = record view.known { callers = callers; sent = sent }; targets = targets }
+
+pub posted_is : (caller via : ℕ) (request : Request) (view : WorldState) (callers : List Caller) (sent before : List Message) (targets earlier : List ℕ) (ask : Ask) → IsWorld view
+    → (did : Submitted caller request view.known.callers ask callers) → sent ≡ before ++ AskMessage ask ∷ [] → before ≡ view.known.sent → targets ≡ earlier ++ via ∷ [] → earlier ≡ view.targets
+    → posted callers sent targets view ≡ with_ask did.after ask via view
+posted_is caller via request view callers sent before targets earlier ask kept did s s' t t' =
+    let at = sent_number request did.core did.after ask did.submits ∙ caller_number 0 caller did.core view.known.callers kept.callers did.here in
+    let number : did.after.number ≡ caller = omega arith in
+    let put : callers ≡ put_caller did.after view.known.callers = did.new_is ∙ sym (put_caller_place 0 caller did.after view.known.callers kept.callers (omega arith)) in
+    let messages : sent ≡ view.known.sent ++ AskMessage ask ∷ [] = s ∙ ap (λ (xs : List Message). xs ++ AskMessage ask ∷ []) s' in
+    let nodes : targets ≡ view.targets ++ via ∷ [] = t ∙ ap (λ (xs : List ℕ). xs ++ via ∷ []) t' in
+    λ i. posted (put i) (messages i) (nodes i) view
+
+pub there_of : (caller via : ℕ) (request : Request) (view : WorldState) (ask : Ask) (callers : List Caller) → IsWorld view → via < length view.known.nodes
+    → (did : Submitted caller request view.known.callers ask callers) → IsThere caller via view did.core
+there_of caller via request view ask callers kept node did = (node, caller_at_place 0 caller caller view.known.callers kept.callers (omega arith) ∙ did.here)
+
+pub posted_sends : (caller via number : ℕ) (request : Request) (view old : WorldState) (callers : List Caller) (ask : Ask) (new : WorldState) → view ≡ old → IsWorld view → via < length view.known.nodes
+    → (did : Submitted caller request view.known.callers ask callers) → number ≡ length view.known.sent → new ≡ with_ask did.after ask via view → Sends caller via request old number new
+posted_sends caller via number request view old callers ask new same kept node did at is =
+    subst (λ w. Sends caller via request w number new) same
+    (record { core = did.core; after = did.after; ask = ask; there = there_of caller via request view ask callers kept node did; submits = did.submits; numbered = at; new_is = is })
+
+-- the caller's refusal is that of the step
+refused_by : (caller via : ℕ) (request : Request) (old : WorldState) (fault : SubmitFault) → RefusesCall caller via request old fault → SubmitStepIs caller via request old (Err (refusal_of fault)) old
+refused_by caller via request old (Bad fault) h = (Bad fault, refl, h, refl)
+refused_by caller via request old WindowFull h = (WindowFull, refl, h, refl)
+refused_by caller via request old NumbersSpent h = (NumbersSpent, refl, h, refl)
+refused_by caller via request old Memory h = (Memory, refl, h, refl)
+
+pub submit_refused : (caller via : ℕ) (request : Request) (old : WorldState) (fault : SubmitFault) (refusal : Refusal) → refusal ≡ refusal_of fault → RefusesCall caller via request old fault
+    → SubmitStepIs caller via request old (Err refusal) old
+submit_refused caller via request old fault refusal e h = subst (λ x. SubmitStepIs caller via request old (Err x) old) (sym e) (refused_by caller via request old fault h)
+
+-- all of it, over the view of the fields
+pub node_there : (caller via : ℕ) (request : Request) (view old : WorldState) → view ≡ old → RefusesCall caller via request old Memory → via < length view.known.nodes
+node_there caller via request view old same may = subst (λ (w : WorldState). via < length w.known.nodes) (sym same) may.there.0
+
+pub posted_is_world : (caller via : ℕ) (request : Request) (view : WorldState) (callers : List Caller) (ask : Ask) (new : WorldState) → IsWorld view → via < length view.known.nodes
+    → (did : Submitted caller request view.known.callers ask callers) → new ≡ with_ask did.after ask via view → IsWorld new
+posted_is_world caller via request view callers ask new kept node did is =
+    subst IsWorld (sym is) (sent_is_world caller via request view did.core did.after ask (there_of caller via request view ask callers kept node did) did.submits kept)
+
+pub posted_step : (caller via : ℕ) (request : Request) (view old : WorldState) (callers : List Caller) (ask : Ask) (new : WorldState) → view ≡ old → IsWorld view → via < length view.known.nodes
+    → (did : Submitted caller request view.known.callers ask callers) → new ≡ with_ask did.after ask via view → WorldStep old.known new.known
+posted_step caller via request view old callers ask new same kept node did is =
+    subst (λ (w : WorldState). WorldStep w.known new.known) same
+    (subst (λ (w : WorldState). WorldStep view.known w.known) (sym is) (sends_step caller via request view did.core did.after ask (there_of caller via request view ask callers kept node did) did.submits))

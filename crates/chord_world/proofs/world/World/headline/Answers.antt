@@ -1,0 +1,11 @@
+use Rattle.std.proofs.Common.{subst}
+use Rattle.chord_node.specs.World.{Reached}
+use Rattle.chord_world.specs.State.{WorldState}
+use Rattle.chord_world.proofs.world.World.headline.Goals as goal
+
+pub returns-clause-reached : goal.returns-clause-reached
+returns-clause-reached g c = subst (λ (w : WorldState). ∥ Reached w.known ∥₁) c.self.view_is c.self.invariant.reached
+
+pub returns-clause-headline : goal.returns-clause-headline
+returns-clause-headline g c =
+    c.one_history.ensures c.args.self.now.known (subst (λ (w : WorldState). ∥ Reached w.known ∥₁) c.self.view_is c.self.invariant.reached)

@@ -1,0 +1,30 @@
+use Rattle.std.proofs.Common.{◌≡◌, ◌<◌, ◌≤◌, length, refl, arith, ap, ◌∙◌, sym}
+use Rattle.chord_node.specs.Node.{Node}
+use Rattle.chord_world.specs.State.{WorldState}
+use Rattle.chord_world.proofs.Posting.{caller_missing, caller_there, got, submit_refused}
+use Rattle.chord_world.proofs.world.World.may_submit.Goals as goal
+
+pub returns-then-caller-len : goal.returns-then-caller-len
+returns-then-caller-len g c =
+    let view : WorldState = record { known = record { nodes = c.self.inside.nodes.items; callers = c.self.inside.callers.items; sent = c.self.inside.sent.items; history = c.self.inside.history.items }; targets = c.self.inside.targets.items; r = c.self.inside.r } in
+    let nodes : length c.self.inside.nodes.items ≡ length c.args.self.now.known.nodes = ap (λ (w : WorldState). length w.known.nodes) c.self.view_is in
+    (omega arith, caller_missing c.args.caller view c.args.self.now c.self.view_is c.self.invariant (omega arith), refl)
+
+pub returns-in-Some : goal.returns-in-Some
+returns-in-Some g c =
+    let view : WorldState = record { known = record { nodes = c.self.inside.nodes.items; callers = c.self.inside.callers.items; sent = c.self.inside.sent.items; history = c.self.inside.history.items }; targets = c.self.inside.targets.items; r = c.self.inside.r } in
+    submit_refused c.args.caller c.args.via c.args.request.now c.args.self.now c.in-Some.fault c.from.result c.from.ensures
+    (record {
+      core = c.index.result.now;
+      there = caller_there c.args.caller c.args.via view c.args.self.now c.index.result.now c.self.view_is c.self.invariant (omega arith) (got c.self.inside.callers.items c.args.caller c.index.result.now (omega arith) c.index.ensures);
+      refuses = c.in-Some.ensures;
+    })
+
+pub returns-in-None : goal.returns-in-None
+returns-in-None g c =
+    let view : WorldState = record { known = record { nodes = c.self.inside.nodes.items; callers = c.self.inside.callers.items; sent = c.self.inside.sent.items; history = c.self.inside.history.items }; targets = c.self.inside.targets.items; r = c.self.inside.r } in
+    record {
+      core = c.index.result.now;
+      there = caller_there c.args.caller c.args.via view c.args.self.now c.index.result.now c.self.view_is c.self.invariant (omega arith) (got c.self.inside.callers.items c.args.caller c.index.result.now (omega arith) c.index.ensures);
+      refuses = c.in-None.ensures;
+    }

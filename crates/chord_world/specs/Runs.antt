@@ -1,0 +1,37 @@
+-- What a run of steps answers.
+use Rattle.std.specs.Prelude.{◌≡◌, ℕ, Option, None, Some, Result, Ok, Err, List, [], ◌∷◌, ◌++◌, drop}
+use Rattle.std.specs.Borrow.{Bor}
+use Rattle.chord_segment.specs.declared.done.Done.{Done}
+use Rattle.chord_caller.specs.Caller.{Caller}
+use Rattle.chord_node.specs.World.{caller_at}
+use Rattle.chord_world.specs.declared.outcome.Outcome.{Outcome}
+use Rattle.chord_world.specs.declared.refusal.Refusal.{Refusal}
+use Rattle.chord_world.specs.declared.running.Answer.{Answer}
+use Rattle.chord_world.specs.declared.running.Answer.TheVariants.{Did, Refused}
+use Rattle.chord_world.specs.declared.step.Step.{Step}
+use Rattle.chord_world.specs.declared.step.Step.TheVariants.{Create, OpenCaller, Submit, Deliver}
+use Rattle.chord_world.specs.State.{WorldState}
+use Rattle.chord_world.specs.Steps.{StepIs}
+
+-- the replies that the caller took, where there is such a caller
+abbrev pub MineIs : ℕ → WorldState → Option (Bor (List Done)) → Type 0
+MineIs number state None = caller_at number state.known.callers ≡ None
+MineIs number state (Some mine) = (caller : Caller) × (caller_at number state.known.callers ≡ Some caller) × (mine.now ≡ caller.mine)
+
+-- the result that an answer tells
+abbrev pub result_of : Answer → Result Outcome Refusal
+result_of (Did outcome) = Ok outcome
+result_of (Refused refusal) = Err refusal
+
+-- the limits of the stores at hand after a step
+abbrev pub limits_left : Step → Answer → List ℕ → List ℕ
+limits_left (Create id) (Did outcome) limits = drop 1 limits
+limits_left step answer limits = limits
+
+-- From a world and stores of these limits, the steps were answered so one after another, and left this world and
+-- stores of these limits.
+pub data Ran (limits : List ℕ) (first : WorldState) : List Step → List Answer → List ℕ → WorldState → Type 0 where
+  Nothing : Ran limits first [] [] limits first
+  Then : {steps : List Step} {answers : List Answer} {left : List ℕ} {middle : WorldState} (step : Step) (answer : Answer) (last : WorldState)
+      → Ran limits first steps answers left middle → StepIs step left middle (result_of answer) last
+      → Ran limits first (steps ++ step ∷ []) (answers ++ answer ∷ []) (limits_left step answer left) last

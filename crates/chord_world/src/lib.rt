@@ -1,0 +1,18 @@
+//! All nodes and callers in one place, taking any steps in any order.
+#![tactic(auto)]
+
+mod create;
+mod deliver;
+mod open_caller;
+pub mod outcome;
+pub mod refusal;
+pub mod running;
+pub mod step;
+mod submit;
+pub mod world;
+
+pub use outcome::Outcome;
+pub use refusal::{PartFault, Refusal};
+pub use running::{Answer, run};
+pub use step::Step;
+pub use world::World;

@@ -1,0 +1,55 @@
+//! Lists of steps.
+ghost use Rattle.std.specs.Prelude.{◌≡◌, [], map, IfOk, OnErr};
+ghost use Rattle.std.specs.List.{All};
+ghost use Rattle.chord_node.specs.Headline.{Headline, SeenFirst};
+ghost use Rattle.chord_world.specs.Runs.{Ran, result_of};
+
+use crate::outcome::Outcome;
+use crate::refusal::Refusal;
+use crate::step::Step;
+use crate::world::World;
+use chord_store::EntryStore;
+use std::alloc::{AllocError, Global};
+
+/// What came of a step of a run.
+#[derive(Clone, Copy, Debug, PartialEq, Eq)]
+pub enum Answer {
+    Did(Outcome),
+    Refused(Refusal),
+}
+
+/// The answer that tells the result of a step.
+fn answer_of(did: Result<Outcome, Refusal>) -> Answer
+    ensures { result_of result ≡ did }
+{
+    match did {
+        Ok(outcome) => Answer::Did(outcome),
+        Err(refusal) => Answer::Refused(refusal),
+    }
+}
+
+/// Does the steps one after another, and goes on after a refused one. Memory for the answers is had before the first
+/// step.
+pub fn run<S: EntryStore>(
+    alloc: Global,
+    world: &mut World<S>,
+    stores: &mut Vec<S>,
+    steps: &[Step],
+) -> Result<Vec<Answer>, AllocError>
+    requires { All (λ s. S.content s ≡ []) stores.old.items }
+    ensures answers { IfOk result (λ answers. Ran (map S.limit stores.old.items) world.old steps.now answers.items (map S.limit stores.new.items) world.new) }
+    ensures err { OnErr result (world.new ≡ world.old) }
+    ensures stores { OnErr result (stores.new.items ≡ stores.old.items) }
+    ensures headline { Headline world.new.known }
+    ensures seen { SeenFirst world.old.known world.new.known }
+{
+    world.headline();
+    chord_node::laws::seen_first();
+    let mut answers = Vec::with_capacity(alloc, steps.len())?;
+    for step in steps {
+        let result = world.step(stores, step);
+        answers.push_reserved(answer_of(result));
+    }
+    world.headline();
+    Ok(answers)
+}

@@ -1,0 +1,116 @@
+//! All nodes and callers, every message that was sent, and the history.
+ghost use Rattle.std.specs.Prelude.{◌≡◌, ◌≤◌, [], map, slice_get};
+ghost use Rattle.std.specs.List.{All};
+ghost use Rattle.std.specs.Option.{option_copied};
+ghost use Rattle.chord_node.specs.Headline.{Headline};
+ghost use Rattle.chord_node.specs.World.{Reached};
+ghost use Rattle.chord_world.specs.State.{new_world};
+ghost use Rattle.chord_world.specs.Steps.{StepIs, StoresLeft, Advances};
+ghost use Rattle.chord_world.specs.Runs.{MineIs};
+
+use crate::outcome::Outcome;
+use crate::refusal::Refusal;
+use crate::step::Step;
+use chord_caller::CallerCore;
+use chord_node::{Message, Node};
+use chord_segment::Done;
+use chord_store::EntryStore;
+use std::alloc::Global;
+use std::marker::Model;
+
+/// All nodes and callers, every message that was sent, and the calls that were executed, in order. A message may be
+/// delivered at any time, in any order and again; a lost message is one that is never delivered.
+#[derive(Drop)]
+pub struct World<S: EntryStore> {
+    pub(crate) alloc: Global,
+    pub(crate) r: usize,
+    pub(crate) nodes: Vec<Node<S>>,
+    pub(crate) callers: Vec<CallerCore>,
+    pub(crate) sent: Vec<Message>,
+    pub(crate) targets: Vec<u64>,
+    pub(crate) history: Vec<Done>,
+}
+
+impl<S: EntryStore> Model for World<S> {
+    ghost use Rattle.chord_world.specs.State.{WorldState, IsWorld};
+
+    ghost Value = { WorldState };
+
+    ghost view = { λ a. record { known = record { nodes = a.nodes.items; callers = a.callers.items; sent = a.sent.items; history = a.history.items }; targets = a.targets.items; r = a.r } };
+
+    ghost invariant = { λ a. IsWorld (record { known = record { nodes = a.nodes.items; callers = a.callers.items; sent = a.sent.items; history = a.history.items }; targets = a.targets.items; r = a.r }) };
+}
+
+impl<S: EntryStore> World<S> {
+    /// A world in which nothing has happened, whose nodes list at most `r` successors.
+    pub fn new(alloc: Global, r: usize) -> World<S>
+        requires low { 2 ≤ r }
+        requires high { r ≤ 16 }
+        ensures { result ≡ new_world r }
+    {
+        World {
+            alloc,
+            r,
+            nodes: Vec::new(alloc),
+            callers: Vec::new(alloc),
+            sent: Vec::new(alloc),
+            targets: Vec::new(alloc),
+            history: Vec::new(alloc),
+        }
+    }
+
+    /// What holds of every world: some steps lead to it, so its executed calls are one history of one map, each call
+    /// at most once, in the order that its callers had seen. It does nothing.
+    pub fn headline(&self)
+        ensures reached { ∥ Reached self.now.known ∥₁ }
+        ensures headline { Headline self.now.known }
+    {
+        let _ = &self.history;
+        chord_node::laws::one_history();
+    }
+
+    /// The executed calls, in order.
+    pub fn history(&self) -> &[Done]
+        ensures value { result.now ≡ self.now.known.history }
+        ensures headline { Headline self.now.known }
+    {
+        chord_node::laws::one_history();
+        self.history.as_slice()
+    }
+
+    /// The message that was sent under this number.
+    pub fn message(&self, number: u64) -> Option<&Message>
+        ensures { option_copied result ≡ slice_get self.now.known.sent number }
+    {
+        self.sent.get(number as usize)
+    }
+
+    /// The calls of a caller whose replies it took, in the order taken.
+    pub fn mine(&self, caller: u64) -> Option<&[Done]>
+        ensures { MineIs caller self.now result }
+    {
+        if caller >= self.callers.len() as u64 {
+            return None;
+        }
+        Some(self.callers[caller as usize].mine())
+    }
+
+    /// Does one step. A refused step changes neither the world nor the stores.
+    pub fn step(&mut self, stores: &mut Vec<S>, step: &Step) -> Result<Outcome, Refusal>
+        requires { All (λ s. S.content s ≡ []) stores.old.items }
+        ensures answer { StepIs step.now (map S.limit stores.old.items) self.old result self.new }
+        ensures step { Advances self.old result self.new }
+        ensures stores { StoresLeft step.now result stores.old.items stores.new.items }
+    {
+        match step {
+            Step::Create { id } => self.create(stores, *id),
+            Step::OpenCaller { window } => self.open_caller(*window),
+            Step::Submit {
+                caller,
+                via,
+                request,
+            } => self.submit(*caller, *via, request),
+            Step::Deliver { message } => self.deliver(*message),
+        }
+    }
+}
