@@ -101,6 +101,7 @@ impl<S: EntryStore> World<S> {
         ensures answer { StepIs step.now (map S.limit stores.old.items) self.old result self.new }
         ensures step { Advances self.old result self.new }
         ensures stores { StoresLeft step.now result stores.old.items stores.new.items }
+        ensures vacant { All (λ s. S.content s ≡ []) stores.new.items }
     {
         match step {
             Step::Create { id } => self.create(stores, *id),
