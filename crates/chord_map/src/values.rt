@@ -1,5 +1,5 @@
 //! Lists of values.
-ghost use Rattle.std.specs.Prelude.{◌≡◌, ◌↔◌, ◌++◌, ◌∷◌, ℕ, List, [], IsTrue, IfOk, OnOk, OnErr};
+ghost use Rattle.std.specs.Prelude.{◌≡◌, ◌≤◌, ◌<◌, ◌++◌, ◌∷◌, [], IfOk, OnOk, OnErr, length, insert, remove, slice_get};
 
 use crate::bytes::Bytes;
 use std::alloc::{AllocError, Global};
@@ -53,6 +53,25 @@ impl Values {
     {
         self.items.push(value)?;
         Ok(())
+    }
+
+    /// Puts a value at the place, before those from there on.
+    pub fn insert(&mut self, place: usize, value: Bytes) -> Result<(), AllocError>
+        requires { place ≤ length self.old }
+        ensures ok { OnOk result (self.new ≡ insert self.old place value) }
+        ensures err { OnErr result (self.new ≡ self.old) }
+    {
+        self.items.insert(place, value)?;
+        Ok(())
+    }
+
+    /// Takes the value at the place out.
+    pub fn remove(&mut self, place: usize) -> Bytes
+        requires { place < length self.old }
+        ensures value { slice_get self.old place ≡ Some result }
+        ensures rest { self.new ≡ remove self.old place }
+    {
+        self.items.remove(place)
     }
 
     /// An equal copy.
