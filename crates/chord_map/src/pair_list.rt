@@ -148,3 +148,6 @@ impl PairList {
         self.pairs.retain(test);
     }
 }
+
+#[cfg(test)]
+mod tests;

@@ -108,3 +108,6 @@ impl Eq for Values {
 
     ghost laws = { same_values-equiv };
 }
+
+#[cfg(test)]
+mod tests;
