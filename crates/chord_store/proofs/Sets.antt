@@ -287,3 +287,14 @@ inside_first span es rest e copies copies' whole is made before =
     ∙ append_assoc copies (pairs_inside span (pairs_under e.0.items e.1.values)) (pairs_inside span (pairs_of_sets rest))
     ∙ ap (λ (ps : List Pair). copies ++ ps) (sym (filter-append (λ (q : Pair). in_span span (key_id q.key)) (pairs_under e.0.items e.1.values) (pairs_of_sets rest)))
     ∙ ap (λ (xs : List (ByteVec × ValueSet)). copies ++ pairs_inside span (pairs_of_sets xs)) (sym is) ∙ before
+
+has_none : (v : List ℕ) (vs : List (List ℕ)) → length vs ≡ 0 → has_value v vs ≡ false
+has_none v [] e = refl
+has_none v (x ∷ vs) e = absurd (omega arith)
+
+-- a set without values goes, and no pair with it
+pub tree-emptied : (m n : Sets) → IsStrictlySortedBy vec_cmp (keys_of m.entries) → IsStrictlySortedBy vec_cmp (keys_of n.entries) → (key : List ℕ) → tree.UpdatesBy vec_cmp (λ k. slice_cmp nat_cmp key k.items) m n None
+    → length (set_values (lookup (has_bytes key) m.entries)) ≡ 0 → pairs_of_sets n.entries ≡ pairs_of_sets m.entries
+tree-emptied m n m_rises n_rises key updates emptied =
+    tree-same m.entries n.entries m_rises n_rises key None (map_after key m n None updates)
+    (λ v. sym (set_has-values v (lookup (has_bytes key) m.entries) ∙ has_none v (set_values (lookup (has_bytes key) m.entries)) emptied))

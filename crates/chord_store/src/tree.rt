@@ -1,13 +1,14 @@
 //! The pairs of a map as a tree of sets.
-ghost use Rattle.std.specs.Prelude.{◌≡◌, ◌+◌, ◌<◌, ◌≤◌, ◌^◌, ◌-◌, ◌++◌, ◌∷◌, List, [], true, false, length, IfOk, OnOk, OnErr};
+ghost use Rattle.std.specs.Prelude.{◌≡◌, ◌+◌, ◌<◌, ◌≤◌, ◌^◌, ◌-◌, ◌++◌, ◌∷◌, List, [], true, false, length, IsTrue, IfOk, OnOk, OnErr};
 ghost use Rattle.std.specs.BTreeMap.{keys};
+ghost use Rattle.std.specs.Map.{lookup};
 ghost use Rattle.std.specs.List.Sorted.{IsStrictlySortedBy};
 ghost use Rattle.chord_map.specs.declared.pair.Pair.{Pair};
 ghost use Rattle.chord_map.specs.Map.{has_pair, insert_pair, remove_pair, values_at, put_all};
 ghost use Rattle.chord_map.specs.Pairs.{IsRising};
 ghost use Rattle.chord_store.specs.Inside.{pairs_inside, pairs_outside};
 ghost use Rattle.chord_store.specs.Store.{IsPutUpTo};
-ghost use Rattle.chord_store.specs.Tree.{pairs_of_sets, pairs_under, vec_cmp};
+ghost use Rattle.chord_store.specs.Tree.{has_bytes, pairs_of_sets, pairs_under, set_values, vec_cmp};
 
 use crate::value_set::ValueSet;
 use chord_ident::{Id, Span};
@@ -130,6 +131,7 @@ impl Tree {
         ensures change { self.new ≡ remove_pair (record { key = key.now; value = value.now }) self.old }
     {
         if drop_value(&mut self.sets, key, value) {
+            drop_emptied(&mut self.sets, key);
             self.count -= 1;
             true
         } else {
@@ -190,6 +192,27 @@ fn drop_value(sets: &mut BTreeMap<Vec<u8>, ValueSet>, key: &[u8], value: &[u8]) 
 {
     match sets.get_mut(key) {
         Some(set) => set.remove(value),
+        None => false,
+    }
+}
+
+// Frees the set under the key, where no value is left in it.
+fn drop_emptied(sets: &mut BTreeMap<Vec<u8>, ValueSet>, key: &[u8])
+    requires { IsStrictlySortedBy vec_cmp (keys sets.old) }
+    ensures ordered { IsStrictlySortedBy vec_cmp (keys sets.new) }
+    ensures same { pairs_of_sets sets.new.entries ≡ pairs_of_sets sets.old.entries }
+{
+    if is_emptied(sets, key) {
+        sets.remove(key);
+    }
+}
+
+// Whether no value is left in the set under the key.
+fn is_emptied(sets: &BTreeMap<Vec<u8>, ValueSet>, key: &[u8]) -> bool
+    ensures { IsTrue result → length (set_values (lookup (has_bytes key.now) sets.now.entries)) ≡ 0 }
+{
+    match sets.get(key) {
+        Some(set) => set.is_empty(),
         None => false,
     }
 }

@@ -1,5 +1,5 @@
 //! The values under one key.
-ghost use Rattle.std.specs.Prelude.{◌≡◌, ◌+◌, ◌<◌, ◌^◌, [], false, length, IfOk, IfErr, OnOk, OnErr};
+ghost use Rattle.std.specs.Prelude.{◌≡◌, ◌↔◌, IsTrue, ◌+◌, ◌<◌, ◌^◌, [], false, length, IfOk, IfErr, OnOk, OnErr};
 ghost use Rattle.std.specs.Ordering.{nat_cmp};
 ghost use Rattle.std.specs.Cmp.Lexicographic.{slice_cmp};
 ghost use Rattle.std.specs.List.Sorted.{IsStrictlySortedBy, IsStrictlySortedBy-prop};
@@ -43,6 +43,13 @@ impl ValueSet {
         ensures { result ≡ length self.now.values }
     {
         self.values.as_slice().len()
+    }
+
+    /// Whether it has no value.
+    pub fn is_empty(&self) -> bool
+        ensures { IsTrue result ↔ (length self.now.values ≡ 0) }
+    {
+        self.len() == 0
     }
 
     pub fn contains(&self, value: &[u8]) -> bool
