@@ -8,6 +8,8 @@ pub mod pair_list;
 pub mod plain_map;
 pub mod reply;
 pub mod request;
+#[cfg(test)]
+mod samples;
 pub mod values;
 
 pub use bytes::Bytes;

@@ -4,7 +4,8 @@ ghost use Rattle.std.specs.Fn.{CalledAt};
 ghost use Rattle.std.specs.List.Retain.{IsFiltered};
 ghost use Rattle.chord_map.specs.declared.pair.Pair.{Pair};
 ghost use Rattle.chord_map.specs.Map.{pair_cmp, has_pair, insert_pair, remove_pair, values_at};
-ghost use Rattle.chord_map.specs.Pairs.{IsRising, IsAt, IsGapFor};
+ghost use Rattle.chord_map.specs.Pairs.{IsRising};
+ghost use Rattle.chord_map.specs.Places.{IsAt, IsGapFor};
 
 use crate::bytes::Bytes;
 use crate::pair::Pair;
@@ -42,7 +43,7 @@ fn compare(pair: &Pair, key: &[u8], value: &[u8]) -> Ordering
 fn place_of(pairs: &[Pair], key: &[u8], value: &[u8]) -> Result<usize, usize>
     requires { IsRising pairs.now }
     ensures found { IfOk result (IsAt pairs.now (record { key = key.now; value = value.now })) }
-    ensures absent { IfErr result (IsGapFor pairs.now (record { key = key.now; value = value.now })) }
+    ensures absent { IfErr result (IsGapFor pair_cmp pairs.now (record { key = key.now; value = value.now })) }
 {
     pairs.binary_search_by(
         |pair: &Pair| -> Ordering
@@ -147,3 +148,6 @@ impl PairList {
         self.pairs.retain(test);
     }
 }
+
+#[cfg(test)]
+mod tests;

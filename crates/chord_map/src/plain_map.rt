@@ -81,3 +81,6 @@ fn remove(pairs: &mut PairList, key: &Bytes, value: &Bytes) -> Reply
         Reply::Absent
     }
 }
+
+#[cfg(test)]
+mod tests;

@@ -1,5 +1,5 @@
 //! Lists of values.
-ghost use Rattle.std.specs.Prelude.{◌≡◌, ◌↔◌, ◌++◌, ◌∷◌, ℕ, List, [], IsTrue, IfOk, OnOk, OnErr};
+ghost use Rattle.std.specs.Prelude.{◌≡◌, ◌≤◌, ◌<◌, ◌++◌, ◌∷◌, [], IfOk, OnOk, OnErr, length, insert, remove, slice_get};
 
 use crate::bytes::Bytes;
 use std::alloc::{AllocError, Global};
@@ -55,6 +55,25 @@ impl Values {
         Ok(())
     }
 
+    /// Puts a value at the place, before those from there on.
+    pub fn insert(&mut self, place: usize, value: Bytes) -> Result<(), AllocError>
+        requires { place ≤ length self.old }
+        ensures ok { OnOk result (self.new ≡ insert self.old place value) }
+        ensures err { OnErr result (self.new ≡ self.old) }
+    {
+        self.items.insert(place, value)?;
+        Ok(())
+    }
+
+    /// Takes the value at the place out.
+    pub fn remove(&mut self, place: usize) -> Bytes
+        requires { place < length self.old }
+        ensures value { slice_get self.old place ≡ Some result }
+        ensures rest { self.new ≡ remove self.old place }
+    {
+        self.items.remove(place)
+    }
+
     /// An equal copy.
     pub fn try_copy(&self) -> Result<Values, AllocError>
         ensures { IfOk result (λ copy. copy ≡ self.now) }
@@ -89,3 +108,6 @@ impl Eq for Values {
 
     ghost laws = { same_values-equiv };
 }
+
+#[cfg(test)]
+mod tests;

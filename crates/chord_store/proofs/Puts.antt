@@ -1,16 +1,21 @@
 -- Many pairs put into a map, and taken out again.
-use Rattle.std.proofs.Common.{◌≡◌, ℕ, zero, suc, ◌+◌, ◌<◌, ◌≤◌, Bool, true, false, cond, not, List, [], ◌∷◌, ◌++◌, length, take, get_or, Ordering, Less, Equal, Greater, refl, sym, ap, ◌∙◌, subst, arith, inl, inr}
+use Rattle.std.proofs.Common.{◌≡◌, ℕ, ◌+◌, ◌<◌, ◌≤◌, Bool, true, false, cond, not, List, [], ◌∷◌, ◌++◌, length, take, get_or, Less, Equal, Greater, refl, sym, ap, ◌∙◌, subst, arith, inl, inr, ◌^◌, map, bytes_eq}
 use Rattle.std.specs.List.{filter}
 use Rattle.std.proofs.lemmas.List.{take_more}
+use Rattle.std.specs.List.Sorted.{IsStrictlySortedBy}
+use Rattle.chord_ident.specs.declared.id.Id.{Id}
 use Rattle.chord_ident.specs.declared.span.Span.{Span}
+use Rattle.chord_ident.proofs.Spans.{whole_circle}
+use Rattle.chord_ident.proofs.Digest.{key_id-below}
+use Rattle.chord_map.specs.Pairs.{IsRising}
 use Rattle.chord_ident.specs.Circle.{in_span, key_id}
 use Rattle.chord_map.specs.declared.pair.Pair.{Pair}
-use Rattle.chord_map.specs.declared.request.Request.TheVariants.{Insert}
-use Rattle.chord_map.specs.Map.{pair_cmp, by_order, insert_pair, put_all, reply_to, pairs_by, pairs_after}
-use Rattle.chord_map.proofs.Lists.{Has, Each, has_filter, has_taken, by_test, not_both}
+use Rattle.chord_map.specs.Map.{values_at, pair_cmp, by_order, insert_pair, put_all, reply_to, pairs_by, pairs_after}
+use Rattle.chord_map.proofs.Lists.{Has, Each, has_filter, has_taken, by_test}
+use Rattle.chord_map.proofs.Placed.{length-insert_le}
 use Rattle.chord_map.proofs.Replies.{after_reply}
 use Rattle.chord_store.specs.declared.outcome.Inserted.{Inserted}
-use Rattle.chord_store.specs.declared.outcome.Inserted.TheVariants.{Added, Present, SetFull}
+use Rattle.chord_store.specs.declared.outcome.Inserted.TheVariants.{Added}
 use Rattle.chord_store.specs.Inside.{pairs_inside, pairs_outside}
 use Rattle.chord_store.specs.Store.{insertion, reply_for}
 
@@ -84,3 +89,29 @@ pub inside-more : (span : Span) (pairs : List Pair) (i : ℕ) (d : Pair) → i <
     → pairs_inside span (take (i + 1) pairs) ≡ cond (lies_in span (get_or pairs i d)) (pairs_inside span (take i pairs) ++ get_or pairs i d ∷ []) (pairs_inside span (take i pairs))
 unfolding pairs_inside
 inside-more span pairs i d within = ap (filter (lies_in span)) (take_more pairs i d within) ∙ filter-push (lies_in span) (take i pairs) (get_or pairs i d)
+
+-- what is left is no more than what was there
+pub length-outside_le : (span : Span) (pairs : List Pair) → length (pairs_outside span pairs) ≤ length pairs
+unfolding pairs_outside
+length-outside_le span [] = omega arith
+length-outside_le span (first ∷ rest) =
+    let more = length-outside_le span rest in
+    elim (not (lies_in span first)) as (λ b. length (cond b (first ∷ pairs_outside span rest) (pairs_outside span rest)) ≤ length (first ∷ rest)) [ true ↦ omega arith | false ↦ omega arith ]
+
+-- each pair put in is at most one more
+pub length-put_all_le : (more pairs : List Pair) → length (put_all more pairs) ≤ length pairs + length more
+unfolding put_all
+length-put_all_le [] pairs = omega arith
+length-put_all_le (pair ∷ more) pairs = omega (arith, length-put_all_le more (insert_pair pair pairs), length-insert_le pair pairs)
+
+-- the whole circle has a pair
+pub inside_whole_one : (a : Id) (pair : Pair) → a.number < 2 ^ 128 → pairs_inside (record { after = a; upto = a }) (pair ∷ []) ≡ pair ∷ []
+unfolding pairs_inside
+inside_whole_one a pair small = ap (λ b. cond b (pair ∷ []) []) (whole_circle a (key_id pair.key) small (key_id-below pair.key))
+
+pub rising_one : (pair : Pair) → IsRising (pair ∷ [])
+unfolding IsStrictlySortedBy
+rising_one pair = (tt, tt)
+
+pub few_one : (pair : Pair) (key : List ℕ) → length (values_at key (pair ∷ [])) ≤ 1000
+few_one pair key = elim (bytes_eq pair.key key) as (λ b. length (map (λ (p : Pair). p.value) (cond b (pair ∷ []) [])) ≤ 1000) [ true ↦ omega arith | false ↦ omega arith ]

@@ -1,5 +1,5 @@
 -- What a store answers to an insert and to a put of many pairs, and what it has then.
-use Rattle.std.specs.Prelude.{◌≡◌, ◌+◌, ◌<◌, ◌≤◌, ℕ, List, length, Result, Ok, Err}
+use Rattle.std.specs.Prelude.{◌≡◌, ◌+◌, ◌<◌, ◌≤◌, ℕ, List, take, length, Result, Ok, Err}
 use Rattle.chord_map.specs.declared.pair.Pair.{Pair}
 use Rattle.chord_map.specs.declared.reply.Reply.{Reply}
 use Rattle.chord_map.specs.declared.reply.Reply.TheVariants as reply
@@ -36,3 +36,7 @@ abbrev pub PutAllIs : {A : Type 0} → List Pair → List Pair → ℕ → Resul
 PutAllIs more pairs limit (Ok done) pairs' = (length pairs + length more ≤ limit) × (pairs' ≡ put_all more pairs)
 PutAllIs more pairs limit (Err Full) pairs' = (limit < length pairs + length more) × (pairs' ≡ pairs)
 PutAllIs more pairs limit (Err Memory) pairs' = (length pairs + length more ≤ limit) × (pairs' ≡ pairs)
+
+-- some of the pairs, from the first on, were put in
+abbrev pub IsPutUpTo : List Pair → List Pair → List Pair → Type 0
+IsPutUpTo more pairs pairs' = (count : ℕ) × (pairs' ≡ put_all (take count more) pairs)

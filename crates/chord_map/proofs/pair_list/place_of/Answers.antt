@@ -10,4 +10,4 @@ returns c =
     let facts = c.binary_search_by.ensures in
     let e : Pair = record { key = c.args.key.now; value = c.args.value.now } in
     let by_pair = facts.position (λ (pair : Pair). pair_cmp pair e) (always_returns_same _ _ _ (λ a r g called. (search rules, search rules))) in
-    searched _ c.requires e _ facts.bound by_pair
+    searched c.args.pairs.now c.requires e c.binary_search_by.result facts.bound by_pair

@@ -1,6 +1,5 @@
 use Rattle.std.proofs.Common.{◌≡◌, ◌∙◌, ap, sym, refl, List, ℕ}
 use Rattle.chord_map.specs.declared.request.Request.TheVariants.{Retrieve}
-use Rattle.chord_map.specs.declared.reply.Reply.{Reply}
 use Rattle.chord_map.specs.declared.reply.Reply.TheVariants.{Values}
 use Rattle.chord_map.specs.Map.{values_at}
 use Rattle.chord_map.proofs.Replies.{applied, due_values}

@@ -1,6 +1,5 @@
-use Rattle.std.proofs.Common.{◌≡◌, ◌∙◌, ℕ, List, sym, refl, ap, arith, true, false, ◌≤◌, ◌<◌, length}
+use Rattle.std.proofs.Common.{◌∙◌, sym, refl, arith}
 use Rattle.chord_map.specs.declared.pair.Pair.{Pair}
-use Rattle.chord_map.specs.Map.{has_pair, values_at}
 use Rattle.chord_map.proofs.Replies.{due_present, due_full, due_added}
 use Rattle.chord_store.specs.declared.outcome.Inserted.TheVariants.{Added, Present, SetFull}
 use Rattle.chord_store.proofs.Puts.{did_is}

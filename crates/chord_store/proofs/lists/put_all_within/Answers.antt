@@ -1,4 +1,4 @@
-use Rattle.std.proofs.Common.{◌≡◌, ◌∙◌, ◌≤◌, List, sym, refl, ap, ap₂, arith, take}
+use Rattle.std.proofs.Common.{◌≡◌, ◌∙◌, List, sym, refl, ap, ap₂, arith, take}
 use Rattle.std.proofs.lemmas.List.{take_all}
 use Rattle.chord_map.specs.declared.pair.Pair.{Pair}
 use Rattle.chord_map.specs.Map.{insert_pair, put_all}

@@ -1,11 +1,11 @@
 use Rattle.std.proofs.Common.{◌≡◌, ◌∙◌, ap, sym, List, Ok, Err, Result, ℕ, IfOk, IfErr, is_ok}
 use Rattle.chord_map.specs.declared.pair.Pair.{Pair}
-use Rattle.chord_map.specs.Map.{has_pair}
-use Rattle.chord_map.specs.Pairs.{IsAt, IsGapFor}
+use Rattle.chord_map.specs.Map.{pair_cmp, has_pair}
+use Rattle.chord_map.specs.Places.{IsAt, IsGapFor}
 use Rattle.chord_map.proofs.Placed.{has_at_place, has_not_in_gap}
 use Rattle.chord_map.proofs.pair_list.PairList.contains.Goals as goal
 
-found_says : (ps : List Pair) (e : Pair) (r : Result ℕ ℕ) → IfOk r (IsAt ps e) → IfErr r (IsGapFor ps e) → is_ok r ≡ has_pair e ps
+found_says : (ps : List Pair) (e : Pair) (r : Result ℕ ℕ) → IfOk r (IsAt ps e) → IfErr r (IsGapFor pair_cmp ps e) → is_ok r ≡ has_pair e ps
 found_says ps e (Ok place) at gap = sym (has_at_place ps e place at)
 found_says ps e (Err place) at gap = sym (has_not_in_gap ps e place gap)
 

@@ -1,15 +1,16 @@
 use Rattle.std.proofs.Common.{sym, ap, ◌∙◌, subst, List, ◌≡◌, ℕ}
 use Rattle.std.specs.List.{insert as insert_at}
 use Rattle.chord_map.specs.declared.pair.Pair.{Pair}
-use Rattle.chord_map.specs.Map.{insert_pair}
-use Rattle.chord_map.specs.Pairs.{IsRising, IsAt, IsGapFor}
+use Rattle.chord_map.specs.Map.{pair_cmp, insert_pair}
+use Rattle.chord_map.specs.Pairs.{IsRising}
+use Rattle.chord_map.specs.Places.{IsAt, IsGapFor}
 use Rattle.chord_map.proofs.Placed.{insert_present, insert_in_gap, rising-insert}
 use Rattle.chord_map.proofs.pair_list.PairList.insert.Goals as goal
 
 -- the edit at the gap is the pair put in
-put : (ps ps' seen : List Pair) (e pair : Pair) (place : ℕ) → seen ≡ ps → IsGapFor seen e place → pair ≡ e → ps' ≡ insert_at ps place pair → ps' ≡ insert_pair e ps
+put : (ps ps' seen : List Pair) (e pair : Pair) (place : ℕ) → seen ≡ ps → IsGapFor pair_cmp seen e place → pair ≡ e → ps' ≡ insert_at ps place pair → ps' ≡ insert_pair e ps
 put ps ps' seen e pair place same gap is made =
-    made ∙ ap (λ (p : Pair). insert_at ps place p) is ∙ insert_in_gap ps e place (subst (λ (xs : List Pair). IsGapFor xs e place) same gap)
+    made ∙ ap (λ (p : Pair). insert_at ps place p) is ∙ insert_in_gap ps e place (subst (λ (xs : List Pair). IsGapFor pair_cmp xs e place) same gap)
 
 pub invariant_of-self-in-Err : goal.invariant_of-self-in-Err
 invariant_of-self-in-Err c =

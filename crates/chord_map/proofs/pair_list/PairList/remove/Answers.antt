@@ -1,7 +1,8 @@
-use Rattle.std.proofs.Common.{sym, ap, ◌∙◌, subst, List, ◌≡◌, ℕ}
+use Rattle.std.proofs.Common.{sym, ap, ◌∙◌, subst, List}
 use Rattle.chord_map.specs.declared.pair.Pair.{Pair}
-use Rattle.chord_map.specs.Map.{has_pair, remove_pair}
-use Rattle.chord_map.specs.Pairs.{IsRising, IsAt, IsGapFor}
+use Rattle.chord_map.specs.Map.{pair_cmp, has_pair, remove_pair}
+use Rattle.chord_map.specs.Pairs.{IsRising}
+use Rattle.chord_map.specs.Places.{IsAt, IsGapFor}
 use Rattle.chord_map.proofs.Placed.{has_at_place, has_not_in_gap, remove_at_place, remove_absent, rising-remove}
 use Rattle.chord_map.proofs.pair_list.PairList.remove.Goals as goal
 
@@ -28,10 +29,10 @@ pub returns-in-Err-clause-was_there : goal.returns-in-Err-clause-was_there
 returns-in-Err-clause-was_there c =
     let e : Pair = record { key = c.args.key.now; value = c.args.value.now } in
     sym (has_not_in_gap c.args.self.now e c.in-Err.field-0
-    (subst (λ (ps : List Pair). IsGapFor ps e c.in-Err.field-0) (c.as_slice.ensures.value ∙ c.self.view_is) c.in-Err.ensures.absent))
+    (subst (λ (ps : List Pair). IsGapFor pair_cmp ps e c.in-Err.field-0) (c.as_slice.ensures.value ∙ c.self.view_is) c.in-Err.ensures.absent))
 
 pub returns-in-Err-clause-change : goal.returns-in-Err-clause-change
 returns-in-Err-clause-change c =
     let e : Pair = record { key = c.args.key.now; value = c.args.value.now } in
     sym (remove_absent e c.args.self.now (has_not_in_gap c.args.self.now e c.in-Err.field-0
-    (subst (λ (ps : List Pair). IsGapFor ps e c.in-Err.field-0) (c.as_slice.ensures.value ∙ c.self.view_is) c.in-Err.ensures.absent)))
+    (subst (λ (ps : List Pair). IsGapFor pair_cmp ps e c.in-Err.field-0) (c.as_slice.ensures.value ∙ c.self.view_is) c.in-Err.ensures.absent)))

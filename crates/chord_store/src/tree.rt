@@ -1,0 +1,274 @@
+//! The pairs of a map as a tree of sets.
+ghost use Rattle.std.specs.Prelude.{◌≡◌, ◌+◌, ◌<◌, ◌≤◌, ◌^◌, ◌-◌, ◌++◌, ◌∷◌, List, [], true, false, length, IsTrue, IfOk, OnOk, OnErr};
+ghost use Rattle.std.specs.BTreeMap.{keys};
+ghost use Rattle.std.specs.Map.{lookup};
+ghost use Rattle.std.specs.List.Sorted.{IsStrictlySortedBy};
+ghost use Rattle.chord_map.specs.declared.pair.Pair.{Pair};
+ghost use Rattle.chord_map.specs.Map.{has_pair, insert_pair, remove_pair, values_at, put_all};
+ghost use Rattle.chord_map.specs.Pairs.{IsRising};
+ghost use Rattle.chord_store.specs.Inside.{pairs_inside, pairs_outside};
+ghost use Rattle.chord_store.specs.Store.{IsPutUpTo};
+ghost use Rattle.chord_store.specs.Tree.{has_bytes, pairs_of_sets, pairs_under, set_values, vec_cmp};
+
+use crate::value_set::ValueSet;
+use chord_ident::{Id, Span};
+use chord_map::{Bytes, Pair, Values};
+use std::alloc::{AllocError, Global};
+use std::collections::BTreeMap;
+use std::marker::Model;
+
+/// Each key's set of values, and how many values all sets have.
+#[derive(Drop)]
+pub struct Tree {
+    alloc: Global,
+    sets: BTreeMap<Vec<u8>, ValueSet>,
+    count: u64,
+}
+
+impl Model for Tree {
+    ghost use Rattle.std.specs.Prelude.{◌≡◌, List, length};
+    ghost use Rattle.std.specs.BTreeMap.{keys};
+    ghost use Rattle.std.specs.List.Sorted.{IsStrictlySortedBy};
+    ghost use Rattle.chord_map.specs.declared.pair.Pair.{Pair};
+    ghost use Rattle.chord_store.specs.Tree.{pairs_of_sets, vec_cmp};
+
+    ghost Value = { List Pair };
+
+    ghost view = { λ tree. pairs_of_sets tree.sets.entries };
+
+    ghost invariant = { λ tree. IsStrictlySortedBy vec_cmp (keys tree.sets) × (tree.count ≡ length (pairs_of_sets tree.sets.entries)) };
+}
+
+impl Tree {
+    pub fn new(alloc: Global) -> Tree
+        ensures { result ≡ [] }
+    {
+        Tree {
+            alloc,
+            sets: BTreeMap::new(alloc),
+            count: 0,
+        }
+    }
+
+    pub fn len(&self) -> u64
+        ensures { result ≡ length self.now }
+    {
+        self.count
+    }
+
+    pub fn contains(&self, key: &[u8], value: &[u8]) -> bool
+        ensures test { result ≡ has_pair (record { key = key.now; value = value.now }) self.now }
+        ensures rising { IsRising self.now }
+    {
+        match self.sets.get(key) {
+            Some(set) => set.contains(value),
+            None => false,
+        }
+    }
+
+    /// How many values stand under the key.
+    pub fn count_under(&self, key: &[u8]) -> usize
+        ensures { result ≡ length (values_at key.now self.now) }
+    {
+        match self.sets.get(key) {
+            Some(set) => set.len(),
+            None => 0,
+        }
+    }
+
+    /// Copies of the values under the key, in byte order.
+    pub fn values(&self, alloc: Global, key: &[u8]) -> Result<Values, AllocError>
+        ensures { IfOk result (λ values. values ≡ values_at key.now self.now) }
+    {
+        match self.sets.get(key) {
+            Some(set) => set.values.try_copy(),
+            None => Ok(Values::new(alloc)),
+        }
+    }
+
+    /// Adds the pair, which is not there.
+    pub fn insert(&mut self, key: &[u8], value: &[u8]) -> Result<(), AllocError>
+        requires new { has_pair (record { key = key.now; value = value.now }) self.old ≡ false }
+        requires room { length self.old < 2 ^ 64 - 1 }
+        ensures ok { OnOk result (self.new ≡ insert_pair (record { key = key.now; value = value.now }) self.old) }
+        ensures err { OnErr result (self.new ≡ self.old) }
+    {
+        add(&mut self.sets, self.alloc, key, value)?;
+        self.count += 1;
+        Ok(())
+    }
+
+    /// Puts the pairs in. Where memory is wanting it has those up to the one that was refused.
+    pub fn put_all(&mut self, pairs: &[Pair]) -> Result<(), AllocError>
+        requires { length self.old + length pairs.now < 2 ^ 64 }
+        ensures ok { OnOk result (self.new ≡ put_all pairs.now self.old) }
+        ensures err { OnErr result (IsPutUpTo pairs.now self.old self.new) }
+    {
+        for pair in pairs {
+            self.put(pair)?;
+        }
+        Ok(())
+    }
+
+    // Puts the pair in, unless it is there.
+    fn put(&mut self, pair: &Pair) -> Result<(), AllocError>
+        requires { length self.old < 2 ^ 64 - 1 }
+        ensures ok { OnOk result (self.new ≡ insert_pair pair.now self.old) }
+        ensures err { OnErr result (self.new ≡ self.old) }
+    {
+        let key = pair.key.as_slice();
+        let value = pair.value.as_slice();
+        if self.contains(key, value) {
+            return Ok(());
+        }
+        self.insert(key, value)?;
+        Ok(())
+    }
+
+    /// Takes the pair out, and says whether it was there.
+    pub fn remove(&mut self, key: &[u8], value: &[u8]) -> bool
+        ensures was_there { result ≡ has_pair (record { key = key.now; value = value.now }) self.old }
+        ensures change { self.new ≡ remove_pair (record { key = key.now; value = value.now }) self.old }
+    {
+        if drop_value(&mut self.sets, key, value) {
+            drop_emptied(&mut self.sets, key);
+            self.count -= 1;
+            true
+        } else {
+            false
+        }
+    }
+
+    /// Drops the pairs whose keys lie in the span. Each key's identifier is computed once.
+    pub fn take_out(&mut self, span: &Span)
+        ensures { self.new ≡ pairs_outside span.now self.old }
+    {
+        drop_span(&mut self.sets, span);
+        self.count = count_values(&self.sets);
+    }
+
+    /// Copies of the pairs whose keys lie in the span, in order. Each key's identifier is computed once.
+    pub fn copy_span(&self, alloc: Global, span: &Span) -> Result<Vec<Pair>, AllocError>
+        ensures { IfOk result (λ pairs. pairs.items ≡ pairs_inside span.now self.now) }
+    {
+        copy_sets(alloc, &self.sets, span)
+    }
+}
+
+// Adds the value to the set under the key.
+fn add(
+    sets: &mut BTreeMap<Vec<u8>, ValueSet>,
+    alloc: Global,
+    key: &[u8],
+    value: &[u8],
+) -> Result<(), AllocError>
+    requires ordered { IsStrictlySortedBy vec_cmp (keys sets.old) }
+    requires new { has_pair (record { key = key.now; value = value.now }) (pairs_of_sets sets.old.entries) ≡ false }
+    ensures ordered { IsStrictlySortedBy vec_cmp (keys sets.new) }
+    ensures ok { OnOk result (pairs_of_sets sets.new.entries ≡ insert_pair (record { key = key.now; value = value.now }) (pairs_of_sets sets.old.entries)) }
+    ensures err { OnErr result (pairs_of_sets sets.new.entries ≡ pairs_of_sets sets.old.entries) }
+{
+    match sets.get_mut(key) {
+        Some(set) => {
+            set.insert(alloc, value)?;
+            Ok(())
+        }
+        None => {
+            let mut set = ValueSet::new(alloc);
+            set.insert(alloc, value)?;
+            let key = Vec::from_slice(alloc, key)?;
+            sets.insert(key, set)?;
+            Ok(())
+        }
+    }
+}
+
+// Takes the value out of the set under the key.
+fn drop_value(sets: &mut BTreeMap<Vec<u8>, ValueSet>, key: &[u8], value: &[u8]) -> bool
+    requires ordered { IsStrictlySortedBy vec_cmp (keys sets.old) }
+    ensures ordered { IsStrictlySortedBy vec_cmp (keys sets.new) }
+    ensures was_there { result ≡ has_pair (record { key = key.now; value = value.now }) (pairs_of_sets sets.old.entries) }
+    ensures change { pairs_of_sets sets.new.entries ≡ remove_pair (record { key = key.now; value = value.now }) (pairs_of_sets sets.old.entries) }
+{
+    match sets.get_mut(key) {
+        Some(set) => set.remove(value),
+        None => false,
+    }
+}
+
+// Frees the set under the key, where no value is left in it.
+fn drop_emptied(sets: &mut BTreeMap<Vec<u8>, ValueSet>, key: &[u8])
+    requires { IsStrictlySortedBy vec_cmp (keys sets.old) }
+    ensures ordered { IsStrictlySortedBy vec_cmp (keys sets.new) }
+    ensures same { pairs_of_sets sets.new.entries ≡ pairs_of_sets sets.old.entries }
+{
+    if is_emptied(sets, key) {
+        sets.remove(key);
+    }
+}
+
+// Whether no value is left in the set under the key.
+fn is_emptied(sets: &BTreeMap<Vec<u8>, ValueSet>, key: &[u8]) -> bool
+    ensures { IsTrue result → length (set_values (lookup (has_bytes key.now) sets.now.entries)) ≡ 0 }
+{
+    match sets.get(key) {
+        Some(set) => set.is_empty(),
+        None => false,
+    }
+}
+
+// Drops the sets whose keys lie in the span.
+fn drop_span(sets: &mut BTreeMap<Vec<u8>, ValueSet>, span: &Span)
+    ensures ordered { IsStrictlySortedBy vec_cmp (keys sets.new) }
+    ensures change { pairs_of_sets sets.new.entries ≡ pairs_outside span.now (pairs_of_sets sets.old.entries) }
+{
+    sets.retain(|key, _| !span.contains(Id::of_bytes(key.as_slice())));
+}
+
+// How many values all sets have.
+fn count_values(sets: &BTreeMap<Vec<u8>, ValueSet>) -> u64
+    requires { length (pairs_of_sets sets.now.entries) < 2 ^ 64 }
+    ensures { result ≡ length (pairs_of_sets sets.now.entries) }
+{
+    let mut total = 0;
+    for (_, set) in sets.iter() {
+        total += set.len() as u64;
+    }
+    total
+}
+
+// Copies of the pairs of the sets whose keys lie in the span.
+fn copy_sets(
+    alloc: Global,
+    sets: &BTreeMap<Vec<u8>, ValueSet>,
+    span: &Span,
+) -> Result<Vec<Pair>, AllocError>
+    ensures { IfOk result (λ pairs. pairs.items ≡ pairs_inside span.now (pairs_of_sets sets.now.entries)) }
+{
+    let mut copies = Vec::new(alloc);
+    for (key, set) in sets.iter() {
+        copy_set(alloc, &mut copies, span, key.as_slice(), set)?;
+    }
+    Ok(copies)
+}
+
+// Adds copies of the pairs of one key, where it lies in the span.
+fn copy_set(
+    alloc: Global,
+    copies: &mut Vec<Pair>,
+    span: &Span,
+    key: &[u8],
+    set: &ValueSet,
+) -> Result<(), AllocError>
+    ensures { OnOk result (copies.new.items ≡ copies.old.items ++ pairs_inside span.now (pairs_under key.now set.now.values)) }
+{
+    if !span.contains(Id::of_bytes(key)) {
+        return Ok(());
+    }
+    for value in set.values.as_slice() {
+        let key = Bytes::from_slice(alloc, key)?;
+        let value = value.try_copy()?;
+        copies.push(Pair { key, value })?;
+    }
+    Ok(())
+}

@@ -1,0 +1,111 @@
+//! A store over a tree.
+ghost use Rattle.std.specs.Prelude.{◌≡◌, ◌-◌, ◌^◌, List, []};
+ghost use Rattle.chord_map.specs.declared.pair.Pair.{Pair};
+ghost use Rattle.chord_store.specs.Inside.{pairs_inside};
+ghost use Rattle.chord_store.specs.Store.{InsertIs, PutAllIs};
+
+use crate::outcome::{Inserted, StoreFault};
+use crate::store::EntryStore;
+use crate::tree::Tree;
+use chord_ident::Span;
+use chord_map::limits::SET_VALUES;
+use chord_map::{Pair, Values};
+use std::alloc::{AllocError, Global};
+use std::marker::Model;
+
+// The most pairs of a tree, whose count is a number of 64 bits.
+const LIMIT: u64 = u64::MAX;
+
+/// A store whose insert, remove and look-up take time in the logarithm of its keys, with no limit
+/// of its own.
+#[derive(Drop)]
+pub struct TreeStore {
+    tree: Tree,
+}
+
+impl Model for TreeStore {
+    ghost Value = { List Pair };
+
+    ghost view = { λ store. store.tree };
+}
+
+impl TreeStore {
+    pub fn new(alloc: Global) -> TreeStore
+        ensures { result ≡ [] }
+    {
+        TreeStore {
+            tree: Tree::new(alloc),
+        }
+    }
+}
+
+impl EntryStore for TreeStore {
+    ghost content = { λ store. store };
+
+    ghost limit = { λ _. 2 ^ 64 - 1 };
+
+    fn insert(&mut self, key: &[u8], value: &[u8]) -> Result<Inserted, StoreFault> {
+        insert_new(&mut self.tree, key, value)
+    }
+
+    fn remove(&mut self, key: &[u8], value: &[u8]) -> bool {
+        self.tree.remove(key, value)
+    }
+
+    fn take_out(&mut self, span: &Span) {
+        self.tree.take_out(span);
+    }
+
+    fn count(&self) -> u64 {
+        self.tree.len()
+    }
+
+    fn values(&self, alloc: Global, key: &[u8]) -> Result<Values, AllocError> {
+        self.tree.values(alloc, key)
+    }
+
+    fn copy_span(&self, alloc: Global, span: &Span) -> Result<Vec<Pair>, AllocError> {
+        self.tree.copy_span(alloc, span)
+    }
+
+    fn put_all(&mut self, span: &Span, pairs: &[Pair]) -> Result<(), StoreFault> {
+        put_all_new(&mut self.tree, span, pairs)
+    }
+}
+
+// Puts the value under the key, where it is new and the set has room.
+fn insert_new(tree: &mut Tree, key: &[u8], value: &[u8]) -> Result<Inserted, StoreFault>
+    ensures { InsertIs (record { key = key.now; value = value.now }) tree.old (2 ^ 64 - 1) result tree.new }
+{
+    if tree.contains(key, value) {
+        return Ok(Inserted::Present);
+    }
+    if tree.count_under(key) >= SET_VALUES {
+        return Ok(Inserted::SetFull);
+    }
+    if tree.len() == LIMIT {
+        return Err(StoreFault::Full);
+    }
+    match tree.insert(key, value) {
+        Ok(()) => Ok(Inserted::Added),
+        Err(_) => Err(StoreFault::Memory),
+    }
+}
+
+// Puts all the pairs, which lie in a span where the tree has nothing, or none of them.
+fn put_all_new(tree: &mut Tree, span: &Span, pairs: &[Pair]) -> Result<(), StoreFault>
+    requires vacant { pairs_inside span.now tree.old ≡ [] }
+    requires within { pairs_inside span.now pairs.now ≡ pairs.now }
+    ensures { PutAllIs pairs.now tree.old (2 ^ 64 - 1) result tree.new }
+{
+    if LIMIT - tree.len() < pairs.len() as u64 {
+        return Err(StoreFault::Full);
+    }
+    match tree.put_all(pairs) {
+        Ok(()) => Ok(()),
+        Err(_) => {
+            tree.take_out(span);
+            Err(StoreFault::Memory)
+        }
+    }
+}
