@@ -98,12 +98,8 @@ fn has_principal(members: &[Option<Links>], gone: u64) -> bool
 
 /// Whether a node is a member and, once it has departed, each member's list has a live entry and there is a principal.
 pub fn can_depart_among(members: &[Option<Links>], no: u64) -> bool
-    ensures yes { IsTrue result → CanDepart members.now no }
-    ensures no { CanDepart members.now no → IsTrue result }
+    ensures { IsTrue result ↔ CanDepart members.now no }
 {
-    let is_member = match members.get(no as usize) {
-        Some(Some(_)) => true,
-        _ => false,
-    };
+    let is_member = matches!(members.get(no as usize), Some(Some(_)));
     is_member && are_live(members, no) && has_principal(members, no)
 }
