@@ -47,8 +47,8 @@ fn skips(links: &Links, x: Id) -> bool
     false
 }
 
-#[tactic(auto, using(crate::proofs::Lookups::member_within_without))]
 /// Whether a node is a principal once another has departed.
+#[tactic(auto, using(crate::proofs::Lookups::member_within_without))]
 fn is_principal(members: &[Option<Links>], gone: u64, no: u64) -> bool
     ensures yes { IsTrue result → IsPrincipal (slice_set members.now gone None) no }
     ensures no { IsPrincipal (slice_set members.now gone None) no → IsTrue result }
@@ -67,10 +67,11 @@ fn is_principal(members: &[Option<Links>], gone: u64, no: u64) -> bool
     true
 }
 
-#[tactic(auto, using(crate::proofs::Lookups::member_within_without))]
 /// Whether each member has a live entry once another has departed.
+#[tactic(auto, using(crate::proofs::Lookups::member_within_without))]
 fn are_live(members: &[Option<Links>], gone: u64) -> bool
-    ensures { IsTrue result ↔ ((no : ℕ) (links : NodeLinks) → links_of (slice_set members.now gone None) no ≡ Some links → IsSome (first_live (slice_set members.now gone None) links.entries)) }
+    ensures { let left = slice_set members.now gone None in IsTrue result ↔
+        ((no : ℕ) (links : NodeLinks) → links_of left no ≡ Some links → IsSome (first_live left links.entries)) }
 {
     for no in 0..members.len() {
         if let Some(links) = member_without(members, gone, no as u64) {
@@ -82,8 +83,8 @@ fn are_live(members: &[Option<Links>], gone: u64) -> bool
     true
 }
 
-#[tactic(auto, using(crate::proofs::Lookups::principal_within_without))]
 /// Whether there is a principal once another has departed.
+#[tactic(auto, using(crate::proofs::Lookups::principal_within_without))]
 fn has_principal(members: &[Option<Links>], gone: u64) -> bool
     ensures yes { IsTrue result → (no : ℕ) × IsPrincipal (slice_set members.now gone None) no }
     ensures no { (no : ℕ) → IsPrincipal (slice_set members.now gone None) no → IsTrue result }
