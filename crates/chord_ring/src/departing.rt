@@ -1,9 +1,9 @@
 //! Whether a member can depart.
-ghost use Rattle.std.specs.Prelude.{◌≡◌, ℕ, ◌<◌, ◌≤◌, ◌↔◌, length, IsTrue, is_some, IsSome, slice_set, None, Some};
+ghost use Rattle.std.specs.Prelude.{◌≡◌, ℕ, ◌<◌, ◌↔◌, IsTrue, is_some, IsSome, slice_set, None, Some};
 ghost use Rattle.std.specs.Option.{option_copied};
 ghost use Rattle.chord_links.specs.NodeLinks.{NodeLinks};
 ghost use Rattle.chord_links.specs.Successors.{Skips};
-ghost use Rattle.chord_ring.specs.Ring.{links_of, is_member, first_live, IsPrincipal, IsSettled, CanDepart};
+ghost use Rattle.chord_ring.specs.Ring.{links_of, is_member, first_live, IsPrincipal, CanDepart};
 
 use chord_ident::{Id, between};
 use chord_links::Links;
@@ -98,6 +98,7 @@ fn has_principal(members: &[Option<Links>], gone: u64) -> bool
 }
 
 /// Whether a node is a member and, once it has departed, each member's list has a live entry and there is a principal.
+/// The members stand under their numbers. At worst each list is looked at once for each member.
 pub fn can_depart_among(members: &[Option<Links>], no: u64) -> bool
     ensures { IsTrue result ↔ CanDepart members.now no }
 {

@@ -1,5 +1,5 @@
 //! The links of all nodes of one ring.
-ghost use Rattle.std.specs.Prelude.{◌≡◌, ℕ, ◌<◌, ◌≤◌, ◌↔◌, length, IsTrue, IsOk, IfOk, IfErr, OnOk, OnErr, None, Some, map, ◌≢◌};
+ghost use Rattle.std.specs.Prelude.{◌≡◌, ◌<◌, ◌≤◌, ◌↔◌, length, IsTrue, IfOk, IfErr, OnOk, OnErr, None, Some, map, ◌≢◌};
 ghost use Rattle.std.specs.List.{Contains};
 ghost use Rattle.chord_ring.specs.Ring.{links_of, is_member, IsSettled, CanDepart, KeepsPrincipals, IsOneRing};
 ghost use Rattle.chord_ring.specs.Steps.{founded, without, Stabilises, TakesCandidate, DropsDead, Rectifies, Joins, Step, is_live};

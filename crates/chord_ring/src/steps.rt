@@ -1,5 +1,5 @@
 //! The steps on one node's links.
-ghost use Rattle.std.specs.Prelude.{◌≡◌, ℕ, ◌<◌, ◌≤◌, ◌↔◌, length, IsTrue, IsOk, IsErr, IfOk, IfErr, OnOk, OnErr, MatchResult, Bool, true, false};
+ghost use Rattle.std.specs.Prelude.{◌≡◌, ◌<◌, ◌↔◌, length, IsTrue, IsOk, IfOk, IfErr, OnOk, OnErr, true, false};
 ghost use Rattle.chord_ident.specs.Circle.{IsBetween};
 ghost use Rattle.chord_links.specs.NodeLinks.{first_entry};
 ghost use Rattle.chord_ring.specs.Steps.{is_between, joined, behind, without_head, candidate_of, gives_way, rectified};

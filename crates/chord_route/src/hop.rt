@@ -1,6 +1,6 @@
 //! The next hop.
 
-ghost use Rattle.std.specs.Prelude.{◌≡◌, List};
+ghost use Rattle.std.specs.Prelude.{List};
 ghost use Rattle.chord_links.specs.declared.peer.Peer.{Peer};
 ghost use Rattle.chord_route.specs.IdealRing.{IsRing, IsIdeal};
 ghost use Rattle.chord_route.specs.Hops.{IsNextHop, BringsNearer};
