@@ -2,7 +2,7 @@
 use Rattle.std.specs.Prelude.{ℕ, Option, None, List, [], ◌∷◌, slice_index_or}
 use Rattle.chord_links.specs.declared.peer.Peer.{Peer}
 use Rattle.chord_links.specs.declared.fingers.Fingers.{Fingers}
-use Rattle.chord_links.specs.Fingers.{no_fingers, with_finger}
+use Rattle.chord_links.specs.Fingers.{no_fingers}
 
 -- a node's links: itself, how many successors it may list, its predecessor, its successors and its fingers
 pub record NodeLinks : Type 0 where

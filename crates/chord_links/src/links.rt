@@ -1,6 +1,6 @@
 //! What a node knows of the others.
 
-ghost use Rattle.std.specs.Prelude.{◌≡◌, ℕ, ◌<◌, ◌≤◌, List, [], ◌∷◌, length, None, Some};
+ghost use Rattle.std.specs.Prelude.{◌≡◌, ◌<◌, ◌≤◌, length, None};
 
 use crate::{Fingers, Peer, SuccList};
 use std::marker::Model;
@@ -16,16 +16,23 @@ pub struct Links {
 }
 
 impl Model for Links {
-    ghost use Rattle.std.specs.Prelude.{◌≡◌, ℕ, ◌<◌, ◌≤◌, length};
+    ghost use Rattle.std.specs.Prelude.{◌≡◌, ◌<◌, ◌≤◌, length};
     ghost use Rattle.chord_links.specs.NodeLinks.{NodeLinks};
     ghost use Rattle.std.proofs.Common.{sym};
 
     ghost Value = { NodeLinks };
 
-    ghost view = { λ links. record { me = links.me; r = links.r; predecessor = links.predecessor; entries = links.list.entries; fingers = links.fingers } };
+    ghost view = { λ links. record {
+      me = links.me;
+      r = links.r;
+      predecessor = links.predecessor;
+      entries = links.list.entries;
+      fingers = links.fingers;
+    } };
 
     ghost invariant = { λ links.
-        (links.list.owner ≡ links.me.id.number) × (2 ≤ links.r) × (links.r ≤ 16) × (length links.list.entries ≤ links.r) × (links.fingers.me ≡ links.me) };
+        (links.list.owner ≡ links.me.id.number) × (2 ≤ links.r) × (links.r ≤ 16)
+        × (length links.list.entries ≤ links.r) × (links.fingers.me ≡ links.me) };
 
     ghost inverse = { λ links. record {
       me = links.me;
@@ -46,7 +53,6 @@ impl Model for Links {
 
 impl Links {
     ghost use Rattle.chord_links.specs.Fingers.{with_finger};
-    ghost use Rattle.chord_links.specs.Successors.{Rises};
     ghost use Rattle.chord_links.specs.NodeLinks.{alone, first_entry, with_entries};
 
     /// The links of a node that knows no other, whose list may have r entries.

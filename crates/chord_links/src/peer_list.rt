@@ -1,5 +1,5 @@
 //! A list of at most 16 peers that lies in the value itself.
-ghost use Rattle.std.specs.Prelude.{◌≡◌, ◌+◌, ◌<◌, ◌≤◌, List, [], ◌∷◌, ◌++◌, length, slice_get, Some};
+ghost use Rattle.std.specs.Prelude.{◌≡◌, ◌+◌, ◌<◌, ◌≤◌, List, [], ◌∷◌, ◌++◌, length};
 
 use crate::Peer;
 use chord_ident::Id;
@@ -21,7 +21,9 @@ impl Model for PeerList {
 
     ghost view = { λ peers. take peers.len peers.slots };
 
-    ghost invariant = { λ peers. (peers.len ≤ 16) × (length peers.slots ≡ 16) × (peers.slots ≡ padded (take peers.len peers.slots)) };
+    // Free places are blank, so that the peers alone tell the array.
+    ghost invariant = { λ peers. (peers.len ≤ 16) × (length peers.slots ≡ 16)
+        × (peers.slots ≡ padded (take peers.len peers.slots)) };
 
     ghost inverse = { λ peers. record { slots = padded peers; len = length peers } };
 

@@ -1,5 +1,5 @@
 //! A node's list of successors.
-ghost use Rattle.std.specs.Prelude.{◌≡◌, ℕ, ◌+◌, ◌-◌, ◌<◌, ◌≤◌, List, [], ◌∷◌, ◌++◌, length, take, drop, slice_get, slice_index_or, Some, IsOk, IsErr, IfErr, OnOk, OnErr, ◌↔◌, IsTrue};
+ghost use Rattle.std.specs.Prelude.{◌≡◌, ◌-◌, ◌<◌, ◌≤◌, [], ◌∷◌, length, take, drop, slice_get, Some, IsOk, OnOk, OnErr, ◌↔◌, IsTrue};
 ghost use Rattle.chord_ident.specs.Circle.{walk};
 ghost use Rattle.chord_links.specs.Successors.{Rises, rising_front, behind_successor, behind_predecessor};
 
@@ -17,7 +17,7 @@ pub struct SuccList {
 }
 
 impl Model for SuccList {
-    ghost use Rattle.std.specs.Prelude.{ℕ, ◌<◌, length};
+    ghost use Rattle.std.specs.Prelude.{◌<◌, length};
     ghost use Rattle.chord_links.specs.Successors.{Successors, Rises};
 
     ghost Value = { Successors };

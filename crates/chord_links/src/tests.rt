@@ -1,6 +1,6 @@
 //! Lists and fingers of a few nodes.
 
-ghost use Rattle.std.specs.Prelude.{◌<◌, ◌≤◌};
+ghost use Rattle.std.specs.Prelude.{◌<◌};
 
 use crate::{Empty, Fingers, Links, Peer, SuccList};
 use chord_ident::Id;

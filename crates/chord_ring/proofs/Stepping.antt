@@ -8,6 +8,7 @@ use Rattle.std.proofs.lemmas.List.{length-set, length_push}
 use Rattle.chord_ident.specs.Circle.{walk, IsBetween}
 use Rattle.chord_links.proofs.Clockwise.{circle, walk_range, between_nearer, nearer_between}
 use Rattle.chord_links.specs.declared.peer.Peer.{Peer}
+use Rattle.chord_links.specs.declared.fingers.Fingers.{Fingers}
 use Rattle.chord_links.specs.NodeLinks.{NodeLinks, first_entry}
 use Rattle.chord_links.specs.Successors.{Rises, Skips, rising_front, behind_predecessor}
 use Rattle.chord_links.proofs.Skipping.{Skips-behind_successor, Skips-joined, Skips-without_head, Rises-rising_front, Rises-take, Rises-joined, behind_predecessor_all}
@@ -169,6 +170,22 @@ Kept-rectifies old node notifier new sound step =
     })
     live (λ other member is_its skips. (node, links, step.is_its, skips)))
     (λ _. Kept-with_links old node links links sound step.is_its refl mine live (λ other member is_its skips. (node, links, step.is_its, skips))))
+
+-- a member gets other fingers
+pub Kept-fingers : (old : Ring) (node : ℕ) (links : NodeLinks) (fingers : Fingers) → IsSound old → links_of old.members node ≡ Some links
+    → Kept old (with_links old node (record links { fingers = fingers }))
+Kept-fingers old node links fingers sound is_its =
+    let mine : LinksSound old.ids node links = sound.each node links is_its in
+    Kept-with_links old node links (record links { fingers = fingers }) sound is_its refl
+    (record {
+      number = mine.number;
+      me_known = mine.me_known;
+      known = mine.known;
+      rises = mine.rises;
+      short = mine.short;
+      positive = mine.positive;
+    })
+    (sound.settled.live node links is_its) (λ other member member_is skips. (node, links, is_its, skips))
 
 pub Kept-joins : (old : Ring) (id pred : ℕ) (new : Ring) → IsSound old → Joins old id pred new → Kept old new
 Kept-joins old id pred new sound step =

@@ -21,13 +21,14 @@ abbrev pub OfTwo : Ring → ℕ → ℕ → (NodeLinks → NodeLinks → Type 0)
 OfTwo ring node other P =
     (links : NodeLinks) × (theirs : NodeLinks) × (links_of ring.members node ≡ Some links) × (links_of ring.members other ≡ Some theirs) × P links theirs
 
--- behind no member; an identifier that was used; one that does not lie before the first entry; no memory
+-- behind no member; an identifier that was used; one that does not lie before the first entry; no memory, where all else is well
 abbrev pub JoinRefused : Ring → ℕ → ℕ → RingFault → Type 0
 JoinRefused ring id pred NoSuchNode = is_member ring.members pred ≡ false
 JoinRefused ring id pred IdTaken = IsTrue (is_member ring.members pred) × Contains ring.ids id
 JoinRefused ring id pred NotBetween =
     (links : NodeLinks) × (links_of ring.members pred ≡ Some links) × ¬ (Contains ring.ids id) × ¬ (IsBetween links.me.id.number id (first_entry links).id.number)
-JoinRefused ring id pred Memory = Unit {0}
+JoinRefused ring id pred Memory =
+    (links : NodeLinks) × (links_of ring.members pred ≡ Some links) × ¬ (Contains ring.ids id) × IsBetween links.me.id.number id (first_entry links).id.number
 JoinRefused ring id pred _ = ⊥
 
 -- a node that is no member, or a first entry that never was; a dead one; one that is not the first entry

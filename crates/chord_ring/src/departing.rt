@@ -1,9 +1,9 @@
 //! Whether a member can depart.
-ghost use Rattle.std.specs.Prelude.{◌≡◌, ℕ, ◌<◌, ◌≤◌, ◌↔◌, length, IsTrue, is_some, IsSome, slice_set, None, Some};
+ghost use Rattle.std.specs.Prelude.{◌≡◌, ℕ, ◌<◌, ◌↔◌, IsTrue, is_some, IsSome, slice_set, None, Some};
 ghost use Rattle.std.specs.Option.{option_copied};
 ghost use Rattle.chord_links.specs.NodeLinks.{NodeLinks};
 ghost use Rattle.chord_links.specs.Successors.{Skips};
-ghost use Rattle.chord_ring.specs.Ring.{links_of, is_member, first_live, IsPrincipal, IsSettled, CanDepart};
+ghost use Rattle.chord_ring.specs.Ring.{links_of, is_member, first_live, IsPrincipal, CanDepart};
 
 use chord_ident::{Id, between};
 use chord_links::Links;
@@ -47,8 +47,8 @@ fn skips(links: &Links, x: Id) -> bool
     false
 }
 
-#[tactic(auto, using(crate::proofs::Lookups::member_within_without))]
 /// Whether a node is a principal once another has departed.
+#[tactic(auto, using(crate::proofs::Lookups::member_within_without))]
 fn is_principal(members: &[Option<Links>], gone: u64, no: u64) -> bool
     ensures yes { IsTrue result → IsPrincipal (slice_set members.now gone None) no }
     ensures no { IsPrincipal (slice_set members.now gone None) no → IsTrue result }
@@ -67,10 +67,11 @@ fn is_principal(members: &[Option<Links>], gone: u64, no: u64) -> bool
     true
 }
 
-#[tactic(auto, using(crate::proofs::Lookups::member_within_without))]
 /// Whether each member has a live entry once another has departed.
+#[tactic(auto, using(crate::proofs::Lookups::member_within_without))]
 fn are_live(members: &[Option<Links>], gone: u64) -> bool
-    ensures { IsTrue result ↔ ((no : ℕ) (links : NodeLinks) → links_of (slice_set members.now gone None) no ≡ Some links → IsSome (first_live (slice_set members.now gone None) links.entries)) }
+    ensures { let left = slice_set members.now gone None in IsTrue result ↔
+        ((no : ℕ) (links : NodeLinks) → links_of left no ≡ Some links → IsSome (first_live left links.entries)) }
 {
     for no in 0..members.len() {
         if let Some(links) = member_without(members, gone, no as u64) {
@@ -82,8 +83,8 @@ fn are_live(members: &[Option<Links>], gone: u64) -> bool
     true
 }
 
-#[tactic(auto, using(crate::proofs::Lookups::principal_within_without))]
 /// Whether there is a principal once another has departed.
+#[tactic(auto, using(crate::proofs::Lookups::principal_within_without))]
 fn has_principal(members: &[Option<Links>], gone: u64) -> bool
     ensures yes { IsTrue result → (no : ℕ) × IsPrincipal (slice_set members.now gone None) no }
     ensures no { (no : ℕ) → IsPrincipal (slice_set members.now gone None) no → IsTrue result }
@@ -97,13 +98,10 @@ fn has_principal(members: &[Option<Links>], gone: u64) -> bool
 }
 
 /// Whether a node is a member and, once it has departed, each member's list has a live entry and there is a principal.
+/// The members stand under their numbers. At worst each list is looked at once for each member.
 pub fn can_depart_among(members: &[Option<Links>], no: u64) -> bool
-    ensures yes { IsTrue result → CanDepart members.now no }
-    ensures no { CanDepart members.now no → IsTrue result }
+    ensures { IsTrue result ↔ CanDepart members.now no }
 {
-    let is_member = match members.get(no as usize) {
-        Some(Some(_)) => true,
-        _ => false,
-    };
+    let is_member = matches!(members.get(no as usize), Some(Some(_)));
     is_member && are_live(members, no) && has_principal(members, no)
 }

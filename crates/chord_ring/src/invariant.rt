@@ -9,7 +9,9 @@ ghost use Rattle.chord_ring.specs.Steps.{Ring, Step, IsReached, without};
 /// entry, there is a principal, a principal that is still a member stays one, and the principals stand on one ring.
 pub fn principals_stand_on_one_ring()
     ensures settled { (ring : Ring) → IsReached ring → IsSettled ring.members }
-    ensures kept_by_steps { (old new : Ring) (step : RingStep) → IsReached old → Step old step new → KeepsPrincipals old.members new.members }
-    ensures kept_by_departures { (old : Ring) (gone : ℕ) → IsReached old → CanDepart old.members gone → KeepsPrincipals old.members (without old gone).members }
+    ensures kept_by_steps { (old new : Ring) (step : RingStep) → IsReached old →
+        Step old step new → KeepsPrincipals old.members new.members }
+    ensures kept_by_departures { (old : Ring) (gone : ℕ) → IsReached old →
+        CanDepart old.members gone → KeepsPrincipals old.members (without old gone).members }
     ensures one_ring { (ring : Ring) → IsReached ring → IsOneRing ring.members }
 {}

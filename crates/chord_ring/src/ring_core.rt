@@ -1,5 +1,5 @@
 //! The links of all nodes of one ring.
-ghost use Rattle.std.specs.Prelude.{◌≡◌, ℕ, ◌<◌, ◌≤◌, ◌↔◌, length, IsTrue, IsOk, IfOk, IfErr, OnOk, OnErr, None, Some, map, ◌≢◌};
+ghost use Rattle.std.specs.Prelude.{◌≡◌, ◌<◌, ◌≤◌, ◌↔◌, length, IsTrue, IfOk, IfErr, OnOk, OnErr, None, Some, map, ◌≢◌};
 ghost use Rattle.std.specs.List.{Contains};
 ghost use Rattle.chord_ring.specs.Ring.{links_of, is_member, IsSettled, CanDepart, KeepsPrincipals, IsOneRing};
 ghost use Rattle.chord_ring.specs.Steps.{founded, without, Stabilises, TakesCandidate, DropsDead, Rectifies, Joins, Step, is_live};
@@ -53,17 +53,13 @@ impl RingCore {
     pub fn is_member(&self, no: u64) -> bool
         ensures { result ≡ is_member self.now.ring.members no }
     {
-        match self.members.get(no as usize) {
-            Some(Some(_)) => true,
-            _ => false,
-        }
+        matches!(self.members.get(no as usize), Some(Some(_)))
     }
 
     /// Whether the node is a member and, once it has departed, each member's list has a live entry and there is a
     /// principal.
     pub fn can_depart(&self, no: u64) -> bool
-        ensures yes { IsTrue result → CanDepart self.now.ring.members no }
-        ensures no { CanDepart self.now.ring.members no → IsTrue result }
+        ensures { IsTrue result ↔ CanDepart self.now.ring.members no }
     {
         can_depart_among(&self.members, no)
     }
@@ -128,13 +124,9 @@ impl RingCore {
         let Some(theirs) = self.links(head) else {
             return Err(RingFault::Stabilise(StabiliseFault::HeadDead));
         };
-        match stabilise(&mut links, &theirs, true) {
-            Ok(candidate) => {
-                self.members[no as usize] = Some(links);
-                Ok(candidate)
-            }
-            Err(fault) => Err(RingFault::Stabilise(fault)),
-        }
+        let candidate = stabilise(&mut links, &theirs, true).map_err(RingFault::Stabilise)?;
+        self.members[no as usize] = Some(links);
+        Ok(candidate)
     }
 
     /// A member takes a nearer live node as its first entry.
@@ -153,13 +145,9 @@ impl RingCore {
         let Some(theirs) = self.links(peer) else {
             return Err(RingFault::Candidate(CandidateFault::Dead));
         };
-        match take_candidate(&mut links, &theirs, true) {
-            Ok(()) => {
-                self.members[no as usize] = Some(links);
-                Ok(())
-            }
-            Err(fault) => Err(RingFault::Candidate(fault)),
-        }
+        take_candidate(&mut links, &theirs, true).map_err(RingFault::Candidate)?;
+        self.members[no as usize] = Some(links);
+        Ok(())
     }
 
     /// A member drops its first entry, which is dead.
@@ -173,13 +161,9 @@ impl RingCore {
             return Err(RingFault::NoSuchNode);
         };
         let live = self.is_member(links.first().no);
-        match drop_dead(&mut links, live) {
-            Ok(()) => {
-                self.members[no as usize] = Some(links);
-                Ok(())
-            }
-            Err(fault) => Err(RingFault::Drop(fault)),
-        }
+        drop_dead(&mut links, live).map_err(RingFault::Drop)?;
+        self.members[no as usize] = Some(links);
+        Ok(())
     }
 
     /// A member hears of a member that may be its predecessor; answers whether it is now.
@@ -248,14 +232,8 @@ impl RingCore {
         ensures principals { KeepsPrincipals self.old.ring.members self.new.ring.members }
     {
         match step {
-            RingStep::Join(id, behind) => {
-                let no = self.join(id, behind)?;
-                Ok(RingDid::Joined(no))
-            }
-            RingStep::Stabilise(no, head) => {
-                let candidate = self.stabilise(no, head)?;
-                Ok(RingDid::Candidate(candidate))
-            }
+            RingStep::Join(id, behind) => Ok(RingDid::Joined(self.join(id, behind)?)),
+            RingStep::Stabilise(no, head) => Ok(RingDid::Candidate(self.stabilise(no, head)?)),
             RingStep::Candidate(no, peer) => {
                 self.take_candidate(no, peer)?;
                 Ok(RingDid::Done)

@@ -1,5 +1,5 @@
 //! The steps on one node's links.
-ghost use Rattle.std.specs.Prelude.{◌≡◌, ℕ, ◌<◌, ◌≤◌, ◌↔◌, length, IsTrue, IsOk, IsErr, IfOk, IfErr, OnOk, OnErr, MatchResult, Bool, true, false};
+ghost use Rattle.std.specs.Prelude.{◌≡◌, ◌<◌, ◌↔◌, length, IsTrue, IsOk, IfOk, IfErr, OnOk, OnErr, true, false};
 ghost use Rattle.chord_ident.specs.Circle.{IsBetween};
 ghost use Rattle.chord_links.specs.NodeLinks.{first_entry};
 ghost use Rattle.chord_ring.specs.Steps.{is_between, joined, behind, without_head, candidate_of, gives_way, rectified};
@@ -49,7 +49,8 @@ fn lies_between(after: Id, x: Id, upto: Id) -> bool
 
 /// The links of a new node behind its predecessor.
 pub fn join_behind(new: Peer, pred: &Links) -> Result<Links, NotBetween>
-    ensures variant { IsOk result ↔ IsBetween pred.now.me.id.number new.id.number (first_entry pred.now).id.number }
+    ensures variant { IsOk result ↔
+        IsBetween pred.now.me.id.number new.id.number (first_entry pred.now).id.number }
     ensures ok { IfOk result (λ links. links ≡ joined new pred.now) }
 {
     if !between(pred.me().id, new.id, pred.first().id) {
@@ -86,7 +87,8 @@ pub fn stabilise(me: &mut Links, head: &Links, live: bool) -> Result<Option<Peer
 
 /// Takes a live peer that lies between the node and its first entry as the first entry, and copies its list.
 pub fn take_candidate(me: &mut Links, peer: &Links, live: bool) -> Result<(), CandidateFault>
-    ensures variant { IsOk result ↔ (IsTrue live × IsBetween me.old.me.id.number peer.now.me.id.number (first_entry me.old).id.number) }
+    ensures variant { IsOk result ↔ (IsTrue live
+        × IsBetween me.old.me.id.number peer.now.me.id.number (first_entry me.old).id.number) }
     ensures done { OnOk result (me.new ≡ behind me.old peer.now) }
     ensures fault { IfErr result (λ fault. (fault ≡ CandidateFault.Dead) ↔ (live ≡ false)) }
     ensures kept { OnErr result (me.new ≡ me.old) }

@@ -1,5 +1,5 @@
 -- Why a lookup on a settled ring ends at the right node.
-use Rattle.std.proofs.Common.{◌≡◌, ℕ, zero, suc, ◌+◌, ◌*◌, ◌^◌, ◌<◌, ◌≤◌, List, Option, Some, None, arith, sym, subst, ap, ◌∙◌, refl, add-one}
+use Rattle.std.proofs.Common.{◌≡◌, ℕ, zero, suc, ◌+◌, ◌^◌, ◌<◌, List, Option, Some, None, arith, sym, subst, ap, ◌∙◌, refl, add-one}
 use Rattle.std.specs.List.{Contains}
 use Rattle.chord_ident.specs.Circle.{distance}
 use Rattle.chord_route.proofs.Least.{predecessor_exists}

@@ -1,7 +1,7 @@
 -- The links of all nodes, by number.
 use Rattle.std.specs.Prelude.{◌≡◌, ℕ, ◌<◌, List, Option, Some, Contains}
 use Rattle.chord_links.specs.declared.peer.Peer.{Peer}
-use Rattle.chord_links.specs.NodeLinks.{NodeLinks, first_entry}
+use Rattle.chord_links.specs.NodeLinks.{NodeLinks}
 use Rattle.chord_route.specs.IdealRing.{IsRing, IsSettled, IsIdeal}
 
 -- each node of the ring stands under its number, below the limit, with the right links

@@ -1,6 +1,6 @@
 //! The next hop.
 
-ghost use Rattle.std.specs.Prelude.{◌≡◌, List};
+ghost use Rattle.std.specs.Prelude.{List};
 ghost use Rattle.chord_links.specs.declared.peer.Peer.{Peer};
 ghost use Rattle.chord_route.specs.IdealRing.{IsRing, IsIdeal};
 ghost use Rattle.chord_route.specs.Hops.{IsNextHop, BringsNearer};
@@ -20,7 +20,8 @@ pub enum Hop {
 /// The next hop from a node with these links.
 pub fn next_hop(links: &Links, target: Id) -> Hop
     ensures rule { IsNextHop links.now target.number result }
-    ensures on_ideal_ring { (ring : List Peer) → IsRing ring → IsIdeal ring links.now → BringsNearer ring links.now target.number result }
+    ensures on_ideal_ring { (ring : List Peer) → IsRing ring → IsIdeal ring links.now →
+        BringsNearer ring links.now target.number result }
 {
     let me = links.me();
     let first = links.first();

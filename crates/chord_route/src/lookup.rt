@@ -41,11 +41,15 @@ pub enum LookupFault {
 /// The links of the last node before the target, by the hops from node `from`: at most twice as many as there are
 /// numbers.
 fn look_up<R: LinkReader>(reader: &R, from: u64, target: Id) -> Result<Links, LookupFault>
-    ensures found { IfOk result (λ last. EndsAt (R.answers reader.now) from target.number (2 * R.slot_count reader.now) last) }
-    ensures unsettled { result ≡ Err LookupFault.Unsettled → IsUnsettled (R.answers reader.now) from target.number (2 * R.slot_count reader.now) }
+    ensures found { IfOk result (λ last.
+        EndsAt (R.answers reader.now) from target.number (2 * R.slot_count reader.now) last) }
+    ensures unsettled { result ≡ Err LookupFault.Unsettled →
+        IsUnsettled (R.answers reader.now) from target.number (2 * R.slot_count reader.now) }
     ensures missing { result ≡ Err LookupFault.NoSuchNode → R.answers reader.now from None }
-    ensures on_settled_ring { (ring : List Peer) → ReadsSettledRing (R.answers reader.now) (R.slot_count reader.now) from ring →
-        IsOkAnd result (λ last. IsPredecessor ring target.number last.me × IsSuccessor ring target.number (first_entry last)) }
+    ensures on_settled_ring { (ring : List Peer) →
+        ReadsSettledRing (R.answers reader.now) (R.slot_count reader.now) from ring →
+        IsOkAnd result (λ last. IsPredecessor ring target.number last.me
+        × IsSuccessor ring target.number (first_entry last)) }
 {
     let Some(mut here) = reader.links(from) else {
         return Err(LookupFault::NoSuchNode);
@@ -64,15 +68,21 @@ fn look_up<R: LinkReader>(reader: &R, from: u64, target: Id) -> Result<Links, Lo
 
 /// The node that the target belongs to, by a lookup from node `from`.
 pub fn find_successor<R: LinkReader>(reader: &R, from: u64, target: Id) -> Result<Peer, LookupFault>
-    ensures found { IfOk result (λ node. (last : NodeLinks) × EndsAt (R.answers reader.now) from target.number (2 * R.slot_count reader.now) last × (node ≡ first_entry last)) }
-    ensures unsettled { result ≡ Err LookupFault.Unsettled → IsUnsettled (R.answers reader.now) from target.number (2 * R.slot_count reader.now) }
+    ensures found { IfOk result (λ node. (last : NodeLinks) × (node ≡ first_entry last)
+        × EndsAt (R.answers reader.now) from target.number (2 * R.slot_count reader.now) last) }
+    ensures unsettled { result ≡ Err LookupFault.Unsettled →
+        IsUnsettled (R.answers reader.now) from target.number (2 * R.slot_count reader.now) }
     ensures missing { result ≡ Err LookupFault.NoSuchNode → R.answers reader.now from None }
-    ensures on_settled_ring { (ring : List Peer) → ReadsSettledRing (R.answers reader.now) (R.slot_count reader.now) from ring →
+    ensures on_settled_ring { (ring : List Peer) →
+        ReadsSettledRing (R.answers reader.now) (R.slot_count reader.now) from ring →
         IsOkAnd result (IsSuccessor ring target.number) }
-    ensures on_ideal_ring { (ring : List Peer) → ReadsIdealRing (R.answers reader.now) (R.slot_count reader.now) from ring →
+    ensures on_ideal_ring { (ring : List Peer) →
+        ReadsIdealRing (R.answers reader.now) (R.slot_count reader.now) from ring →
         IsOkAnd result (IsSuccessor ring target.number) }
-    ensures few_forwards { (ring : List Peer) → ReadsIdealRing (R.answers reader.now) (R.slot_count reader.now) from ring →
-        (n : ℕ) (here : NodeLinks) → ComesTo (R.answers reader.now) from target.number n here → n ≤ 128 }
+    ensures few_forwards { (ring : List Peer) →
+        ReadsIdealRing (R.answers reader.now) (R.slot_count reader.now) from ring →
+        (n : ℕ) (here : NodeLinks) → ComesTo (R.answers reader.now) from target.number n here →
+        n ≤ 128 }
 {
     Ok(look_up(reader, from, target)?.first())
 }
@@ -83,12 +93,16 @@ pub fn find_predecessor<R: LinkReader>(
     from: u64,
     target: Id,
 ) -> Result<Peer, LookupFault>
-    ensures found { IfOk result (λ node. (last : NodeLinks) × EndsAt (R.answers reader.now) from target.number (2 * R.slot_count reader.now) last × (node ≡ last.me)) }
-    ensures unsettled { result ≡ Err LookupFault.Unsettled → IsUnsettled (R.answers reader.now) from target.number (2 * R.slot_count reader.now) }
+    ensures found { IfOk result (λ node. (last : NodeLinks) × (node ≡ last.me)
+        × EndsAt (R.answers reader.now) from target.number (2 * R.slot_count reader.now) last) }
+    ensures unsettled { result ≡ Err LookupFault.Unsettled →
+        IsUnsettled (R.answers reader.now) from target.number (2 * R.slot_count reader.now) }
     ensures missing { result ≡ Err LookupFault.NoSuchNode → R.answers reader.now from None }
-    ensures on_settled_ring { (ring : List Peer) → ReadsSettledRing (R.answers reader.now) (R.slot_count reader.now) from ring →
+    ensures on_settled_ring { (ring : List Peer) →
+        ReadsSettledRing (R.answers reader.now) (R.slot_count reader.now) from ring →
         IsOkAnd result (IsPredecessor ring target.number) }
-    ensures on_ideal_ring { (ring : List Peer) → ReadsIdealRing (R.answers reader.now) (R.slot_count reader.now) from ring →
+    ensures on_ideal_ring { (ring : List Peer) →
+        ReadsIdealRing (R.answers reader.now) (R.slot_count reader.now) from ring →
         IsOkAnd result (IsPredecessor ring target.number) }
 {
     Ok(look_up(reader, from, target)?.me())
