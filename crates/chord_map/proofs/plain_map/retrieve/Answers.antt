@@ -1,0 +1,14 @@
+use Rattle.std.proofs.Common.{◌≡◌, ◌∙◌, ap, sym, refl, List, ℕ}
+use Rattle.chord_map.specs.declared.request.Request.TheVariants.{Retrieve}
+use Rattle.chord_map.specs.declared.reply.Reply.{Reply}
+use Rattle.chord_map.specs.declared.reply.Reply.TheVariants.{Values}
+use Rattle.chord_map.specs.Map.{values_at}
+use Rattle.chord_map.proofs.Replies.{applied, due_values}
+use Rattle.chord_map.proofs.plain_map.retrieve.Goals as goal
+
+pub returns : goal.returns
+returns c =
+    let key = c.args.key.now in
+    let ps = c.args.pairs.now in
+    let same : Values (values_at key ps) ≡ Values c.in_ok-values.values = ap Values (sym (c.in_ok-values.ensures ∙ ap (λ (k : List ℕ). values_at k ps) c.as_slice.ensures)) in
+    applied (Retrieve key) (Values c.in_ok-values.values) ps ps (due_values key ps ∙ same) refl

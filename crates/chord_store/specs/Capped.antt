@@ -1,0 +1,8 @@
+-- A store with a limit of its own.
+use Rattle.std.specs.Prelude.{ℕ, List}
+use Rattle.chord_map.specs.declared.pair.Pair.{Pair}
+
+-- its pairs, and how many it takes
+pub record Capped : Type 0 where
+  pub pairs : List Pair
+  pub limit : ℕ

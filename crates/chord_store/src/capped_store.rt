@@ -1,0 +1,70 @@
+//! A store with a limit of its own.
+ghost use Rattle.std.specs.Prelude.{◌≡◌, []};
+ghost use Rattle.chord_store.specs.Capped.{Capped};
+
+use crate::lists::{copy_span, insert_within, put_all_within, take_out};
+use crate::outcome::{Inserted, StoreFault};
+use crate::store::EntryStore;
+use chord_ident::Span;
+use chord_map::{Pair, PairList, Values};
+use std::alloc::{AllocError, Global};
+use std::marker::Model;
+
+/// A store over a list that takes so many pairs and no more.
+#[derive(Debug, Drop)]
+pub struct CappedStore {
+    pairs: PairList,
+    limit: u64,
+}
+
+impl Model for CappedStore {
+    ghost Value = { Capped };
+
+    ghost view = { λ store. record { pairs = store.pairs; limit = store.limit } };
+}
+
+impl CappedStore {
+    /// An empty store for at most `limit` pairs.
+    pub fn new(alloc: Global, limit: u64) -> CappedStore
+        ensures { result ≡ record { pairs = []; limit = limit } }
+    {
+        CappedStore {
+            pairs: PairList::new(alloc),
+            limit,
+        }
+    }
+}
+
+impl EntryStore for CappedStore {
+    ghost content = { λ store. store.pairs };
+
+    ghost limit = { λ store. store.limit };
+
+    fn insert(&mut self, key: &[u8], value: &[u8]) -> Result<Inserted, StoreFault> {
+        insert_within(&mut self.pairs, self.limit, key, value)
+    }
+
+    fn remove(&mut self, key: &[u8], value: &[u8]) -> bool {
+        self.pairs.remove(key, value)
+    }
+
+    fn take_out(&mut self, span: &Span) {
+        take_out(&mut self.pairs, span);
+    }
+
+    fn count(&self) -> u64 {
+        self.pairs.len() as u64
+    }
+
+    fn values(&self, alloc: Global, key: &[u8]) -> Result<Values, AllocError> {
+        self.pairs.values(alloc, key)
+    }
+
+    fn copy_span(&self, alloc: Global, span: &Span) -> Result<Vec<Pair>, AllocError> {
+        copy_span(alloc, self.pairs.as_slice(), span)
+    }
+
+    fn put_all(&mut self, span: &Span, pairs: &[Pair]) -> Result<(), StoreFault> {
+        put_all_within(&mut self.pairs, self.limit, span, pairs)
+    }
+}

@@ -1,0 +1,92 @@
+//! What the stores over a list of pairs do.
+ghost use Rattle.std.specs.Prelude.{◌≡◌, ℕ, [], List, length, IfOk};
+ghost use Rattle.chord_map.specs.declared.pair.Pair.{Pair};
+ghost use Rattle.chord_ident.specs.Circle.{in_span, key_id};
+ghost use Rattle.chord_store.specs.Inside.{pairs_inside, pairs_outside};
+ghost use Rattle.chord_store.specs.Store.{InsertIs, PutAllIs};
+
+use crate::outcome::{Inserted, StoreFault};
+use chord_ident::{Id, Span};
+use chord_map::limits::SET_VALUES;
+use chord_map::{Pair, PairList};
+use std::alloc::{AllocError, Global};
+
+/// Puts the value under the key of a list with at most `limit` pairs.
+pub fn insert_within(
+    pairs: &mut PairList,
+    limit: u64,
+    key: &[u8],
+    value: &[u8],
+) -> Result<Inserted, StoreFault>
+    ensures { InsertIs (record { key = key.now; value = value.now }) pairs.old limit result pairs.new }
+{
+    if pairs.contains(key, value) {
+        return Ok(Inserted::Present);
+    }
+    if pairs.count_under(key) >= SET_VALUES {
+        return Ok(Inserted::SetFull);
+    }
+    if limit <= pairs.len() as u64 {
+        return Err(StoreFault::Full);
+    }
+    match pairs.insert(key, value) {
+        Ok(()) => Ok(Inserted::Added),
+        Err(_) => Err(StoreFault::Memory),
+    }
+}
+
+/// Whether the pair's key lies in the span.
+pub fn is_inside(span: &Span, pair: &Pair) -> bool
+    ensures { result ≡ in_span span.now (key_id pair.now.key) }
+{
+    span.contains(Id::of_bytes(pair.key.as_slice()))
+}
+
+/// Drops the pairs whose keys lie in the span.
+pub fn take_out(pairs: &mut PairList, span: &Span)
+    ensures { pairs.new ≡ pairs_outside span.now pairs.old }
+{
+    pairs.retain(|pair| !is_inside(span, pair));
+}
+
+/// Copies of the pairs whose keys lie in the span, in order.
+#[tactic(auto, unfolding(crate::specs::Inside::pairs_inside))]
+pub fn copy_span(alloc: Global, pairs: &[Pair], span: &Span) -> Result<Vec<Pair>, AllocError>
+    ensures { IfOk result (λ copies. copies.items ≡ pairs_inside span.now pairs.now) }
+{
+    let mut copies = Vec::new(alloc);
+    for pair in pairs {
+        if is_inside(span, pair) {
+            copies.push(pair.try_copy()?)?;
+        }
+    }
+    Ok(copies)
+}
+
+/// Puts the pairs, which lie in a span where the list has nothing, into a list with at most `limit`
+/// pairs: all of them or none.
+pub fn put_all_within(
+    list: &mut PairList,
+    limit: u64,
+    span: &Span,
+    pairs: &[Pair],
+) -> Result<(), StoreFault>
+    requires vacant { pairs_inside span.now list.old ≡ [] }
+    requires within { pairs_inside span.now pairs.now ≡ pairs.now }
+    ensures { PutAllIs pairs.now list.old limit result list.new }
+{
+    let count = list.len() as u64;
+    if limit < count || limit - count < pairs.len() as u64 {
+        return Err(StoreFault::Full);
+    }
+    for pair in pairs {
+        match list.insert(pair.key.as_slice(), pair.value.as_slice()) {
+            Ok(()) => {}
+            Err(_) => {
+                take_out(list, span);
+                return Err(StoreFault::Memory);
+            }
+        }
+    }
+    Ok(())
+}
