@@ -1,0 +1,79 @@
+//! What is handed over.
+ghost use Rattle.std.specs.Prelude.{◌≡◌, IfOk};
+ghost use Rattle.chord_handover.specs.Parcelled.{IsParcelled};
+
+use chord_map::Pair;
+use chord_segment::Segment;
+use std::alloc::{AllocError, Global};
+use std::marker::Model;
+
+/// A segment with its pairs, which rise strictly, lie in its span, and are at most 1,000 for each key.
+#[derive(Debug, Drop)]
+pub struct Parcelled {
+    segment: Segment,
+    pairs: Vec<Pair>,
+}
+
+impl Model for Parcelled {
+    ghost use Rattle.chord_handover.specs.Parcelled.{Parcelled as ParcelledOf, IsParcelled};
+
+    ghost Value = { ParcelledOf };
+
+    ghost view = { λ parcelled. record { segment = parcelled.segment.known; pairs = parcelled.pairs.items } };
+
+    ghost invariant = { λ parcelled. IsParcelled (record { segment = parcelled.segment.known; pairs = parcelled.pairs.items }) };
+}
+
+impl Parcelled {
+    /// The segment with these pairs.
+    pub fn new(segment: Segment, pairs: Vec<Pair>) -> Parcelled
+        requires { IsParcelled (record { segment = segment.known; pairs = pairs.items }) }
+        ensures { result ≡ record { segment = segment.known; pairs = pairs.items } }
+    {
+        Parcelled { segment, pairs }
+    }
+
+    /// Its segment.
+    pub fn segment(&self) -> &Segment
+        ensures { result.now.known ≡ self.now.segment }
+    {
+        &self.segment
+    }
+
+    /// Its pairs.
+    pub fn pairs(&self) -> &[Pair]
+        ensures value { result.now ≡ self.now.pairs }
+        ensures rules { IsParcelled self.now }
+    {
+        self.pairs.as_slice()
+    }
+
+    /// The segment and the pairs.
+    pub fn into_parts(self) -> (Segment, Vec<Pair>)
+        ensures segment { result.0.known ≡ self.segment }
+        ensures pairs { result.1.items ≡ self.pairs }
+        ensures rules { IsParcelled self }
+    {
+        (self.segment, self.pairs)
+    }
+
+    /// An equal copy.
+    pub fn try_copy(&self) -> Result<Parcelled, AllocError>
+        ensures { IfOk result (λ copy. copy ≡ self.now) }
+    {
+        let segment = self.segment.try_copy()?;
+        let pairs = copy_pairs(*self.pairs.allocator(), &self.pairs)?;
+        Ok(Parcelled { segment, pairs })
+    }
+}
+
+/// Equal copies.
+pub fn copy_pairs(alloc: Global, pairs: &[Pair]) -> Result<Vec<Pair>, AllocError>
+    ensures { IfOk result (λ copies. copies.items ≡ pairs.now) }
+{
+    let mut copies = Vec::with_capacity(alloc, pairs.len())?;
+    for pair in pairs {
+        copies.push(pair.try_copy()?)?;
+    }
+    Ok(copies)
+}
