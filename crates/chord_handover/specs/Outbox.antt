@@ -5,8 +5,8 @@ use Rattle.chord_segment.specs.Marks.{mark_of, raise}
 use Rattle.chord_handover.specs.declared.fault.GiveFault.{GiveFault}
 use Rattle.chord_handover.specs.declared.fault.GiveFault.TheVariants.{NumbersSpent, Memory}
 use Rattle.chord_handover.specs.declared.fault.Ungiven.{Ungiven}
-use Rattle.chord_handover.specs.Handover.{Part, parts_in, part_at, Item, item_at, without, handover_of}
-use Rattle.chord_handover.specs.Parcelled.{Parcelled}
+use Rattle.chord_handover.specs.Handover.{Part, parts_in, part_at, Item, item_at, without}
+use Rattle.chord_handover.specs.Parcelled.{Parcelled, handed}
 
 -- the items in the order that they were given, and the last number given to each receiver
 pub record Outbox : Type 0 where
@@ -62,10 +62,11 @@ abbrev pub GiveIs : ℕ → Parcelled → Outbox → Result ℕ Ungiven → Outb
 GiveIs to parcelled old (Ok number) new = (next_to to old < 2 ^ 64) × (number ≡ next_to to old) × (new ≡ with_item to parcelled old)
 GiveIs to parcelled old (Err ungiven) new = GiveRefused to old ungiven.fault × (ungiven.parcelled ≡ parcelled) × (new ≡ old)
 
--- the part of this place of an item, if there are both
-abbrev pub part_of_item : ℕ → ℕ → Option Item → Option Part
-part_of_item owner part None = None
-part_of_item owner part (Some item) = if nat_le 1 part && nat_le part (parts_in item.pairs) then Some (part_at (handover_of owner item) part) else None
+-- the part of this place of a parcel, if there are both
+abbrev pub part_of_item : ℕ → ℕ → ℕ → ℕ → Option Parcelled → Option Part
+part_of_item from to number part None = None
+part_of_item from to number part (Some parcelled) =
+    if nat_le 1 part && nat_le part (parts_in parcelled.pairs) then Some (part_at (handed (record { from = from; to = to; number = number }) parcelled) part) else None
 
 -- the receiver and the number of an item
 abbrev pub named : Option Item → Option (ℕ × ℕ)

@@ -1,7 +1,11 @@
 //! What is handed over.
-ghost use Rattle.std.specs.Prelude.{◌≡◌, IfOk};
-ghost use Rattle.chord_handover.specs.Parcelled.{IsParcelled};
+ghost use Rattle.std.specs.Prelude.{◌≡◌, ◌≤◌, ◌==◌, if◌then◌else◌, Some, None, IfOk};
+ghost use Rattle.chord_handover.specs.Handover.{parts_in, part_at};
+ghost use Rattle.chord_handover.specs.Known.{known_of};
+ghost use Rattle.chord_handover.specs.Parcelled.{IsParcelled, handed};
 
+use crate::part::{Part, copy_chunk, count_parts};
+use crate::ticket::Ticket;
 use chord_map::Pair;
 use chord_segment::Segment;
 use std::alloc::{AllocError, Global};
@@ -55,6 +59,36 @@ impl Parcelled {
         ensures rules { IsParcelled self }
     {
         (self.segment, self.pairs)
+    }
+
+    /// One of the parts that it is sent in.
+    pub fn part(&self, ticket: Ticket, part: u64) -> Result<Part, AllocError>
+        requires some { 1 ≤ part }
+        requires within { part ≤ parts_in self.now.pairs }
+        ensures { IfOk result (λ found. found ≡ part_at (handed ticket self.now) part) }
+    {
+        let segment = self.segment_for(part)?;
+        let pairs = copy_chunk(*self.pairs.allocator(), &self.pairs, part)?;
+        Ok(Part {
+            from: ticket.from,
+            to: ticket.to,
+            number: ticket.number,
+            part,
+            of: count_parts(&self.pairs),
+            segment,
+            pairs,
+        })
+    }
+
+    /// The segment goes with the first part.
+    fn segment_for(&self, part: u64) -> Result<Option<Segment>, AllocError>
+        ensures { IfOk result (λ segment. known_of segment ≡ (if part == 1 then Some self.now.segment else None)) }
+    {
+        if part != 1 {
+            return Ok(None);
+        }
+        let copy = self.segment.try_copy()?;
+        Ok(Some(copy))
     }
 
     /// An equal copy.

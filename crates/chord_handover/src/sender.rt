@@ -7,6 +7,8 @@ ghost use Rattle.chord_handover.specs.Outbox.{empty_outbox, next_to, with_none, 
 use crate::fault::{GiveFault, Ungiven};
 use crate::item::Item;
 use crate::parcelled::Parcelled;
+use crate::part::{Part, count_parts};
+use crate::ticket::Ticket;
 use chord_segment::Mark;
 use chord_segment::mark::{number_of, raise_mark};
 use std::alloc::{AllocError, Global};
@@ -69,6 +71,25 @@ impl Outbox {
             .iter()
             .find(|item| item.to == to && item.number == number)?;
         Some(&item.parcelled)
+    }
+
+    /// The part of this place, from 1, of the item of this receiver and number. `None` where there is no such item or part.
+    pub fn part(&self, to: u64, number: u64, part: u64) -> Result<Option<Part>, AllocError>
+        ensures { IfOk result (λ found. found ≡ part_of_item self.now.known.owner to number part (parcel_of (item_at to number self.now.known.items))) }
+    {
+        let Some(parcelled) = self.item(to, number) else {
+            return Ok(None);
+        };
+        if part == 0 || part > count_parts(parcelled.pairs()) {
+            return Ok(None);
+        }
+        let ticket = Ticket {
+            from: self.owner,
+            to,
+            number,
+        };
+        let found = parcelled.part(ticket, part)?;
+        Ok(Some(found))
     }
 
     /// Makes room for one more item, which the next `give` then cannot lack.
