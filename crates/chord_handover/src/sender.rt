@@ -135,7 +135,9 @@ impl Outbox {
         ensures item { result ≡ parcel_of (item_at to number self.old.known.items) }
         ensures left { self.new.known ≡ with_none to number self.old.known }
     {
-        self.remove(to, number)
+        let place = place_of(&self.items, to, number)?;
+        let item = self.items.remove(place);
+        Some(item.parcelled)
     }
 
     /// The receiver has declined the handover: it leaves the outbox, if it is there.
@@ -143,17 +145,7 @@ impl Outbox {
         ensures item { result ≡ parcel_of (item_at to number self.old.known.items) }
         ensures left { self.new.known ≡ with_none to number self.old.known }
     {
-        self.remove(to, number)
-    }
-
-    /// Takes the item of this receiver and number out.
-    fn remove(&mut self, to: u64, number: u64) -> Option<Parcelled>
-        ensures item { result ≡ parcel_of (item_at to number self.old.known.items) }
-        ensures left { self.new.known ≡ with_none to number self.old.known }
-    {
-        let place = place_of(&self.items, to, number)?;
-        let item = self.items.remove(place);
-        Some(item.parcelled)
+        self.got(to, number)
     }
 }
 

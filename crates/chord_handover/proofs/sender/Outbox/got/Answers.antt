@@ -4,7 +4,7 @@ use Rattle.std.proofs.lemmas.Option.{slice_get-get_or}
 use Rattle.chord_handover.specs.Handover.{Item, is_item, item_at}
 use Rattle.chord_handover.specs.Outbox.{IsOutbox, Outbox, RoomyOutbox, with_none, parcel_of}
 use Rattle.chord_handover.proofs.Sending.{removed_is, absent_is, left_keeps}
-use Rattle.chord_handover.proofs.sender.Outbox.remove.Goals as goal
+use Rattle.chord_handover.proofs.sender.Outbox.got.Goals as goal
 
 pub returns-in_err-place-clause-item : goal.returns-in_err-place-clause-item
 returns-in_err-place-clause-item c =
