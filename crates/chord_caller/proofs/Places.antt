@@ -1,5 +1,13 @@
 -- Elements by place, in lists that grow at the end or change at one place.
-use Rattle.std.proofs.Common.{◌≡◌, ◌≢◌, ℕ, zero, suc, Some, List, [], ◌∷◌, ◌++◌, map, length, slice_get, slice_set, ◌⊎◌, inl, inr, ⊎_elim, refl, sym, ◌∙◌, ap, ap₂}
+use Rattle.std.proofs.Common.{◌≡◌, ◌≢◌, ℕ, zero, suc, ◌+◌, ◌<◌, Bool, true, false, ◌||◌, append-nil, take, get_or, Some, is_some, List, [], ◌∷◌, ◌++◌, map, length, slice_get, slice_set, ◌⊎◌, inl, inr, ⊎_elim, refl, sym, ◌∙◌, ap, ap₂}
+use Rattle.std.specs.Prelude.{filter}
+use Rattle.std.proofs.lemmas.Bool.{cond-true, cond-false}
+use Rattle.std.proofs.lemmas.List.{take_more}
+use Rattle.std.proofs.lemmas.List.Elements.{filter-append}
+use Rattle.chord_map.proofs.Lists.{by_option}
+use Rattle.chord_segment.specs.declared.done.Done.{Done}
+use Rattle.chord_segment.specs.History.{done_at}
+use Rattle.chord_segment.proofs.HistoryLemmas.{done_left, done_right}
 use Rattle.std.proofs.lemmas.Option.{none-some, same_Some}
 
 pub got_left : {A : Type 0} (xs more : List A) (place : ℕ) (x : A) → slice_get xs place ≡ Some x → slice_get (xs ++ more) place ≡ Some x
@@ -43,3 +51,17 @@ pub map-set_same : {A B : Type 0} (f : A → B) (xs : List A) (place : ℕ) (x y
 map-set_same f [] place x y e same = absurd (none-some x e)
 map-set_same f (z ∷ xs) zero x y e same = ap (λ v. v ∷ map f xs) (same ∙ ap f (sym (same_Some z x e)))
 map-set_same f (z ∷ xs) (suc place) x y e same = ap (λ vs. f z ∷ vs) (map-set_same f xs place x y e same)
+
+-- one more element of a list that is filtered
+pub filter_more_yes : {A : Type 0} (p : A → Bool) (xs : List A) (i : ℕ) (d : A) → i < length xs → p (get_or xs i d) ≡ true → filter p (take (i + 1) xs) ≡ filter p (take i xs) ++ get_or xs i d ∷ []
+filter_more_yes p xs i d low h = ap (filter p) (take_more xs i d low) ∙ filter-append p (take i xs) (get_or xs i d ∷ []) ∙ ap (λ ys. filter p (take i xs) ++ ys) (cond-true (p (get_or xs i d)) (get_or xs i d ∷ []) [] h)
+
+pub filter_more_no : {A : Type 0} (p : A → Bool) (xs : List A) (i : ℕ) (d : A) → i < length xs → p (get_or xs i d) ≡ false → filter p (take (i + 1) xs) ≡ filter p (take i xs)
+filter_more_no p xs i d low h = ap (filter p) (take_more xs i d low) ∙ filter-append p (take i xs) (get_or xs i d ∷ []) ∙ ap (λ ys. filter p (take i xs) ++ ys) (cond-false (p (get_or xs i d)) (get_or xs i d ∷ []) [] h) ∙ append-nil (filter p (take i xs))
+
+-- a call stands in two lists, one behind the other, where it stands in one of them
+pub either_is : (caller number : ℕ) (first second : List Done) → is_some (done_at caller number (first ++ second)) ≡ (is_some (done_at caller number first) || is_some (done_at caller number second))
+either_is caller number first second =
+    by_option (done_at caller number first)
+    (λ none. ap is_some (done_right caller number first second none) ∙ ap (λ o. is_some o || is_some (done_at caller number second)) (sym none))
+    (λ done found. ap is_some (done_left caller number first second done found) ∙ ap (λ o. is_some o || is_some (done_at caller number second)) (sym found))

@@ -1,12 +1,12 @@
 -- What a call answers is a caller's event.
-use Rattle.std.proofs.Common.{None, Some, Ok, sym, subst}
+use Rattle.std.proofs.Common.{◌≡◌, ℕ, ◌++◌, None, Some, Ok, sym, subst}
 use Rattle.chord_map.specs.declared.request.Request.{Request}
 use Rattle.chord_caller.specs.declared.ask.Ask.{Ask}
 use Rattle.chord_caller.specs.declared.told.Told.{Told}
 use Rattle.chord_caller.specs.declared.heard.Heard.TheVariants.{Fresh, Known}
-use Rattle.chord_caller.specs.Caller.{Caller, AskLetter, ToldLetter, CallerStep}
-use Rattle.chord_caller.specs.Caller.CallerStep.{Submits, Takes, Ignores}
-use Rattle.chord_caller.specs.Answers.{SubmitIs, TakeIs}
+use Rattle.chord_caller.specs.Caller.{Note, Caller, known, unknown, AskLetter, ToldLetter, NoteLetter, CallerStep}
+use Rattle.chord_caller.specs.Caller.CallerStep.{Submits, Repeats, Takes, Ignores, Shows, Meets}
+use Rattle.chord_caller.specs.Answers.{SubmitIs, ResendIs, TakeIs}
 use Rattle.chord_caller.proofs.Views.{known_stale}
 
 pub submit_steps : (request : Request) (old : Caller) (ask : Ask) (new : Caller) → SubmitIs request old (Ok ask) new → CallerStep old None new (Some (AskLetter ask))
@@ -17,3 +17,12 @@ fresh_steps told old new h = subst (λ (caller : Caller). CallerStep old (Some (
 
 pub known_steps : (told : Told) (old new : Caller) → TakeIs told old (Ok Known) new → CallerStep old (Some (ToldLetter told)) new None
 known_steps told old new h = subst (λ (caller : Caller). CallerStep old (Some (ToldLetter told)) caller None) (sym h.2) (Ignores told (known_stale told old h.1))
+
+pub resend_steps : (number : ℕ) (caller : Caller) (ask : Ask) → ResendIs number caller (Ok ask) → CallerStep caller None caller (Some (AskLetter ask))
+resend_steps number caller ask h = Repeats number h.0 ask h.1 h.2 h.3
+
+pub show_steps : (caller : Caller) (note : Note) → note ≡ record { caller = caller.number; done = known caller } → CallerStep caller None caller (Some (NoteLetter note))
+show_steps caller note e = subst (λ (shown : Note). CallerStep caller None caller (Some (NoteLetter shown))) (sym e) Shows
+
+pub meet_steps : (old : Caller) (note : Note) (new : Caller) → new ≡ record old { told = old.told ++ unknown old note.done } → CallerStep old (Some (NoteLetter note)) new None
+meet_steps old note new e = subst (λ (caller : Caller). CallerStep old (Some (NoteLetter note)) caller None) (sym e) (Meets note)

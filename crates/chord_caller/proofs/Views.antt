@@ -1,14 +1,17 @@
 -- What a caller's fields say of the caller that it is.
-use Rattle.std.proofs.Common.{◌≡◌, ℕ, ◌+◌, Bool, true, false, not, ◌&&◌, eqb, Option, None, Some, List, length, option_map, refl, sym, ◌∙◌, ap}
+use Rattle.std.proofs.Common.{◌≡◌, ℕ, zero, suc, ◌+◌, ◌<◌, ◌≤◌, ⊎_elim, Bool, true, false, not, ◌&&◌, eqb, Option, None, Some, List, length, option_map, refl, sym, ◌∙◌, ap, arith}
+use Rattle.chord_map.specs.declared.request.Request.{Request}
+use Rattle.chord_caller.specs.declared.submitted.Progress.TheVariants.{Pending}
 use Rattle.std.proofs.lemmas.List.{length-map}
-use Rattle.std.proofs.lemmas.Bool.{cond-true, cond-false, and_from}
+use Rattle.std.proofs.lemmas.Bool.{cond-true, cond-false, and_from, true≢false, cases_lt}
+use Rattle.std.proofs.lemmas.Option.{none-some, slice_get_within}
 use Rattle.chord_map.specs.Map.{fits}
 use Rattle.chord_segment.specs.declared.done.Done.{Done}
 use Rattle.chord_segment.proofs.MarkLemmas.{eqb_same}
 use Rattle.chord_caller.specs.declared.told.Told.{Told}
 use Rattle.chord_caller.specs.declared.submitted.Submitted.{Submitted}
 use Rattle.chord_caller.specs.Caller.{Submission, Caller, submission_at, is_taken, floor_of, next_number, fitting, fresh_for}
-use Rattle.chord_caller.specs.Submitted.{submitted_at, progress_of, is_over, IsFloor, IsTied, submission_of, caller_of}
+use Rattle.chord_caller.specs.Submitted.{submitted_at, progress_of, progress_at, is_over, IsFloor, IsTied, IsCaller, submission_of, caller_of}
 use Rattle.chord_caller.specs.Answers.{is_pending}
 use Rattle.chord_caller.proofs.Floors.{is_taken_is, floor_of_is}
 use Rattle.chord_caller.proofs.Waiting.{is_waiting, submission_at_is, is_pending_is}
@@ -70,3 +73,16 @@ known_stale told caller taken =
     off true true e = refl
     off true false e = cc
     off false taken e = refl
+
+-- a pending number is above the floor and at most 16 above it
+pub within_window : (caller window floor : ℕ) (submitted : List Submitted) (mine : List Done) → IsCaller caller window floor submitted mine
+    → (number : ℕ) (entry : Submitted) (request : Request) → Some entry ≡ submitted_at number submitted → entry.progress ≡ Pending request → (floor < number) × (number ≤ floor + 16)
+within_window caller window floor submitted mine h zero entry request at waits = absurd (none-some entry (sym at))
+within_window caller window floor submitted mine h (suc place) entry request at waits =
+    let not_over : is_over (progress_at (suc place) submitted) ≡ false = ap (λ o. is_over (progress_of o)) (sym at) ∙ ap (λ p. is_over (Some p)) waits in
+    let low : floor < suc place =
+    ⊎_elim (λ (above : floor < suc place). above) (λ (below : suc place ≤ floor). absurd (true≢false (sym ((h.floor_is).taken (suc place) (omega arith) below) ∙ not_over))) (cases_lt floor (suc place)) in
+    let high : place < length submitted = slice_get_within submitted place entry (sym at) in
+    let near = h.near in
+    let small = h.small_window in
+    (low, omega arith)

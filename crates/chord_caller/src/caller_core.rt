@@ -1,16 +1,18 @@
 //! The core of a caller.
-ghost use Rattle.std.specs.Prelude.{◌≡◌, ◌≤◌, None, Some, IfOk, OnOk, OnErr};
-ghost use Rattle.chord_caller.specs.Caller.{floor_of, AskLetter, ToldLetter, CallerStep};
-ghost use Rattle.chord_caller.specs.Answers.{new_caller, is_pending, PendingIs, RefusalIs, SubmitIs, TakeIs};
+ghost use Rattle.std.specs.Prelude.{◌≡◌, ◌≤◌, ◌++◌, None, Some, IfOk, OnOk, OnErr};
+ghost use Rattle.chord_caller.specs.Caller.{floor_of, known, unknown, AskLetter, ToldLetter, NoteLetter, CallerStep};
+ghost use Rattle.chord_caller.specs.Answers.{new_caller, is_pending, PendingIs, RefusalIs, SubmitIs, ResendIs, TakeIs};
 
 use crate::ask::Ask;
-use crate::fault::{SubmitFault, TakeFault};
+use crate::fault::{ResendFault, SubmitFault, TakeFault};
 use crate::heard::Heard;
+use crate::note::{Note, copy_unknown};
 use crate::submitted::{Progress, Submitted, raise_floor, settle, submission};
 use crate::told::Told;
 use chord_map::Request;
 use chord_segment::Done;
-use std::alloc::Global;
+use chord_segment::done::copy_dones;
+use std::alloc::{AllocError, Global};
 use std::marker::Model;
 
 /// What a caller submitted, took and was told of. At most 16 requests wait at a time.
@@ -164,5 +166,51 @@ impl CallerCore {
         settle(&mut self.submitted, &mut self.mine, told);
         self.floor = raise_floor(&self.submitted, self.floor);
         Ok(Heard::Fresh)
+    }
+
+    /// Sends a pending request again, under its number and with the floor that it has by now.
+    pub fn resend(&self, number: u64) -> Result<Ask, ResendFault>
+        ensures answer { ResendIs number self.now result }
+        ensures step { IfOk result (λ ask. CallerStep self.now None self.now (Some (AskLetter ask))) }
+    {
+        let Some(submitted) = submission(&self.submitted, number) else {
+            return Err(ResendFault::Idle);
+        };
+        let Progress::Pending(request) = &submitted.progress else {
+            return Err(ResendFault::Idle);
+        };
+        let request = request.try_copy()?;
+        Ok(Ask {
+            caller: self.number,
+            number,
+            floor: self.floor,
+            request,
+            hops: 255,
+        })
+    }
+
+    /// Shows what it knows.
+    pub fn show(&self) -> Result<Note, AllocError>
+        ensures note { IfOk result (λ note. note ≡ record { caller = self.now.number; done = known self.now }) }
+        ensures step { IfOk result (λ note. CallerStep self.now None self.now (Some (NoteLetter note))) }
+    {
+        let mut done = copy_dones(*self.mine.allocator(), &self.mine)?;
+        let mut told = copy_dones(*self.told.allocator(), &self.told)?;
+        done.append(&mut told)?;
+        Ok(Note {
+            caller: self.number,
+            done,
+        })
+    }
+
+    /// Learns what a note has and it did not know.
+    pub fn meet(&mut self, note: &Note) -> Result<(), AllocError>
+        ensures ok { OnOk result (self.new ≡ record self.old { told = self.old.told ++ unknown self.old note.now.done }) }
+        ensures err { OnErr result (self.new ≡ self.old) }
+        ensures step { OnOk result (CallerStep self.old (Some (NoteLetter note.now)) self.new None) }
+    {
+        let mut news = copy_unknown(*self.told.allocator(), &note.done, &self.mine, &self.told)?;
+        self.told.append(&mut news)?;
+        Ok(())
     }
 }

@@ -3,7 +3,7 @@
 use crate::done::Done;
 
 /// Whether a call is new to a segment, kept with its reply, or at or below its caller's floor.
-#[derive(Debug)]
+#[derive(Clone, Copy, Debug)]
 pub enum Past<'a> {
     New,
     Kept(&'a Done),

@@ -5,13 +5,16 @@ ghost use Rattle.chord_segment.specs.Marks.{mark_of};
 ghost use Rattle.chord_segment.specs.Segment.{id_of, empty_segment, past_at, append};
 ghost use Rattle.chord_segment.specs.Segment.Past.{New};
 ghost use Rattle.chord_segment.specs.Shown.{shown};
+ghost use Rattle.chord_segment.specs.Join.{CutIs, PartsAre, JoinIs, WholeIs};
 
-use crate::done::{Done, find_done};
-use crate::mark::{Mark, number_of, raise_mark};
+use crate::done::{Done, any_twice, copy_dones, find_done, keep_above, part_dones};
+use crate::fault::{CutFault, JoinFault, Uncut, Unjoined};
+use crate::mark::{Mark, number_of, raise_mark, raise_marks};
 use crate::past::Past;
-use chord_ident::Span;
+use chord_ident::{Id, Span};
 use std::alloc::{AllocError, AllocFailed, Global};
 use std::marker::Model;
+use std::mem::replace;
 
 /// An interval of the circle, and of each caller a floor and the kept replies above it.
 #[derive(Debug, Drop)]
@@ -112,5 +115,99 @@ impl Segment {
         self.kept
             .retain(|done| done.caller != caller || lowest < done.number);
         Ok(())
+    }
+
+    /// An equal copy.
+    pub fn try_copy(&self) -> Result<Segment, AllocError>
+        ensures { IfOk result (λ copy. copy.known ≡ self.now.known) }
+    {
+        let alloc = *self.kept.allocator();
+        let floors = Vec::from_slice(alloc, self.floors.as_slice())?;
+        let kept = copy_dones(alloc, &self.kept)?;
+        Ok(Segment {
+            span: self.span,
+            floors,
+            kept,
+        })
+    }
+
+    /// Cuts it: this one keeps the part before the place, and the part behind it is answered.
+    pub fn split_off(&mut self, at: Id) -> Result<Segment, CutFault>
+        ensures { CutIs at self.old.known result self.new.known }
+    {
+        let Ok((first, second)) = self.span.cut(at) else {
+            return Err(CutFault::NotInside);
+        };
+        let alloc = *self.kept.allocator();
+        let floors = Vec::from_slice(alloc, self.floors.as_slice())?;
+        let inside = Vec::with_capacity(alloc, self.kept.len())?;
+        let outside = Vec::with_capacity(alloc, self.kept.len())?;
+        let kept = replace(&mut self.kept, Vec::new(alloc));
+        let (inside, outside) = part_dones(kept, first, inside, outside);
+        self.kept = inside;
+        self.span = first;
+        Ok(Segment {
+            span: second,
+            floors,
+            kept: outside,
+        })
+    }
+
+    /// Cuts it into the parts before and behind the place.
+    pub fn cut(mut self, at: Id) -> Result<(Segment, Segment), Uncut>
+        ensures { PartsAre at self.known result }
+    {
+        match self.split_off(at) {
+            Ok(second) => Ok((self, second)),
+            Err(fault) => Err(Uncut {
+                fault,
+                segment: self,
+            }),
+        }
+    }
+
+    /// Joins the next segment behind this one. Then nothing is kept in `next`.
+    pub fn absorb(&mut self, next: &mut Segment) -> Result<(), JoinFault>
+        ensures answer { JoinIs self.old.known next.old.known result self.new.known }
+        ensures err { OnErr result (next.new.known ≡ next.old.known) }
+    {
+        let at = self.span.upto;
+        if at != next.span.after {
+            return Err(JoinFault::NotAdjacent);
+        }
+        let whole = Span {
+            after: self.span.after,
+            upto: next.span.upto,
+        };
+        let Ok(_) = whole.cut(at) else {
+            return Err(JoinFault::Overlap);
+        };
+        if any_twice(&self.kept, &next.kept) {
+            return Err(JoinFault::Twice);
+        }
+        self.floors.reserve(next.floors.len())?;
+        self.kept.reserve(next.kept.len())?;
+        match self.kept.append(&mut next.kept) {
+            Ok(()) => {}
+            Err(_) => unreachable!(),
+        }
+        raise_marks(&mut self.floors, &next.floors);
+        keep_above(&mut self.kept, &self.floors);
+        self.span = whole;
+        Ok(())
+    }
+
+    /// Joins the next segment behind this one.
+    pub fn join(mut self, mut next: Segment) -> Result<Segment, Unjoined>
+        ensures { WholeIs self.known next.known result }
+    {
+        match self.absorb(&mut next) {
+            Ok(()) => Ok(self),
+            Err(fault) => Err(Unjoined {
+                fault,
+                first: self,
+                second: next,
+            }),
+        }
     }
 }

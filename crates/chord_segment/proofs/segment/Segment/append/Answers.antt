@@ -1,9 +1,7 @@
-use Rattle.std.proofs.Common.{◌≡◌, ◌++◌, ◌∷◌, [], List, sym, ap, ◌∙◌, subst, rules}
+use Rattle.std.proofs.Common.{◌≡◌, ◌++◌, ◌∷◌, [], List, sym, ap, ◌∙◌, subst, rules, refl}
 use Rattle.std.specs.Prelude.{filter}
 use Rattle.std.proofs.lemmas.Fn.{filter_same}
-use Rattle.chord_ident.specs.declared.span.Span.{Span}
 use Rattle.chord_segment.specs.declared.done.Done.{Done}
-use Rattle.chord_segment.specs.declared.mark.Mark.{Mark}
 use Rattle.chord_segment.specs.Marks.{mark_of, raise}
 use Rattle.chord_segment.specs.Segment.{Segment as SegmentOf, RoomySegment, append}
 use Rattle.chord_ident.specs.Circle.{in_span}
@@ -13,26 +11,24 @@ use Rattle.chord_segment.specs.Segment.{past_at}
 use Rattle.chord_segment.specs.Segment.Past.{New}
 use Rattle.chord_segment.specs.Rules.{IsSegment}
 use Rattle.chord_segment.proofs.SegmentRules.{stays, append-kept, append-rules}
+use Rattle.chord_segment.proofs.Parting.{segment_is}
 use Rattle.chord_segment.proofs.segment.Segment.append.Goals as goal
 
 -- the fields as the segment that they are
 abbrev before_of : goal.After-retain → SegmentOf
 before_of c = record { span = c.self.inside.span; floors = c.self.inside.floors.items; kept = c.self.inside.kept.items }
 
-same_parts : (span : Span) (fs fs' : List Mark) (ks ks' : List Done) → fs ≡ fs' → ks ≡ ks'
-    → ◌≡◌ {A = SegmentOf} (record { span = span; floors = fs; kept = ks }) (record { span = span; floors = fs'; kept = ks' })
-same_parts span fs fs' ks ks' e f = cc
-
 -- the new fields are `append` of the old ones
 after : (c : goal.After-retain) → ◌≡◌ {A = SegmentOf} (record { span = c.self.inside.span; floors = c.raise_mark.new.marks.items; kept = c.retain.new.self.items }) (append c.args.done c.args.floor (before_of c))
 unfolding append
 after c =
     let caller = c.args.done.caller in
+    let span : c.self.inside.span ≡ c.self.inside.span = refl in
     let floors = c.raise_mark.ensures.items ∙ ap (raise caller c.args.floor) c.reserve.ensures.items in
     let lowest = c.number_of-lowest.ensures ∙ ap (mark_of caller) (c.deref.ensures.value ∙ floors) in
     let calls = c.push_reserved.ensures.items ∙ ap (λ (ds : List Done). ds ++ c.args.done ∷ []) c.reserve-else-is_err.ensures.items in
     let kept = filter_same _ (stays caller c.number_of-lowest.result) _ (λ x b f called. (search rules, search rules)) _ _ c.retain.ensures.filtered in
-    same_parts c.self.inside.span _ _ _ _ floors (kept ∙ ap (filter (stays caller c.number_of-lowest.result)) calls ∙ ap (λ n. filter (stays caller n) (c.self.inside.kept.items ++ c.args.done ∷ [])) lowest ∙ append-kept c.args.done c.args.floor (before_of c) c.self.invariant)
+    segment_is _ _ _ _ _ _ span floors (kept ∙ ap (filter (stays caller c.number_of-lowest.result)) calls ∙ ap (λ n. filter (stays caller n) (c.self.inside.kept.items ++ c.args.done ∷ [])) lowest ∙ append-kept c.args.done c.args.floor (before_of c) c.self.invariant)
 
 -- what the value was
 known : (c : goal.After-retain) → before_of c ≡ c.args.self.now.known

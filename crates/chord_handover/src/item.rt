@@ -1,0 +1,20 @@
+//! Handovers that are kept.
+
+use crate::parcelled::Parcelled;
+use std::marker::Model;
+
+/// A parcel on its way to a node, under its number there.
+#[derive(Debug, Drop)]
+pub struct Item {
+    pub to: u64,
+    pub number: u64,
+    pub parcelled: Parcelled,
+}
+
+impl Model for Item {
+    ghost use Rattle.chord_handover.specs.Handover.{Item as ItemOf};
+
+    ghost Value = { ItemOf };
+
+    ghost view = { λ item. record { to = item.to; number = item.number; segment = item.parcelled.segment; pairs = item.parcelled.pairs } };
+}

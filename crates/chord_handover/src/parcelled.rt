@@ -1,0 +1,113 @@
+//! What is handed over.
+ghost use Rattle.std.specs.Prelude.{◌≡◌, ◌≤◌, ◌==◌, if◌then◌else◌, Some, None, IfOk};
+ghost use Rattle.chord_handover.specs.Handover.{parts_in, part_at};
+ghost use Rattle.chord_handover.specs.Known.{known_of};
+ghost use Rattle.chord_handover.specs.Parcelled.{IsParcelled, handed};
+
+use crate::part::{Part, copy_chunk, count_parts};
+use crate::ticket::Ticket;
+use chord_map::Pair;
+use chord_segment::Segment;
+use std::alloc::{AllocError, Global};
+use std::marker::Model;
+
+/// A segment with its pairs, which rise strictly, lie in its span, and are at most 1,000 for each key.
+#[derive(Debug, Drop)]
+pub struct Parcelled {
+    segment: Segment,
+    pairs: Vec<Pair>,
+}
+
+impl Model for Parcelled {
+    ghost use Rattle.chord_handover.specs.Parcelled.{Parcelled as ParcelledOf, IsParcelled};
+
+    ghost Value = { ParcelledOf };
+
+    ghost view = { λ parcelled. record { segment = parcelled.segment.known; pairs = parcelled.pairs.items } };
+
+    ghost invariant = { λ parcelled. IsParcelled (record { segment = parcelled.segment.known; pairs = parcelled.pairs.items }) };
+}
+
+impl Parcelled {
+    /// The segment with these pairs.
+    pub fn new(segment: Segment, pairs: Vec<Pair>) -> Parcelled
+        requires { IsParcelled (record { segment = segment.known; pairs = pairs.items }) }
+        ensures { result ≡ record { segment = segment.known; pairs = pairs.items } }
+    {
+        Parcelled { segment, pairs }
+    }
+
+    /// Its segment.
+    pub fn segment(&self) -> &Segment
+        ensures { result.now.known ≡ self.now.segment }
+    {
+        &self.segment
+    }
+
+    /// Its pairs.
+    pub fn pairs(&self) -> &[Pair]
+        ensures value { result.now ≡ self.now.pairs }
+        ensures rules { IsParcelled self.now }
+    {
+        self.pairs.as_slice()
+    }
+
+    /// The segment and the pairs.
+    pub fn into_parts(self) -> (Segment, Vec<Pair>)
+        ensures segment { result.0.known ≡ self.segment }
+        ensures pairs { result.1.items ≡ self.pairs }
+        ensures rules { IsParcelled self }
+    {
+        (self.segment, self.pairs)
+    }
+
+    /// One of the parts that it is sent in.
+    pub fn part(&self, ticket: Ticket, part: u64) -> Result<Part, AllocError>
+        requires some { 1 ≤ part }
+        requires within { part ≤ parts_in self.now.pairs }
+        ensures { IfOk result (λ found. found ≡ part_at (handed ticket self.now) part) }
+    {
+        let segment = self.segment_for(part)?;
+        let pairs = copy_chunk(*self.pairs.allocator(), &self.pairs, part)?;
+        Ok(Part {
+            from: ticket.from,
+            to: ticket.to,
+            number: ticket.number,
+            part,
+            of: count_parts(&self.pairs),
+            segment,
+            pairs,
+        })
+    }
+
+    /// The segment goes with the first part.
+    fn segment_for(&self, part: u64) -> Result<Option<Segment>, AllocError>
+        ensures { IfOk result (λ segment. known_of segment ≡ (if part == 1 then Some self.now.segment else None)) }
+    {
+        if part != 1 {
+            return Ok(None);
+        }
+        let copy = self.segment.try_copy()?;
+        Ok(Some(copy))
+    }
+
+    /// An equal copy.
+    pub fn try_copy(&self) -> Result<Parcelled, AllocError>
+        ensures { IfOk result (λ copy. copy ≡ self.now) }
+    {
+        let segment = self.segment.try_copy()?;
+        let pairs = copy_pairs(*self.pairs.allocator(), &self.pairs)?;
+        Ok(Parcelled { segment, pairs })
+    }
+}
+
+/// Equal copies.
+pub fn copy_pairs(alloc: Global, pairs: &[Pair]) -> Result<Vec<Pair>, AllocError>
+    ensures { IfOk result (λ copies. copies.items ≡ pairs.now) }
+{
+    let mut copies = Vec::with_capacity(alloc, pairs.len())?;
+    for pair in pairs {
+        copies.push(pair.try_copy()?)?;
+    }
+    Ok(copies)
+}

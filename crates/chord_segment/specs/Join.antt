@@ -1,0 +1,51 @@
+-- What a cut and a join answer.
+use Rattle.std.specs.Prelude.{◌≡◌, ◌≢◌, true, false, Result, Ok, Err}
+use Rattle.chord_ident.specs.declared.id.Id.{Id}
+use Rattle.chord_ident.specs.Circle.{cuts}
+use Rattle.chord_segment.specs.declared.fault.CutFault.{CutFault}
+use Rattle.chord_segment.specs.declared.fault.CutFault.TheVariants.{NotInside, Memory as CutMemory}
+use Rattle.chord_segment.specs.declared.fault.JoinFault.{JoinFault}
+use Rattle.chord_segment.specs.declared.fault.JoinFault.TheVariants.{NotAdjacent, Overlap, Twice, Memory as JoinMemory}
+use Rattle.chord_segment.specs.declared.fault.Uncut.{Uncut}
+use Rattle.chord_segment.specs.declared.fault.Unjoined.{Unjoined}
+use Rattle.chord_segment.specs.Segment.{Segment, RoomySegment, before, behind, span_joined, joined, stands_twice}
+
+-- the first refusal of a cut that fits
+abbrev pub CutRefused : Id → Segment → CutFault → Type 0
+CutRefused at segment NotInside = cuts segment.span at ≡ false
+CutRefused at segment CutMemory = cuts segment.span at ≡ true
+
+-- a cut leaves the part before the place and answers the part behind it, or nothing changes
+abbrev pub CutIs : Id → Segment → Result RoomySegment CutFault → Segment → Type 0
+CutIs at old (Ok second) new = (cuts old.span at ≡ true) × (new ≡ before at old) × (second.known ≡ behind at old)
+CutIs at old (Err fault) new = CutRefused at old fault × (new ≡ old)
+
+-- a cut answers both parts, or hands the segment back
+abbrev pub PartsAre : Id → Segment → Result (RoomySegment × RoomySegment) Uncut → Type 0
+PartsAre at segment (Ok parts) = (cuts segment.span at ≡ true) × ((parts.0).known ≡ before at segment) × ((parts.1).known ≡ behind at segment)
+PartsAre at segment (Err uncut) = CutRefused at segment uncut.fault × (uncut.segment.known ≡ segment)
+
+-- the second begins where the first ends
+abbrev pub IsNext : Segment → Segment → Type 0
+IsNext first second = first.span.upto ≡ second.span.after
+
+-- they do not meet: where the first ends, a cut would part them again
+abbrev pub IsApart : Segment → Segment → Type 0
+IsApart first second = cuts (span_joined first.span second.span) first.span.upto ≡ true
+
+-- the first refusal of a join that fits
+abbrev pub JoinRefused : Segment → Segment → JoinFault → Type 0
+JoinRefused first second NotAdjacent = first.span.upto ≢ second.span.after
+JoinRefused first second Overlap = IsNext first second × (cuts (span_joined first.span second.span) first.span.upto ≡ false)
+JoinRefused first second Twice = IsNext first second × IsApart first second × (stands_twice first.kept second.kept ≡ true)
+JoinRefused first second JoinMemory = IsNext first second × IsApart first second × (stands_twice first.kept second.kept ≡ false)
+
+-- neighbours that do not meet and keep no call twice become one in the first one's place, or nothing changes
+abbrev pub JoinIs : Segment → Segment → Result (Unit {0}) JoinFault → Segment → Type 0
+JoinIs first second (Ok done) new = IsNext first second × IsApart first second × (stands_twice first.kept second.kept ≡ false) × (new ≡ joined first second)
+JoinIs first second (Err fault) new = JoinRefused first second fault × (new ≡ first)
+
+-- a join answers the one segment, or hands both back
+abbrev pub WholeIs : Segment → Segment → Result RoomySegment Unjoined → Type 0
+WholeIs first second (Ok whole) = IsNext first second × IsApart first second × (stands_twice first.kept second.kept ≡ false) × (whole.known ≡ joined first second)
+WholeIs first second (Err unjoined) = JoinRefused first second unjoined.fault × (unjoined.first.known ≡ first) × (unjoined.second.known ≡ second)

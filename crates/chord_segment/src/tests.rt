@@ -1,0 +1,123 @@
+//! Worked values.
+
+use crate::{CutFault, Done, JoinFault, Past, Segment};
+use chord_ident::{Id, Span};
+use chord_map::{Bytes, Reply, Request};
+use std::alloc::{AllocError, Global};
+use std::test::Fail;
+
+const A: u128 = 0x40000000000000000000000000000000;
+
+const B: u128 = 0x80000000000000000000000000000000;
+
+const C: u128 = 0xc0000000000000000000000000000000;
+
+fn span(after: u128, upto: u128) -> Span {
+    Span::new(Id::new(after), Id::new(upto))
+}
+
+/// The call of this caller and number that added x under the key.
+fn added(alloc: Global, caller: u64, number: u64, key: &[u8]) -> Result<Done, AllocError> {
+    let request = Request::Insert {
+        key: Bytes::from_slice(alloc, key)?,
+        value: Bytes::from_slice(alloc, b"x")?,
+    };
+    Ok(Done {
+        caller,
+        number,
+        request,
+        reply: Reply::Added,
+    })
+}
+
+/// Keeps a call, after it tested what that asks for.
+fn keep(segment: &mut Segment, done: Done, floor: u64) -> bool {
+    let inside = segment.span().contains(Id::of_bytes(done.request.key()));
+    if !inside || done.number <= floor || done.number - floor > 16 {
+        return false;
+    }
+    if let Past::New = segment.find(done.caller, done.number) {
+        return segment.append(done, floor).is_ok();
+    }
+    false
+}
+
+/// A segment that keeps that call alone.
+fn one(alloc: Global, span: Span, key: &[u8]) -> Result<Segment, AllocError> {
+    let mut segment = Segment::empty(alloc, span);
+    segment.reserve()?;
+    let done = added(alloc, 0, 1, key)?;
+    if !keep(&mut segment, done, 0) {
+        return Err(AllocError);
+    }
+    Ok(segment)
+}
+
+#[test]
+fn what_is_kept_goes_by_key(rt: HostRuntime) -> Result<(), Fail> {
+    let segment = one(rt.alloc(), span(A, A), b"abc")?;
+    assert_eq!(rt; segment.kept().len(), 1);
+    let (before, behind) = segment.cut(Id::new(B)).ok().ok_or("not cut")?;
+    assert_eq!(rt; before.span(), span(A, B));
+    assert_eq!(rt; before.kept().len(), 0);
+    assert_eq!(rt; behind.span(), span(B, A));
+    assert_eq!(rt; behind.kept().len(), 1);
+    let whole = before.join(behind).ok().ok_or("not joined")?;
+    assert_eq!(rt; whole.span(), span(A, A));
+    assert_eq!(rt; whole.kept().len(), 1);
+    let copy = whole.try_copy()?;
+    assert_eq!(rt; copy.span(), span(A, A));
+    assert_eq!(rt; copy.floor(0), 0);
+    assert_eq!(rt; copy.kept().len(), 1);
+    assert!(rt;
+        matches!(copy.find(0, 1), Past::Kept(done) if done.request.key() == b"abc".as_slice())
+    );
+    assert!(rt; matches!(copy.find(0, 2), Past::New));
+    Ok(())
+}
+
+#[test]
+fn neighbours_keep_a_call_once(rt: HostRuntime) -> Result<(), Fail> {
+    let first = one(rt.alloc(), span(A, C), b"abc")?;
+    let second = one(rt.alloc(), span(C, A), b"b")?;
+    let refused = first.join(second).err().ok_or("joined")?;
+    assert_eq!(rt; refused.fault, JoinFault::Twice);
+    assert_eq!(rt; refused.first.kept().len(), 1);
+    assert_eq!(rt; refused.second.kept().len(), 1);
+    Ok(())
+}
+
+#[test]
+fn refused_cuts_and_joins(rt: HostRuntime) -> Result<(), Fail> {
+    let segment = Segment::empty(rt.alloc(), span(A, B));
+    for at in [A, B, C] {
+        let refused = segment.try_copy()?.cut(Id::new(at)).err().ok_or("cut")?;
+        assert_eq!(rt; refused.fault, CutFault::NotInside);
+    }
+    for (next, fault) in [
+        (span(C, A), JoinFault::NotAdjacent),
+        (span(B, B), JoinFault::Overlap),
+    ] {
+        let next = Segment::empty(rt.alloc(), next);
+        let refused = segment.try_copy()?.join(next).err().ok_or("joined")?;
+        assert_eq!(rt; refused.fault, fault);
+    }
+    Ok(())
+}
+
+#[test]
+fn floors_drop_what_was_taken(rt: HostRuntime) -> Result<(), Fail> {
+    let mut segment = one(rt.alloc(), span(A, A), b"abc")?;
+    let second = added(rt.alloc(), 0, 2, b"b")?;
+    assert!(rt; keep(&mut segment, second, 0));
+    assert_eq!(rt; segment.kept().len(), 2);
+    let third = added(rt.alloc(), 0, 3, b"a")?;
+    assert!(rt; keep(&mut segment, third, 2));
+    assert_eq!(rt; segment.floor(0), 2);
+    assert_eq!(rt; segment.kept().len(), 1);
+    assert!(rt; matches!(segment.find(0, 1), Past::Seen));
+    let (before, behind) = segment.cut(Id::new(B)).ok().ok_or("not cut")?;
+    assert_eq!(rt; before.floor(0), 2);
+    assert_eq!(rt; behind.floor(0), 2);
+    Ok(())
+}
