@@ -1,0 +1,13 @@
+-- What parcels keep.
+use Rattle.std.proofs.Common.{◌≡◌, ℕ, ◌<◌, ◌≤◌, List, [], length, sym, subst, arith}
+use Rattle.chord_map.specs.declared.pair.Pair.{Pair}
+use Rattle.std.specs.List.Sorted.{IsStrictlySortedBy}
+use Rattle.chord_segment.specs.Segment.{Segment}
+use Rattle.chord_handover.specs.Parcelled.{Parcelled, IsParcelled}
+
+-- a segment without pairs is a parcel
+pub no_pairs : (segment : Segment) (pairs : List Pair) → pairs ≡ [] → IsParcelled (record { segment = segment; pairs = pairs })
+unfolding IsStrictlySortedBy
+no_pairs segment pairs e =
+    subst (λ (all : List Pair). IsParcelled (record { segment = segment; pairs = all })) (sym e)
+    (record { rising = tt; inside = λ k d low. absurd (omega arith); few = λ key. omega arith })
