@@ -16,3 +16,6 @@ pub use refusal::{PartFault, Refusal};
 pub use running::{Answer, run};
 pub use step::Step;
 pub use world::World;
+
+#[cfg(test)]
+mod tests;

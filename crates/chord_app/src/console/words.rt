@@ -1,0 +1,123 @@
+//! The words of a line.
+
+use chord_ident::Id;
+use chord_map::Bytes;
+use std::alloc::{AllocError, AllocFailed, Global};
+
+/// Why a line is not read.
+#[derive(Clone, Copy, Debug, PartialEq, Eq)]
+pub enum LineFault {
+    /// It is outside the grammar.
+    Grammar,
+    OutOfMemory,
+}
+
+impl From<AllocError> for LineFault {
+    fn from(_refused: AllocError) -> LineFault {
+        LineFault::OutOfMemory
+    }
+}
+
+impl<T: Drop> From<AllocFailed<T>> for LineFault {
+    fn from(_refused: AllocFailed<T>) -> LineFault {
+        LineFault::OutOfMemory
+    }
+}
+
+/// The words of a line that are still to be read. One space stands between two words.
+#[derive(Clone, Copy, Debug)]
+pub struct Words<'a> {
+    rest: Option<&'a str>,
+}
+
+impl<'a> Words<'a> {
+    /// The words of a line.
+    pub fn new(line: &'a str) -> Words<'a> {
+        Words { rest: Some(line) }
+    }
+
+    /// The next word.
+    pub fn word(&mut self) -> Result<&'a str, LineFault> {
+        let Some(rest) = self.rest else {
+            return Err(LineFault::Grammar);
+        };
+        match rest.split_once(' ') {
+            Some((word, rest)) => {
+                self.rest = Some(rest);
+                Ok(word)
+            }
+            None => {
+                self.rest = None;
+                Ok(rest)
+            }
+        }
+    }
+
+    /// That there is no further word.
+    pub fn end(&self) -> Result<(), LineFault> {
+        match self.rest {
+            Some(_) => Err(LineFault::Grammar),
+            None => Ok(()),
+        }
+    }
+
+    /// Whether there is a further word.
+    pub fn has_more(&self) -> bool {
+        self.rest.is_some()
+    }
+
+    /// A number: decimal, without leading zeros, at most 2^64 - 1.
+    pub fn number(&mut self) -> Result<u64, LineFault> {
+        let word = self.word()?;
+        let first = word.as_bytes().first().copied();
+        if first == Some(b'+') || (first == Some(b'0') && word.len() != 1) {
+            return Err(LineFault::Grammar);
+        }
+        match word.parse::<u64>() {
+            Ok(number) => Ok(number),
+            Err(_) => Err(LineFault::Grammar),
+        }
+    }
+
+    /// An identifier: 32 hexadecimal digits of either case.
+    pub fn id(&mut self) -> Result<Id, LineFault> {
+        let word = self.word()?;
+        match Id::of_hex(word) {
+            Ok(id) => Ok(id),
+            Err(_) => Err(LineFault::Grammar),
+        }
+    }
+
+    /// Bytes: pairs of hexadecimal digits of either case, or `-` for none.
+    pub fn bytes(&mut self, alloc: Global) -> Result<Bytes, LineFault> {
+        let word = self.word()?;
+        if word == "-" {
+            return Ok(Bytes::from_vec(Vec::new(alloc)));
+        }
+        let digits = word.as_bytes();
+        if digits.is_empty() || digits.len() % 2 != 0 {
+            return Err(LineFault::Grammar);
+        }
+        let mut bytes = Vec::with_capacity(alloc, digits.len() / 2)?;
+        let mut high = None;
+        for byte in digits {
+            let digit = digit_of(*byte)?;
+            high = match high {
+                None => Some(digit << 4),
+                Some(upper) => {
+                    bytes.push(upper | digit)?;
+                    None
+                }
+            };
+        }
+        Ok(Bytes::from_vec(bytes))
+    }
+}
+
+/// The value of a hexadecimal digit.
+fn digit_of(byte: u8) -> Result<u8, LineFault> {
+    match char::from(byte).to_digit(16) {
+        Some(digit) => Ok(digit as u8),
+        None => Err(LineFault::Grammar),
+    }
+}

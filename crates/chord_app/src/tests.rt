@@ -1,0 +1,311 @@
+//! Scripts of the console with what they must write.
+ghost use Rattle.std.specs.Prelude.{◌≡◌, []};
+ghost use Rattle.std.specs.List.{All};
+
+use crate::console::session::world;
+use crate::finish::{Fault, Finish};
+use crate::stores::add_store;
+use chord_store::{CappedStore, EntryStore, ListStore};
+use std::alloc::{AllocError, Global};
+use std::test::Fail;
+
+/// Runs the script over these stores.
+fn runs<S: EntryStore>(
+    alloc: Global,
+    stores: Vec<S>,
+    script: &str,
+    wanted: &str,
+) -> Result<(Finish, bool), AllocError>
+    requires { All (λ s. S.content s ≡ []) stores.items }
+{
+    let mut reader = script.as_bytes();
+    let mut written: Vec<u8> = Vec::new(alloc);
+    let finish = world(alloc, stores, &mut reader, &mut written);
+    Ok((finish, written.as_slice() == wanted.as_bytes()))
+}
+
+/// Runs the script over one list.
+fn over_a_list(alloc: Global, script: &str, wanted: &str) -> Result<(Finish, bool), AllocError> {
+    let mut stores = Vec::new(alloc);
+    add_store(&mut stores, ListStore::new(alloc))?;
+    runs(alloc, stores, script, wanted)
+}
+
+/// Runs the script over one store of one pair.
+fn over_one_pair(alloc: Global, script: &str, wanted: &str) -> Result<(Finish, bool), AllocError> {
+    let mut stores = Vec::new(alloc);
+    add_store(&mut stores, CappedStore::new(alloc, 1))?;
+    runs(alloc, stores, script, wanted)
+}
+
+const FIRST_RUN: &str = concat!(
+    "create 40000000000000000000000000000000\n",
+    "caller\n",
+    "insert 0 0 616263 78\n",
+    "deliver 0\n",
+    "deliver 1\n",
+    "deliver 0\n",
+    "deliver 2\n",
+    "history\n",
+);
+
+const FIRST_RUN_WRITES: &str = concat!(
+    "node 0\n",
+    "caller 0\n",
+    "message 0\n",
+    "told 1\n",
+    "fresh added\n",
+    "told 2\n",
+    "known\n",
+    "history 1\n",
+);
+
+const ONE_NODE_WORLD: &str = concat!(
+    "create 40000000000000000000000000000000\n",
+    "caller\n",
+    "retrieve 0 0 616263\n",
+    "deliver 0\n",
+    "deliver 1\n",
+    "insert 0 0 616263 78\n",
+    "deliver 2\n",
+    "deliver 3\n",
+    "insert 0 0 616263 78\n",
+    "deliver 4\n",
+    "deliver 5\n",
+    "retrieve 0 0 616263\n",
+    "deliver 6\n",
+    "deliver 7\n",
+    "remove 0 0 616263 78\n",
+    "deliver 8\n",
+    "deliver 9\n",
+    "remove 0 0 616263 78\n",
+    "deliver 10\n",
+    "deliver 11\n",
+);
+
+const ONE_NODE_WORLD_WRITES: &str = concat!(
+    "node 0\n",
+    "caller 0\n",
+    "message 0\n",
+    "told 1\n",
+    "fresh values 0\n",
+    "message 2\n",
+    "told 3\n",
+    "fresh added\n",
+    "message 4\n",
+    "told 5\n",
+    "fresh present\n",
+    "message 6\n",
+    "told 7\n",
+    "fresh values 1 78\n",
+    "message 8\n",
+    "told 9\n",
+    "fresh removed\n",
+    "message 10\n",
+    "told 11\n",
+    "fresh absent\n",
+);
+
+const REPEATS_AFTER_A_REMOVE: &str = concat!(
+    "create 40000000000000000000000000000000\n",
+    "caller\n",
+    "insert 0 0 61 78\n",
+    "deliver 0\n",
+    "deliver 1\n",
+    "remove 0 0 61 78\n",
+    "deliver 2\n",
+    "deliver 3\n",
+    "deliver 0\n",
+    "deliver 1\n",
+    "retrieve 0 0 61\n",
+    "deliver 4\n",
+    "deliver 5\n",
+);
+
+const REPEATS_AFTER_A_REMOVE_WRITES: &str = concat!(
+    "node 0\n",
+    "caller 0\n",
+    "message 0\n",
+    "told 1\n",
+    "fresh added\n",
+    "message 2\n",
+    "told 3\n",
+    "fresh removed\n",
+    "dropped\n",
+    "known\n",
+    "message 4\n",
+    "told 5\n",
+    "fresh values 0\n",
+);
+
+const WORLD_REFUSALS: &str = concat!(
+    "insert 0 0 61 78\n",
+    "create 40000000000000000000000000000000\n",
+    "create c0000000000000000000000000000000\n",
+    "retrieve 0 0 61\n",
+    "caller\n",
+    "retrieve 0 1 61\n",
+    "retrieve 0 0 -\n",
+    "deliver 0\n",
+);
+
+const WORLD_REFUSALS_WRITES: &str = concat!(
+    "refused 2 NotCreated\n",
+    "node 0\n",
+    "refused 1 AlreadyCreated\n",
+    "refused 4 NoSuchCaller\n",
+    "caller 0\n",
+    "refused 3 NoSuchNode\n",
+    "refused 9 KeyEmpty\n",
+    "refused 5 NoSuchMessage\n",
+);
+
+const WINDOW_OF_TWO: &str = concat!(
+    "create 40000000000000000000000000000000\n",
+    "caller 2\n",
+    "insert 0 0 61 78\n",
+    "insert 0 0 61 79\n",
+    "retrieve 0 0 61\n",
+    "deliver 1\n",
+    "deliver 2\n",
+    "retrieve 0 0 61\n",
+    "deliver 0\n",
+    "deliver 3\n",
+    "deliver 0\n",
+    "deliver 4\n",
+    "retrieve 0 0 61\n",
+    "deliver 5\n",
+    "deliver 0\n",
+    "deliver 6\n",
+);
+
+const WINDOW_OF_TWO_WRITES: &str = concat!(
+    "node 0\n",
+    "caller 0\n",
+    "message 0\n",
+    "message 1\n",
+    "refused 9 WindowFull\n",
+    "told 2\n",
+    "fresh added\n",
+    "refused 9 WindowFull\n",
+    "told 3\n",
+    "fresh added\n",
+    "told 4\n",
+    "known\n",
+    "message 5\n",
+    "told 6\n",
+    "dropped\n",
+    "fresh values 2 78 79\n",
+);
+
+const FULL_STORE: &str = concat!(
+    "create 40000000000000000000000000000000\n",
+    "caller\n",
+    "insert 0 0 61 78\n",
+    "deliver 0\n",
+    "deliver 1\n",
+    "insert 0 0 61 79\n",
+    "deliver 2\n",
+    "deliver 3\n",
+    "remove 0 0 61 78\n",
+    "deliver 2\n",
+);
+
+const FULL_STORE_WRITES: &str = concat!(
+    "node 0\n",
+    "caller 0\n",
+    "message 0\n",
+    "told 1\n",
+    "fresh added\n",
+    "message 2\n",
+    "full 3\n",
+    "full\n",
+    "refused 9 WindowFull\n",
+    "full 4\n",
+);
+
+#[test]
+fn one_node_world(rt: HostRuntime) -> Result<(), Fail> {
+    let ran = over_a_list(rt.alloc(), ONE_NODE_WORLD, ONE_NODE_WORLD_WRITES)?;
+    assert_eq!(rt; ran, (Finish::Done, true));
+    Ok(())
+}
+
+#[test]
+fn repeats_after_a_remove(rt: HostRuntime) -> Result<(), Fail> {
+    let ran = over_a_list(
+        rt.alloc(),
+        REPEATS_AFTER_A_REMOVE,
+        REPEATS_AFTER_A_REMOVE_WRITES,
+    )?;
+    assert_eq!(rt; ran, (Finish::Done, true));
+    Ok(())
+}
+
+#[test]
+fn world_refusals(rt: HostRuntime) -> Result<(), Fail> {
+    let ran = over_a_list(rt.alloc(), WORLD_REFUSALS, WORLD_REFUSALS_WRITES)?;
+    assert_eq!(rt; ran, (Finish::Done, true));
+    Ok(())
+}
+
+#[test]
+fn window_of_two(rt: HostRuntime) -> Result<(), Fail> {
+    let ran = over_a_list(rt.alloc(), WINDOW_OF_TWO, WINDOW_OF_TWO_WRITES)?;
+    assert_eq!(rt; ran, (Finish::Done, true));
+    Ok(())
+}
+
+#[test]
+fn a_full_store_and_a_repeat(rt: HostRuntime) -> Result<(), Fail> {
+    let ran = over_one_pair(rt.alloc(), FULL_STORE, FULL_STORE_WRITES)?;
+    assert_eq!(rt; ran, (Finish::Done, true));
+    Ok(())
+}
+
+#[test]
+fn bad_line(rt: HostRuntime) -> Result<(), Fail> {
+    let script =
+        "create 40000000000000000000000000000000\ncreat 80000000000000000000000000000000\n";
+    let ran = over_a_list(rt.alloc(), script, "node 0\n")?;
+    assert_eq!(rt; ran, (Finish::Fault(Fault::Line(2)), true));
+    Ok(())
+}
+
+/// Lines outside the grammar, each the first of its script.
+#[test]
+fn lines_outside_the_grammar(rt: HostRuntime) -> Result<(), Fail> {
+    let lines = [
+        "\n",
+        "create\n",
+        "history \n",
+        " history\n",
+        "caller 01\n",
+        "caller +1\n",
+        "deliver 18446744073709551616\n",
+        "retrieve 0 0 6\n",
+        "retrieve 0 0 6g\n",
+        "retrieve 0 0\n",
+        "history\r\n",
+        "create 4000000000000000000000000000000\n",
+    ];
+    for line in lines {
+        let ran = over_a_list(rt.alloc(), line, "")?;
+        assert_eq!(rt; ran, (Finish::Fault(Fault::Line(1)), true), "{line}");
+    }
+    Ok(())
+}
+
+#[test]
+fn a_world_with_no_stores(rt: HostRuntime) -> Result<(), Fail> {
+    let alloc = rt.alloc();
+    let none: Vec<ListStore> = Vec::new(alloc);
+    let ran = runs(
+        alloc,
+        none,
+        "create 40000000000000000000000000000000",
+        "refused 7 NoStore\n",
+    )?;
+    assert_eq!(rt; ran, (Finish::Done, true));
+    Ok(())
+}
