@@ -104,7 +104,7 @@ impl CallerCore {
             return Some(SubmitFault::Bad(fault));
         }
         let last = self.submitted.len() as u64;
-        if last - self.floor >= self.window {
+        if self.window <= last - self.floor {
             return Some(SubmitFault::WindowFull);
         }
         if last == u64::MAX {

@@ -3,8 +3,8 @@ use Rattle.chord_map.specs.Checked.{IsRequest}
 use Rattle.chord_caller.proofs.Views.{Shows, shows}
 use Rattle.chord_caller.proofs.caller_core.CallerCore.refusal.Goals as goal
 
-pub returns-then-last-self : goal.returns-then-last-self
-returns-then-last-self c =
+pub returns-then-self-last : goal.returns-then-self-last
+returns-then-self-last c =
     let core = c.self.inside in
     let s : Shows core.number core.window core.floor (length core.submitted.items) c.args.self.now =
     shows core.number core.window core.floor core.submitted.items core.mine.items core.told.items c.args.self.now c.self.view_is c.self.invariant.tied c.self.invariant.floor_is in
