@@ -2,11 +2,13 @@
 ghost use Rattle.std.specs.Prelude.{◌≡◌, []};
 ghost use Rattle.std.specs.List.{All};
 
+use crate::command_line::{commands, names_stores};
 use crate::console::session::world;
 use crate::finish::{Fault, Finish};
 use crate::stores::add_store;
 use chord_store::{CappedStore, EntryStore, ListStore};
 use std::alloc::{AllocError, Global};
+use std::fmt::Write;
 use std::test::Fail;
 
 /// Runs the script over these stores.
@@ -308,4 +310,68 @@ fn a_world_with_no_stores(rt: HostRuntime) -> Result<(), Fail> {
     )?;
     assert_eq!(rt; ran, (Finish::Done, true));
     Ok(())
+}
+
+/// A set that is filled up to 1,000 values, one by one, and what is written.
+fn full_set(alloc: Global) -> Result<(String, String), AllocError> {
+    let mut script = String::from_str(alloc, "create 40000000000000000000000000000000\ncaller\n")?;
+    let mut wanted = String::from_str(alloc, "node 0\ncaller 0\n")?;
+    for value in 0..1000u32 {
+        let asked = 2 * value;
+        let told = 2 * value + 1;
+        write!(
+            script,
+            "insert 0 0 61 {value:04}\ndeliver {asked}\ndeliver {told}\n"
+        )?;
+        write!(wanted, "message {asked}\ntold {told}\nfresh added\n")?;
+    }
+    Ok((script, wanted))
+}
+
+/// What is asked of the full set, and what is written.
+const AT_THE_LIMIT: &str =
+    "insert 0 0 61 1000\ndeliver 2000\ndeliver 2001\ninsert 0 0 61 0999\ndeliver 2002\ndeliver 2003\nremove 0 0 61 0000\ndeliver 2004\ndeliver 2005\ninsert 0 0 61 1000\ndeliver 2006\ndeliver 2007\n";
+
+const AT_THE_LIMIT_WRITES: &str =
+    "message 2000\ntold 2001\nfresh setfull\nmessage 2002\ntold 2003\nfresh present\nmessage 2004\ntold 2005\nfresh removed\nmessage 2006\ntold 2007\nfresh added\n";
+
+#[test]
+fn full_sets(rt: HostRuntime) -> Result<(), Fail> {
+    let (mut script, mut wanted) = full_set(rt.alloc())?;
+    script.push_str(AT_THE_LIMIT)?;
+    wanted.push_str(AT_THE_LIMIT_WRITES)?;
+    let ran = over_a_list(rt.alloc(), script.as_str(), wanted.as_str())?;
+    assert_eq!(rt; ran, (Finish::Done, true));
+    Ok(())
+}
+
+/// The text of a command line without a command, and the status that the program ends with.
+#[test]
+fn a_command_is_wanted(rt: HostRuntime) -> Result<(), Fail> {
+    let words = ["chord"];
+    let command = commands(rt.alloc())?;
+    let Err(error) = command.try_get_matches_from(words.as_slice()) else {
+        return Err(Fail::from("no fault"));
+    };
+    assert_eq!(rt; error.exit_code(), 2);
+    let text = error.to_string(rt.alloc())?;
+    let wanted =
+        "error: 'chord' requires a subcommand but one was not provided\n  [subcommands: world, help]\n\nUsage: chord <COMMAND>\n\nFor more information, try '--help'.\n";
+    assert_eq!(rt; text.as_str(), wanted);
+    Ok(())
+}
+
+#[test]
+fn words_for_stores(rt: HostRuntime) {
+    for word in ["t", "tltltltl", "lnct"] {
+        assert!(rt; names_stores(word), "{word}");
+    }
+    for word in [
+        "",
+        "tx",
+        "T",
+        "tttttttttttttttttttttttttttttttttttttttttttttttttttttttttttttttttt",
+    ] {
+        assert!(rt; !names_stores(word), "{word}");
+    }
 }
