@@ -88,9 +88,12 @@ fn a_window_of_two(rt: HostRuntime) -> Result<(), Fail> {
     core.submit(insert(rt.alloc(), b"a")?)?;
     core.submit(insert(rt.alloc(), b"b")?)?;
     assert_eq!(rt; core.take(added(0, 2))?, Heard::Fresh);
+    let third = insert(rt.alloc(), b"c")?;
+    assert_eq!(rt; core.refusal(&third), Some(SubmitFault::WindowFull));
     let full = core.submit(insert(rt.alloc(), b"c")?).err();
     assert_eq!(rt; full, Some(SubmitFault::WindowFull));
     assert_eq!(rt; core.take(added(0, 1))?, Heard::Fresh);
+    assert_eq!(rt; core.refusal(&third), None);
     let ask = core.submit(insert(rt.alloc(), b"c")?)?;
     assert!(rt; is_ask(&ask, 0, 3, 2, b"c"));
     Ok(())
