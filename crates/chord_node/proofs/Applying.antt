@@ -1,12 +1,11 @@
 -- What a store's calls do, as the table of requests.
-use Rattle.std.proofs.Common.{◌≡◌, ℕ, Bool, true, false, cond, ◌<◌, ◌≤◌, Result, Ok, Err, List, [], ◌∷◌, ◌||◌, not, filter, ap, ◌∙◌, length, refl, sym, subst, leb, arith}
+use Rattle.std.proofs.Common.{◌≡◌, ℕ, Bool, true, false, cond, ◌<◌, Ok, Err, List, [], ◌∷◌, ◌||◌, not, filter, ap, ◌∙◌, length, refl, sym, subst, leb}
 use Rattle.std.proofs.lemmas.Bool.{lt-leb, le-leb}
 use Rattle.chord_map.specs.declared.pair.Pair.{Pair}
-use Rattle.chord_map.specs.declared.request.Request.{Request}
 use Rattle.chord_map.specs.declared.request.Request.TheVariants as request
 use Rattle.chord_map.specs.declared.reply.Reply.{Reply}
 use Rattle.chord_map.specs.declared.reply.Reply.TheVariants as reply
-use Rattle.chord_map.specs.Map.{has_pair, same_pair, values_at, reply_to, pairs_by, pairs_after, remove_pair}
+use Rattle.chord_map.specs.Map.{has_pair, same_pair, values_at, reply_to, pairs_after, remove_pair}
 use Rattle.chord_store.specs.declared.outcome.Inserted.{Inserted}
 use Rattle.chord_store.specs.declared.outcome.Inserted.TheVariants.{Added, Present, SetFull}
 use Rattle.chord_store.specs.declared.outcome.StoreFault.{StoreFault}

@@ -1,5 +1,5 @@
 -- What an Ask does to a node, from what it does to a segment and a store.
-use Rattle.std.proofs.Common.{◌≡◌, ◌≢◌, ◌-◌, ◌||◌, ◌==◌, ℕ, zero, suc, ◌<◌, Bool, true, false, cond, Option, None, Some, Result, Ok, Err, List, [], ◌∷◌, length, get_or, set, map, refl, sym, ◌∙◌, ap, subst, arith, leb}
+use Rattle.std.proofs.Common.{◌≡◌, ◌≢◌, ◌-◌, ◌||◌, ◌==◌, ℕ, zero, suc, ◌<◌, Bool, true, false, cond, Option, None, Some, Result, Ok, Err, List, [], ◌∷◌, length, get_or, set, refl, sym, ◌∙◌, ap, subst, arith, leb}
 use Rattle.std.proofs.lemmas.Bool.{ltb-false, leb-true}
 use Rattle.std.specs.Prelude.{find, position}
 use Rattle.std.specs.List.{position_or_len}
@@ -11,16 +11,15 @@ use Rattle.chord_ident.specs.Circle.{in_span}
 use Rattle.chord_map.specs.declared.pair.Pair.{Pair}
 use Rattle.chord_map.specs.declared.reply.Reply.{Reply}
 use Rattle.chord_map.specs.declared.reply.Reply.TheVariants as reply
-use Rattle.chord_map.specs.Map.{reply_to, pairs_after}
+use Rattle.chord_map.specs.Map.{reply_to}
 use Rattle.chord_segment.specs.declared.done.Done.{Done}
 use Rattle.chord_segment.specs.Segment.{Segment, RoomySegment, Past, id_of, past_at, append}
 use Rattle.chord_segment.specs.Segment.Past.{New, Kept, Seen}
 use Rattle.chord_caller.specs.declared.ask.Ask.{Ask}
-use Rattle.chord_caller.specs.declared.told.Told.{Told}
 use Rattle.chord_node.specs.declared.answered.Answered.{Answered}
 use Rattle.chord_node.specs.declared.answered.Answered.TheVariants as answer
 use Rattle.chord_node.specs.declared.message.Message.TheVariants.{Ask as AskMessage}
-use Rattle.chord_node.specs.Node.{Node, NodeStep, segment_with, append_at, executed, done_of, told_of}
+use Rattle.chord_node.specs.Node.{Node, NodeStep, segment_with, append_at, done_of, told_of}
 use Rattle.chord_node.specs.Node.NodeStep.{Tells_again, Drops_seen, Executes, Answers_full, Forwards, Drops}
 use Rattle.chord_node.specs.View.{knowns}
 use Rattle.chord_segment.proofs.MarkLemmas.{eqb_same}

@@ -1,5 +1,5 @@
 -- Calls that are passed on.
-use Rattle.std.proofs.Common.{◌≡◌, ◌≢◌, ℕ, ◌+◌, ◌-◌, ◌<◌, ◌≤◌, ◌||◌, ◌==◌, Bool, true, false, cond, refl, sym, ◌∙◌, ap, subst}
+use Rattle.std.proofs.Common.{◌≡◌, ◌≢◌, ℕ, ◌+◌, ◌-◌, ◌<◌, ◌≤◌, ◌||◌, ◌==◌, false, cond, refl, sym, ◌∙◌, ap, subst}
 use Rattle.std.proofs.Math.Bridge.{le_prop}
 use Rattle.chord_segment.proofs.MarkLemmas.{eqb_other}
 use Rattle.chord_segment.specs.Segment.{id_of}
@@ -9,7 +9,6 @@ use Rattle.chord_route.specs.declared.hop.Hop.{Hop}
 use Rattle.chord_route.specs.Hops.{IsNextHop}
 use Rattle.chord_map.specs.declared.request.Request.{Request}
 use Rattle.chord_caller.specs.declared.ask.Ask.{Ask}
-use Rattle.chord_node.specs.declared.answered.Answered.{Answered}
 use Rattle.chord_node.specs.declared.answered.Answered.TheVariants.{Dropped, Forward}
 use Rattle.chord_node.specs.Passed.{peer_of, PassesOn}
 

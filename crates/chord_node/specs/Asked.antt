@@ -1,5 +1,5 @@
 -- What a node answers to a call, and what it is afterwards.
-use Rattle.std.specs.Prelude.{Result, Ok, Err, ◌≡◌, ℕ, Bool, true, false, nat_le, if◌then◌else◌, Option, None, Some, List, [], length}
+use Rattle.std.specs.Prelude.{Result, Ok, Err, ◌≡◌, ℕ, Bool, true, false, nat_le, if◌then◌else◌, Option, None, Some, List, length}
 use Rattle.std.specs.declared.alloc.AllocError.{AllocError}
 use Rattle.chord_map.specs.declared.pair.Pair.{Pair}
 use Rattle.chord_map.specs.declared.request.Request.{Request}
@@ -12,7 +12,6 @@ use Rattle.chord_segment.specs.declared.done.Done.{Done}
 use Rattle.chord_segment.specs.Segment.{Segment, Past, id_of, past_at, append}
 use Rattle.chord_segment.specs.Segment.Past.{New, Kept, Seen}
 use Rattle.chord_caller.specs.declared.ask.Ask.{Ask}
-use Rattle.chord_caller.specs.declared.told.Told.{Told}
 use Rattle.chord_node.specs.declared.apply.Replies.{Replies}
 use Rattle.chord_node.specs.declared.answered.Answered.{Answered}
 use Rattle.chord_node.specs.declared.answered.Answered.TheVariants as answer

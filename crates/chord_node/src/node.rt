@@ -1,9 +1,9 @@
 //! A node with one store.
-ghost use Rattle.std.specs.Prelude.{◌≡◌, ◌≤◌, true, [], position, IfOk, IfErr};
+ghost use Rattle.std.specs.Prelude.{◌≡◌, ◌≤◌, true, None, [], position, IfOk, IfErr};
 ghost use Rattle.chord_ident.specs.Circle.{in_span};
 ghost use Rattle.chord_links.specs.NodeLinks.{alone};
 ghost use Rattle.chord_segment.specs.Segment.{RoomySegment};
-ghost use Rattle.chord_node.specs.Node.{founder};
+ghost use Rattle.chord_node.specs.Node.{newborn, founder, NodeStep};
 ghost use Rattle.chord_node.specs.Asked.{AskIs, AskNotes, AskSteps, AskStepsNoting};
 
 use crate::answered::Answered;
@@ -71,6 +71,20 @@ impl<S: EntryStore> Node<S> {
         }
     }
 
+    /// A node with these links that holds nothing yet.
+    pub fn newborn(alloc: Global, links: Links, store: S) -> Node<S>
+        requires { S.content store ≡ [] }
+        ensures { result ≡ newborn links (S.limit store) }
+    {
+        Node {
+            alloc,
+            phase: Phase::Staying,
+            links,
+            held: Vec::new(alloc),
+            store: Some(store),
+        }
+    }
+
     /// Answers a call: again or for the first time where the node holds the key, with Full where its store has no
     /// room for what the call would add. A call for a key that it does not hold is passed on or dropped.
     pub fn on_ask(&mut self, ask: &Ask) -> Result<Answered, AllocError>
@@ -109,6 +123,16 @@ impl<S: EntryStore> Node<S> {
         ensures { result.now ≡ self.now.links }
     {
         &self.links
+    }
+
+    /// Other links of the same node, with as many successors at most.
+    pub fn set_links(&mut self, links: Links)
+        requires me { links.me ≡ self.old.links.me }
+        requires r { links.r ≡ self.old.links.r }
+        ensures value { self.new ≡ record self.old { links = links } }
+        ensures step { NodeStep self.old None self.new None None }
+    {
+        self.links = links;
     }
 
     /// How far it has gone.

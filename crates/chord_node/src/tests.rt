@@ -5,7 +5,7 @@ ghost use Rattle.std.specs.Prelude.{◌≤◌};
 use crate::{Answered, Node, Phase};
 use chord_caller::Ask;
 use chord_ident::Id;
-use chord_links::Peer;
+use chord_links::{Links, Peer, SuccList};
 use chord_map::{Bytes, Reply, Request};
 use chord_store::{CappedStore, EntryStore};
 use std::alloc::Global;
@@ -56,5 +56,42 @@ fn a_call_acts_once(rt: HostRuntime) -> Result<(), Fail> {
     let (present, done) = node.on_ask_noting(&insert(alloc, 3, b"x")?)?;
     assert!(rt; is_told(&present, 3, &Reply::Present));
     assert!(rt; done.is_some());
+    Ok(())
+}
+
+/// A node that holds nothing passes a call on to the next hop with one hop less, and drops it where its hops are spent.
+#[test]
+fn forwards_and_drops(rt: HostRuntime) -> Result<(), Fail> {
+    let alloc = rt.alloc();
+    let me = Peer {
+        no: 0,
+        id: Id::new(0x40000000000000000000000000000000),
+    };
+    let other = Peer {
+        no: 1,
+        id: Id::new(0xc0000000000000000000000000000000),
+    };
+    let alone = Links::alone(me, 3);
+    let mut node = Node::newborn(alloc, alone, CappedStore::new(alloc, 1));
+    assert_eq!(rt; node.phase(), Phase::Staying);
+    let dropped = node.on_ask(&insert(alloc, 1, b"x")?)?;
+    assert!(rt; matches!(&dropped, Answered::Dropped));
+    let mut links = alone;
+    links.set_list(SuccList::behind_successor(me, 3, other, alone.list()));
+    node.set_links(links);
+    assert_eq!(rt; node.links().first(), other);
+    let forward = node.on_ask(&insert(alloc, 1, b"x")?)?;
+    match &forward {
+        Answered::Forward(to, passed) => {
+            assert_eq!(rt; *to, 1);
+            assert_eq!(rt; passed.number, 1);
+            assert_eq!(rt; passed.hops, 254);
+        }
+        _ => return Err(Fail::from("not passed on")),
+    }
+    let mut spent = insert(alloc, 1, b"x")?;
+    spent.hops = 0;
+    let dropped = node.on_ask(&spent)?;
+    assert!(rt; matches!(&dropped, Answered::Dropped));
     Ok(())
 }

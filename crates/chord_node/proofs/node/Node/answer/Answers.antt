@@ -1,8 +1,7 @@
-use Rattle.std.proofs.Common.{◌≡◌, ℕ, Option, None, Some, Ok, sym, ap, ◌∙◌, subst, refl, true}
+use Rattle.std.proofs.Common.{◌≡◌, ℕ, None, Some, Ok, sym, ap, ◌∙◌, subst, refl}
 use Rattle.std.specs.Prelude.{position}
-use Rattle.chord_ident.specs.Circle.{in_span, key_id}
-use Rattle.chord_segment.specs.Segment.{RoomySegment, id_of}
-use Rattle.chord_node.specs.declared.answered.Answered.TheVariants.{Dropped}
+use Rattle.chord_ident.specs.Circle.{key_id}
+use Rattle.chord_segment.specs.Segment.{id_of}
 use Rattle.std.specs.Option.{option_copied_mut}
 use Rattle.chord_node.specs.View.{entries_in, limit_in}
 use Rattle.chord_node.proofs.Asking.{has, asked_at, asked_past, asked_steps_noting, place_from, find_from}
