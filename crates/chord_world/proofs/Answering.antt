@@ -1,11 +1,9 @@
 -- Messages that are delivered.
-use Rattle.std.proofs.Common.{◌≡◌, ◌≢◌, ℕ, zero, suc, ◌+◌, ◌<◌, ◌≤◌, ◌⊎◌, ⊎_elim, inl, inr, Bool, true, false, cond, Option, None, Some, Result, Ok, Err, List, [], ◌∷◌, ◌++◌, length, set, get_or, refl, sym, ◌∙◌, ap, subst, arith}
+use Rattle.std.proofs.Common.{◌≡◌, ◌≢◌, ℕ, ◌+◌, ◌<◌, ◌≤◌, ⊎_elim, inl, inr, Bool, true, false, cond, Option, None, Some, Result, Ok, Err, List, [], length, set, get_or, refl, sym, ◌∙◌, ap, subst, arith}
 use Rattle.std.proofs.lemmas.Option.{slice_get_past, slice_get_within, get_or_from_slice_get, slice_get_cases}
-use Rattle.std.proofs.lemmas.List.{length-set}
-use Rattle.std.specs.Prelude.{slice_get, slice_set, Contains}
+use Rattle.std.specs.Prelude.{slice_get, Contains}
 use Rattle.std.specs.declared.alloc.AllocError.{AllocError}
 use Rattle.chord_map.specs.declared.reply.Reply.{Reply}
-use Rattle.chord_map.specs.Map.{fits}
 use Rattle.chord_segment.specs.declared.done.Done.{Done}
 use Rattle.chord_segment.specs.Segment.{Segment, Past, id_of, past_at}
 use Rattle.chord_segment.specs.Segment.Past.{New, Kept, Seen}
@@ -13,7 +11,7 @@ use Rattle.chord_caller.specs.declared.ask.Ask.{Ask}
 use Rattle.chord_caller.specs.declared.told.Told.{Told}
 use Rattle.chord_caller.specs.declared.heard.Heard.{Heard}
 use Rattle.chord_caller.specs.declared.heard.Heard.TheVariants.{Fresh, Known}
-use Rattle.chord_caller.specs.Caller.{Caller, CallerStep, Submission, submission_at}
+use Rattle.chord_caller.specs.Caller.{Caller, CallerStep}
 use Rattle.chord_caller.specs.Caller.Letter.{ToldLetter, FullLetter}
 use Rattle.chord_caller.specs.Caller.CallerStep.{Hears_full}
 use Rattle.chord_caller.specs.Answers.{IsForeign, TakeIs}
@@ -24,20 +22,20 @@ use Rattle.chord_node.specs.declared.message.Message.{Message}
 use Rattle.chord_node.specs.declared.message.Message.TheVariants.{Ask as AskMessage, Told as ToldMessage, Full as FullMessage}
 use Rattle.chord_node.specs.Headline.{Headline, request_with, submitted_by, answers}
 use Rattle.chord_node.specs.Node.{Node, segment_with}
-use Rattle.chord_node.specs.Passed.{peer_of}
-use Rattle.chord_node.specs.Asked.{AskIs, AskNotes, AnswersBy, ask_done, after_done, past_answer, is_full_for, sent_by, note_of}
-use Rattle.chord_node.specs.World.{World, WorldStep, node_at, put_node, caller_at, put_caller, with_one}
+use Rattle.chord_node.specs.Asked.{AskIs, AskNotes, AnswersBy, ask_done, after_done, past_answer, is_full_for, sent_by}
+use Rattle.chord_node.specs.World.{WorldStep, put_node, caller_at, put_caller, with_one}
 use Rattle.chord_node.specs.World.WorldStep.{Calls, Acts}
 use Rattle.chord_node.proofs.Asking.{asked_steps}
-use Rattle.chord_world.specs.State.{WorldState, NodesFrom, CallersFrom, IsCall, AreCalls, IsWorld}
-use Rattle.chord_world.specs.Steps.{target_of, outcome_of, outcome_heard, with_answer, with_heard, IsAstray, Delivers}
+use Rattle.chord_world.specs.State.{WorldState, with_heard, NodesFrom, IsCall, AreCalls, IsWorld}
+use Rattle.chord_world.specs.Steps.{target_of, outcome_of, outcome_heard, with_answer, IsAstray, Delivers}
 use Rattle.chord_world.specs.Steps.Delivers.{To_node, To_caller, Full_to_caller}
 use Rattle.chord_world.specs.declared.outcome.Outcome.{Outcome}
 use Rattle.chord_world.specs.declared.outcome.Outcome.TheVariants as did
 use Rattle.chord_world.specs.Delivering.{Answers, AnswersAt, Hears, IsOwed, message_by}
-use Rattle.chord_world.proofs.Placing.{node_at_place, put_node_place, nodes_set, node_number, caller_at_place, put_caller_place, callers_set, caller_number, calls_pushed, call_at}
+use Rattle.chord_world.proofs.Placing.{node_at_place, put_node_place, nodes_set, node_number, caller_at_place, put_caller_place, caller_number, calls_pushed, call_at}
 use Rattle.chord_world.proofs.Keeping.{further}
 use Rattle.chord_world.proofs.Posting.{length_pushed, got, set_same}
+use Rattle.chord_world.proofs.Speaking.{heard_is_world}
 
 -- a message at its place was sent
 pub was_sent : (sent : List Message) (place : ℕ) (message : Message) → slice_get sent place ≡ Some message → Contains sent message
@@ -167,18 +165,7 @@ told_step place told view heard core after kept to =
 
 pub told_is_world : (place : ℕ) (told : Told) (view : WorldState) (heard : Heard) (core after : Caller) → IsWorld view → ToldTo place told view heard core after → IsWorld (with_heard after view)
 told_is_world place told view heard core after kept to =
-    let at = heard_number told heard core after to.hears ∙ caller_number 0 told.caller core view.known.callers kept.callers to.here in
-    let put : put_caller after view.known.callers ≡ set view.known.callers told.caller after = put_caller_place 0 told.caller after view.known.callers kept.callers at in
-    let count : length (put_caller after view.known.callers) ≡ length view.known.callers = ap (λ (cs : List Caller). length cs) put ∙ length-set view.known.callers told.caller after in
-    record {
-      reached = further view.known (with_heard after view).known kept.reached (told_step place told view heard core after kept to);
-      nodes = kept.nodes;
-      callers = subst (CallersFrom 0) (sym put) (callers_set 0 told.caller after view.known.callers kept.callers at);
-      targets = kept.targets;
-      calls = subst (λ n. AreCalls n view.known.sent) (sym count) kept.calls;
-      low = kept.low;
-      high = kept.high;
-    }
+    heard_is_world told.caller core after view kept to.here (heard_number told heard core after to.hears) (told_step place told view heard core after kept to)
 
 pub told_delivers : (place : ℕ) (told : Told) (view old : WorldState) (heard : Heard) (core after : Caller) → view ≡ old → IsWorld view → ToldTo place told view heard core after
     → Delivers place old (outcome_heard heard told.caller) (with_heard after view)

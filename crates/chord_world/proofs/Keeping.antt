@@ -1,6 +1,6 @@
 -- Each step leads to a world that is kept.
-use Rattle.std.proofs.Common.{◌≡◌, ◌≢◌, ℕ, zero, suc, ◌+◌, ◌<◌, ◌≤◌, Option, None, Some, Ok, List, [], ◌∷◌, ◌++◌, length, set, get_or, map, refl, sym, ◌∙◌, ap, subst, arith, length-append}
-use Rattle.std.proofs.lemmas.Option.{slice_get_past, slice_get_within}
+use Rattle.std.proofs.Common.{◌≡◌, ℕ, ◌<◌, ◌≤◌, Some, Ok, List, [], ◌∷◌, ◌++◌, length, get_or, map, refl, sym, ◌∙◌, ap, subst, arith, length-append}
+use Rattle.std.proofs.lemmas.Option.{slice_get_past}
 use Rattle.std.specs.Prelude.{slice_get, ◌^◌}
 use mathlib.Core.Logic.{∥∥₁_map}
 use Rattle.chord_ident.specs.declared.id.Id.{Id}
@@ -8,10 +8,10 @@ use Rattle.chord_links.specs.NodeLinks.{alone}
 use Rattle.chord_caller.specs.Caller.{Caller}
 use Rattle.chord_caller.specs.Answers.{new_caller}
 use Rattle.chord_node.specs.Node.{Node, founder}
-use Rattle.chord_node.specs.World.{World, WorldStep, Reached, empty_world, caller_at}
-use Rattle.chord_node.specs.World.WorldStep.{Creates, Opens, Calls, Acts}
+use Rattle.chord_node.specs.World.{World, WorldStep, Reached}
+use Rattle.chord_node.specs.World.WorldStep.{Creates, Opens}
 use Rattle.chord_node.specs.World.Run.{Stays, Goes_on}
-use Rattle.chord_world.specs.State.{WorldState, new_world, NodesFrom, CallersFrom, AreCalls, IsWorld}
+use Rattle.chord_world.specs.State.{WorldState, new_world, IsWorld}
 use Rattle.chord_world.specs.declared.outcome.Outcome.TheVariants as did
 use Rattle.chord_world.specs.Steps.{with_founder, CreateIs, IsWindow, with_caller}
 use Rattle.chord_world.proofs.Placing.{callers_pushed, caller_at_place, calls_of_more}

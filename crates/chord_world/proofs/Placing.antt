@@ -1,5 +1,5 @@
 -- Nodes and callers stand in the order of their numbers: a look-up is by place, and a put is a write.
-use Rattle.std.proofs.Common.{◌≡◌, ◌≢◌, ℕ, zero, suc, ◌+◌, ◌<◌, ◌≤◌, Option, None, Some, List, [], ◌∷◌, ◌++◌, length, set, refl, sym, ◌∙◌, ap, subst, arith}
+use Rattle.std.proofs.Common.{◌≡◌, ◌≢◌, ℕ, zero, suc, ◌+◌, ◌≤◌, Some, List, [], ◌∷◌, ◌++◌, length, set, refl, ◌∙◌, ap, subst, arith}
 use Rattle.std.specs.Prelude.{slice_get}
 use Rattle.chord_segment.proofs.MarkLemmas.{eqb_same, eqb_other}
 use Rattle.chord_caller.specs.Caller.{Caller}
@@ -95,7 +95,7 @@ call_of_more count more (FullMessage caller number) le h = omega arith
 call_of_more count more (PartMessage part) le h = h
 call_of_more count more (GotMessage ticket) le h = h
 call_of_more count more (DeclinedMessage ticket) le h = h
-call_of_more count more (NoteMessage note) le h = h
+call_of_more count more (NoteMessage note) le h = omega arith
 
 pub calls_of_more : (count more : ℕ) (sent : List Message) → count ≤ more → AreCalls count sent → AreCalls more sent
 calls_of_more count more [] le h = tt

@@ -1,8 +1,8 @@
 -- Calls that are submitted.
-use Rattle.std.proofs.Common.{◌≡◌, ◌≢◌, ℕ, zero, suc, ◌+◌, ◌<◌, ◌≤◌, Option, None, Some, Ok, Err, List, [], ◌∷◌, ◌++◌, length, set, get_or, refl, sym, ◌∙◌, ap, subst, arith, length-append}
-use Rattle.std.proofs.lemmas.Option.{slice_get_past, slice_get_within, slice_get_cases}
+use Rattle.std.proofs.Common.{◌≡◌, ◌≢◌, ℕ, zero, suc, false, ◌+◌, ◌<◌, ◌≤◌, None, Some, Ok, Err, List, [], ◌∷◌, ◌++◌, length, set, get_or, refl, sym, ◌∙◌, ap, subst, arith, length-append}
+use Rattle.std.proofs.lemmas.Option.{slice_get_past, slice_get_within}
 use Rattle.std.proofs.lemmas.List.{length-set}
-use Rattle.std.specs.Prelude.{slice_get, slice_set}
+use Rattle.std.specs.Prelude.{◌==◌, slice_get}
 use Rattle.chord_map.specs.declared.request.Request.{Request}
 use Rattle.chord_map.specs.declared.request.RequestFault.TheVariants.{KeyEmpty, KeyLong, ValueLong}
 use Rattle.chord_caller.specs.declared.ask.Ask.{Ask}
@@ -14,12 +14,13 @@ use Rattle.chord_caller.specs.Answers.{SubmitIs}
 use Rattle.chord_caller.proofs.Steps.{submit_steps}
 use Rattle.chord_node.specs.declared.message.Message.{Message}
 use Rattle.chord_node.specs.declared.message.Message.TheVariants.{Ask as AskMessage}
-use Rattle.chord_node.specs.World.{World, WorldStep, caller_at, put_caller}
+use Rattle.chord_node.specs.Node.{Node}
+use Rattle.chord_node.specs.World.{WorldStep, caller_at, put_caller}
 use Rattle.chord_node.specs.World.WorldStep.{Calls}
-use Rattle.chord_world.specs.State.{WorldState, CallersFrom, AreCalls, IsWorld}
+use Rattle.chord_world.specs.State.{WorldState, IsThere, CallersFrom, AreCalls, IsWorld}
 use Rattle.chord_world.specs.declared.refusal.Refusal.{Refusal}
 use Rattle.chord_world.specs.Refusals.{refusal_of}
-use Rattle.chord_world.specs.Steps.{with_ask, IsThere, Sends, RefusesCall, SubmitStepIs}
+use Rattle.chord_world.specs.Steps.{with_ask, Sends, RefusesCall, SubmitStepIs}
 use Rattle.chord_world.specs.Sending.{CanSubmit, Submitted}
 use Rattle.chord_world.proofs.Placing.{caller_at_place, put_caller_place, callers_set, caller_number, calls_pushed}
 use Rattle.chord_world.proofs.Keeping.{further}
@@ -38,6 +39,11 @@ pub got : {A : Type 0} (xs : List A) (place : ℕ) (x : A) → place < length xs
 got [] place x within e = absurd (omega arith)
 got (y ∷ xs) zero x within e = ap (λ z. Some z) (sym e)
 got (y ∷ xs) (suc place) x within e = got xs place x (omega arith) e
+
+pub slice_get_there : {A : Type 0} (xs : List A) (place : ℕ) → place < length xs → (x : A) × (slice_get xs place ≡ Some x)
+slice_get_there [] place within = absurd (omega arith)
+slice_get_there (y ∷ xs) zero within = (y, refl)
+slice_get_there (y ∷ xs) (suc place) within = slice_get_there xs place (omega arith)
 
 -- writing what stands there changes nothing
 pub set_same : {A : Type 0} (xs : List A) (place : ℕ) (x : A) → slice_get xs place ≡ Some x → set xs place x ≡ xs
@@ -59,6 +65,19 @@ pub caller_missing : (caller : ℕ) (view old : WorldState) → view ≡ old →
 caller_missing caller view old same kept past =
     subst (λ (w : WorldState). caller_at caller w.known.callers ≡ None) same
     (caller_at_place 0 caller caller view.known.callers kept.callers (omega arith) ∙ slice_get_past view.known.callers caller past)
+
+pub caller_within : (caller : ℕ) (view old : WorldState) → view ≡ old → IsWorld view → caller < length view.known.callers → (core : Caller) × (caller_at caller old.known.callers ≡ Some core)
+caller_within caller view old same kept within =
+    let found = slice_get_there view.known.callers caller within in
+    (found.0, caller_stands caller view old found.0 same kept found.1)
+
+pub not_zero : (n : ℕ) → false ≡ (n == 0) → 0 < n
+not_zero zero e = cc
+not_zero (suc n) e = omega arith
+
+-- a node is there
+pub created : (view old : WorldState) → view ≡ old → 0 < length view.known.nodes → old.known.nodes ≢ []
+created view old same some none = let count = ap (λ (w : WorldState). length w.known.nodes) same in let empty = ap (λ (ns : List Node). length ns) none in omega arith
 
 -- from the world to its callers
 pub can_submit : (caller via : ℕ) (request : Request) (view old : WorldState) → view ≡ old → IsWorld view → RefusesCall caller via request old Memory → CanSubmit caller request view.known.callers

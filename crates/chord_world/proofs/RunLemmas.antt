@@ -1,5 +1,5 @@
 -- Lists of steps.
-use Rattle.std.proofs.Common.{◌≡◌, ℕ, Result, Ok, Err, List, [], ◌∷◌, ◌++◌, map, take, drop, refl, sym, ◌∙◌, ap, subst}
+use Rattle.std.proofs.Common.{◌≡◌, ℕ, Result, Ok, Err, List, [], ◌∷◌, ◌++◌, map, sym, ◌∙◌, ap, subst}
 use Rattle.std.specs.Prelude.{All}
 use Rattle.std.proofs.lemmas.List.{drop-map}
 use Rattle.std.proofs.lemmas.List.Elements.{All-drop}
@@ -11,11 +11,11 @@ use Rattle.chord_world.specs.declared.refusal.Refusal.{Refusal}
 use Rattle.chord_world.specs.declared.running.Answer.{Answer}
 use Rattle.chord_world.specs.declared.running.Answer.TheVariants.{Did, Refused}
 use Rattle.chord_world.specs.declared.step.Step.{Step}
-use Rattle.chord_world.specs.declared.step.Step.TheVariants.{Create, OpenCaller, Submit, Deliver}
+use Rattle.chord_world.specs.declared.step.Step.TheVariants.{Create, OpenCaller, Submit, Resend, Deliver, Show, Meet, Finger}
 use Rattle.chord_world.specs.State.{WorldState}
 use Rattle.chord_world.specs.Steps.{StepIs, Advances, StoresLeft}
 use Rattle.chord_world.specs.Runs.{Ran, result_of, limits_left}
-use Rattle.chord_world.specs.Runs.Ran.{Nothing, Then}
+use Rattle.chord_world.specs.Runs.Ran.{Then}
 
 -- one more step
 pub ran_more : (limits : List ℕ) (first : WorldState) (steps steps' : List Step) (answers answers' : List Answer) (left left' : List ℕ) (middle last : WorldState) (step : Step) (answer : Answer) (result : Result Outcome Refusal)
@@ -34,6 +34,14 @@ limits_by f (Submit caller via request) (Did outcome) stores left e = ap (map f)
 limits_by f (Submit caller via request) (Refused refusal) stores left e = ap (map f) e
 limits_by f (Deliver message) (Did outcome) stores left e = ap (map f) e
 limits_by f (Deliver message) (Refused refusal) stores left e = ap (map f) e
+limits_by f (Resend caller via number) (Did outcome) stores left e = ap (map f) e
+limits_by f (Resend caller via number) (Refused refusal) stores left e = ap (map f) e
+limits_by f (Show caller) (Did outcome) stores left e = ap (map f) e
+limits_by f (Show caller) (Refused refusal) stores left e = ap (map f) e
+limits_by f (Meet caller message) (Did outcome) stores left e = ap (map f) e
+limits_by f (Meet caller message) (Refused refusal) stores left e = ap (map f) e
+limits_by f (Finger node finger to) (Did outcome) stores left e = ap (map f) e
+limits_by f (Finger node finger to) (Refused refusal) stores left e = ap (map f) e
 
 pub limits_after : {S : Type 0} (f : S → ℕ) (step : Step) (answer : Answer) (result : Result Outcome Refusal) (stores left : List S) → result_of answer ≡ result
     → StoresLeft step result stores left → map f left ≡ limits_left step answer (map f stores)
@@ -54,3 +62,7 @@ vacant_after P (Create id) (Err refusal) stores left e all = subst (All P) (sym 
 vacant_after P (OpenCaller window) result stores left e all = subst (All P) (sym e) all
 vacant_after P (Submit caller via request) result stores left e all = subst (All P) (sym e) all
 vacant_after P (Deliver message) result stores left e all = subst (All P) (sym e) all
+vacant_after P (Resend caller via number) result stores left e all = subst (All P) (sym e) all
+vacant_after P (Show caller) result stores left e all = subst (All P) (sym e) all
+vacant_after P (Meet caller message) result stores left e all = subst (All P) (sym e) all
+vacant_after P (Finger node finger to) result stores left e all = subst (All P) (sym e) all

@@ -1,5 +1,5 @@
 -- How a message comes to be taken in.
-use Rattle.std.specs.Prelude.{◌≡◌, ℕ, true, Option, Some, None, Result, Ok, Err, List, [], ◌∷◌, ◌++◌, slice_get, slice_set}
+use Rattle.std.specs.Prelude.{◌≡◌, ℕ, true, Option, Some, None, Result, Ok, Err, List, slice_get, slice_set}
 use Rattle.std.specs.declared.alloc.AllocError.{AllocError}
 use Rattle.chord_segment.specs.declared.done.Done.{Done}
 use Rattle.chord_caller.specs.declared.ask.Ask.{Ask}

@@ -9,7 +9,7 @@ use Rattle.chord_world.specs.declared.refusal.Refusal.{Refusal}
 use Rattle.chord_world.specs.declared.running.Answer.{Answer}
 use Rattle.chord_world.specs.declared.running.Answer.TheVariants.{Did, Refused}
 use Rattle.chord_world.specs.declared.step.Step.{Step}
-use Rattle.chord_world.specs.declared.step.Step.TheVariants.{Create, OpenCaller, Submit, Deliver}
+use Rattle.chord_world.specs.declared.step.Step.TheVariants.{Create}
 use Rattle.chord_world.specs.State.{WorldState}
 use Rattle.chord_world.specs.Steps.{StepIs}
 
@@ -17,6 +17,11 @@ use Rattle.chord_world.specs.Steps.{StepIs}
 abbrev pub MineIs : ℕ → WorldState → Option (Bor (List Done)) → Type 0
 MineIs number state None = caller_at number state.known.callers ≡ None
 MineIs number state (Some mine) = (caller : Caller) × (caller_at number state.known.callers ≡ Some caller) × (mine.now ≡ caller.mine)
+
+-- the calls that notes told the caller of, where there is such a caller
+abbrev pub ToldIs : ℕ → WorldState → Option (Bor (List Done)) → Type 0
+ToldIs number state None = caller_at number state.known.callers ≡ None
+ToldIs number state (Some told) = (caller : Caller) × (caller_at number state.known.callers ≡ Some caller) × (told.now ≡ caller.told)
 
 -- the result that an answer tells
 abbrev pub result_of : Answer → Result Outcome Refusal

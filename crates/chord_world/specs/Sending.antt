@@ -1,15 +1,14 @@
 -- How a call comes to be sent.
-use Rattle.std.specs.Prelude.{◌≡◌, ℕ, Some, None, Result, Ok, Err, List, slice_get, slice_set}
+use Rattle.std.specs.Prelude.{◌≡◌, ℕ, Some, Result, Ok, Err, List, slice_get, slice_set}
 use Rattle.std.specs.declared.alloc.AllocError.{AllocError}
 use Rattle.chord_map.specs.declared.request.Request.{Request}
 use Rattle.chord_caller.specs.declared.ask.Ask.{Ask}
-use Rattle.chord_caller.specs.declared.fault.SubmitFault.{SubmitFault}
 use Rattle.chord_caller.specs.declared.fault.SubmitFault.TheVariants.{Memory}
 use Rattle.chord_caller.specs.Caller.{Caller}
 use Rattle.chord_caller.specs.Answers.{SubmitIs}
 use Rattle.chord_world.specs.declared.refusal.Refusal.{Refusal}
 use Rattle.chord_world.specs.State.{WorldState}
-use Rattle.chord_world.specs.Steps.{IsThere, RefusesCall, SubmitStepIs}
+use Rattle.chord_world.specs.Steps.{RefusesCall, SubmitStepIs}
 
 -- only memory can be wanting for the call, or the refusal is due
 abbrev pub MaySubmit : ℕ → ℕ → Request → WorldState → Result (Unit {0}) Refusal → Type 0

@@ -1,10 +1,10 @@
 -- What a World of the program is seen as, and what it keeps.
-use Rattle.std.specs.Prelude.{◌≡◌, ℕ, ◌+◌, ◌<◌, ◌≤◌, Option, None, Some, List, [], ◌∷◌, ◌++◌, length}
+use Rattle.std.specs.Prelude.{◌≡◌, ℕ, ◌+◌, ◌<◌, ◌≤◌, Some, List, [], ◌∷◌, ◌++◌, length}
 use Rattle.chord_caller.specs.Caller.{Caller}
 use Rattle.chord_node.specs.declared.message.Message.{Message}
 use Rattle.chord_node.specs.declared.message.Message.TheVariants.{Ask as AskMessage, Told as ToldMessage, Full as FullMessage, Part as PartMessage, Got as GotMessage, Declined as DeclinedMessage, Note as NoteMessage}
 use Rattle.chord_node.specs.Node.{Node}
-use Rattle.chord_node.specs.World.{World, Reached, empty_world}
+use Rattle.chord_node.specs.World.{World, Reached, empty_world, caller_at, put_caller}
 
 -- the world of the definitions; for each message sent the node that it goes to, where it is an Ask; and how many
 -- successors a node may list
@@ -35,7 +35,7 @@ IsCall count (FullMessage caller number) = caller < count
 IsCall count (PartMessage part) = ⊥
 IsCall count (GotMessage ticket) = ⊥
 IsCall count (DeclinedMessage ticket) = ⊥
-IsCall count (NoteMessage note) = ⊥
+IsCall count (NoteMessage note) = note.caller < count
 
 -- each is one
 abbrev pub AreCalls : ℕ → List Message → Type 0
@@ -51,3 +51,16 @@ pub record IsWorld (state : WorldState) : Type 0 where
   pub calls : AreCalls (length state.known.callers) state.known.sent
   pub low : 2 ≤ state.r
   pub high : state.r ≤ 16
+
+-- the caller and the node are there
+abbrev pub IsThere : ℕ → ℕ → WorldState → Caller → Type 0
+IsThere caller via state core = (via < length state.known.nodes) × (caller_at caller state.known.callers ≡ Some core)
+
+-- the world after a caller took something in
+abbrev pub with_heard : Caller → WorldState → WorldState
+with_heard after old = record old { known = record old.known { callers = put_caller after old.known.callers } }
+
+-- the world after this message was sent to this node; 0 stands for none
+abbrev pub with_sent : Message → ℕ → WorldState → WorldState
+with_sent message to old =
+    record old { known = record old.known { sent = old.known.sent ++ message ∷ [] }; targets = old.targets ++ to ∷ [] }

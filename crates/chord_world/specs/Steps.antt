@@ -1,32 +1,32 @@
 -- What a World answers to a step, and what it is afterwards.
-use Rattle.std.specs.Prelude.{◌≡◌, ◌≢◌, ℕ, ◌<◌, ◌≤◌, ◌⊎◌, Option, None, Some, Result, Ok, Err, List, [], ◌∷◌, ◌++◌, length, slice_get, drop}
+use Rattle.std.specs.Prelude.{◌≡◌, ◌≢◌, ℕ, ◌<◌, ◌≤◌, Option, None, Some, Result, Ok, Err, List, [], ◌∷◌, ◌++◌, length, slice_get, drop}
 use Rattle.chord_ident.specs.declared.id.Id.{Id}
 use Rattle.chord_links.specs.NodeLinks.{alone}
 use Rattle.chord_map.specs.declared.request.Request.{Request}
-use Rattle.chord_segment.specs.declared.done.Done.{Done}
 use Rattle.chord_caller.specs.declared.ask.Ask.{Ask}
 use Rattle.chord_caller.specs.declared.told.Told.{Told}
 use Rattle.chord_caller.specs.declared.heard.Heard.{Heard}
 use Rattle.chord_caller.specs.declared.heard.Heard.TheVariants.{Fresh as FreshReply, Known as KnownReply}
 use Rattle.chord_caller.specs.declared.fault.SubmitFault.{SubmitFault}
-use Rattle.chord_caller.specs.Caller.{Caller}
+use Rattle.chord_caller.specs.Caller.{Note, Caller}
 use Rattle.chord_caller.specs.Answers.{new_caller, SubmitIs, TakeIs}
 use Rattle.chord_node.specs.declared.answered.Answered.{Answered}
 use Rattle.chord_node.specs.declared.answered.Answered.TheVariants as answer
-use Rattle.chord_node.specs.declared.message.Message.{Message}
-use Rattle.chord_node.specs.declared.message.Message.TheVariants.{Ask as AskMessage, Told as ToldMessage, Full as FullMessage}
+use Rattle.chord_node.specs.declared.message.Message.TheVariants.{Ask as AskMessage, Told as ToldMessage, Full as FullMessage, Note as NoteMessage}
 use Rattle.chord_node.specs.Node.{Node, founder}
 use Rattle.chord_node.specs.Asked.{AskIs, ask_done, sent_by}
-use Rattle.chord_node.specs.World.{World, WorldStep, node_at, put_node, caller_at, put_caller, with_one}
+use Rattle.chord_node.specs.World.{WorldStep, node_at, put_node, caller_at, put_caller, with_one}
 use Rattle.chord_world.specs.declared.outcome.Outcome.{Outcome}
 use Rattle.chord_world.specs.declared.outcome.Outcome.TheVariants as did
 use Rattle.chord_world.specs.declared.refusal.Refusal.{Refusal}
 use Rattle.chord_world.specs.declared.refusal.Refusal.TheVariants as refused
 use Rattle.chord_world.specs.declared.refusal.PartFault.TheVariants as part
 use Rattle.chord_world.specs.declared.step.Step.{Step}
-use Rattle.chord_world.specs.declared.step.Step.TheVariants.{Create, OpenCaller, Submit, Deliver}
+use Rattle.chord_world.specs.declared.step.Step.TheVariants.{Create, OpenCaller, Submit, Resend, Deliver, Show, Meet, Finger}
 use Rattle.chord_world.specs.Refusals.{refusal_of}
-use Rattle.chord_world.specs.State.{WorldState}
+use Rattle.chord_world.specs.State.{WorldState, IsThere, with_heard}
+use Rattle.chord_world.specs.Calling.{ResendStepIs, ShowIs, MeetIs}
+use Rattle.chord_world.specs.Linking.{FingerIs}
 
 -- an answered step is a step of the world, and a refused one changes nothing
 abbrev pub Advances : WorldState → Result Outcome Refusal → WorldState → Type 0
@@ -81,10 +81,6 @@ with_ask after ask via old =
       known = record old.known { callers = put_caller after old.known.callers; sent = old.known.sent ++ AskMessage ask ∷ [] };
       targets = old.targets ++ via ∷ [];
     }
-
--- the caller and the node are there
-abbrev pub IsThere : ℕ → ℕ → WorldState → Caller → Type 0
-IsThere caller via old core = (via < length old.known.nodes) × (caller_at caller old.known.callers ≡ Some core)
 
 -- the call was submitted and sent under this number
 pub record Sends (caller via : ℕ) (request : Request) (old : WorldState) (number : ℕ) (new : WorldState) : Type 0 where
@@ -144,10 +140,6 @@ abbrev pub outcome_heard : Heard → ℕ → Outcome
 outcome_heard FreshReply caller = did.Fresh caller
 outcome_heard KnownReply caller = did.Known
 
--- the world after a caller heard a reply
-abbrev pub with_heard : Caller → WorldState → WorldState
-with_heard after old = record old { known = record old.known { callers = put_caller after old.known.callers } }
-
 -- What comes of the message of this number, where it is delivered.
 pub data Delivers (message : ℕ) (old : WorldState) : Outcome → WorldState → Type 0 where
   -- a call comes to its node
@@ -175,6 +167,8 @@ DeliverIs message old (Ok outcome) new = Delivers message old outcome new
 DeliverIs message old (Err refused.NotCreated) new = (old.known.nodes ≡ []) × (new ≡ old)
 DeliverIs message old (Err refused.NoSuchNode) new = IsAstray message old × (new ≡ old)
 DeliverIs message old (Err refused.NoSuchMessage) new = (old.known.nodes ≢ []) × (length old.known.sent ≤ message) × (new ≡ old)
+DeliverIs message old (Err (refused.Part part.NeedsMeet)) new =
+    ((note : Note) × (slice_get old.known.sent message ≡ Some (NoteMessage note))) × (new ≡ old)
 DeliverIs message old (Err refused.Memory) new = (old.known.nodes ≢ []) × (message < length old.known.sent) × (new ≡ old)
 DeliverIs message old (Err refusal) new = ⊥
 
@@ -185,11 +179,13 @@ abbrev pub StepIs : Step → List ℕ → WorldState → Result Outcome Refusal 
 StepIs (Create id) limits old result new = CreateIs id limits old result new
 StepIs (OpenCaller window) limits old result new = OpenIs window old result new
 StepIs (Submit caller via request) limits old result new = SubmitStepIs caller via request old result new
+StepIs (Resend caller via number) limits old result new = ResendStepIs caller via number old result new
 StepIs (Deliver message) limits old result new = DeliverIs message old result new
+StepIs (Show caller) limits old result new = ShowIs caller old result new
+StepIs (Meet caller message) limits old result new = MeetIs caller message old result new
+StepIs (Finger node finger to) limits old result new = FingerIs node finger to old result new
 
 -- the stores at hand after a step
 abbrev pub StoresLeft : {S : Type 0} → Step → Result Outcome Refusal → List S → List S → Type 0
 StoresLeft (Create id) result stores left = CreateLeaves result stores left
-StoresLeft (OpenCaller window) result stores left = left ≡ stores
-StoresLeft (Submit caller via request) result stores left = left ≡ stores
-StoresLeft (Deliver message) result stores left = left ≡ stores
+StoresLeft step result stores left = left ≡ stores

@@ -9,7 +9,7 @@ ghost use Rattle.chord_world.specs.Steps.{DeliverIs, Advances, outcome_of, outco
 ghost use Rattle.chord_world.specs.Delivering.{AnswersAt, HearsAt, IsOwed, message_by};
 
 use crate::outcome::Outcome;
-use crate::refusal::Refusal;
+use crate::refusal::{PartFault, Refusal};
 use crate::submit::make_room;
 use crate::world::World;
 use chord_caller::{Ask, CallerCore, Heard, TakeFault, Told};
@@ -173,7 +173,7 @@ impl<S: EntryStore> World<S> {
             Message::Part(_) => unreachable!(),
             Message::Got(_) => unreachable!(),
             Message::Declined(_) => unreachable!(),
-            Message::Note(_) => unreachable!(),
+            Message::Note(_) => Err(Refusal::Part(PartFault::NeedsMeet)),
         }
     }
 }

@@ -1,8 +1,11 @@
 //! All nodes and callers in one place, taking any steps in any order.
 #![tactic(auto)]
 
+mod again;
 mod create;
 mod deliver;
+mod finger;
+mod note;
 mod open_caller;
 pub mod outcome;
 pub mod refusal;

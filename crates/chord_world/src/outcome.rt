@@ -23,4 +23,8 @@ pub enum Outcome {
     Known,
     /// A caller heard that a store was full.
     HeardFull,
+    /// A caller met a note.
+    Met,
+    /// The step was done, and there is nothing more to tell.
+    Done,
 }

@@ -1,9 +1,11 @@
 //! Why a step is refused.
 ghost use Rattle.std.specs.Prelude.{◌≡◌};
+ghost use Rattle.chord_world.specs.declared.refusal.Refusal.TheVariants.{Memory as NoMemory};
 ghost use Rattle.chord_world.specs.Refusals.{number_of, refusal_of};
 
 use chord_caller::SubmitFault;
 use chord_map::RequestFault;
+use std::alloc::AllocError;
 use thiserror::Error;
 
 /// The first reason against a step, in this order.
@@ -39,6 +41,14 @@ pub enum PartFault {
     WindowFull,
     #[error("the numbers are spent")]
     NumbersSpent,
+    #[error("the request is not pending")]
+    Idle,
+    #[error("a node has the fingers 1 to 128")]
+    BadFinger,
+    #[error("the message is no note")]
+    NotNote,
+    #[error("a note is met, not delivered")]
+    NeedsMeet,
 }
 
 impl Refusal {
@@ -70,5 +80,13 @@ impl From<SubmitFault> for Refusal {
             SubmitFault::NumbersSpent => Refusal::Part(PartFault::NumbersSpent),
             SubmitFault::Memory => Refusal::Memory,
         }
+    }
+}
+
+impl From<AllocError> for Refusal {
+    ghost from_gives = { λ refused refusal. refusal ≡ NoMemory };
+
+    fn from(_refused: AllocError) -> Refusal {
+        Refusal::Memory
     }
 }

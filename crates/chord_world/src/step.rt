@@ -20,8 +20,30 @@ pub enum Step {
         via: u64,
         request: Request,
     },
+    /// The caller sends a pending request again, to be answered at the node `via`: the one of this number, or the
+    /// least pending one where none is named.
+    Resend {
+        caller: u64,
+        via: u64,
+        number: Option<u64>,
+    },
     /// The message that was sent under this number comes to the node or caller that it is for.
     Deliver {
         message: u64,
+    },
+    /// The caller sends a note of what it knows.
+    Show {
+        caller: u64,
+    },
+    /// The caller learns what the note that was sent under this number has.
+    Meet {
+        caller: u64,
+        message: u64,
+    },
+    /// The finger of this node, 1 to 128, goes to the node `to`.
+    Finger {
+        node: u64,
+        finger: u64,
+        to: u64,
     },
 }

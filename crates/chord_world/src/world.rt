@@ -6,12 +6,14 @@ ghost use Rattle.chord_node.specs.Headline.{Headline};
 ghost use Rattle.chord_node.specs.World.{Reached};
 ghost use Rattle.chord_world.specs.State.{new_world};
 ghost use Rattle.chord_world.specs.Steps.{StepIs, StoresLeft, Advances};
-ghost use Rattle.chord_world.specs.Runs.{MineIs};
+ghost use Rattle.chord_world.specs.Runs.{MineIs, ToldIs};
+ghost use Rattle.chord_world.specs.Linking.{LinksAre};
 
 use crate::outcome::Outcome;
 use crate::refusal::Refusal;
 use crate::step::Step;
 use chord_caller::CallerCore;
+use chord_links::Links;
 use chord_node::{Message, Node};
 use chord_segment::Done;
 use chord_store::EntryStore;
@@ -95,6 +97,26 @@ impl<S: EntryStore> World<S> {
         Some(self.callers[caller as usize].mine())
     }
 
+    /// The calls that notes told a caller of, in the order told.
+    pub fn told(&self, caller: u64) -> Option<&[Done]>
+        ensures { ToldIs caller self.now result }
+    {
+        if caller >= self.callers.len() as u64 {
+            return None;
+        }
+        Some(self.callers[caller as usize].told())
+    }
+
+    /// What a node knows of the others.
+    pub fn links(&self, node: u64) -> Option<&Links>
+        ensures { LinksAre node self.now result }
+    {
+        if node >= self.nodes.len() as u64 {
+            return None;
+        }
+        Some(self.nodes[node as usize].links())
+    }
+
     /// Does one step. A refused step changes neither the world nor the stores.
     pub fn step(&mut self, stores: &mut Vec<S>, step: &Step) -> Result<Outcome, Refusal>
         requires { All (λ s. S.content s ≡ []) stores.old.items }
@@ -111,7 +133,15 @@ impl<S: EntryStore> World<S> {
                 via,
                 request,
             } => self.submit(*caller, *via, request),
+            Step::Resend {
+                caller,
+                via,
+                number,
+            } => self.resend(*caller, *via, *number),
             Step::Deliver { message } => self.deliver(*message),
+            Step::Show { caller } => self.show(*caller),
+            Step::Meet { caller, message } => self.meet(*caller, *message),
+            Step::Finger { node, finger, to } => self.finger(*node, *finger, *to),
         }
     }
 }

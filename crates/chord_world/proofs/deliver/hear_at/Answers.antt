@@ -1,4 +1,4 @@
-use Rattle.std.proofs.Common.{◌≡◌, Some, Ok, refl, ap, subst}
+use Rattle.std.proofs.Common.{Ok, refl, subst}
 use Rattle.chord_caller.specs.declared.told.Told.{Told}
 use Rattle.chord_caller.specs.Answers.{IsForeign, TakeIs}
 use Rattle.chord_world.proofs.Posting.{got}

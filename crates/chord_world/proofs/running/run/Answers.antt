@@ -1,6 +1,5 @@
-use Rattle.std.proofs.Common.{◌≡◌, ℕ, List, [], ◌∷◌, ◌++◌, map, take, length, refl, sym, ◌∙◌, ap, subst, arith}
+use Rattle.std.proofs.Common.{◌≡◌, List, [], ◌∷◌, ◌++◌, map, take, sym, ◌∙◌, ap, subst, arith}
 use Rattle.std.proofs.lemmas.List.{take_more}
-use Rattle.chord_node.specs.World.{Run}
 use Rattle.chord_world.specs.declared.running.Answer.{Answer}
 use Rattle.chord_world.specs.Runs.{Ran}
 use Rattle.chord_world.specs.Runs.Ran.{Nothing}

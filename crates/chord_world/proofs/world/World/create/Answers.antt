@@ -1,4 +1,4 @@
-use Rattle.std.proofs.Common.{◌≡◌, ◌<◌, [], map, arith, rules, length}
+use Rattle.std.proofs.Common.{◌≡◌, ◌<◌, [], arith, rules, length}
 use Rattle.std.proofs.lemmas.Grind.{common_steps}
 use Rattle.chord_world.specs.State.{WorldState}
 use Rattle.chord_world.proofs.Keeping.{founded_items, founded_at, founded_answer, founded_step, limit_first}

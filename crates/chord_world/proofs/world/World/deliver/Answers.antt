@@ -1,9 +1,7 @@
-use Rattle.std.proofs.Common.{◌≡◌, ◌<◌, ◌≤◌, Some, length, get_or, refl, sym, ◌∙◌, ap, subst, arith}
-use Rattle.std.specs.Prelude.{slice_get}
-use Rattle.std.proofs.lemmas.Option.{slice_get_within}
+use Rattle.std.proofs.Common.{Some, length, refl, ◌∙◌, ap, arith}
 use Rattle.chord_node.specs.declared.message.Message.TheVariants.{Ask as AskMessage, Told as ToldMessage}
 use Rattle.chord_world.specs.State.{WorldState}
-use Rattle.chord_node.specs.declared.message.Message.TheVariants.{Full as FullMessage, Part as PartMessage, Got as GotMessage, Declined as DeclinedMessage, Note as NoteMessage}
+use Rattle.chord_node.specs.declared.message.Message.TheVariants.{Part as PartMessage, Got as GotMessage, Declined as DeclinedMessage, Note as NoteMessage}
 use Rattle.chord_world.proofs.Placing.{call_at}
 use Rattle.chord_world.proofs.Answering.{read, sent_there, full_delivers, full_step}
 use Rattle.chord_world.proofs.world.World.deliver.Goals as goal
@@ -42,11 +40,15 @@ unreachable-requires-in-Declined g c =
     call_at (length view.known.callers) view.known.sent c.args.message (DeclinedMessage c.in-Declined.field-0) c.self.invariant.calls
     (read view.known.sent view.known.sent c.args.message c.index.result.now refl (omega arith) c.index.ensures ∙ ap (λ m. Some m) c.in-Declined.is)
 
-pub unreachable-requires-in-Note : goal.unreachable-requires-in-Note
-unreachable-requires-in-Note g c =
-    let view : WorldState = record { known = record { nodes = c.self.inside.nodes.items; callers = c.self.inside.callers.items; sent = c.self.inside.sent.items; history = c.self.inside.history.items }; targets = c.self.inside.targets.items; r = c.self.inside.r } in
-    call_at (length view.known.callers) view.known.sent c.args.message (NoteMessage c.in-Note.field-0) c.self.invariant.calls
-    (read view.known.sent view.known.sent c.args.message c.index.result.now refl (omega arith) c.index.ensures ∙ ap (λ m. Some m) c.in-Note.is)
+pub returns-in-Note-clause-answer : goal.returns-in-Note-clause-answer
+returns-in-Note-clause-answer g c = (
+  (
+    c.in-Note.field-0,
+    sent_there _ c.args.self.now c.args.message (NoteMessage c.in-Note.field-0) c.self.view_is
+        (read c.self.inside.sent.items c.self.inside.sent.items c.args.message c.index.result.now refl (omega arith) c.index.ensures ∙ ap (λ m. Some m) c.in-Note.is),
+  ),
+  refl,
+)
 
 pub returns-in-Full-clause-answer : goal.returns-in-Full-clause-answer
 returns-in-Full-clause-answer g c =

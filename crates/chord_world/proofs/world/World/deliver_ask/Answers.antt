@@ -1,9 +1,7 @@
-use Rattle.std.proofs.Common.{◌≡◌, ◌<◌, ◌≤◌, Some, List, length, get_or, refl, sym, ◌∙◌, ap, subst, arith}
-use Rattle.std.specs.Prelude.{slice_get}
+use Rattle.std.proofs.Common.{Some, List, length, refl, ◌∙◌, ap, arith}
 use Rattle.std.proofs.lemmas.Option.{slice_get_within}
-use Rattle.chord_node.specs.declared.message.Message.TheVariants.{Ask as AskMessage, Told as ToldMessage}
 use Rattle.chord_world.specs.State.{WorldState}
-use Rattle.chord_world.specs.Steps.{with_answer, outcome_of}
+use Rattle.chord_world.specs.Steps.{outcome_of}
 use Rattle.chord_world.proofs.Posting.{got}
 use Rattle.chord_node.specs.declared.message.Message.{Message}
 use Rattle.chord_world.specs.Delivering.{Answers}

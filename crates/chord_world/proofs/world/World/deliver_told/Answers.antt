@@ -1,10 +1,8 @@
-use Rattle.std.proofs.Common.{◌≡◌, ◌<◌, ◌≤◌, Some, length, get_or, refl, sym, ◌∙◌, ap, subst, arith}
+use Rattle.std.proofs.Common.{◌≡◌, Some, length, refl, ◌∙◌, ap}
 use Rattle.std.specs.Prelude.{slice_get}
 use Rattle.std.proofs.lemmas.Option.{slice_get_within}
-use Rattle.chord_node.specs.declared.message.Message.TheVariants.{Ask as AskMessage, Told as ToldMessage}
+use Rattle.chord_node.specs.declared.message.Message.TheVariants.{Told as ToldMessage}
 use Rattle.chord_world.specs.State.{WorldState}
-use Rattle.chord_node.specs.World.{Reached}
-use Rattle.chord_world.proofs.Posting.{got}
 use Rattle.chord_world.proofs.Placing.{call_at}
 use Rattle.chord_world.specs.Delivering.{Hears}
 use Rattle.chord_world.proofs.Answering.{read, sent_here, told_owed, told_to, told_step, told_is_world, told_delivers, heard_is, world_after, step_after, delivers_after}

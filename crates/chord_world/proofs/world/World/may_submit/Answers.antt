@@ -1,5 +1,4 @@
-use Rattle.std.proofs.Common.{◌≡◌, ◌<◌, ◌≤◌, length, refl, arith, ap, ◌∙◌, sym}
-use Rattle.chord_node.specs.Node.{Node}
+use Rattle.std.proofs.Common.{◌≡◌, length, refl, arith, ap}
 use Rattle.chord_world.specs.State.{WorldState}
 use Rattle.chord_world.proofs.Posting.{caller_missing, caller_there, got, submit_refused}
 use Rattle.chord_world.proofs.world.World.may_submit.Goals as goal

@@ -1,7 +1,6 @@
-use Rattle.std.proofs.Common.{◌≡◌, ◌<◌, length, arith, ap, ◌∙◌, sym}
+use Rattle.std.proofs.Common.{◌≡◌, length, arith, ap}
 use Rattle.std.proofs.lemmas.Option.{slice_get_within}
 use Rattle.chord_world.specs.State.{WorldState}
-use Rattle.chord_world.specs.Steps.{with_ask}
 use Rattle.chord_world.proofs.Posting.{can_submit, node_there, posted_is, posted_is_world, posted_sends, posted_step}
 use Rattle.chord_world.proofs.world.World.submit.Goals as goal
 

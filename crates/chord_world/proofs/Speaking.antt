@@ -1,0 +1,215 @@
+-- Callers that send again, show a note or meet one.
+use Rattle.std.proofs.Common.{◌≡◌, ℕ, ◌+◌, ◌<◌, Option, None, Some, Result, Ok, Err, List, [], ◌∷◌, ◌++◌, length, set, get_or, refl, sym, ◌∙◌, ap, subst, arith}
+use Rattle.std.specs.Prelude.{slice_get, slice_set, Contains, OnOk, OnErr, IsErrAnd}
+use Rattle.std.specs.declared.alloc.AllocError.{AllocError}
+use Rattle.std.proofs.lemmas.Option.{slice_get_within}
+use Rattle.std.proofs.lemmas.List.{length-set}
+use Rattle.chord_caller.specs.declared.ask.Ask.{Ask}
+use Rattle.chord_caller.specs.Caller.{Note, Caller, CallerStep, Letter, unknown}
+use Rattle.chord_caller.specs.Caller.Letter.{AskLetter, NoteLetter}
+use Rattle.chord_caller.specs.Caller.CallerStep.{Meets}
+use Rattle.chord_caller.specs.declared.fault.ResendFault.TheVariants.{Idle}
+use Rattle.chord_caller.specs.Answers.{ResendIs}
+use Rattle.chord_caller.proofs.Steps.{resend_steps}
+use Rattle.chord_node.specs.Letters.{message_of}
+use Rattle.chord_node.specs.declared.message.Message.{Message}
+use Rattle.chord_node.specs.declared.message.Message.TheVariants.{Ask as AskMessage, Note as NoteMessage}
+use Rattle.chord_node.specs.World.{WorldStep, caller_at, put_caller}
+use Rattle.chord_node.specs.World.WorldStep.{Calls}
+use Rattle.chord_world.specs.declared.outcome.Outcome.{Outcome}
+use Rattle.chord_world.specs.declared.refusal.Refusal.{Refusal}
+use Rattle.chord_world.specs.declared.refusal.Refusal.TheVariants as refused
+use Rattle.chord_world.specs.declared.refusal.PartFault.TheVariants as part
+use Rattle.chord_world.specs.State.{WorldState, CallersFrom, IsCall, AreCalls, IsWorld, IsThere, with_heard, with_sent}
+use Rattle.chord_world.specs.Calling.{CallerIs, WantedIs, IsIdle, IsWaiting, AsksAgain, AgainIs, SendsAgain, ResendStepIs, note_of, SendsNote, with_note, MeetsNote, MeetIs, SentIs, Met, MeetsAt}
+use Rattle.chord_world.specs.Calling.IsIdle.{Not_pending}
+use Rattle.chord_world.proofs.Placing.{caller_at_place, put_caller_place, callers_set, caller_number, calls_pushed}
+use Rattle.chord_world.proofs.Keeping.{further}
+use Rattle.chord_world.proofs.Posting.{length_pushed, got, set_same, posted, caller_stands}
+
+-- ---- a caller that sends and is as it was
+
+put_here : (place : ℕ) (core : Caller) (callers : List Caller) → CallersFrom 0 callers → slice_get callers place ≡ Some core → put_caller core callers ≡ callers
+put_here place core callers numbered here = put_caller_place 0 place core callers numbered (caller_number 0 place core callers numbered here) ∙ set_same callers place core here
+
+pub sent_step : (place to : ℕ) (core : Caller) (letter : Letter) (view : WorldState) → IsWorld view → slice_get view.known.callers place ≡ Some core → CallerStep core None core (Some letter)
+    → WorldStep view.known (with_sent (message_of letter) to view).known
+sent_step place to core letter view kept here step =
+    subst (λ (callers : List Caller). WorldStep view.known (record view.known { callers = callers; sent = view.known.sent ++ message_of letter ∷ [] })) (put_here place core view.known.callers kept.callers here)
+    (Calls place core core None (Some letter) (caller_at_place 0 place place view.known.callers kept.callers (omega arith) ∙ here) tt step)
+
+pub sent_is_world : (place to : ℕ) (core : Caller) (letter : Letter) (view : WorldState) → IsWorld view → slice_get view.known.callers place ≡ Some core → CallerStep core None core (Some letter)
+    → IsCall (length view.known.callers) (message_of letter) → IsWorld (with_sent (message_of letter) to view)
+sent_is_world place to core letter view kept here step call = record {
+  reached = further view.known (with_sent (message_of letter) to view).known kept.reached (sent_step place to core letter view kept here step);
+  nodes = kept.nodes;
+  callers = kept.callers;
+  targets = length_pushed view.targets to ∙ ap (λ n. n + 1) kept.targets ∙ sym (length_pushed view.known.sent (message_of letter));
+  calls = calls_pushed (length view.known.callers) view.known.sent (message_of letter) kept.calls call;
+  low = kept.low;
+  high = kept.high;
+}
+
+-- in the words of the code
+pub sent_now : (message : Message) (to : ℕ) (view : WorldState) (number : ℕ) (sent : List Message) (targets : List ℕ) → SentIs message to view.known.sent view.targets (Ok number) sent targets
+    → posted view.known.callers sent targets view ≡ with_sent message to view
+sent_now message to view number sent targets h = λ i. posted view.known.callers (h.1 i) (h.2 i) view
+
+pub sent_not : (message : Message) (to : ℕ) (view : WorldState) (refused : AllocError) (sent : List Message) (targets : List ℕ) → SentIs message to view.known.sent view.targets (Err refused) sent targets
+    → posted view.known.callers sent targets view ≡ view
+sent_not message to view refused sent targets h = λ i. posted view.known.callers (h.0 i) (h.1 i) view
+
+-- the call that goes out again is the caller's own
+pub again_call : (named : Option ℕ) (place : ℕ) (core : Caller) (ask : Ask) (view : WorldState) → IsWorld view → slice_get view.known.callers place ≡ Some core → AsksAgain named core ask
+    → IsCall (length view.known.callers) (AskMessage ask)
+again_call named place core ask view kept here asks =
+    let within = slice_get_within view.known.callers place core here in
+    let number = caller_number 0 place core view.known.callers kept.callers here in
+    let own = asks.resends.3.caller in
+    omega arith
+
+pub note_call : (place : ℕ) (core : Caller) (view : WorldState) → IsWorld view → slice_get view.known.callers place ≡ Some core → IsCall (length view.known.callers) (NoteMessage (note_of core))
+note_call place core view kept here =
+    let within = slice_get_within view.known.callers place core here in
+    let number = caller_number 0 place core view.known.callers kept.callers here in
+    omega arith
+
+pub again_step : (named : Option ℕ) (core : Caller) (ask : Ask) → AsksAgain named core ask → CallerStep core None core (Some (AskLetter ask))
+again_step named core ask asks = resend_steps asks.number core ask asks.resends
+
+-- ---- a caller that takes something in
+
+pub heard_is_world : (place : ℕ) (core after : Caller) (view : WorldState) → IsWorld view → slice_get view.known.callers place ≡ Some core → after.number ≡ core.number
+    → WorldStep view.known (with_heard after view).known → IsWorld (with_heard after view)
+heard_is_world place core after view kept here same step =
+    let at = same ∙ caller_number 0 place core view.known.callers kept.callers here in
+    let put : put_caller after view.known.callers ≡ set view.known.callers place after = put_caller_place 0 place after view.known.callers kept.callers at in
+    let count : length (put_caller after view.known.callers) ≡ length view.known.callers = ap (λ (cs : List Caller). length cs) put ∙ length-set view.known.callers place after in
+    record {
+      reached = further view.known (with_heard after view).known kept.reached step;
+      nodes = kept.nodes;
+      callers = subst (CallersFrom 0) (sym put) (callers_set 0 place after view.known.callers kept.callers at);
+      targets = kept.targets;
+      calls = subst (λ n. AreCalls n view.known.sent) (sym count) kept.calls;
+      low = kept.low;
+      high = kept.high;
+    }
+
+pub met_step : (place : ℕ) (note : Note) (core : Caller) (view : WorldState) → IsWorld view → slice_get view.known.callers place ≡ Some core → Contains view.known.sent (NoteMessage note)
+    → WorldStep view.known (with_heard (with_note note core) view).known
+met_step place note core view kept here sent =
+    Calls place core (with_note note core) (Some (NoteLetter note)) None (caller_at_place 0 place place view.known.callers kept.callers (omega arith) ∙ here) sent (Meets note)
+
+-- in the words of the code
+pub met_is : (place : ℕ) (note : Note) (view : WorldState) (callers : List Caller) → IsWorld view → (met : Met place note view.known.callers callers)
+    → posted callers view.known.sent view.targets view ≡ with_heard (with_note note met.core) view
+met_is place note view callers kept met =
+    let at = caller_number 0 place met.core view.known.callers kept.callers met.here in
+    let put : callers ≡ put_caller (with_note note met.core) view.known.callers = met.new_is ∙ sym (put_caller_place 0 place (with_note note met.core) view.known.callers kept.callers at) in
+    λ i. posted (put i) view.known.sent view.targets view
+
+-- ---- what the callers answer
+
+pub idle_from : (named : Option ℕ) (core : Caller) (number : ℕ) → WantedIs named core (Some number) → ResendIs number core (Err Idle) → IsIdle named core
+idle_from named core number wanted idle = Not_pending number wanted idle
+
+pub meets_from : (place : ℕ) (note : Note) (old : List Caller) (core after : Caller) (result : Result (Unit {0}) AllocError) → place < length old → core ≡ get_or old place core
+    → OnOk result (after ≡ record core { told = core.told ++ unknown core note.done }) → OnErr result (after ≡ core) → MeetsAt place note old result (slice_set old place after)
+meets_from place note old core after (Ok met) within e ok err =
+    record { core = core; here = got old place core within e; new_is = ap (λ (c : Caller). set old place c) ok }
+meets_from place note old core after (Err refused) within e ok err =
+    ap (λ (c : Caller). set old place c) err ∙ set_same old place core (got old place core within e)
+
+-- the caller of the code, at its place
+pub caller_index : (caller : ℕ) (view old : WorldState) (core : Caller) → view ≡ old → IsWorld view → caller_at caller old.known.callers ≡ Some core → slice_get view.known.callers caller ≡ Some core
+caller_index caller view old core same kept here =
+    sym (caller_at_place 0 caller caller view.known.callers kept.callers (omega arith)) ∙ ap (λ (w : WorldState). caller_at caller w.known.callers) same ∙ here
+
+pub caller_in : (caller : ℕ) (view old : WorldState) (core : Caller) → view ≡ old → IsWorld view → caller_at caller old.known.callers ≡ Some core → caller < length view.known.callers
+caller_in caller view old core same kept here = slice_get_within view.known.callers caller core (caller_index caller view old core same kept here)
+
+-- the caller that is read is the one that is there
+pub there_now : (caller via : ℕ) (view old : WorldState) (core found : Caller) → view ≡ old → IsWorld view → IsThere caller via old core → slice_get view.known.callers caller ≡ Some found → IsThere caller via old found
+there_now caller via view old core found same kept there here = (there.0, caller_stands caller view old found same kept here)
+
+again_because : (caller via : ℕ) (named : Option ℕ) (old : WorldState) (core : Caller) (refusal : Refusal) → IsThere caller via old core → AgainIs named core (Err refusal)
+    → ResendStepIs caller via named old (Err refusal) old
+again_because caller via named old core refused.AlreadyCreated there why = absurd why
+again_because caller via named old core refused.NotCreated there why = absurd why
+again_because caller via named old core refused.NoSuchNode there why = absurd why
+again_because caller via named old core refused.NoSuchCaller there why = absurd why
+again_because caller via named old core refused.NoSuchMessage there why = absurd why
+again_because caller via named old core refused.NoStore there why = absurd why
+again_because caller via named old core (refused.Part part.BadWindow) there why = absurd why
+again_because caller via named old core (refused.Part (part.Request fault)) there why = absurd why
+again_because caller via named old core (refused.Part part.WindowFull) there why = absurd why
+again_because caller via named old core (refused.Part part.NumbersSpent) there why = absurd why
+again_because caller via named old core (refused.Part part.Idle) there why = ((core, there, why), refl)
+again_because caller via named old core (refused.Part part.BadFinger) there why = absurd why
+again_because caller via named old core (refused.Part part.NotNote) there why = absurd why
+again_because caller via named old core (refused.Part part.NeedsMeet) there why = absurd why
+again_because caller via named old core refused.Memory there why = ((core, there, why), refl)
+
+-- a request that does not go out again
+pub again_refused : (caller via : ℕ) (named : Option ℕ) (old : WorldState) (core : Caller) (refusal : Refusal) (result : Result Outcome Refusal) → IsThere caller via old core
+    → AgainIs named core (Err refusal) → IsErrAnd result (λ e. e ≡ refusal) → ResendStepIs caller via named old result old
+again_refused caller via named old core refusal (Ok outcome) there why is = absurd is
+again_refused caller via named old core refusal (Err e) there why is = subst (λ r. ResendStepIs caller via named old (Err r) old) (sym is) (again_because caller via named old core refusal there why)
+
+-- a request that is asked again is pending
+asks_pending : (named : Option ℕ) (core : Caller) (ask : Ask) → AsksAgain named core ask → IsWaiting named core
+asks_pending named core ask asks = record {
+  number = asks.number;
+  wanted = asks.wanted;
+  pending = rw (asks.resends.1, asks.resends.2) refl;
+}
+
+pub again_memory : (caller via : ℕ) (named : Option ℕ) (view old : WorldState) (core : Caller) (ask : Ask) (denied : AllocError) (sent : List Message) (targets : List ℕ) (result : Result Outcome Refusal)
+    → view ≡ old → IsThere caller via old core → AsksAgain named core ask → SentIs (AskMessage ask) via view.known.sent view.targets (Err denied) sent targets
+    → IsErrAnd result (λ e. e ≡ refused.Memory) → ResendStepIs caller via named old result (posted view.known.callers sent targets view)
+again_memory caller via named view old core ask denied sent targets (Ok outcome) same there asks stays is = absurd is
+again_memory caller via named view old core ask denied sent targets (Err e) same there asks stays is =
+    subst (λ r. ResendStepIs caller via named old (Err r) (posted view.known.callers sent targets view)) (sym is)
+    ((core, there, asks_pending named core ask asks), sent_not (AskMessage ask) via view denied sent targets stays ∙ same)
+
+pub again_sends : (caller via number : ℕ) (named : Option ℕ) (view old : WorldState) (core : Caller) (ask : Ask) (sent : List Message) (targets : List ℕ) → view ≡ old → IsThere caller via old core
+    → AsksAgain named core ask → SentIs (AskMessage ask) via view.known.sent view.targets (Ok number) sent targets → SendsAgain caller via named old number (posted view.known.callers sent targets view)
+again_sends caller via number named view old core ask sent targets same there asks goes = record {
+  core = core;
+  ask = ask;
+  there = there;
+  asks = asks;
+  numbered = goes.0 ∙ ap (λ (w : WorldState). length w.known.sent) same;
+  new_is = sent_now (AskMessage ask) via view number sent targets goes ∙ ap (with_sent (AskMessage ask) via) same;
+}
+
+-- a note that goes out
+pub show_sends : (caller number : ℕ) (view old : WorldState) (core : Caller) (note : Note) (sent : List Message) (targets : List ℕ) → view ≡ old → caller_at caller old.known.callers ≡ Some core
+    → note ≡ note_of core → SentIs (NoteMessage note) 0 view.known.sent view.targets (Ok number) sent targets → SendsNote caller old number (posted view.known.callers sent targets view)
+show_sends caller number view old core note sent targets same here is goes = record {
+  core = core;
+  here = here;
+  numbered = goes.0 ∙ ap (λ (w : WorldState). length w.known.sent) same;
+  new_is = sent_now (NoteMessage note) 0 view number sent targets goes ∙ ap (with_sent (NoteMessage note) 0) same ∙ ap (λ n. with_sent (NoteMessage n) 0 old) is;
+}
+
+-- the note of the code is the one that was sent
+pub meets_after : (caller message : ℕ) (view old : WorldState) (note : Note) (callers : List Caller) → view ≡ old → IsWorld view → slice_get view.known.sent message ≡ Some (NoteMessage note)
+    → (met : Met caller note view.known.callers callers) → MeetsNote caller message old (posted callers view.known.sent view.targets view)
+meets_after caller message view old note callers same kept sent met =
+    subst (λ w. MeetsNote caller message w (posted callers view.known.sent view.targets view)) same
+    (record {
+      core = met.core;
+      note = note;
+      here = caller_stands caller view view met.core refl kept met.here;
+      sent = sent;
+      new_is = met_is caller note view callers kept met;
+    })
+
+pub meets_not : (caller message : ℕ) (view old : WorldState) (note : Note) (callers : List Caller) (result : Result Outcome Refusal) → view ≡ old → CallerIs caller old (Ok tt)
+    → slice_get old.known.sent message ≡ Some (NoteMessage note) → callers ≡ view.known.callers → IsErrAnd result (λ e. e ≡ refused.Memory)
+    → MeetIs caller message old result (posted callers view.known.sent view.targets view)
+meets_not caller message view old note callers (Ok outcome) same there sent stays is = absurd is
+meets_not caller message view old note callers (Err e) same there sent stays is =
+    subst (λ r. MeetIs caller message old (Err r) (posted callers view.known.sent view.targets view)) (sym is)
+    (there, (note, sent), ap (λ cs. posted cs view.known.sent view.targets view) stays ∙ same)

@@ -1,0 +1,138 @@
+-- What a World answers where a request goes out again, and where a note is shown or met.
+use Rattle.std.specs.Prelude.{◌≡◌, ◌≢◌, ℕ, ◌<◌, ◌≤◌, true, false, Option, None, Some, Result, Ok, Err, List, [], ◌∷◌, ◌++◌, length, slice_get, slice_set}
+use Rattle.std.specs.declared.alloc.AllocError.{AllocError}
+use Rattle.chord_caller.specs.declared.ask.Ask.{Ask}
+use Rattle.chord_caller.specs.Caller.{Note, Caller, known, unknown}
+use Rattle.chord_caller.specs.Answers.{is_pending, PendingIs, ResendIs}
+use Rattle.chord_node.specs.declared.message.Message.{Message}
+use Rattle.chord_node.specs.declared.message.Message.TheVariants.{Ask as AskMessage, Note as NoteMessage}
+use Rattle.chord_node.specs.World.{caller_at}
+use Rattle.chord_world.specs.declared.outcome.Outcome.{Outcome}
+use Rattle.chord_world.specs.declared.outcome.Outcome.TheVariants as did
+use Rattle.chord_world.specs.declared.refusal.Refusal.{Refusal}
+use Rattle.chord_world.specs.declared.refusal.Refusal.TheVariants as refused
+use Rattle.chord_world.specs.declared.refusal.PartFault.TheVariants as part
+use Rattle.chord_world.specs.State.{WorldState, IsThere, with_heard, with_sent}
+
+-- the caller and the node are there, or the first refusal that fits is answered
+abbrev pub AreThere : ℕ → ℕ → WorldState → Result (Unit {0}) Refusal → Type 0
+AreThere caller via state (Ok there) = (core : Caller) × IsThere caller via state core
+AreThere caller via state (Err refused.NotCreated) = state.known.nodes ≡ []
+AreThere caller via state (Err refused.NoSuchNode) = (state.known.nodes ≢ []) × (length state.known.nodes ≤ via)
+AreThere caller via state (Err refused.NoSuchCaller) = (via < length state.known.nodes) × (caller_at caller state.known.callers ≡ None)
+AreThere caller via state (Err refusal) = ⊥
+
+-- the same without a node
+abbrev pub CallerIs : ℕ → WorldState → Result (Unit {0}) Refusal → Type 0
+CallerIs caller state (Ok there) = (state.known.nodes ≢ []) × ((core : Caller) × (caller_at caller state.known.callers ≡ Some core))
+CallerIs caller state (Err refused.NotCreated) = state.known.nodes ≡ []
+CallerIs caller state (Err refused.NoSuchCaller) = (state.known.nodes ≢ []) × (caller_at caller state.known.callers ≡ None)
+CallerIs caller state (Err refusal) = ⊥
+
+-- ---- a request again
+
+-- the number to send again: the one that is named, else the least that is pending, if one is
+abbrev pub WantedIs : Option ℕ → Caller → Option ℕ → Type 0
+WantedIs (Some number) core wanted = wanted ≡ Some number
+WantedIs None core wanted = PendingIs core wanted
+
+-- that number is not pending, or there is none
+pub data IsIdle (named : Option ℕ) (core : Caller) : Type 0 where
+  Not_pending : (number : ℕ) → WantedIs named core (Some number) → is_pending number core ≡ false → IsIdle named core
+  None_pending : WantedIs named core None → IsIdle named core
+
+-- that number is pending
+pub record IsWaiting (named : Option ℕ) (core : Caller) : Type 0 where
+  pub number : ℕ
+  pub wanted : WantedIs named core (Some number)
+  pub pending : is_pending number core ≡ true
+
+-- the caller sends the request of that number again
+pub record AsksAgain (named : Option ℕ) (core : Caller) (ask : Ask) : Type 0 where
+  pub number : ℕ
+  pub wanted : WantedIs named core (Some number)
+  pub resends : ResendIs number core (Ok ask)
+
+abbrev pub AgainIs : Option ℕ → Caller → Result Ask Refusal → Type 0
+AgainIs named core (Ok ask) = AsksAgain named core ask
+AgainIs named core (Err (refused.Part part.Idle)) = IsIdle named core
+AgainIs named core (Err refused.Memory) = IsWaiting named core
+AgainIs named core (Err refusal) = ⊥
+
+-- the request went out under this number
+pub record SendsAgain (caller via : ℕ) (named : Option ℕ) (old : WorldState) (message : ℕ) (new : WorldState) : Type 0 where
+  pub core : Caller
+  pub ask : Ask
+  pub there : IsThere caller via old core
+  pub asks : AsksAgain named core ask
+  pub numbered : message ≡ length old.known.sent
+  pub new_is : new ≡ with_sent (AskMessage ask) via old
+
+abbrev pub ResendStepIs : ℕ → ℕ → Option ℕ → WorldState → Result Outcome Refusal → WorldState → Type 0
+ResendStepIs caller via named old (Ok (did.Message message)) new = SendsAgain caller via named old message new
+ResendStepIs caller via named old (Ok outcome) new = ⊥
+ResendStepIs caller via named old (Err (refused.Part part.Idle)) new = ((core : Caller) × IsThere caller via old core × IsIdle named core) × (new ≡ old)
+ResendStepIs caller via named old (Err refused.Memory) new = ((core : Caller) × IsThere caller via old core × IsWaiting named core) × (new ≡ old)
+ResendStepIs caller via named old (Err refusal) new = AreThere caller via old (Err refusal) × (new ≡ old)
+
+-- ---- a note
+
+-- what a caller shows
+abbrev pub note_of : Caller → Note
+note_of core = record { caller = core.number; done = known core }
+
+-- the note went out under this number
+pub record SendsNote (caller : ℕ) (old : WorldState) (message : ℕ) (new : WorldState) : Type 0 where
+  pub core : Caller
+  pub here : caller_at caller old.known.callers ≡ Some core
+  pub numbered : message ≡ length old.known.sent
+  pub new_is : new ≡ with_sent (NoteMessage (note_of core)) 0 old
+
+abbrev pub ShowIs : ℕ → WorldState → Result Outcome Refusal → WorldState → Type 0
+ShowIs caller old (Ok (did.Message message)) new = SendsNote caller old message new
+ShowIs caller old (Ok outcome) new = ⊥
+ShowIs caller old (Err refused.Memory) new = CallerIs caller old (Ok tt) × (new ≡ old)
+ShowIs caller old (Err refusal) new = CallerIs caller old (Err refusal) × (new ≡ old)
+
+-- the caller after it met the note
+abbrev pub with_note : Note → Caller → Caller
+with_note note core = record core { told = core.told ++ unknown core note.done }
+
+-- the caller met the note that was sent under this number
+pub record MeetsNote (caller message : ℕ) (old new : WorldState) : Type 0 where
+  pub core : Caller
+  pub note : Note
+  pub here : caller_at caller old.known.callers ≡ Some core
+  pub sent : slice_get old.known.sent message ≡ Some (NoteMessage note)
+  pub new_is : new ≡ with_heard (with_note note core) old
+
+-- no note was sent under this number
+abbrev pub IsNoNote : ℕ → WorldState → Type 0
+IsNoNote message state = (message < length state.known.sent) × ((note : Note) → slice_get state.known.sent message ≢ Some (NoteMessage note))
+
+abbrev pub MeetIs : ℕ → ℕ → WorldState → Result Outcome Refusal → WorldState → Type 0
+MeetIs caller message old (Ok did.Met) new = MeetsNote caller message old new
+MeetIs caller message old (Ok outcome) new = ⊥
+MeetIs caller message old (Err refused.NoSuchMessage) new = CallerIs caller old (Ok tt) × (length old.known.sent ≤ message) × (new ≡ old)
+MeetIs caller message old (Err (refused.Part part.NotNote)) new = CallerIs caller old (Ok tt) × IsNoNote message old × (new ≡ old)
+MeetIs caller message old (Err refused.Memory) new =
+    CallerIs caller old (Ok tt) × ((note : Note) × (slice_get old.known.sent message ≡ Some (NoteMessage note))) × (new ≡ old)
+MeetIs caller message old (Err refusal) new = CallerIs caller old (Err refusal) × (new ≡ old)
+
+-- ---- how it comes about
+
+-- one more message, or memory was wanting and nothing changed
+abbrev pub SentIs : Message → ℕ → List Message → List ℕ → Result ℕ AllocError → List Message → List ℕ → Type 0
+SentIs message to sent targets (Ok number) sent' targets' = (number ≡ length sent) × (sent' ≡ sent ++ message ∷ []) × (targets' ≡ targets ++ to ∷ [])
+SentIs message to sent targets (Err refused) sent' targets' = (sent' ≡ sent) × (targets' ≡ targets)
+
+-- the caller at the place met the note, and is another then
+pub record Met (place : ℕ) (note : Note) (old new : List Caller) : Type 0 where
+  pub core : Caller
+  pub here : slice_get old place ≡ Some core
+  pub new_is : new ≡ slice_set old place (with_note note core)
+
+-- it did, or memory was wanting and nothing changed
+abbrev pub MeetsAt : ℕ → Note → List Caller → Result (Unit {0}) AllocError → List Caller → Type 0
+MeetsAt place note old (Ok met) new = Met place note old new
+MeetsAt place note old (Err refused) new = new ≡ old

@@ -1,0 +1,60 @@
+-- What a World answers where a node's links are set, or read.
+use Rattle.std.specs.Prelude.{◌≡◌, ◌≢◌, ℕ, ◌≤◌, ◌⊎◌, Option, None, Some, Result, Ok, Err, List, [], slice_get, slice_set}
+use Rattle.std.specs.Borrow.{Bor}
+use Rattle.chord_links.specs.declared.peer.Peer.{Peer}
+use Rattle.chord_links.specs.Fingers.{with_finger}
+use Rattle.chord_links.specs.NodeLinks.{NodeLinks}
+use Rattle.chord_node.specs.Node.{Node}
+use Rattle.chord_node.specs.World.{node_at, put_node}
+use Rattle.chord_world.specs.declared.outcome.Outcome.{Outcome}
+use Rattle.chord_world.specs.declared.outcome.Outcome.TheVariants as did
+use Rattle.chord_world.specs.declared.refusal.Refusal.{Refusal}
+use Rattle.chord_world.specs.declared.refusal.Refusal.TheVariants as refused
+use Rattle.chord_world.specs.declared.refusal.PartFault.TheVariants as part
+use Rattle.chord_world.specs.State.{WorldState}
+
+-- a node has the fingers 1 to 128
+abbrev pub IsFinger : ℕ → Type 0
+IsFinger finger = (1 ≤ finger) × (finger ≤ 128)
+
+-- the node with this finger at that peer
+abbrev pub pointed : ℕ → Peer → Node → Node
+pointed finger peer node = record node { links = record node.links { fingers = with_finger node.links.fingers finger peer } }
+
+-- the world after a node changed
+abbrev pub with_node : Node → WorldState → WorldState
+with_node after old = record old { known = record old.known { nodes = put_node after old.known.nodes } }
+
+-- the finger of the node of this number is at the node `to`
+pub record Points (number finger to : ℕ) (old new : WorldState) : Type 0 where
+  pub node : Node
+  pub peer : Node
+  pub here : node_at number old.known.nodes ≡ Some node
+  pub there : node_at to old.known.nodes ≡ Some peer
+  pub is_finger : IsFinger finger
+  pub new_is : new ≡ with_node (pointed finger peer.links.me node) old
+
+-- both nodes are there
+abbrev pub AreNodes : ℕ → ℕ → WorldState → Type 0
+AreNodes number to state =
+    ((node : Node) × (node_at number state.known.nodes ≡ Some node)) × ((peer : Node) × (node_at to state.known.nodes ≡ Some peer))
+
+abbrev pub FingerIs : ℕ → ℕ → ℕ → WorldState → Result Outcome Refusal → WorldState → Type 0
+FingerIs number finger to old (Ok did.Done) new = Points number finger to old new
+FingerIs number finger to old (Ok outcome) new = ⊥
+FingerIs number finger to old (Err refused.NotCreated) new = (old.known.nodes ≡ []) × (new ≡ old)
+FingerIs number finger to old (Err refused.NoSuchNode) new =
+    (old.known.nodes ≢ []) × ((node_at number old.known.nodes ≡ None) ⊎ (node_at to old.known.nodes ≡ None)) × (new ≡ old)
+FingerIs number finger to old (Err (refused.Part part.BadFinger)) new = AreNodes number to old × (¬ IsFinger finger) × (new ≡ old)
+FingerIs number finger to old (Err refusal) new = ⊥
+
+-- the links of the node of this number, where there is one
+abbrev pub LinksAre : ℕ → WorldState → Option (Bor NodeLinks) → Type 0
+LinksAre number state None = node_at number state.known.nodes ≡ None
+LinksAre number state (Some links) = (node : Node) × (node_at number state.known.nodes ≡ Some node) × (links.now ≡ node.links)
+
+-- the node at the place has its finger at the peer
+pub record PointsAt (place finger : ℕ) (peer : Peer) (old new : List Node) : Type 0 where
+  pub node : Node
+  pub here : slice_get old place ≡ Some node
+  pub new_is : new ≡ slice_set old place (pointed finger peer node)

@@ -1,0 +1,45 @@
+//! Fingers that are set.
+ghost use Rattle.std.specs.Prelude.{◌≡◌, ◌<◌, ◌≤◌, length};
+ghost use Rattle.chord_world.specs.Steps.{Advances};
+ghost use Rattle.chord_world.specs.Linking.{PointsAt, FingerIs};
+
+use crate::outcome::Outcome;
+use crate::refusal::{PartFault, Refusal};
+use crate::world::World;
+use chord_links::Peer;
+use chord_node::Node;
+use chord_store::EntryStore;
+
+/// The finger of the node at the place goes to the peer.
+fn point_at<S: EntryStore>(nodes: &mut Vec<Node<S>>, place: usize, finger: usize, peer: Peer)
+    requires place { place < length nodes.old.items }
+    requires finger { (1 ≤ finger) × (finger ≤ 128) }
+    ensures { PointsAt place finger peer nodes.old.items nodes.new.items }
+{
+    let node = &mut nodes[place];
+    let mut links = *node.links();
+    links.set_finger(finger, peer);
+    node.set_links(links);
+}
+
+impl<S: EntryStore> World<S> {
+    /// The finger of the node goes to the node `to`.
+    pub(crate) fn finger(&mut self, node: u64, finger: u64, to: u64) -> Result<Outcome, Refusal>
+        ensures answer { FingerIs node finger to self.old result self.new }
+        ensures step { Advances self.old result self.new }
+    {
+        let count = self.nodes.len() as u64;
+        if count == 0 {
+            return Err(Refusal::NotCreated);
+        }
+        if node >= count || to >= count {
+            return Err(Refusal::NoSuchNode);
+        }
+        if finger < 1 || 128 < finger {
+            return Err(Refusal::Part(PartFault::BadFinger));
+        }
+        let peer = self.nodes[to as usize].links().me();
+        point_at(&mut self.nodes, node as usize, finger as usize, peer);
+        Ok(Outcome::Done)
+    }
+}
