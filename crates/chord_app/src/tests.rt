@@ -328,6 +328,148 @@ fn full_set(alloc: Global) -> Result<(String, String), AllocError> {
     Ok((script, wanted))
 }
 
+const FULL_STORE_RETRY: &str = concat!(
+    "create 40000000000000000000000000000000\n",
+    "caller\n",
+    "caller\n",
+    "insert 0 0 61 78\n",
+    "deliver 0\n",
+    "deliver 1\n",
+    "insert 1 0 61 79\n",
+    "deliver 2\n",
+    "deliver 3\n",
+    "retrieve 1 0 61\n",
+    "remove 0 0 61 78\n",
+    "deliver 4\n",
+    "deliver 5\n",
+    "resend 1 0\n",
+    "deliver 6\n",
+    "deliver 7\n",
+);
+
+const FULL_STORE_RETRY_WRITES: &str = concat!(
+    "node 0\n",
+    "caller 0\n",
+    "caller 1\n",
+    "message 0\n",
+    "told 1\n",
+    "fresh added\n",
+    "message 2\n",
+    "full 3\n",
+    "full\n",
+    "refused 9 WindowFull\n",
+    "message 4\n",
+    "told 5\n",
+    "fresh removed\n",
+    "message 6\n",
+    "told 7\n",
+    "fresh added\n",
+);
+
+const SHOW_AND_MEET: &str = concat!(
+    "create 40000000000000000000000000000000\n",
+    "caller\n",
+    "caller\n",
+    "insert 1 0 61 78\n",
+    "deliver 0\n",
+    "deliver 1\n",
+    "show 1\n",
+    "meet 0 2\n",
+    "retrieve 0 0 61\n",
+    "deliver 3\n",
+    "deliver 4\n",
+    "deliver 2\n",
+    "meet 0 1\n",
+    "meet 7 2\n",
+    "history\n",
+);
+
+const SHOW_AND_MEET_WRITES: &str = concat!(
+    "node 0\n",
+    "caller 0\n",
+    "caller 1\n",
+    "message 0\n",
+    "told 1\n",
+    "fresh added\n",
+    "message 2\n",
+    "met\n",
+    "message 3\n",
+    "told 4\n",
+    "fresh values 1 78\n",
+    "refused 9 NeedsMeet\n",
+    "refused 9 NotNote\n",
+    "refused 4 NoSuchCaller\n",
+    "history 2\n",
+);
+
+const FINGERS_AND_LISTS: &str = concat!(
+    "create 40000000000000000000000000000000\n",
+    "finger 0 129 7\n",
+    "finger 0 129 0\n",
+    "finger 0 1 0\n",
+    "list 0\n",
+);
+
+const FINGERS_AND_LISTS_WRITES: &str = concat!(
+    "node 0\n",
+    "refused 3 NoSuchNode\n",
+    "refused 9 BadFinger\n",
+    "ok\n",
+    "list 0\n",
+);
+
+const MORE_REFUSALS: &str = concat!(
+    "resend 0 0\n",
+    "show 0\n",
+    "meet 0 0\n",
+    "finger 0 1 0\n",
+    "list 0\n",
+    "create 40000000000000000000000000000000\n",
+    "caller 2\n",
+    "resend 0 0\n",
+    "resend 0 1\n",
+    "resend 1 0\n",
+    "insert 0 0 61 78\n",
+    "insert 0 0 61 79\n",
+    "resend 0 0 2\n",
+    "resend 0 0 3\n",
+    "resend 0 0\n",
+    "deliver 2\n",
+    "deliver 4\n",
+    "resend 0 0 2\n",
+    "deliver 1\n",
+    "deliver 3\n",
+    "meet 0 9\n",
+    "show 1\n",
+    "list 1\n",
+);
+
+const MORE_REFUSALS_WRITES: &str = concat!(
+    "refused 2 NotCreated\n",
+    "refused 2 NotCreated\n",
+    "refused 2 NotCreated\n",
+    "refused 2 NotCreated\n",
+    "none\n",
+    "node 0\n",
+    "caller 0\n",
+    "refused 9 Idle\n",
+    "refused 3 NoSuchNode\n",
+    "refused 4 NoSuchCaller\n",
+    "message 0\n",
+    "message 1\n",
+    "message 2\n",
+    "refused 9 Idle\n",
+    "message 3\n",
+    "told 4\n",
+    "fresh added\n",
+    "refused 9 Idle\n",
+    "told 5\n",
+    "told 6\n",
+    "refused 5 NoSuchMessage\n",
+    "refused 4 NoSuchCaller\n",
+    "none\n",
+);
+
 /// What is asked of the full set, and what is written.
 const AT_THE_LIMIT: &str =
     "insert 0 0 61 1000\ndeliver 2000\ndeliver 2001\ninsert 0 0 61 0999\ndeliver 2002\ndeliver 2003\nremove 0 0 61 0000\ndeliver 2004\ndeliver 2005\ninsert 0 0 61 1000\ndeliver 2006\ndeliver 2007\n";
@@ -374,4 +516,19 @@ fn words_for_stores(rt: HostRuntime) {
     ] {
         assert!(rt; !names_stores(word), "{word}");
     }
+}
+
+/// A full store's call goes out again once there is room, notes are shown and met, fingers are set.
+#[test]
+fn retries_notes_and_fingers(rt: HostRuntime) -> Result<(), Fail> {
+    let alloc = rt.alloc();
+    let ran = over_one_pair(alloc, FULL_STORE_RETRY, FULL_STORE_RETRY_WRITES)?;
+    assert_eq!(rt; ran, (Finish::Done, true));
+    let ran = over_a_list(alloc, SHOW_AND_MEET, SHOW_AND_MEET_WRITES)?;
+    assert_eq!(rt; ran, (Finish::Done, true));
+    let ran = over_a_list(alloc, FINGERS_AND_LISTS, FINGERS_AND_LISTS_WRITES)?;
+    assert_eq!(rt; ran, (Finish::Done, true));
+    let ran = over_a_list(alloc, MORE_REFUSALS, MORE_REFUSALS_WRITES)?;
+    assert_eq!(rt; ran, (Finish::Done, true));
+    Ok(())
 }

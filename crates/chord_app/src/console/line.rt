@@ -11,6 +11,8 @@ pub enum Line {
     Step(Step),
     /// How many calls were executed.
     History,
+    /// The successors that this node lists.
+    List(u64),
 }
 
 impl Line {
@@ -25,10 +27,17 @@ impl Line {
             "insert" => Line::Step(insert(alloc, &mut words)?),
             "retrieve" => Line::Step(retrieve(alloc, &mut words)?),
             "remove" => Line::Step(remove(alloc, &mut words)?),
+            "resend" => Line::Step(resend(&mut words)?),
             "deliver" => Line::Step(Step::Deliver {
                 message: words.number()?,
             }),
+            "show" => Line::Step(Step::Show {
+                caller: words.number()?,
+            }),
+            "meet" => Line::Step(meet(&mut words)?),
+            "finger" => Line::Step(finger(&mut words)?),
             "history" => Line::History,
+            "list" => Line::List(words.number()?),
             _ => return Err(LineFault::Grammar),
         };
         words.end()?;
@@ -78,4 +87,33 @@ fn remove(alloc: Global, words: &mut Words) -> Result<Step, LineFault> {
         via,
         request: Request::Remove { key, value },
     })
+}
+
+/// A request again: the one of the number that stands there, else the least pending one.
+fn resend(words: &mut Words) -> Result<Step, LineFault> {
+    let caller = words.number()?;
+    let via = words.number()?;
+    let number = if words.has_more() {
+        Some(words.number()?)
+    } else {
+        None
+    };
+    Ok(Step::Resend {
+        caller,
+        via,
+        number,
+    })
+}
+
+fn meet(words: &mut Words) -> Result<Step, LineFault> {
+    let caller = words.number()?;
+    let message = words.number()?;
+    Ok(Step::Meet { caller, message })
+}
+
+fn finger(words: &mut Words) -> Result<Step, LineFault> {
+    let node = words.number()?;
+    let finger = words.number()?;
+    let to = words.number()?;
+    Ok(Step::Finger { node, finger, to })
 }

@@ -42,6 +42,8 @@ fn write_outcome<S: EntryStore, W: Write>(
         Outcome::Full(number) => writeln!(writer, "full {number}"),
         Outcome::Known => writeln!(writer, "known"),
         Outcome::HeardFull => writeln!(writer, "full"),
+        Outcome::Met => writeln!(writer, "met"),
+        Outcome::Done => writeln!(writer, "ok"),
         Outcome::Fresh(caller) => match world.mine(caller).and_then(|mine| mine.last()) {
             Some(done) => {
                 let reply = Shown(&done.reply);
@@ -50,6 +52,23 @@ fn write_outcome<S: EntryStore, W: Write>(
             None => writeln!(writer, "fresh"),
         },
     }
+}
+
+/// Writes the numbers of the nodes that a node lists.
+fn write_list<S: EntryStore, W: Write>(
+    world: &World<S>,
+    node: u64,
+    writer: &mut W,
+) -> io::Result<()> {
+    let Some(links) = world.links(node) else {
+        return writeln!(writer, "none");
+    };
+    write!(writer, "list")?;
+    for entry in links.list().entries() {
+        let number = entry.no;
+        write!(writer, " {number}")?;
+    }
+    writeln!(writer)
 }
 
 /// Writes a refusal, but for want of memory, which ends the session.
@@ -96,6 +115,7 @@ impl<S: EntryStore> Session<S> {
                 let count = self.world.history().len();
                 written(writeln!(writer, "history {count}"))
             }
+            Line::List(node) => written(write_list(&self.world, node, writer)),
             Line::Step(step) => match self.world.step(stores, &step) {
                 Ok(outcome) => written(write_outcome(&self.world, outcome, writer)),
                 Err(refusal) => write_refusal(refusal, writer),
