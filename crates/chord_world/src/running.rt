@@ -40,6 +40,7 @@ pub fn run<S: EntryStore>(
     ensures answers { IfOk result (λ answers. Ran (map S.limit stores.old.items) world.old steps.now answers.items (map S.limit stores.new.items) world.new) }
     ensures err { OnErr result (world.new ≡ world.old) }
     ensures stores { OnErr result (stores.new.items ≡ stores.old.items) }
+    ensures vacant { All (λ s. S.content s ≡ []) stores.new.items }
     ensures headline { Headline world.new.known }
     ensures seen { SeenFirst world.old.known world.new.known }
 {

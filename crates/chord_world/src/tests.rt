@@ -13,6 +13,8 @@ use chord_store::ListStore;
 use std::alloc::{AllocError, Global};
 use std::test::Fail;
 
+mod growths;
+
 /// A caller inserts x under abc, and the call is delivered twice.
 fn script(alloc: Global) -> Result<Vec<Step>, AllocError> {
     let mut steps = Vec::new(alloc);
