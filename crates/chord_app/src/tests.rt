@@ -1,5 +1,5 @@
 //! Scripts of the console with what they must write.
-ghost use Rattle.std.specs.Prelude.{◌≡◌, []};
+ghost use Rattle.std.specs.Prelude.{◌≡◌, [], IfOk};
 ghost use Rattle.std.specs.List.{All};
 
 use crate::command_line::{commands, names_stores};
@@ -530,5 +530,40 @@ fn retries_notes_and_fingers(rt: HostRuntime) -> Result<(), Fail> {
     assert_eq!(rt; ran, (Finish::Done, true));
     let ran = over_a_list(alloc, MORE_REFUSALS, MORE_REFUSALS_WRITES)?;
     assert_eq!(rt; ran, (Finish::Done, true));
+    Ok(())
+}
+
+/// One store of one pair.
+fn one_pair(alloc: Global) -> Result<Vec<CappedStore>, AllocError>
+    ensures { IfOk result (λ stores. All (λ s. s.pairs ≡ []) stores.items) }
+{
+    let mut stores = Vec::new(alloc);
+    add_store(&mut stores, CappedStore::new(alloc, 1))?;
+    Ok(stores)
+}
+
+/// Where memory is wanting the session ends, and the line of that step is not written.
+#[test]
+fn a_refused_growth_ends_the_session(rt: HostRuntime) -> Result<(), Fail> {
+    let alloc = rt.alloc();
+    let stores = match one_pair(alloc) {
+        Ok(stores) => stores,
+        Err(_) => one_pair(alloc)?,
+    };
+    let mut written: Vec<u8> = Vec::new(alloc);
+    if written.reserve(1000).is_err() {
+        written.reserve(1000)?;
+    }
+    let mut reader = FULL_STORE_RETRY.as_bytes();
+    let finish = world(alloc, stores, &mut reader, &mut written);
+    let wanted = FULL_STORE_RETRY_WRITES.as_bytes();
+    if finish == Finish::OutOfMemory {
+        assert_eq!(rt; finish.status(), 3);
+        assert!(rt; wanted.starts_with(&written));
+        assert!(rt; written.last().is_none_or(|byte| *byte == b'\n'));
+        return Ok(());
+    }
+    assert_eq!(rt; finish, Finish::Done);
+    assert_eq!(rt; written.as_slice(), wanted);
     Ok(())
 }
