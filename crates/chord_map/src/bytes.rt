@@ -43,7 +43,7 @@ impl Bytes {
     pub fn as_slice(&self) -> &[u8]
         ensures { result.now ≡ self.now }
     {
-        self.items.as_slice()
+        &self.items
     }
 
     /// An equal copy.
@@ -63,7 +63,7 @@ impl PartialEq for Bytes {
         ensures test { result ≡ bytes_eq self.now other.now }
         ensures same { IsTrue result ↔ (self.now ≡ other.now) }
     {
-        self.items.as_slice() == other.items.as_slice()
+        self.as_slice() == other.as_slice()
     }
 }
 

@@ -37,13 +37,14 @@ impl Values {
     pub fn into_vec(self) -> Vec<Bytes>
         ensures { result.items ≡ self }
     {
-        self.items
+        let Values { items } = self;
+        items
     }
 
     pub fn as_slice(&self) -> &[Bytes]
         ensures { result.now ≡ self.now }
     {
-        self.items.as_slice()
+        &self.items
     }
 
     /// Adds a value at the end.
