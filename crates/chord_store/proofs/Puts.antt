@@ -104,14 +104,18 @@ unfolding put_all
 length-put_all_le [] pairs = omega arith
 length-put_all_le (pair ∷ more) pairs = omega (arith, length-put_all_le more (insert_pair pair pairs), length-insert_le pair pairs)
 
--- the whole circle has a pair
-pub inside_whole_one : (a : Id) (pair : Pair) → a.number < 2 ^ 128 → pairs_inside (record { after = a; upto = a }) (pair ∷ []) ≡ pair ∷ []
+-- the whole circle has every pair
+pub inside_whole : (a : Id) (pairs : List Pair) → a.number < 2 ^ 128 → pairs_inside (record { after = a; upto = a }) pairs ≡ pairs
 unfolding pairs_inside
-inside_whole_one a pair small = ap (λ b. cond b (pair ∷ []) []) (whole_circle a (key_id pair.key) small (key_id-below pair.key))
+inside_whole a [] small = refl
+inside_whole a (pair ∷ more) small =
+    let rest = inside_whole a more small in
+    ap (λ b. cond b (pair ∷ pairs_inside (record { after = a; upto = a }) more) (pairs_inside (record { after = a; upto = a }) more)) (whole_circle a (key_id pair.key) small (key_id-below pair.key))
+    ∙ ap (λ (ps : List Pair). pair ∷ ps) rest
 
-pub rising_one : (pair : Pair) → IsRising (pair ∷ [])
-unfolding IsStrictlySortedBy
-rising_one pair = (tt, tt)
-
-pub few_one : (pair : Pair) (key : List ℕ) → length (values_at key (pair ∷ [])) ≤ 1000
-few_one pair key = elim (bytes_eq pair.key key) as (λ b. length (map (λ (p : Pair). p.value) (cond b (pair ∷ []) [])) ≤ 1000) [ true ↦ omega arith | false ↦ omega arith ]
+-- a key has no more values than there are pairs
+pub length-values_le : (key : List ℕ) (pairs : List Pair) → length (values_at key pairs) ≤ length pairs
+length-values_le key [] = omega arith
+length-values_le key (pair ∷ more) =
+    let rest = length-values_le key more in
+    elim (bytes_eq pair.key key) as (λ b. length (map (λ (p : Pair). p.value) (cond b (pair ∷ filter (λ (p : Pair). bytes_eq p.key key) more) (filter (λ (p : Pair). bytes_eq p.key key) more))) ≤ length (pair ∷ more)) [ true ↦ omega arith | false ↦ omega arith ]

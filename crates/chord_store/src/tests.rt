@@ -1,13 +1,15 @@
 //! Each kind of store answers the same.
-ghost use Rattle.std.specs.Prelude.{◌≡◌, []};
+ghost use Rattle.std.specs.Prelude.{◌≡◌, [], OnErr};
 
 use crate::{CappedStore, EntryStore, Inserted, ListStore, NotedStore, StoreFault, TreeStore};
 use chord_ident::{Id, Span};
-use chord_map::{Bytes, Pair};
+use chord_map::PairList;
 use std::alloc::Global;
 use std::process::Abort;
 use std::sync::{Arc, OnceLock};
 use std::test::Fail;
+
+mod growths;
 
 // A set of 1,000 values takes no more, and takes one again after one was removed.
 fn fill_a_set<S: EntryStore>(rt: &impl Abort, alloc: Global, store: &mut S) -> Result<(), Fail> {
@@ -57,13 +59,17 @@ fn move_a_span<S: EntryStore>(rt: &impl Abort, alloc: Global, store: &mut S) -> 
     Ok(())
 }
 
-// The pair comes into an empty store.
-fn put_one<S: EntryStore>(store: &mut S, pair: Pair) -> Result<(), StoreFault>
+// The pairs come into an empty store.
+fn put_list<S: EntryStore>(store: &mut S, list: &PairList) -> Result<(), StoreFault>
     requires { S.content store.old ≡ [] }
+    ensures { OnErr result (S.content store.new ≡ []) }
 {
     let id = Id::new(7);
     let circle = Span::new(id, id);
-    store.put_all(&circle, &[pair])
+    if list.len() > 1000 {
+        return Err(StoreFault::Full);
+    }
+    store.put_all(&circle, list.as_slice())
 }
 
 #[test]
@@ -101,18 +107,21 @@ fn each_kind_moves_a_span(rt: HostRuntime) -> Result<(), Fail> {
 #[test]
 fn puts_all_pairs_or_none(rt: HostRuntime) -> Result<(), Fail> {
     let alloc = rt.alloc();
-    let key = Bytes::from_slice(alloc, b"a")?;
-    let value = Bytes::from_slice(alloc, b"x")?;
-    let pair = Pair { key, value };
+    let mut pairs = PairList::new(alloc);
+    pairs.insert(b"a", b"x")?;
+    pairs.insert(b"b", b"x")?;
     let mut list = ListStore::new(alloc);
-    assert_eq!(rt; put_one(&mut list, pair.try_copy()?), Ok(()));
-    assert_eq!(rt; list.count(), 1);
+    assert_eq!(rt; put_list(&mut list, &pairs), Ok(()));
+    assert_eq!(rt; list.count(), 2);
     let mut tree = TreeStore::new(alloc);
-    assert_eq!(rt; put_one(&mut tree, pair.try_copy()?), Ok(()));
+    assert_eq!(rt; put_list(&mut tree, &pairs), Ok(()));
     assert_eq!(rt; tree.values(alloc, b"a")?.as_slice().len(), 1);
-    let mut capped = CappedStore::new(alloc, 0);
-    assert_eq!(rt; put_one(&mut capped, pair), Err(StoreFault::Full));
+    let mut capped = CappedStore::new(alloc, 1);
+    assert_eq!(rt; put_list(&mut capped, &pairs), Err(StoreFault::Full));
     assert_eq!(rt; capped.count(), 0);
+    let mut capped = CappedStore::new(alloc, 2);
+    assert_eq!(rt; put_list(&mut capped, &pairs), Ok(()));
+    assert_eq!(rt; capped.count(), 2);
     Ok(())
 }
 
