@@ -26,3 +26,31 @@ fn keeps_pairs_in_order(rt: HostRuntime) -> Result<(), Fail> {
     assert_eq!(rt; pairs.len(), 1);
     Ok(())
 }
+
+// Whether these are the pairs of the keys [0], [1] and so on, below `end`.
+fn ends_at(pairs: &PairList, end: u8) -> bool {
+    let mut rest = pairs.as_slice().iter();
+    for n in 0..end {
+        if !rest
+            .next()
+            .is_some_and(|pair| pair.key.as_slice() == [n].as_slice())
+        {
+            return false;
+        }
+    }
+    rest.next().is_none()
+}
+
+// With ample memory no growth is refused.
+#[test]
+fn a_refused_growth_leaves_the_pairs(rt: HostRuntime) {
+    let alloc = rt.alloc();
+    let mut pairs = PairList::new(alloc);
+    for n in 0..12 {
+        if pairs.insert(&[n], b"x").is_err() {
+            assert!(rt; ends_at(&pairs, n), "at {n}");
+            assert!(rt; pairs.insert(&[n], b"x").is_ok(), "at {n}");
+        }
+    }
+    assert!(rt; ends_at(&pairs, 12));
+}

@@ -1,5 +1,6 @@
 use super::Values;
 use crate::Bytes;
+use std::alloc::{AllocError, Global};
 use std::test::Fail;
 
 #[test]
@@ -19,5 +20,50 @@ fn holds_values_in_the_order_given(rt: HostRuntime) -> Result<(), Fail> {
     assert_eq!(rt; rest.len(), 2);
     assert_eq!(rt; rest[1].as_slice(), b"z".as_slice());
     assert_eq!(rt; rest[0].try_copy()?, rest[0]);
+    Ok(())
+}
+
+// The value [n], asked for again where memory was wanting.
+fn value(alloc: Global, n: u8) -> Result<Bytes, AllocError> {
+    match Bytes::from_slice(alloc, &[n]) {
+        Ok(bytes) => Ok(bytes),
+        Err(_) => Bytes::from_slice(alloc, &[n]),
+    }
+}
+
+// Whether the values are [first], [first + 1] and so on, below `end`.
+fn are(values: &Values, first: u8, end: u8) -> bool {
+    let mut rest = values.as_slice().iter();
+    for n in first..end {
+        if !rest
+            .next()
+            .is_some_and(|value| value.as_slice() == [n].as_slice())
+        {
+            return false;
+        }
+    }
+    rest.next().is_none()
+}
+
+// With ample memory no growth is refused.
+#[test]
+fn a_refused_growth_leaves_the_values(rt: HostRuntime) -> Result<(), Fail> {
+    let alloc = rt.alloc();
+    let mut pushed = Values::new(alloc);
+    for n in 0..12 {
+        if pushed.push(value(alloc, n)?).is_err() {
+            assert!(rt; are(&pushed, 0, n), "at {n}");
+            pushed.push(value(alloc, n)?)?;
+        }
+    }
+    assert!(rt; are(&pushed, 0, 12));
+    let mut inserted = Values::new(alloc);
+    for n in (0..12u8).rev() {
+        if inserted.insert(0, value(alloc, n)?).is_err() {
+            assert!(rt; are(&inserted, n + 1, 12), "at {n}");
+            inserted.insert(0, value(alloc, n)?)?;
+        }
+    }
+    assert!(rt; are(&inserted, 0, 12));
     Ok(())
 }
