@@ -5,6 +5,8 @@ use chord_map::{Bytes, Reply, Request, RequestFault, Values};
 use std::alloc::{AllocError, Global};
 use std::test::Fail;
 
+mod growths;
+
 fn insert(alloc: Global, key: &[u8]) -> Result<Request, AllocError> {
     Ok(Request::Insert {
         key: Bytes::from_slice(alloc, key)?,
