@@ -41,10 +41,10 @@ SubmitIs request old (Err WindowFull) new = IsRequest request × (floor_of old +
 SubmitIs request old (Err NumbersSpent) new = IsRequest request × HasWindow old × (2 ^ 64 ≤ next_number old) × (new ≡ old)
 SubmitIs request old (Err SubmitMemory) new = IsRequest request × HasWindow old × (next_number old < 2 ^ 64) × (new ≡ old)
 
--- the first refusal that fits; with none, only memory can be wanting
+-- the first refusal that fits, which is never want of memory; with none, only memory can be wanting
 abbrev pub RefusalIs : Request → Caller → Option SubmitFault → Type 0
 RefusalIs request caller None = SubmitIs request caller (Err SubmitMemory) caller
-RefusalIs request caller (Some fault) = SubmitIs request caller (Err fault) caller
+RefusalIs request caller (Some fault) = SubmitIs request caller (Err fault) caller × (fault ≢ SubmitMemory)
 
 -- The pending request of the number goes out again
 abbrev pub ResendIs : ℕ → Caller → Result Ask ResendFault → Type 0

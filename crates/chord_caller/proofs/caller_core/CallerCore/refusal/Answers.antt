@@ -9,7 +9,7 @@ returns-then-self-last c =
     let s : Shows core.number core.window core.floor (length core.submitted.items) c.args.self.now =
     shows core.number core.window core.floor core.submitted.items core.mine.items core.told.items c.args.self.now c.self.view_is c.self.invariant.tied c.self.invariant.floor_is in
     let request : IsRequest c.args.request.now = search rules in
-    (request, omega arith, refl)
+    ((request, omega arith, refl), λ e. cc)
 
 pub returns : goal.returns
 returns c =

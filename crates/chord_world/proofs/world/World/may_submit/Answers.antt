@@ -16,7 +16,7 @@ returns-in-Some g c =
     (record {
       core = c.index.result.now;
       there = caller_there c.args.caller c.args.via view c.args.self.now c.index.result.now c.self.view_is c.self.invariant (omega arith) (got c.self.inside.callers.items c.args.caller c.index.result.now (omega arith) c.index.ensures);
-      refuses = c.in-Some.ensures;
+      refuses = c.in-Some.ensures.0;
     })
 
 pub returns-in-None : goal.returns-in-None
