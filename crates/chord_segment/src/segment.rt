@@ -1,5 +1,5 @@
 //! Segments.
-ghost use Rattle.std.specs.Prelude.{◌≡◌, ◌+◌, ◌<◌, ◌≤◌, true, IsOk, IfOk, IfErr, OnOk, OnErr};
+ghost use Rattle.std.specs.Prelude.{◌≡◌, ◌+◌, ◌<◌, ◌≤◌, ◌↔◌, true, IsTrue, IsOk, IfOk, IfErr, OnOk, OnErr};
 ghost use Rattle.chord_ident.specs.Circle.{in_span};
 ghost use Rattle.chord_segment.specs.Marks.{mark_of};
 ghost use Rattle.chord_segment.specs.Segment.{id_of, empty_segment, past_at, append};
@@ -7,9 +7,9 @@ ghost use Rattle.chord_segment.specs.Segment.Past.{New};
 ghost use Rattle.chord_segment.specs.Shown.{shown};
 ghost use Rattle.chord_segment.specs.Join.{CutIs, PartsAre, JoinIs, WholeIs};
 
-use crate::done::{Done, any_twice, copy_dones, find_done, keep_above, part_dones};
+use crate::done::{Done, any_twice, copy_dones, find_done, keep_above, part_dones, same_dones};
 use crate::fault::{CutFault, JoinFault, Uncut, Unjoined};
-use crate::mark::{Mark, number_of, raise_mark, raise_marks};
+use crate::mark::{Mark, number_of, raise_mark, raise_marks, same_marks};
 use crate::past::Past;
 use chord_ident::{Id, Span};
 use std::alloc::{AllocError, AllocFailed, Global};
@@ -115,6 +115,15 @@ impl Segment {
         self.kept
             .retain(|done| done.caller != caller || lowest < done.number);
         Ok(())
+    }
+
+    /// Whether both have the same span, the same floors and the same kept calls, in one order.
+    pub fn equals(&self, other: &Segment) -> bool
+        ensures { IsTrue result ↔ (self.now.known ≡ other.now.known) }
+    {
+        other.span == self.span
+            && same_marks(&self.floors, &other.floors)
+            && same_dones(&self.kept, &other.kept)
     }
 
     /// An equal copy.

@@ -73,6 +73,9 @@ fn what_is_kept_goes_by_key(rt: HostRuntime) -> Result<(), Fail> {
         matches!(copy.find(0, 1), Past::Kept(done) if done.request.key() == b"abc".as_slice())
     );
     assert!(rt; matches!(copy.find(0, 2), Past::New));
+    assert!(rt; copy.equals(&whole));
+    assert!(rt; !copy.equals(&one(rt.alloc(), span(A, A), b"abd")?));
+    assert!(rt; !copy.equals(&Segment::empty(rt.alloc(), span(A, A))));
     Ok(())
 }
 
