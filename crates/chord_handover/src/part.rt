@@ -1,9 +1,11 @@
 //! Parts of handovers.
-ghost use Rattle.std.specs.Prelude.{◌≡◌, ◌+◌, ◌-◌, ◌*◌, ◌≤◌, ◌==◌, if◌then◌else◌, Some, None, length, IfOk};
-ghost use Rattle.chord_handover.specs.Handover.{parts_in, chunk};
+ghost use Rattle.std.specs.Prelude.{◌≡◌, ◌↔◌, ◌==◌, if◌then◌else◌, Some, None, IsTrue, IfOk};
+ghost use Rattle.chord_handover.specs.Handover.{parts_in, chunk, part_at, ticket_of_part};
 ghost use Rattle.chord_handover.specs.Known.{known_of};
+ghost use Rattle.chord_handover.specs.Parcelled.{handed};
 
 use crate::parcelled::copy_pairs;
+use crate::ticket::Ticket;
 use chord_map::Pair;
 use chord_segment::Segment;
 use std::alloc::{AllocError, Global};
@@ -34,6 +36,37 @@ impl Model for Part {
 }
 
 impl Part {
+    /// What names its handover.
+    pub fn ticket(&self) -> Ticket
+        ensures { result ≡ ticket_of_part self.now }
+    {
+        Ticket {
+            from: self.from,
+            to: self.to,
+            number: self.number,
+        }
+    }
+
+    /// Whether it is one of the parts of this handover.
+    pub fn is_of(&self, ticket: Ticket, segment: &Segment, pairs: &[Pair]) -> bool
+        ensures { IsTrue result ↔ (self.now ≡ part_at (handed ticket (record { segment = segment.now.known; pairs = pairs.now })) self.now.part) }
+    {
+        self.ticket() == ticket
+            && self.of == count_parts(pairs)
+            && self.fits_segment(segment)
+            && same_pairs(&self.pairs, chunk_of(pairs, self.part))
+    }
+
+    /// Whether it has the segment if it is the first, and else has none.
+    fn fits_segment(&self, segment: &Segment) -> bool
+        ensures { IsTrue result ↔ (self.now.segment ≡ (if self.now.part == 1 then Some segment.now.known else None)) }
+    {
+        match &self.segment {
+            Some(found) => self.part == 1 && found.equals(segment),
+            None => self.part != 1,
+        }
+    }
+
     /// An equal copy.
     pub fn try_copy(&self) -> Result<Part, AllocError>
         ensures { IfOk result (λ copy. copy ≡ self.now) }
@@ -72,19 +105,28 @@ pub fn count_parts(pairs: &[Pair]) -> u64
     (pairs.len() as u64).div_ceil(64).max(1)
 }
 
+/// The pairs of a part, counted from 1. There are none behind the last.
+pub fn chunk_of(pairs: &[Pair], part: u64) -> &[Pair]
+    ensures { result.now ≡ chunk part pairs.now }
+{
+    let before = part.saturating_sub(1);
+    if before >= count_parts(pairs) {
+        return &[];
+    }
+    let rest = &pairs[PART_PAIRS * before as usize..];
+    &rest[..rest.len().min(PART_PAIRS)]
+}
+
 /// Copies of the pairs of a part.
 pub fn copy_chunk(alloc: Global, pairs: &[Pair], part: u64) -> Result<Vec<Pair>, AllocError>
-    requires some { 1 ≤ part }
-    requires within { part ≤ parts_in pairs.now }
     ensures { IfOk result (λ copies. copies.items ≡ chunk part pairs.now) }
 {
-    let start = PART_PAIRS * (part - 1) as usize;
-    let rest = &pairs[start..];
-    if rest.len() <= PART_PAIRS {
-        let copies = copy_pairs(alloc, rest)?;
-        return Ok(copies);
-    }
-    let (first, _) = rest.split_at(PART_PAIRS);
-    let copies = copy_pairs(alloc, first)?;
-    Ok(copies)
+    copy_pairs(alloc, chunk_of(pairs, part))
+}
+
+/// Whether the lists are equal.
+pub fn same_pairs(first: &[Pair], second: &[Pair]) -> bool
+    ensures { IsTrue result ↔ (first.now ≡ second.now) }
+{
+    first == second
 }

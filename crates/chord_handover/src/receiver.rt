@@ -1,8 +1,11 @@
 //! Handovers that are taken whole.
-ghost use Rattle.std.specs.Prelude.{◌≡◌, ◌+◌, ◌<◌, ◌^◌, [], true, OnOk, OnErr};
+ghost use Rattle.std.specs.Prelude.{◌≡◌, ◌+◌, ◌<◌, ◌^◌, [], true, IfOk, OnOk, OnErr};
 ghost use Rattle.chord_segment.specs.Marks.{mark_of};
+ghost use Rattle.chord_handover.specs.Gather.{GatherIs};
 ghost use Rattle.chord_handover.specs.Taken.{nothing_taken, JudgeIs, marked, is_noted, with_noted};
 
+use crate::gather::Gather;
+use crate::gathering::gather;
 use crate::part::Part;
 use crate::verdict::Verdict;
 use chord_segment::Mark;
@@ -84,6 +87,15 @@ impl Taken {
         ensures { self.new.known ≡ record self.old.known { noted = [] } }
     {
         self.noted.clear();
+    }
+
+    /// What the noted parts of a sender's next handover make with this one. Nothing is noted by it.
+    pub fn whole_with(&self, part: &Part) -> Result<Gather, AllocError>
+        requires { part.now.number ≡ mark_of part.now.from self.now.known.last + 1 }
+        ensures { IfOk result (λ gather. GatherIs part.now self.now.known.noted gather) }
+    {
+        let made = gather(*self.noted.allocator(), &self.noted, part)?;
+        Ok(made)
     }
 
     /// Notes a part of a sender's next handover. A part noted again changes nothing.

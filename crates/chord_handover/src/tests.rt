@@ -1,10 +1,11 @@
 //! Worked values.
 
 use crate::sender::Outbox;
-use crate::{Parcelled, Taken, Ticket, Verdict};
+use crate::{Gather, Parcelled, Part, Taken, Ticket, Verdict};
 use chord_ident::{Id, Span};
+use chord_map::{Bytes, Pair};
 use chord_segment::Segment;
-use std::alloc::Global;
+use std::alloc::{AllocError, Global};
 use std::test::Fail;
 
 const A: u128 = 0x40000000000000000000000000000000;
@@ -81,6 +82,98 @@ fn numbers_are_taken_in_order(rt: HostRuntime) -> Result<(), Fail> {
     assert_eq!(rt; taken.last(0), 1);
     assert_eq!(rt; taken.last(1), 0);
     Ok(())
+}
+
+/// So many pairs under one key, whose values rise.
+fn pairs(alloc: Global, count: u8) -> Result<Vec<Pair>, AllocError> {
+    let mut pairs = Vec::new(alloc);
+    for i in 0..count {
+        pairs.push(Pair {
+            key: Bytes::from_slice(alloc, b"abc")?,
+            value: Bytes::from_slice(alloc, &[i])?,
+        })?;
+    }
+    Ok(pairs)
+}
+
+/// The whole circle as part i of two, with these pairs.
+fn part(alloc: Global, i: u64, pairs: Vec<Pair>) -> Part {
+    let span = Span::new(Id::new(A), Id::new(A));
+    let segment = if i == 1 {
+        Some(Segment::empty(alloc, span))
+    } else {
+        None
+    };
+    Part {
+        from: 0,
+        to: 1,
+        number: 1,
+        part: i,
+        of: 2,
+        segment,
+        pairs,
+    }
+}
+
+/// What it makes with what is noted, and that it is noted then.
+fn take_in(taken: &mut Taken, part: &Part) -> Result<Option<Gather>, AllocError> {
+    if taken.judge(part.from, part.number) != Verdict::Next {
+        return Ok(None);
+    }
+    let made = taken.whole_with(part)?;
+    taken.note(part)?;
+    Ok(Some(made))
+}
+
+#[test]
+fn two_parts_make_it_whole(rt: HostRuntime) -> Result<(), Fail> {
+    let alloc = rt.alloc();
+    let mut all = pairs(alloc, 65)?;
+    let last = all.pop().ok_or("no pair")?;
+    let mut rest = Vec::new(alloc);
+    rest.push(last)?;
+    let first = part(alloc, 1, all);
+    let second = part(alloc, 2, rest);
+    let mut taken = Taken::new(alloc);
+    assert!(rt; matches!(take_in(&mut taken, &second)?, Some(Gather::More)));
+    assert!(rt; matches!(take_in(&mut taken, &second)?, Some(Gather::More)));
+    let Some(Gather::Whole(whole)) = take_in(&mut taken, &first)? else {
+        return Err(Fail::from("not whole"));
+    };
+    assert_eq!(rt; whole.segment().span(), Span::new(Id::new(A), Id::new(A)));
+    assert!(rt; whole.pairs() == pairs(alloc, 65)?.as_slice());
+    assert!(rt; matches!(take_in(&mut taken, &second)?, Some(Gather::Whole(_))));
+    taken.reserve()?;
+    if taken.last(0) == 0 {
+        taken.mark(0);
+    }
+    assert!(rt; take_in(&mut taken, &second)?.is_none());
+    Ok(())
+}
+
+#[test]
+fn parts_that_do_not_fit(rt: HostRuntime) -> Result<(), Fail> {
+    let alloc = rt.alloc();
+    let mut taken = Taken::new(alloc);
+    let first = part(alloc, 1, pairs(alloc, 64)?);
+    assert!(rt; matches!(take_in(&mut taken, &first)?, Some(Gather::More)));
+    let mut other_count = part(alloc, 2, pairs(alloc, 1)?);
+    other_count.of = 3;
+    assert!(rt; matches!(taken_with(&taken, &other_count)?, Some(Gather::Unfit)));
+    let again = part(alloc, 2, pairs(alloc, 1)?);
+    assert!(rt; matches!(taken_with(&taken, &again)?, Some(Gather::Unfit)));
+    let empty = part(alloc, 2, Vec::new(alloc));
+    assert!(rt; matches!(taken_with(&taken, &empty)?, Some(Gather::Unfit)));
+    Ok(())
+}
+
+/// What it makes with what is noted.
+fn taken_with(taken: &Taken, part: &Part) -> Result<Option<Gather>, AllocError> {
+    if taken.judge(part.from, part.number) != Verdict::Next {
+        return Ok(None);
+    }
+    let made = taken.whole_with(part)?;
+    Ok(Some(made))
 }
 
 #[test]

@@ -1,0 +1,276 @@
+-- What the parts of a handover make together.
+use Rattle.std.proofs.Common.{◌≡◌, ℕ, zero, suc, ◌+◌, ◌-◌, ◌*◌, ◌<◌, ◌≤◌, Bool, true, false, cond, not, ◌&&◌, eqb, leb, Option, Some, None, List, [], ◌∷◌, ◌++◌, length, take, drop, get_or, Bor, is_some, append-nil, ◌⊎◌, inl, inr, ⊎_elim, refl, sym, ◌∙◌, ap, ap₂, subst, arith, All, length-append, filter, find}
+use Rattle.std.specs.Prelude.{Any}
+use Rattle.std.specs.List.{list_any}
+use Rattle.std.specs.Option.{option_or, option_copied}
+use Rattle.std.proofs.lemmas.Bool.{true≢false, and_parts, and_from, or_cases, cases_lt, cond-true, cond-false}
+use Rattle.std.proofs.lemmas.Bool.Decides.{nat_tests}
+use Rattle.std.proofs.lemmas.List.{take_all, take_more}
+use Rattle.std.proofs.lemmas.List.Folds.{find-append}
+use Rattle.std.proofs.lemmas.Option.{same_Some, none-some}
+use Rattle.std.proofs.Math.Seq.{take-add}
+use Rattle.chord_ident.proofs.Spans.{one_if}
+use Rattle.chord_map.proofs.Lists.{by_test, not_both, by_option, Has, has_left, has_last, has_pushed, has_filter, has_filter_back, has_contained, contains_has, all_each, each_all, found, finds}
+use Rattle.chord_map.specs.declared.pair.Pair.{Pair}
+use Rattle.chord_segment.proofs.MarkLemmas.{eqb_same, eqb_is}
+use Rattle.chord_segment.specs.Segment.{Segment}
+use Rattle.chord_handover.specs.Gather.{AreOf, AreAllThere, MakeNone, part_in, segment_of, pairs_of, pairs_upto}
+use Rattle.chord_handover.specs.declared.ticket.Ticket.{Ticket}
+use Rattle.chord_handover.specs.Handover.{Handover, Part, parts_in, chunk, part_at, IsWhole, gathered, ticket_of_part}
+use Rattle.chord_handover.specs.Parcelled.{Parcelled, IsParcelled, handed}
+use Rattle.chord_handover.proofs.Counting.{count, count-append}
+
+-- a part of the same handover
+abbrev pub is_like : Part → Part → Bool
+is_like part other = eqb other.from part.from && eqb other.number part.number
+
+pub has_itself : (part : Part) (noted : List Part) → Has (gathered part noted) part
+has_itself part noted = has_last (filter (is_like part) noted) part
+
+pub has_noted : (part : Part) (noted : List Part) (other : Part) → Has noted other → is_like part other ≡ true → Has (gathered part noted) other
+has_noted part noted other there like = has_left (filter (is_like part) noted) (part ∷ []) other (has_filter_back (is_like part) noted other there like)
+
+-- what holds of the part, and of each noted one of its handover
+pub all_gathered : (P : Part → Type 0) (part : Part) (noted : List Part) → ((other : Part) → Has noted other → is_like part other ≡ true → P other) → P part → All P (gathered part noted)
+all_gathered P part noted each here =
+    all_each P (gathered part noted) (λ other there.
+    ⊎_elim (λ old. let h = has_filter (is_like part) noted other old in each other h.0 h.1) (λ same. subst P same here)
+    (has_pushed (filter (is_like part) noted) part other there))
+
+-- tests of a list
+
+any_has : {A : Type 0} (p : A → Bool) (xs : List A) → list_any p xs ≡ true → (x : A) × Has xs x × (p x ≡ true)
+any_has p [] h = absurd (true≢false (sym h))
+any_has p (y ∷ xs) h =
+    ⊎_elim (λ here. (y, inl refl, here)) (λ more. let r = any_has p xs more in (r.0, inr r.1, r.2)) (or_cases (p y) (list_any p xs) h)
+
+has_any : {A : Type 0} (p : A → Bool) (xs : List A) (x : A) → Has xs x → p x ≡ true → list_any p xs ≡ true
+has_any p [] x h e = absurd h
+has_any p (y ∷ xs) x (inl same) e = rw (subst (λ z. p z ≡ true) (sym same) e) refl
+has_any p (y ∷ xs) x (inr more) e = by_test (p y) (λ t. rw t refl) (λ f. rw f (has_any p xs x more e))
+
+not_false : (b : Bool) → not b ≡ true → b ≡ false
+not_false true h = absurd (true≢false (sym h))
+not_false false h = refl
+
+from_false : (b : Bool) → b ≡ false → not b ≡ true
+from_false true h = absurd (true≢false h)
+from_false false h = refl
+
+-- a noted part with another number of parts
+abbrev pub tells_other : Part → Part → Bool
+tells_other part other = is_like part other && not (eqb other.of part.of)
+
+pub they_differ : (part : Part) (noted : List Part) → list_any (tells_other part) noted ≡ true → ¬ AreOf part.of (gathered part noted)
+they_differ part noted h all =
+    let r = any_has (tells_other part) noted h in
+    let other = r.0 in
+    let tells = and_parts (is_like part other) (not (eqb other.of part.of)) r.2 in
+    let there = has_noted part noted other r.1 tells.0 in
+    let same = eqb_same other.of part.of (each_all (λ (p : Part). p.of ≡ part.of) (gathered part noted) all other there) in
+    true≢false (sym same ∙ not_false (eqb other.of part.of) tells.1)
+
+pub they_agree : (part : Part) (noted : List Part) → list_any (tells_other part) noted ≡ false → AreOf part.of (gathered part noted)
+they_agree part noted h =
+    all_gathered (λ (p : Part). p.of ≡ part.of) part noted (λ other there like.
+    by_test (eqb other.of part.of) (λ t. eqb_is other.of part.of t)
+    (λ f.
+    let tells = and_from (is_like part other) (not (eqb other.of part.of)) like (from_false (eqb other.of part.of) f) in
+    absurd (true≢false (sym (has_any (tells_other part) noted other there tells) ∙ h))))
+    refl
+
+-- the part of a place
+
+find_step : {A : Type 0} (a b : Bool) (x : A) (xs ys : Option A) → xs ≡ ys → cond a (cond b (Some x) xs) xs ≡ cond (a && b) (Some x) ys
+find_step true b x xs ys e = ap (cond b (Some x)) e
+find_step false b x xs ys e = e
+
+filter_step : {A : Type 0} (p : A → Bool) (a : Bool) (x : A) (xs : List A) → find p (cond a (x ∷ xs) xs) ≡ cond a (cond (p x) (Some x) (find p xs)) (find p xs)
+filter_step p true x xs = refl
+filter_step p false x xs = refl
+
+find_filter : {A : Type 0} (p q : A → Bool) (xs : List A) → find p (filter q xs) ≡ find (λ x. q x && p x) xs
+find_filter p q [] = refl
+find_filter p q (x ∷ xs) = filter_step p (q x) x (filter q xs) ∙ find_step (q x) (p x) x (find p (filter q xs)) (find (λ x. q x && p x) xs) (find_filter p q xs)
+
+-- a noted part of this place
+abbrev pub is_noted_at : Part → ℕ → Part → Bool
+is_noted_at part place other = is_like part other && eqb other.part place
+
+-- the part of a place is noted, or is this one
+pub part_in_is : (part : Part) (noted : List Part) (place : ℕ) → part_in place (gathered part noted) ≡ option_or (find (is_noted_at part place) noted) (cond (eqb part.part place) (Some part) None)
+part_in_is part noted place =
+    find-append (λ (p : Part). eqb p.part place) (filter (is_like part) noted) (part ∷ [])
+    ∙ ap (λ o. option_or o (cond (eqb part.part place) (Some part) None))
+    (find_filter (λ (p : Part). eqb p.part place) (is_like part) noted)
+
+-- places
+
+pub at_place : (of place : ℕ) (parts : List Part) → AreAllThere of parts → 1 ≤ place → place ≤ of → (x : Part) × (part_in place parts ≡ Some x) × (x.part ≡ place) × Has parts x
+at_place of place parts there from upto =
+    let a = there place from upto in
+    let r = finds (λ (p : Part). eqb p.part place) parts a.1 (has_contained parts a.1 (a.0, a.2, a.3)) (eqb_same (a.1).part place a.4) in
+    let f = found (λ (p : Part). eqb p.part place) parts r.0 r.1 in
+    (r.0, r.1, eqb_is (r.0).part place f.0, f.1)
+
+pub place_there : (place : ℕ) (parts : List Part) (x : Part) → part_in place parts ≡ Some x → Any (λ (p : Part). p.part ≡ place) parts
+place_there place parts x e =
+    let f = found (λ (p : Part). eqb p.part place) parts x e in
+    let c = contains_has parts x f.1 in
+    (c.0, x, c.1, c.2, eqb_is x.part place f.0)
+
+-- a handover has no more parts than are there
+
+within : ℕ → ℕ → Bool
+within n k = leb 1 k && leb k n
+
+one_place : (n k : ℕ) → one_if (leb 1 k && leb k (suc n)) ≡ one_if (leb 1 k && leb k n) + one_if (eqb k (suc n))
+one_place n k = grind (arith, nat_tests)
+
+count_places : (n : ℕ) (xs : List Part) → count (λ (p : Part). leb 1 p.part && leb p.part (suc n)) xs ≡ count (λ (p : Part). leb 1 p.part && leb p.part n) xs + count (λ (p : Part). eqb p.part (suc n)) xs
+count_places n [] = refl
+count_places n (x ∷ xs) = omega (arith, one_place n x.part, count_places n xs)
+
+has_count : {A : Type 0} (p : A → Bool) (xs : List A) (x : A) → Has xs x → p x ≡ true → 1 ≤ count p xs
+has_count p [] x h e = absurd h
+has_count p (y ∷ xs) x (inl same) e = let one : one_if (p y) ≡ 1 = ap one_if (subst (λ z. p z ≡ true) (sym same) e) in omega arith
+has_count p (y ∷ xs) x (inr more) e = omega (arith, has_count p xs x more e)
+
+one_upto : (b : Bool) → one_if b ≤ 1
+one_upto true = omega arith
+one_upto false = omega arith
+
+count_upto : {A : Type 0} (p : A → Bool) (xs : List A) → count p xs ≤ length xs
+count_upto p [] = omega arith
+count_upto p (x ∷ xs) = omega (arith, one_upto (p x), count_upto p xs)
+
+enough_places : (n of : ℕ) (parts : List Part) → AreAllThere of parts → n ≤ of → n ≤ count (λ (p : Part). leb 1 p.part && leb p.part n) parts
+enough_places zero of parts there low = omega arith
+enough_places (suc n) of parts there low =
+    let a = at_place of (suc n) parts there (omega arith) low in
+    let here = has_count (λ (p : Part). eqb p.part (suc n)) parts a.0 a.3 (eqb_same (a.0).part (suc n) a.2) in
+    omega (arith, count_places n parts, enough_places n of parts there (omega arith))
+
+pub enough_parts : (part : Part) (noted : List Part) → AreAllThere part.of (gathered part noted) → part.of ≤ length (filter (is_like part) noted) + 1
+enough_parts part noted there =
+    let all = gathered part noted in
+    let low = enough_places part.of part.of all there (omega arith) in
+    omega (arith, count_upto (λ (p : Part). leb 1 p.part && leb p.part part.of) all, length-append (filter (is_like part) noted) (part ∷ []))
+
+-- the parts of a handover are the parts of one parcel alone
+
+found_part : (of : ℕ) (parts : List Part) (handover : Handover) (place : ℕ) → AreAllThere of parts → IsWhole parts handover → 1 ≤ place → place ≤ of
+    → part_in place parts ≡ Some (part_at handover place)
+found_part of parts handover place there whole from upto =
+    let a = at_place of place parts there from upto in
+    let is = each_all (λ (p : Part). p ≡ part_at handover p.part) parts whole.each a.0 a.3 in
+    a.1 ∙ ap Some (is ∙ ap (part_at handover) a.2)
+
+pairs_are : (of : ℕ) (parts : List Part) (handover : Handover) (place : ℕ) → AreAllThere of parts → IsWhole parts handover → place ≤ of
+    → pairs_upto place parts ≡ take (64 * place) handover.pairs
+unfolding pairs_upto
+pairs_are of parts handover zero there whole upto = refl
+pairs_are of parts handover (suc place) there whole upto =
+    let start : 64 * (suc place - 1) ≡ 64 * place = omega arith in
+    let size : 64 * place + 64 ≡ 64 * suc place = omega arith in
+    ap₂ ◌++◌ (pairs_are of parts handover place there whole (omega arith))
+    (ap pairs_of (found_part of parts handover (suc place) there whole (omega arith) upto) ∙ ap (λ k. take 64 (drop k handover.pairs)) start)
+    ∙ sym (take-add (64 * place) 64 handover.pairs) ∙ ap (λ k. take k handover.pairs) size
+
+pub whole_is : (part : Part) (noted : List Part) (parcelled : Parcelled) → AreAllThere part.of (gathered part noted) → IsWhole (gathered part noted) (handed (ticket_of_part part) parcelled)
+    → (segment_of (part_in 1 (gathered part noted)) ≡ Some parcelled.segment) × (pairs_upto part.of (gathered part noted) ≡ parcelled.pairs)
+whole_is part noted parcelled there whole =
+    let all = gathered part noted in
+    let handover = handed (ticket_of_part part) parcelled in
+    let own : part ≡ part_at handover part.part = each_all (λ (p : Part). p ≡ part_at handover p.part) all whole.each part (has_itself part noted) in
+    let count : part.of ≡ parts_in parcelled.pairs = ap (λ (p : Part). p.of) own in (
+      ap segment_of (found_part part.of all handover 1 there whole (omega arith) (omega arith)),
+      pairs_are part.of all handover part.of there whole (omega arith) ∙ take_all (64 * part.of) parcelled.pairs (omega arith),
+    )
+
+-- where each part is the segment's and the pairs', they are the parts of that parcel
+pub whole_from : (part : Part) (noted : List Part) (parcelled : Parcelled) → AreAllThere part.of (gathered part noted)
+    → All (λ (other : Part). other ≡ part_at (handed (ticket_of_part part) parcelled) other.part) (gathered part noted) → IsWhole (gathered part noted) (handed (ticket_of_part part) parcelled)
+whole_from part noted parcelled there each =
+    let all = gathered part noted in
+    let handover = handed (ticket_of_part part) parcelled in
+    let own : part ≡ part_at handover part.part = each_all (λ (p : Part). p ≡ part_at handover p.part) all each part (has_itself part noted) in
+    let count : part.of ≡ parts_in parcelled.pairs = ap (λ (p : Part). p.of) own in
+    record {
+      each = each;
+      all = λ place from upto.
+          let a = at_place part.of place all there from (omega arith) in
+          contains_has all (part_at handover place)
+          (subst (Has all) (each_all (λ (p : Part). p ≡ part_at handover p.part) all each a.0 a.3 ∙ ap (part_at handover) a.2) a.3);
+    }
+
+-- no other parcel is sent in these parts
+pub makes_none : (part : Part) (noted : List Part) (segment : Segment) (pairs : List Pair) → AreAllThere part.of (gathered part noted)
+    → segment_of (part_in 1 (gathered part noted)) ≡ Some segment → pairs_upto part.of (gathered part noted) ≡ pairs
+    → ¬ (IsParcelled (record { segment = segment; pairs = pairs }) × All (λ (other : Part). other ≡ part_at (handed (ticket_of_part part) (record { segment = segment; pairs = pairs })) other.part) (gathered part noted))
+    → MakeNone (ticket_of_part part) (gathered part noted)
+makes_none part noted segment pairs there first all unfit parcelled rules whole =
+    let is = whole_is part noted parcelled there whole in
+    let same_segment : parcelled.segment ≡ segment = same_Some parcelled.segment segment (sym is.0 ∙ first) in
+    let same_pairs : parcelled.pairs ≡ pairs = sym is.1 ∙ all in
+    let same : parcelled ≡ record { segment = segment; pairs = pairs } = λ i. record { segment = same_segment i; pairs = same_pairs i } in
+    unfit (
+      subst IsParcelled same rules,
+      subst (λ (p : Parcelled). All (λ (other : Part). other ≡ part_at (handed (ticket_of_part part) p) other.part) (gathered part noted)) same whole.each,
+    )
+
+-- nor any where the first part has no segment
+pub makes_none_without : (part : Part) (noted : List Part) → AreAllThere part.of (gathered part noted) → segment_of (part_in 1 (gathered part noted)) ≡ None
+    → MakeNone (ticket_of_part part) (gathered part noted)
+makes_none_without part noted there none parcelled rules whole =
+    let is = whole_is part noted parcelled there whole in
+    absurd (none-some parcelled.segment (sym none ∙ is.0))
+
+-- what a search for the noted part of a place finds
+
+pub noted_at : (part : Part) (noted : List Part) (place : ℕ) (found : Part) → Some found ≡ find (is_noted_at part place) noted → Some found ≡ part_in place (gathered part noted)
+noted_at part noted place found e =
+    sym (part_in_is part noted place ∙ ap (λ o. option_or o (cond (eqb part.part place) (Some part) None)) (sym e))
+
+pub itself_at : (part : Part) (noted : List Part) (place : ℕ) → None ≡ find (is_noted_at part place) noted → part.part ≡ place → Some part ≡ part_in place (gathered part noted)
+itself_at part noted place e here =
+    sym (part_in_is part noted place ∙ ap (λ o. option_or o (cond (eqb part.part place) (Some part) None)) (sym e)
+    ∙ cond-true (eqb part.part place) (Some part) None (eqb_same part.part place here))
+
+pub none_at : (part : Part) (noted : List Part) (place : ℕ) → None ≡ find (is_noted_at part place) noted → (part.part ≡ place → ⊥) → None ≡ part_in place (gathered part noted)
+none_at part noted place e apart =
+    sym (part_in_is part noted place ∙ ap (λ o. option_or o (cond (eqb part.part place) (Some part) None)) (sym e)
+    ∙ cond-false (eqb part.part place) (Some part) None (by_test (eqb part.part place) (λ t. absurd (apart (eqb_is part.part place t))) (λ f. f)))
+
+-- what a reference that may be there points to
+pub none_there : {A : Type 0} (o : Option (Bor A)) (p : Option A) → option_copied o ≡ p → is_some o ≡ false → p ≡ None
+none_there None p e h = sym e
+none_there (Some x) p e h = absurd (true≢false h)
+
+pub some_there : {A : Type 0} (o : Option (Bor A)) (p : Option A) → option_copied o ≡ p → is_some o ≡ true → (x : A) × (p ≡ Some x)
+some_there None p e h = absurd (true≢false (sym h))
+some_there (Some x) p e h = (x.now, sym e)
+
+-- the pairs of one more part
+pub more_pairs : (parts : List Part) (place : ℕ) (found : Option Part) (more : List Pair) → found ≡ part_in (place + 1) parts → more ≡ pairs_of found → pairs_upto place parts ++ more ≡ pairs_upto (place + 1) parts
+unfolding pairs_upto
+more_pairs parts place found more at is =
+    let next : place + 1 ≡ suc place = omega arith in
+    ap (λ ps. pairs_upto place parts ++ ps) (is ∙ ap pairs_of at) ∙ ap (λ n. pairs_upto place parts ++ pairs_of (part_in n parts)) next ∙ ap (λ n. pairs_upto n parts) (sym next)
+
+pub no_more_pairs : (parts : List Part) (place : ℕ) → None ≡ part_in (place + 1) parts → pairs_upto place parts ≡ pairs_upto (place + 1) parts
+no_more_pairs parts place none = sym (append-nil (pairs_upto place parts)) ∙ more_pairs parts place None [] none refl
+
+pub no_pairs_yet : (parts : List Part) → [] ≡ pairs_upto 0 parts
+unfolding pairs_upto
+no_pairs_yet parts = refl
+
+-- it is one of the parts of that segment and those pairs
+abbrev pub IsPartOf : Ticket → Segment → List Pair → Part → Type 0
+IsPartOf ticket segment pairs other = other ≡ part_at (handed ticket (record { segment = segment; pairs = pairs })) other.part
+
+-- what holds of each element passed holds of one more
+pub one_further : {A : Type 0} (P : A → Type 0) (xs : List A) (i : ℕ) (x : A) → i < length xs → x ≡ get_or xs i x → ((y : A) → Has (take i xs) y → P y) → P x → (y : A) → Has (take (i + 1) xs) y → P y
+one_further P xs i x within is before here y there =
+    ⊎_elim (λ old. before y old) (λ same. subst P (is ∙ same) here)
+    (has_pushed (take i xs) (get_or xs i x) y (subst (λ ys. Has ys y) (take_more xs i x within) there))

@@ -1,0 +1,49 @@
+-- What parts make together.
+use Rattle.std.specs.Prelude.{◌≡◌, ◌≤◌, ℕ, zero, suc, ◌==◌, ◌++◌, ◌⊎◌, Option, None, Some, List, [], find, All, Any}
+use Rattle.chord_map.specs.declared.pair.Pair.{Pair}
+use Rattle.chord_segment.specs.Segment.{Segment}
+use Rattle.chord_handover.specs.declared.gather.Gather.{Gather}
+use Rattle.chord_handover.specs.declared.gather.Gather.TheVariants.{More, Unfit, Whole}
+use Rattle.chord_handover.specs.declared.ticket.Ticket.{Ticket}
+use Rattle.chord_handover.specs.Handover.{Part, IsWhole, gathered, ticket_of_part}
+use Rattle.chord_handover.specs.Parcelled.{Parcelled, IsParcelled, handed}
+
+-- they tell the same number of parts
+abbrev pub AreOf : ℕ → List Part → Type 0
+AreOf of parts = All (λ part. part.of ≡ of) parts
+
+-- each place of so many has its part
+abbrev pub AreAllThere : ℕ → List Part → Type 0
+AreAllThere of parts = (place : ℕ) → 1 ≤ place → place ≤ of → Any (λ part. part.part ≡ place) parts
+
+-- no parcel is sent in just these parts
+abbrev pub MakeNone : Ticket → List Part → Type 0
+MakeNone ticket parts = (parcelled : Parcelled) → IsParcelled parcelled → ¬ IsWhole parts (handed ticket parcelled)
+
+-- More: a part is missing. Unfit: they tell different numbers of parts, or are all there and make no parcel. Whole: the parcel
+-- that they are the parts of
+abbrev pub Make : Ticket → ℕ → List Part → Gather → Type 0
+Make ticket of parts More = AreOf of parts × ¬ AreAllThere of parts
+Make ticket of parts Unfit = (¬ AreOf of parts) ⊎ (AreAllThere of parts × MakeNone ticket parts)
+Make ticket of parts (Whole parcelled) = IsWhole parts (handed ticket parcelled)
+
+-- the noted parts of a part's handover, with that part
+abbrev pub GatherIs : Part → List Part → Gather → Type 0
+GatherIs part noted gather = Make (ticket_of_part part) part.of (gathered part noted) gather
+
+-- the part of a place
+abbrev pub part_in : ℕ → List Part → Option Part
+part_in place parts = find (λ (part : Part). part.part == place) parts
+
+abbrev pub segment_of : Option Part → Option Segment
+segment_of None = None
+segment_of (Some part) = part.segment
+
+abbrev pub pairs_of : Option Part → List Pair
+pairs_of None = []
+pairs_of (Some part) = part.pairs
+
+-- the pairs of the parts up to a place, one part's behind another's
+unfoldable pub pairs_upto : ℕ → List Part → List Pair
+pairs_upto zero parts = []
+pairs_upto (suc place) parts = pairs_upto place parts ++ pairs_of (part_in (suc place) parts)
