@@ -1,24 +1,24 @@
 -- What the parts of a handover make together.
-use Rattle.std.proofs.Common.{◌≡◌, ℕ, zero, suc, ◌+◌, ◌-◌, ◌*◌, ◌<◌, ◌≤◌, Bool, true, false, cond, not, ◌&&◌, eqb, leb, Option, Some, None, List, [], ◌∷◌, ◌++◌, length, take, drop, get_or, Bor, is_some, append-nil, ◌⊎◌, inl, inr, ⊎_elim, refl, sym, ◌∙◌, ap, ap₂, subst, arith, All, length-append, filter, find}
+use Rattle.std.proofs.Common.{◌≡◌, ℕ, zero, suc, ◌+◌, ◌-◌, ◌*◌, ◌<◌, ◌≤◌, Bool, true, false, cond, not, ◌&&◌, eqb, leb, Option, Some, None, List, [], ◌∷◌, ◌++◌, length, take, drop, get_or, Bor, is_some, append-nil, inl, inr, ⊎_elim, refl, sym, ◌∙◌, ap, ap₂, subst, arith, All, length-append, filter, find}
 use Rattle.std.specs.Prelude.{Any}
 use Rattle.std.specs.List.{list_any}
 use Rattle.std.specs.Option.{option_or, option_copied}
-use Rattle.std.proofs.lemmas.Bool.{true≢false, and_parts, and_from, or_cases, cases_lt, cond-true, cond-false}
+use Rattle.std.proofs.lemmas.Bool.{true≢false, and_parts, and_from, or_cases, cond-true, cond-false}
 use Rattle.std.proofs.lemmas.Bool.Decides.{nat_tests}
 use Rattle.std.proofs.lemmas.List.{take_all, take_more}
 use Rattle.std.proofs.lemmas.List.Folds.{find-append}
 use Rattle.std.proofs.lemmas.Option.{same_Some, none-some}
 use Rattle.std.proofs.Math.Seq.{take-add}
 use Rattle.chord_ident.proofs.Spans.{one_if}
-use Rattle.chord_map.proofs.Lists.{by_test, not_both, by_option, Has, has_left, has_last, has_pushed, has_filter, has_filter_back, has_contained, contains_has, all_each, each_all, found, finds}
+use Rattle.chord_map.proofs.Lists.{by_test, Has, has_left, has_last, has_pushed, has_filter, has_filter_back, has_contained, contains_has, all_each, each_all, found, finds}
 use Rattle.chord_map.specs.declared.pair.Pair.{Pair}
 use Rattle.chord_segment.proofs.MarkLemmas.{eqb_same, eqb_is}
 use Rattle.chord_segment.specs.Segment.{Segment}
 use Rattle.chord_handover.specs.Gather.{AreOf, AreAllThere, MakeNone, part_in, segment_of, pairs_of, pairs_upto}
 use Rattle.chord_handover.specs.declared.ticket.Ticket.{Ticket}
-use Rattle.chord_handover.specs.Handover.{Handover, Part, parts_in, chunk, part_at, IsWhole, gathered, ticket_of_part}
+use Rattle.chord_handover.specs.Handover.{Handover, Part, parts_in, part_at, IsWhole, gathered, ticket_of_part}
 use Rattle.chord_handover.specs.Parcelled.{Parcelled, IsParcelled, handed}
-use Rattle.chord_handover.proofs.Counting.{count, count-append}
+use Rattle.chord_handover.proofs.Counting.{count}
 
 -- a part of the same handover
 abbrev pub is_like : Part → Part → Bool

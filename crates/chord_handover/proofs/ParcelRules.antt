@@ -13,7 +13,7 @@ use Rattle.std.proofs.lemmas.List.Elements.{filter-append}
 use Rattle.chord_map.specs.declared.pair.Pair.{Pair}
 use Rattle.chord_map.specs.Map.{same_pair, pair_cmp, values_at}
 use Rattle.chord_map.specs.Pairs.{IsRising}
-use Rattle.chord_map.proofs.Lists.{by_test, not_both}
+use Rattle.chord_map.proofs.Lists.{by_test}
 use Rattle.chord_map.proofs.MapLemmas.{bytes_same, bytes_itself, same_is, is_same, pairs_total, values_total}
 use Rattle.chord_map.proofs.Walked.{values_at-more}
 

@@ -1,9 +1,9 @@
 -- What parcels keep.
-use Rattle.std.proofs.Common.{◌≡◌, ℕ, ◌<◌, ◌≤◌, List, [], length, sym, subst, arith}
+use Rattle.std.proofs.Common.{◌≡◌, List, [], sym, subst, arith}
 use Rattle.chord_map.specs.declared.pair.Pair.{Pair}
 use Rattle.std.specs.List.Sorted.{IsStrictlySortedBy}
 use Rattle.chord_segment.specs.Segment.{Segment}
-use Rattle.chord_handover.specs.Parcelled.{Parcelled, IsParcelled}
+use Rattle.chord_handover.specs.Parcelled.{IsParcelled}
 
 -- a segment without pairs is a parcel
 pub no_pairs : (segment : Segment) (pairs : List Pair) → pairs ≡ [] → IsParcelled (record { segment = segment; pairs = pairs })

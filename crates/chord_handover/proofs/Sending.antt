@@ -13,7 +13,7 @@ use Rattle.chord_segment.proofs.MarkLemmas.{mark_of-raise_same}
 use Rattle.chord_segment.proofs.SegmentRules.{raise_grows}
 use Rattle.chord_handover.specs.Handover.{Item, is_item, item_at, without}
 use Rattle.chord_handover.specs.Outbox.{AreApart, IsOutbox}
-use Rattle.chord_handover.proofs.Outbox.{is_item_parts, item_at_is, without_none, DistinctItems_push, DistinctItems-without}
+use Rattle.chord_handover.proofs.OutboxLemmas.{is_item_parts, item_at_is, without_none, DistinctItems_push, DistinctItems-without}
 
 remove_step : (b : Bool) (x : Item) (rest left : List Item) (n : ℕ) → (b ≡ true → left ≡ rest) → (b ≡ false → n < length rest → remove rest n ≡ left)
     → cond (not b) (1 + n) 0 < length (x ∷ rest) → remove (x ∷ rest) (cond (not b) (1 + n) 0) ≡ cond (not b) (x ∷ left) left

@@ -11,6 +11,7 @@ use crate::checks::is_parcel;
 use crate::gather::Gather;
 use crate::parcelled::Parcelled;
 use crate::part::Part;
+use crate::ticket::Ticket;
 use chord_map::Pair;
 use chord_segment::Segment;
 use std::alloc::{AllocError, Global};
@@ -122,7 +123,7 @@ fn push_copies(pairs: &mut Vec<Pair>, more: &[Pair]) -> Result<(), AllocError>
 fn are_parts_of(noted: &[Part], part: &Part, segment: &Segment, pairs: &[Pair]) -> bool
     ensures { IsTrue result ↔ All (λ (other : PartOf). other ≡ part_at (handed (ticket_of_part part.now) (record { segment = segment.now.known; pairs = pairs.now })) other.part) (gathered part.now noted.now) }
 {
-    let ticket = part.ticket();
+    let ticket = Ticket::of(part);
     for other in noted {
         if other.from == part.from
             && other.number == part.number

@@ -1,6 +1,6 @@
 //! Parts of handovers.
 ghost use Rattle.std.specs.Prelude.{◌≡◌, ◌↔◌, ◌==◌, if◌then◌else◌, Some, None, IsTrue, IfOk};
-ghost use Rattle.chord_handover.specs.Handover.{parts_in, chunk, part_at, ticket_of_part};
+ghost use Rattle.chord_handover.specs.Handover.{parts_in, chunk, part_at};
 ghost use Rattle.chord_handover.specs.Known.{known_of};
 ghost use Rattle.chord_handover.specs.Parcelled.{handed};
 
@@ -36,22 +36,11 @@ impl Model for Part {
 }
 
 impl Part {
-    /// What names its handover.
-    pub fn ticket(&self) -> Ticket
-        ensures { result ≡ ticket_of_part self.now }
-    {
-        Ticket {
-            from: self.from,
-            to: self.to,
-            number: self.number,
-        }
-    }
-
     /// Whether it is one of the parts of this handover.
     pub fn is_of(&self, ticket: Ticket, segment: &Segment, pairs: &[Pair]) -> bool
         ensures { IsTrue result ↔ (self.now ≡ part_at (handed ticket (record { segment = segment.now.known; pairs = pairs.now })) self.now.part) }
     {
-        self.ticket() == ticket
+        Ticket::of(self) == ticket
             && self.of == count_parts(pairs)
             && self.fits_segment(segment)
             && same_pairs(&self.pairs, chunk_of(pairs, self.part))

@@ -1,7 +1,6 @@
 //! Worked values.
 
-use crate::sender::Outbox;
-use crate::{Gather, Parcelled, Part, Taken, Ticket, Verdict};
+use crate::{Gather, Outbox, Parcelled, Part, Taken, Ticket, Verdict};
 use chord_ident::{Id, Span};
 use chord_map::{Bytes, Pair};
 use chord_segment::Segment;

@@ -1,4 +1,4 @@
-use Rattle.std.proofs.Common.{◌≡◌, ◌+◌, ◌<◌, ℕ, [], get_or, Less}
+use Rattle.std.proofs.Common.{◌≡◌, ◌+◌, ◌<◌, ℕ, get_or, Less}
 use Rattle.chord_map.specs.declared.pair.Pair.{Pair}
 use Rattle.chord_map.specs.Map.{pair_cmp}
 use Rattle.chord_handover.proofs.checks.are_rising.Given as goal

@@ -1,5 +1,5 @@
-use Rattle.std.proofs.Common.{◌≡◌, ◌+◌, ◌<◌, ◌&&◌, eqb, true, false, take, length, List, sym, ◌∙◌, ap, subst, arith}
-use Rattle.std.proofs.lemmas.Bool.{true≢false, and_parts, and_from}
+use Rattle.std.proofs.Common.{◌≡◌, eqb, true, take, List, sym, ◌∙◌, ap, subst}
+use Rattle.std.proofs.lemmas.Bool.{and_parts, and_from}
 use Rattle.std.proofs.lemmas.List.{take_all}
 use Rattle.chord_map.proofs.Lists.{Has, has_contained, each_all}
 use Rattle.chord_segment.proofs.MarkLemmas.{eqb_same, eqb_is}
@@ -21,7 +21,7 @@ returns-then-not-is_of c = (
       let like = and_from (eqb other.from part.from) (eqb other.number part.number) (eqb_same other.from part.from from) (eqb_same other.number part.number number) in
       let there = has_noted part noted other (has_contained noted other (c.loop-other.other-index, c.loop-other-test.true, sym c.other-item.is)) like in
       let is = each_all (IsPartOf (ticket_of_part part) c.args.segment.now.known c.args.pairs.now) (gathered part noted) each other there in
-      let ticket : c.ticket-ticket.result ≡ ticket_of_part part = c.ticket-ticket.ensures in
+      let ticket : c.of-ticket.result ≡ ticket_of_part part = c.of-ticket.ensures in
       c.if-not-is_of.ensures.1 (subst (λ (t : Ticket). IsPartOf t c.args.segment.now.known c.args.pairs.now other) (sym ticket) is),
 )
 
@@ -29,7 +29,7 @@ pub loop-other-preserved : goal.loop-other-preserved
 loop-other-preserved c =
     let part = c.args.part.now in
     let other = c.other-item.result in
-    let P = λ (p : Part). is_like part p ≡ true → IsPartOf c.ticket-ticket.result c.args.segment.now.known c.args.pairs.now p in
+    let P = λ (p : Part). is_like part p ≡ true → IsPartOf c.of-ticket.result c.args.segment.now.known c.args.pairs.now p in
     one_further P c.args.noted.now c.loop-other.other-index other c.loop-other-test.true c.other-item.is c.loop-other.invariant
     (λ like.
     let parts = and_parts (eqb other.from part.from) (eqb other.number part.number) like in
@@ -45,7 +45,7 @@ pub returns : goal.returns
 returns c =
     let part = c.args.part.now in
     let noted = c.args.noted.now in
-    let ticket : c.ticket-ticket.result ≡ ticket_of_part part = c.ticket-ticket.ensures in
+    let ticket : c.of-ticket.result ≡ ticket_of_part part = c.of-ticket.ensures in
     let P = IsPartOf (ticket_of_part part) c.args.segment.now.known c.args.pairs.now in
     let whole : take c.loop-other.other-index noted ≡ noted = take_all c.loop-other.other-index noted c.loop-other-test.false in (
       λ h. all_gathered P part noted

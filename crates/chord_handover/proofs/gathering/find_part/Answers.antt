@@ -1,4 +1,4 @@
-use Rattle.std.proofs.Common.{◌≡◌, sym, ◌∙◌, ap}
+use Rattle.std.proofs.Common.{sym, ◌∙◌, ap}
 use Rattle.chord_handover.specs.Handover.{Part}
 use Rattle.chord_handover.proofs.GatherRules.{noted_at, itself_at, none_at}
 use Rattle.chord_handover.proofs.gathering.find_part.Goals as goal

@@ -1,4 +1,4 @@
-use Rattle.std.proofs.Common.{◌≡◌, inl, inr, sym, ◌∙◌}
+use Rattle.std.proofs.Common.{inl, inr, sym}
 use Rattle.std.proofs.lemmas.Bool.{true≢false}
 use Rattle.chord_handover.proofs.GatherRules.{they_differ, they_agree, makes_none_without}
 use Rattle.chord_handover.proofs.gathering.gather.Goals as goal

@@ -1,5 +1,5 @@
-use Rattle.std.proofs.Common.{◌≡◌, ◌+◌, ◌++◌, Some, None, List, sym, ◌∙◌, ap}
-use Rattle.chord_handover.specs.Gather.{pairs_of, pairs_upto, part_in}
+use Rattle.std.proofs.Common.{◌≡◌, ◌++◌, Some, ◌∙◌, ap}
+use Rattle.chord_handover.specs.Gather.{pairs_of}
 use Rattle.chord_handover.specs.Handover.{Part, gathered}
 use Rattle.chord_handover.proofs.GatherRules.{more_pairs, no_more_pairs, no_pairs_yet}
 use Rattle.chord_handover.proofs.gathering.join_pairs.Goals as goal

@@ -1,7 +1,7 @@
-use Rattle.std.proofs.Common.{◌≡◌, true, inr, List, sym, ◌∙◌, subst}
+use Rattle.std.proofs.Common.{inr, List, sym, ◌∙◌, subst}
 use Rattle.std.proofs.lemmas.Bool.{true≢false}
 use Rattle.chord_map.specs.declared.pair.Pair.{Pair}
-use Rattle.chord_handover.specs.Handover.{Part, gathered, ticket_of_part, IsWhole}
+use Rattle.chord_handover.specs.Handover.{gathered, ticket_of_part, IsWhole}
 use Rattle.chord_handover.specs.Parcelled.{Parcelled, IsParcelled, handed}
 use Rattle.std.specs.Prelude.{All}
 use Rattle.chord_handover.proofs.GatherRules.{IsPartOf, whole_from, makes_none}

@@ -1,4 +1,4 @@
-use Rattle.std.proofs.Common.{◌≡◌, ◌-◌, ◌*◌, ◌∙◌, ap, take, drop, arith}
+use Rattle.std.proofs.Common.{◌-◌, ◌*◌, ◌∙◌, ap, take, drop, arith}
 use Rattle.chord_handover.proofs.ParcelRules.{chunk_at, none_behind}
 use Rattle.chord_handover.proofs.part.chunk_of.Goals as goal
 
