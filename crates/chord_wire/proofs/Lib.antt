@@ -1,0 +1,9 @@
+pub mod Steps
+pub mod FieldLaws
+pub mod RequestLaws
+pub mod ReplyLaws
+pub mod ValueLaws
+pub mod Rising
+pub mod FrameLaws
+pub mod StreamLaws
+pub mod AnswerLaws

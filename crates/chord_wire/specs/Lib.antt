@@ -1,0 +1,7 @@
+pub mod Fault
+pub mod View
+pub mod Spelling
+pub mod Replies
+pub mod Reading
+pub mod ReadingReplies
+pub mod Streams

@@ -1,0 +1,16 @@
+-- What a whole stream spells.
+use Rattle.std.specs.Prelude.{◌≡◌, ℕ, List, ◌++◌, Some, Ok}
+use Rattle.std.specs.List.{flat_map, AllByRecursion}
+use Rattle.chord_wire.specs.declared.request.WireRequest.{WireRequest}
+use Rattle.chord_wire.specs.Spelling.{IsWireRequest, frame, request_body}
+use Rattle.chord_wire.specs.Reading.{next_request}
+
+-- the frame of a request
+abbrev pub request_frame : WireRequest → List ℕ
+request_frame r = frame (request_body r)
+
+-- The bytes spell these requests, and behind them stands the rest, in which no request is next. Source: our own.
+pub record Spells (bytes : List ℕ) (requests : List WireRequest) (rest : List ℕ) : Type 0 where
+  pub each : AllByRecursion IsWireRequest requests
+  pub parts : bytes ≡ flat_map request_frame requests ++ rest
+  pub no_next : (r : WireRequest) (behind : List ℕ) → next_request rest ≡ Ok (Some (r, behind)) → ⊥

@@ -1,0 +1,93 @@
+//! What is wrong with a frame, or with what it asks.
+ghost use Rattle.std.specs.Prelude.{◌≡◌};
+ghost use Rattle.chord_wire.specs.Fault.{out_of_memory, code_number, code_of};
+
+use crate::codes;
+use std::alloc::{AllocError, AllocFailed};
+
+#[derive(Clone, Copy, Debug, PartialEq, Eq)]
+pub enum FaultCode {
+    BadLength,
+    BadVersion,
+    BadOperation,
+    BadKey,
+    BadValue,
+    Trailing,
+    Memory,
+    NumberReused,
+    BadNumber,
+    Full,
+    NoAnswer,
+    BadFloor,
+}
+
+impl FaultCode {
+    /// The fault with this code in a frame. Want of memory stands in none.
+    pub fn from_number(number: u8) -> Option<FaultCode>
+        ensures { result ≡ code_of number }
+    {
+        match number {
+            codes::BAD_LENGTH => Some(FaultCode::BadLength),
+            codes::BAD_VERSION => Some(FaultCode::BadVersion),
+            codes::BAD_OPERATION => Some(FaultCode::BadOperation),
+            codes::BAD_KEY => Some(FaultCode::BadKey),
+            codes::BAD_VALUE => Some(FaultCode::BadValue),
+            codes::TRAILING => Some(FaultCode::Trailing),
+            codes::NUMBER_REUSED => Some(FaultCode::NumberReused),
+            codes::BAD_NUMBER => Some(FaultCode::BadNumber),
+            codes::FULL => Some(FaultCode::Full),
+            codes::NO_ANSWER => Some(FaultCode::NoAnswer),
+            codes::BAD_FLOOR => Some(FaultCode::BadFloor),
+            _ => None,
+        }
+    }
+
+    /// The code in a frame.
+    pub fn to_number(self) -> u8
+        ensures { result ≡ code_number self }
+    {
+        match self {
+            FaultCode::BadLength => codes::BAD_LENGTH,
+            FaultCode::BadVersion => codes::BAD_VERSION,
+            FaultCode::BadOperation => codes::BAD_OPERATION,
+            FaultCode::BadKey => codes::BAD_KEY,
+            FaultCode::BadValue => codes::BAD_VALUE,
+            FaultCode::Trailing => codes::TRAILING,
+            FaultCode::Memory => codes::MEMORY,
+            FaultCode::NumberReused => codes::NUMBER_REUSED,
+            FaultCode::BadNumber => codes::BAD_NUMBER,
+            FaultCode::Full => codes::FULL,
+            FaultCode::NoAnswer => codes::NO_ANSWER,
+            FaultCode::BadFloor => codes::BAD_FLOOR,
+        }
+    }
+}
+
+/// A fault, and the number of the request that has it, or 0 where none is known.
+#[derive(Clone, Copy, Debug, PartialEq, Eq)]
+pub struct WireFault {
+    pub code: FaultCode,
+    pub number: u64,
+}
+
+impl From<AllocError> for WireFault {
+    ghost from_gives = { λ _ e. e ≡ out_of_memory };
+
+    fn from(_error: AllocError) -> WireFault {
+        WireFault {
+            code: FaultCode::Memory,
+            number: 0,
+        }
+    }
+}
+
+impl<T: Drop> From<AllocFailed<T>> for WireFault {
+    ghost from_gives = { λ _ e. e ≡ out_of_memory };
+
+    fn from(_error: AllocFailed<T>) -> WireFault {
+        WireFault {
+            code: FaultCode::Memory,
+            number: 0,
+        }
+    }
+}
