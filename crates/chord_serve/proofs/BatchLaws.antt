@@ -1,0 +1,236 @@
+-- Requests dealt with one after another, and how a session ends.
+use Rattle.std.proofs.Common.{◌≡◌, ◌⊎◌, ℕ, ◌<◌, List, [], ◌∷◌, ◌++◌, length, false, Option, Some, None, Result, Ok, Err, refl, sym, ap, subst, ◌∙◌, append_assoc, inl, inr}
+use Rattle.std.specs.List.{flat_map}
+use Rattle.std.specs.Io.KnownBytes.{Appends, Consumes, Keeps}
+use Rattle.std.proofs.KnownBytes.{Appends-nil, Appends-kept, Appends-trans, Consumes-nil, Consumes-kept, Consumes-trans}
+use Rattle.std.proofs.lemmas.List.{append-nil}
+use Rattle.std.proofs.lemmas.List.Concat.{flat_map-cons, flat_map-append}
+use Rattle.chord_wire.specs.declared.request.WireRequest.{WireRequest}
+use Rattle.chord_wire.specs.declared.fault.WireFault.{WireFault}
+use Rattle.chord_wire.specs.Spelling.{IsWireRequest}
+use Rattle.chord_wire.specs.Reading.{next_request, body_at}
+use Rattle.chord_serve.specs.declared.asker.Asked.{Asked}
+use Rattle.chord_serve.specs.declared.served.Served.{Served}
+use Rattle.chord_serve.specs.declared.served.Served.TheVariants as served
+use Rattle.chord_serve.specs.declared.stop.Stop.{Stop}
+use Rattle.chord_serve.specs.declared.stop.Stop.TheVariants as stop
+use Rattle.chord_serve.specs.Question.{Question}
+use Rattle.chord_serve.specs.State.{State}
+use Rattle.chord_serve.specs.Session.{start, move_of}
+use Rattle.chord_serve.specs.Output.{written, state_after, questions, question_of}
+use Rattle.chord_serve.specs.Steps.{Step, MayAsk, Deals}
+use Rattle.chord_serve.specs.declared.connection.Connection.{Connection}
+use Rattle.chord_serve.proofs.Serving.{Serves, Serves-append, as_function, serves}
+use Rattle.chord_wire.specs.Streams.{request_frame}
+use Rattle.chord_serve.specs.Served.{end_of, fault_frame, is_other, AreOfVersion, Dealt, IsRefused, Refuses, DealsWithAll, DealsWithSome, AsksNext, StopsAfter, DealsWithBatch, TakesTurn, IsServed, WritesFault, IsStop, EndsInput}
+
+-- nothing is decided before the first byte
+pub next_of_nothing : next_request [] ≡ Ok None
+unfolding next_request body_at
+next_of_nothing = refl
+
+-- a connection of these parts
+abbrev pub connected : List ℕ → Option ℕ → State → Connection
+connected frames version session = record { frames = frames; version = version; session = session }
+
+-- nothing was written
+pub Keeps-nothing : (old new : Option (List ℕ)) → Keeps old new → Appends old new []
+Keeps-nothing old new k = Appends-kept old old new [] (Appends-nil old) k
+
+AreOfVersion-append : (v w x : Option ℕ) (rs ts : List WireRequest) → AreOfVersion v rs w → AreOfVersion w ts x → AreOfVersion v (rs ++ ts) x
+AreOfVersion-append v w x [] ts p q = subst (λ (u : Option ℕ). AreOfVersion u ts x) p q
+AreOfVersion-append v w x (r ∷ rs) ts p q = (p.0, p.1, AreOfVersion-append (Some r.version) w x rs ts p.2 q)
+
+-- an end that comes of a request says nothing of the input
+pub stop_ends : (left : Option (List ℕ)) (end : Served) → IsStop end → EndsInput end left
+stop_ends left (served.Malformed code) stop = tt
+stop_ends left served.Write stop = tt
+stop_ends left served.Memory stop = tt
+stop_ends left served.Ended stop = absurd stop
+stop_ends left served.Truncated stop = absurd stop
+stop_ends left served.Read stop = absurd stop
+stop_ends left served.TurnsSpent stop = absurd stop
+
+module _ {A : Type 0} (answers : A → Question → Asked → A → Type 0) where
+  pub nothing : (v : Option ℕ) (s : State) (a : A) (bytes : List ℕ) → Dealt answers v s a bytes [] bytes v s a
+  unfolding written state_after questions
+  nothing v s a bytes = record { requests = []; given = []; spelled = refl; versions = refl; output_is = refl; state_is = refl; answered = refl }
+
+  -- the steps of what was dealt with
+  steps : (v : Option ℕ) (s : State) (a : A) (bytes output rest : List ℕ) (w : Option ℕ) (t : State) (b : A) (p : Dealt answers v s a bytes output rest w t b) → Serves answers s a p.requests output t b
+  steps v s a bytes output rest w t b p = serves answers s a p.requests output t b (record { given = p.given; output_is = p.output_is; state_is = p.state_is; answered = p.answered })
+
+  made_of : (v : Option ℕ) (s : State) (a : A) (requests : List WireRequest) (bytes output rest : List ℕ) (w : Option ℕ) (t : State) (b : A) → bytes ≡ flat_map request_frame requests ++ rest → AreOfVersion v requests w → Serves answers s a requests output t b → Dealt answers v s a bytes output rest w t b
+  made_of v s a requests bytes output rest w t b spelled versions h =
+      let f = as_function answers s a requests output t b h in
+      record { requests = requests; given = f.given; spelled = spelled; versions = versions; output_is = f.output_is; state_is = f.state_is; answered = f.answered }
+
+  -- one after the other
+  pub Dealt-then : (v w x : Option ℕ) (s t u : State) (a b c : A) (bytes first rest second end : List ℕ) → Dealt answers v s a bytes first rest w t b → Dealt answers w t b rest second end x u c → Dealt answers v s a bytes (first ++ second) end x u c
+  Dealt-then v w x s t u a b c bytes first rest second end p q =
+      let spelled : bytes ≡ flat_map request_frame (p.requests ++ q.requests) ++ end =
+      p.spelled ∙ ap (λ (ys : List ℕ). flat_map request_frame p.requests ++ ys) q.spelled ∙ sym (append_assoc (flat_map request_frame p.requests) (flat_map request_frame q.requests) end) ∙ ap (λ (ys : List ℕ). ys ++ end) (sym (flat_map-append request_frame p.requests q.requests)) in
+      made_of v s a (p.requests ++ q.requests) bytes (first ++ second) end x u c spelled
+      (AreOfVersion-append v w x p.requests q.requests p.versions q.versions)
+      (Serves-append answers s a p.requests q.requests first second t u b c (steps v s a bytes first rest w t b p) (steps w t b rest second end x u c q))
+
+  -- more bytes came
+  pub Dealt-fed : (v w : Option ℕ) (s t : State) (a b : A) (bytes output rest more : List ℕ) → Dealt answers v s a bytes output rest w t b → Dealt answers v s a (bytes ++ more) output (rest ++ more) w t b
+  Dealt-fed v w s t a b bytes output rest more p = record {
+    requests = p.requests;
+    given = p.given;
+    spelled = ap (λ (ys : List ℕ). ys ++ more) p.spelled ∙ append_assoc (flat_map request_frame p.requests) rest more;
+    versions = p.versions;
+    output_is = p.output_is;
+    state_is = p.state_is;
+    answered = p.answered;
+  }
+
+  -- one request
+  pub one_dealt : (v : Option ℕ) (s t : State) (a b : A) (r : WireRequest) (bytes output rest : List ℕ) → IsWireRequest r × (bytes ≡ request_frame r ++ rest) → is_other v r.version ≡ false → Step answers s a r output t b → Dealt answers v s a bytes output rest (Some r.version) t b
+  one_dealt v s t a b r bytes output rest fits same step =
+      made_of v s a (r ∷ []) bytes output rest (Some r.version) t b
+      (fits.1 ∙ ap (λ (ys : List ℕ). ys ++ rest) (sym (append-nil (request_frame r)) ∙ sym (flat_map-cons request_frame r [])))
+      (fits.0, same, refl)
+      (output, [], t, b, step, (refl, refl, refl), sym (append-nil output))
+
+  stops_at_once : (v : Option ℕ) (s : State) (a : A) (bytes : List ℕ) → StopsAfter answers v s a bytes [] a
+  stops_at_once v s a bytes = record { rest = bytes; version = v; state = s; asker = a; dealt = nothing v s a bytes; last = inl refl }
+
+  -- an end with what was written for it
+  abbrev pub EndsSo : Served → Option ℕ → State → A → List ℕ → Option (List ℕ) → Option (List ℕ) → A → Type 0
+  EndsSo end v s a bytes old new a' = (output : List ℕ) × IsServed answers end v s a bytes output a' × Appends old new output
+
+  pub memory_ends : (v : Option ℕ) (s : State) (a : A) (bytes : List ℕ) (old : Option (List ℕ)) → EndsSo served.Memory v s a bytes old old a
+  memory_ends v s a bytes old = ([], stops_at_once v s a bytes, Appends-nil old)
+
+  refuses_nothing : (v : Option ℕ) (s : State) (a : A) (bytes : List ℕ) (f : WireFault) → IsRefused answers v bytes f → Refuses answers v s a bytes (fault_frame f) f a
+  refuses_nothing v s a bytes f refused = record { before = []; rest = bytes; version = v; state = s; dealt = nothing v s a bytes; refused = refused; output_is = refl }
+
+  pub refused_ends : (end : Served) (f : WireFault) (v : Option ℕ) (s : State) (a : A) (bytes : List ℕ) (old new : Option (List ℕ)) → IsRefused answers v bytes f → WritesFault end f old new → EndsSo end v s a bytes old new a
+  refused_ends (served.Malformed code) f v s a bytes old new refused w = (fault_frame f, (f, w.0, refuses_nothing v s a bytes f refused), w.1)
+  refused_ends served.Write f v s a bytes old new refused w = (w.front, (fault_frame f, w.rest, w.parts, inr (f, refuses_nothing v s a bytes f refused)), w.appends)
+  refused_ends served.Memory f v s a bytes old new refused w = ([], stops_at_once v s a bytes, Keeps-nothing old new w)
+  refused_ends served.Ended f v s a bytes old new refused w = absurd w
+  refused_ends served.Truncated f v s a bytes old new refused w = absurd w
+  refused_ends served.Read f v s a bytes old new refused w = absurd w
+  refused_ends served.TurnsSpent f v s a bytes old new refused w = absurd w
+
+  may_ask : (v : Option ℕ) (s : State) (a b : A) (r : WireRequest) (bytes rest : List ℕ) (question : Option Question) → question_of (move_of s r) r ≡ question → next_request bytes ≡ Ok (Some (r, rest)) → is_other v r.version ≡ false → MayAsk answers question a b → (b ≡ a) ⊎ AsksNext answers v s a bytes b
+  may_ask v s a b r bytes rest None e next same may = inl may
+  may_ask v s a b r bytes rest (Some q) e next same (inl not_asked) = inl not_asked
+  may_ask v s a b r bytes rest (Some q) e next same (inr asked) = inr (record { request = r; behind = rest; question = q; answer = asked.0; next = next; same_version = same; is_its_own = e; asks = asked.1 })
+
+  pub step_ends : (why : Stop) (v : Option ℕ) (s t : State) (a b : A) (r : WireRequest) (bytes rest : List ℕ) (old new : Option (List ℕ)) → next_request bytes ≡ Ok (Some (r, rest)) → IsWireRequest r × (bytes ≡ request_frame r ++ rest) → is_other v r.version ≡ false → Deals answers (Err why) s a r old new t b → EndsSo (end_of why) v s a bytes old new b
+  step_ends stop.Write v s t a b r bytes rest old new next fits same d =
+      (d.3.front, (d.0, d.3.rest, d.3.parts, inl (record { rest = rest; version = Some r.version; state = d.1; dealt = one_dealt v s d.1 a b r bytes d.0 rest fits same d.2 })), d.3.appends)
+  step_ends stop.Memory v s t a b r bytes rest old new next fits same d =
+      ([], record { rest = bytes; version = v; state = s; asker = a; dealt = nothing v s a bytes; last = may_ask v s a b r bytes rest (question_of (move_of s r) r) refl next same d.1 }, Keeps-nothing old new d.0)
+
+  -- ---- what comes after some requests
+
+  all_after : (v w : Option ℕ) (s t : State) (a b c : A) (bytes first rest second end : List ℕ) → Dealt answers v s a bytes first rest w t b → DealsWithAll answers w t b rest second end c → DealsWithAll answers v s a bytes (first ++ second) end c
+  all_after v w s t a b c bytes first rest second end p q = record { version = q.version; state = q.state; dealt = Dealt-then v w q.version s t q.state a b c bytes first rest second end p q.dealt; undecided = q.undecided }
+
+  some_after : (v w : Option ℕ) (s t : State) (a b c : A) (bytes first rest second : List ℕ) → Dealt answers v s a bytes first rest w t b → DealsWithSome answers w t b rest second c → DealsWithSome answers v s a bytes (first ++ second) c
+  some_after v w s t a b c bytes first rest second p q = record { rest = q.rest; version = q.version; state = q.state; dealt = Dealt-then v w q.version s t q.state a b c bytes first rest second q.rest p q.dealt }
+
+  refuses_after : (v w : Option ℕ) (s t : State) (a b c : A) (bytes first rest second : List ℕ) (f : WireFault) → Dealt answers v s a bytes first rest w t b → Refuses answers w t b rest second f c → Refuses answers v s a bytes (first ++ second) f c
+  refuses_after v w s t a b c bytes first rest second f p q = record {
+    before = first ++ q.before;
+    rest = q.rest;
+    version = q.version;
+    state = q.state;
+    dealt = Dealt-then v w q.version s t q.state a b c bytes first rest q.before q.rest p q.dealt;
+    refused = q.refused;
+    output_is = ap (λ (ys : List ℕ). first ++ ys) q.output_is ∙ sym (append_assoc first q.before (fault_frame f));
+  }
+
+  pub served_after : (end : Served) (v w : Option ℕ) (s t : State) (a b c : A) (bytes first rest second : List ℕ) → Dealt answers v s a bytes first rest w t b → IsServed answers end w t b rest second c → IsServed answers end v s a bytes (first ++ second) c
+  served_after served.Ended v w s t a b c bytes first rest second p q = all_after v w s t a b c bytes first rest second [] p q
+  served_after served.Truncated v w s t a b c bytes first rest second p q = (q.0, q.1, all_after v w s t a b c bytes first rest second q.0 p q.2)
+  served_after served.Read v w s t a b c bytes first rest second p q = (q.0, all_after v w s t a b c bytes first rest second q.0 p q.1)
+  served_after served.TurnsSpent v w s t a b c bytes first rest second p q = (q.0, all_after v w s t a b c bytes first rest second q.0 p q.1)
+  served_after (served.Malformed code) v w s t a b c bytes first rest second p q = (q.0, q.1, refuses_after v w s t a b c bytes first rest second q.0 p q.2)
+  served_after served.Write v w s t a b c bytes first rest second p q =
+      let parts : first ++ q.0 ≡ (first ++ second) ++ q.1 = ap (λ (ys : List ℕ). first ++ ys) q.2 ∙ sym (append_assoc first second q.1) in (
+        first ++ q.0,
+        q.1,
+        parts,
+        elim q.3 [
+          | inl some ↦ inl (some_after v w s t a b c bytes first rest q.0 p some)
+          | inr refused ↦ inr (refused.0, refuses_after v w s t a b c bytes first rest q.0 refused.0 p refused.1)
+        ],
+      )
+  served_after served.Memory v w s t a b c bytes first rest second p q =
+      record { rest = q.rest; version = q.version; state = q.state; asker = q.asker; dealt = Dealt-then v w q.version s t q.state a b q.asker bytes first rest second q.rest p q.dealt; last = q.last }
+
+  -- requests dealt with, and what was written for them
+  abbrev pub DealsSo : Option ℕ → State → A → List ℕ → Option (List ℕ) → Option (List ℕ) → List ℕ → Option ℕ → State → A → Type 0
+  DealsSo v s a bytes old new rest w t b = (output : List ℕ) × Dealt answers v s a bytes output rest w t b × Appends old new output
+
+  pub deals_nothing : (v : Option ℕ) (s : State) (a : A) (bytes : List ℕ) (old : Option (List ℕ)) → DealsSo v s a bytes old old bytes v s a
+  deals_nothing v s a bytes old = ([], nothing v s a bytes, Appends-nil old)
+
+  pub deals_on : (v w x : Option ℕ) (s t u : State) (a b c : A) (bytes rest end : List ℕ) (old mid new : Option (List ℕ)) → DealsSo v s a bytes old mid rest w t b → DealsSo w t b rest mid new end x u c → DealsSo v s a bytes old new end x u c
+  deals_on v w x s t u a b c bytes rest end old mid new p q =
+      (p.0 ++ q.0, Dealt-then v w x s t u a b c bytes p.0 rest q.0 end p.1 q.1, Appends-trans old mid new p.0 q.0 p.2 q.2)
+
+  pub ends_on : (end : Served) (v w : Option ℕ) (s t : State) (a b c : A) (bytes rest : List ℕ) (old mid new : Option (List ℕ)) → DealsSo v s a bytes old mid rest w t b → EndsSo end w t b rest mid new c → EndsSo end v s a bytes old new c
+  ends_on end v w s t a b c bytes rest old mid new p q =
+      (p.0 ++ q.0, served_after end v w s t a b c bytes p.0 rest q.0 p.1 q.1, Appends-trans old mid new p.0 q.0 p.2 q.2)
+
+  -- ---- turns
+
+  all_of_nothing : (v : Option ℕ) (s : State) (a : A) (bytes : List ℕ) → next_request bytes ≡ Ok None → DealsWithAll answers v s a (bytes ++ []) [] bytes a
+  all_of_nothing v s a bytes none = subst (λ (xs : List ℕ). DealsWithAll answers v s a xs [] bytes a) (sym (append-nil bytes)) (record { version = v; state = s; dealt = nothing v s a bytes; undecided = none })
+
+  -- an end without more bytes or with bytes that are not dealt with
+  abbrev pub EndsTurn : Served → Option ℕ → State → A → List ℕ → Option (List ℕ) → Option (List ℕ) → Option (List ℕ) → Option (List ℕ) → A → Type 0
+  EndsTurn end v s a bytes left left' old new a' = (input : List ℕ) × (output : List ℕ) × Consumes left left' input × IsServed answers end v s a (bytes ++ input) output a' × Appends old new output
+
+  pub read_ends : (v : Option ℕ) (s : State) (a : A) (bytes : List ℕ) (left left' old : Option (List ℕ)) → next_request bytes ≡ Ok None → Keeps left left' → EndsTurn served.Read v s a bytes left left' old old a
+  read_ends v s a bytes left left' old none kept = ([], [], Consumes-kept left left left' [] (Consumes-nil left) kept, (bytes, all_of_nothing v s a bytes none), Appends-nil old)
+
+  pub input_ends : (v : Option ℕ) (s : State) (a : A) (bytes : List ℕ) (left left' old : Option (List ℕ)) → next_request bytes ≡ Ok None → Consumes left left' [] → bytes ≡ [] → EndsTurn served.Ended v s a bytes left left' old old a
+  input_ends v s a bytes left left' old none taken end = ([], [], taken, subst (λ (xs : List ℕ). DealsWithAll answers v s a (bytes ++ []) [] xs a) end (all_of_nothing v s a bytes none), Appends-nil old)
+
+  pub input_stops : (v : Option ℕ) (s : State) (a : A) (bytes : List ℕ) (left left' old : Option (List ℕ)) → next_request bytes ≡ Ok None → Consumes left left' [] → 0 < length bytes → EndsTurn served.Truncated v s a bytes left left' old old a
+  input_stops v s a bytes left left' old none taken some = ([], [], taken, (bytes, some, all_of_nothing v s a bytes none), Appends-nil old)
+
+  pub feed_ends : (v : Option ℕ) (s : State) (a : A) (bytes input : List ℕ) (left left' old : Option (List ℕ)) → Consumes left left' input → EndsTurn served.Memory v s a bytes left left' old old a
+  feed_ends v s a bytes input left left' old taken = (input, [], taken, stops_at_once v s a (bytes ++ input), Appends-nil old)
+
+  pub batch_turns : (result : Result (Unit {0}) Served) (v w : Option ℕ) (s t : State) (a b : A) (bytes input fed rest : List ℕ) (left left' old new : Option (List ℕ)) → fed ≡ bytes ++ input → Consumes left left' input
+      → DealsWithBatch answers result (connected fed v s) a old new (connected rest w t) b → TakesTurn answers result (connected bytes v s) a left left' old new (connected rest w t) b
+  batch_turns (Ok done) v w s t a b bytes input fed rest left left' old new e taken d = (input, d.0, taken, subst (λ (xs : List ℕ). Dealt answers v s a xs d.0 rest w t b) e d.1, d.2, d.3)
+  batch_turns (Err end) v w s t a b bytes input fed rest left left' old new e taken d = (input, d.0, taken, subst (λ (xs : List ℕ). IsServed answers end v s a xs d.0 b) e d.1, d.2)
+
+  -- the turns so far
+  abbrev pub TurnsSo : A → Option (List ℕ) → Option (List ℕ) → Option (List ℕ) → Option (List ℕ) → List ℕ → Option ℕ → State → A → Type 0
+  TurnsSo a left left' old new rest w t b = TakesTurn answers (Ok tt) (connected [] None start) a left left' old new (connected rest w t) b
+
+  pub turn_on : (w x : Option ℕ) (t u : State) (a b c : A) (rest end : List ℕ) (left left' left'' old mid new : Option (List ℕ)) → TurnsSo a left left' old mid rest w t b → TakesTurn answers (Ok tt) (connected rest w t) b left' left'' mid new (connected end x u) c → TurnsSo a left left'' old new end x u c
+  turn_on w x t u a b c rest end left left' left'' old mid new p q = (
+    p.0 ++ q.0,
+    p.1 ++ q.1,
+    Consumes-trans left left' left'' p.0 q.0 p.2 q.2,
+    Dealt-then None w x start t u a b c (p.0 ++ q.0) p.1 (rest ++ q.0) q.1 end (Dealt-fed None w start t a b p.0 p.1 rest q.0 p.3) q.3,
+    q.4,
+    Appends-trans old mid new p.1 q.1 p.5 q.5,
+  )
+
+  pub turn_ends : (last : Served) (w : Option ℕ) (t : State) (a b c : A) (rest : List ℕ) (left left' left'' old mid new : Option (List ℕ)) → TurnsSo a left left' old mid rest w t b → EndsTurn last w t b rest left' left'' mid new c → EndsTurn last None start a [] left left'' old new c
+  turn_ends last w t a b c rest left left' left'' old mid new p q = (
+    p.0 ++ q.0,
+    p.1 ++ q.1,
+    Consumes-trans left left' left'' p.0 q.0 p.2 q.2,
+    served_after last None w start t a b c (p.0 ++ q.0) p.1 (rest ++ q.0) q.1 (Dealt-fed None w start t a b p.0 p.1 rest q.0 p.3) q.3,
+    Appends-trans old mid new p.1 q.1 p.5 q.4,
+  )
+
+  pub turns_spent : (w : Option ℕ) (t : State) (a b : A) (rest : List ℕ) (left left' old new : Option (List ℕ)) → TurnsSo a left left' old new rest w t b → EndsTurn served.TurnsSpent None start a [] left left' old new b
+  turns_spent w t a b rest left left' old new p = (p.0, p.1, p.2, (rest, record { version = w; state = t; dealt = p.3; undecided = p.4 }), p.5)
+
+  pub no_turn : (a : A) (left old : Option (List ℕ)) → next_request [] ≡ Ok None → TurnsSo a left left old old [] None start a
+  no_turn a left old none = ([], [], Consumes-nil left, nothing None start a [], none, Appends-nil old)

@@ -1,0 +1,5 @@
+pub mod Fronts
+pub mod Places
+pub mod StepLaws
+pub mod Serving
+pub mod BatchLaws

@@ -1,0 +1,104 @@
+-- What one request leaves, move by move.
+use Rattle.std.proofs.Common.{◌≡◌, ◌≢◌, ℕ, ◌-◌, List, [], ◌∷◌, ◌++◌, length, Option, Some, None, Result, Ok, Err, refl, sym, ap, subst, ◌∙◌, arith, inr, slice_get}
+use Rattle.std.specs.Prelude.{OnOk}
+use Rattle.std.specs.Option.{option_map}
+use Rattle.std.proofs.lemmas.List.{length-append}
+use Rattle.chord_map.specs.declared.request.Request.{Request}
+use Rattle.chord_wire.specs.declared.request.WireRequest.{WireRequest}
+use Rattle.chord_wire.specs.declared.fault.FaultCode.{FaultCode}
+use Rattle.chord_wire.specs.Spelling.{frame}
+use Rattle.chord_wire.specs.Replies.{fault_body}
+use Rattle.chord_serve.specs.declared.asker.Asked.{Asked}
+use Rattle.chord_serve.specs.declared.asker.Asked.TheVariants as asked
+use Rattle.chord_serve.specs.declared.kept.Kept.{Kept}
+use Rattle.chord_serve.specs.declared.session.Move.{Move}
+use Rattle.chord_serve.specs.declared.session.Move.TheVariants.{Refuse, Again, Ask, Retry}
+use Rattle.chord_serve.specs.declared.stop.Stop.{Stop}
+use Rattle.chord_serve.specs.declared.stop.Stop.TheVariants as stop
+use Rattle.chord_serve.specs.Question.{Question}
+use Rattle.chord_serve.specs.Question as question
+use Rattle.chord_serve.specs.State.{State}
+use Rattle.chord_serve.specs.Session.{accepted, added, repeated, move_of}
+use Rattle.chord_serve.specs.Writes.{Writes}
+use Rattle.chord_serve.specs.Output.{frame_of, told, question_of}
+use Rattle.chord_serve.specs.Steps.{Asks, Does, Step, MayAsk, Deals}
+
+last_of : (ks : List Kept) (k : Kept) → slice_get (ks ++ k ∷ []) (length ks) ≡ Some k
+last_of [] k = refl
+last_of (x ∷ ks) k = last_of ks k
+
+abbrev given : Request → Option Request
+given x = Some x
+
+some_request : (x y : Request) → given x ≡ given y → x ≡ y
+some_request x y e = cc
+
+-- the request that was added last
+pub newest_is : (s : State) (request x : Request) → option_map (λ (k : Kept). k.request) (slice_get (added s request).kept (length (added s request).kept - 1)) ≡ Some x → x ≡ request
+newest_is s request x e =
+    let k : Kept = record { request = request; frame = None } in
+    let place : length (s.kept ++ k ∷ []) - 1 ≡ length s.kept = omega (arith, length-append s.kept (k ∷ [])) in
+    let there : slice_get (s.kept ++ k ∷ []) (length (s.kept ++ k ∷ []) - 1) ≡ Some k = ap (slice_get (s.kept ++ k ∷ [])) place ∙ last_of s.kept k in
+    some_request x request (sym e ∙ ap (option_map (λ (y : Kept). y.request)) there)
+
+module _ {A : Type 0} (answers : A → Question → Asked → A → Type 0) where
+  -- the move and the session that the code has are those of the definition
+  with_move : (m : Move) (mid s : State) (a : A) (r : WireRequest) (bytes : List ℕ) (s' : State) (a' : A) → m ≡ move_of s r → mid ≡ accepted s r → Does answers m mid a r bytes s' a' → Step answers s a r bytes s' a'
+  with_move m mid s a r bytes s' a' e t h =
+      subst (λ (n : Move). Does answers n (accepted s r) a r bytes s' a') e (subst (λ (u : State). Does answers m u a r bytes s' a') t h)
+
+  -- a step of which these bytes were to be written
+  wrote : (result : Result (Unit {0}) Stop) (s : State) (a : A) (r : WireRequest) (bytes : List ℕ) (s' : State) (a' : A) (old new : Option (List ℕ)) → result ≢ Err stop.Memory → Step answers s a r bytes s' a' → Writes result old new bytes → Deals answers result s a r old new s' a'
+  wrote (Ok done) s a r bytes s' a' old new ne step w = (bytes, step, w)
+  wrote (Err stop.Write) s a r bytes s' a' old new ne step w = (bytes, s', step, w)
+  wrote (Err stop.Memory) s a r bytes s' a' old new ne step w = absurd (ne refl)
+
+  pub refuses : (result : Result (Unit {0}) Stop) (code : FaultCode) (s mid : State) (a : A) (r : WireRequest) (old new : Option (List ℕ)) → Refuse code ≡ move_of s r → mid ≡ accepted s r → result ≢ Err stop.Memory → Writes result old new (frame (fault_body r.number code)) → Deals answers result s a r old new mid a
+  refuses result code s mid a r old new e t ne w =
+      wrote result s a r (frame (fault_body r.number code)) mid a old new ne (with_move (Refuse code) mid s a r (frame (fault_body r.number code)) mid a e t (refl, refl, refl)) w
+
+  pub repeats : (result : Result (Unit {0}) Stop) (bytes : List ℕ) (s mid : State) (a : A) (r : WireRequest) (old new : Option (List ℕ)) → Again ≡ move_of s r → mid ≡ accepted s r → bytes ≡ repeated mid r.number → result ≢ Err stop.Memory → Writes result old new bytes → Deals answers result s a r old new mid a
+  repeats result bytes s mid a r old new e t there ne w =
+      wrote result s a r bytes mid a old new ne (with_move Again mid s a r bytes mid a e t (there, refl, refl)) w
+
+  -- a question was asked, and its answer told
+  told_deals : (result : Result (Unit {0}) Stop) (answer : Asked) (q : Question) (before after s : State) (a a' : A) (r : WireRequest) (old new : Option (List ℕ))
+      → question_of (move_of s r) r ≡ Some q
+      → ((bytes : List ℕ) (s' : State) → Asks answers before a q r.number bytes s' a' → Step answers s a r bytes s' a')
+      → answers a q answer a'
+      → Writes result old new (frame_of r.number answer)
+      → OnOk result (after ≡ told before r.number answer)
+      → OnOk result (answer ≢ asked.Memory)
+      → (result ≡ Err stop.Write → answer ≢ asked.Memory)
+      → Deals answers result s a r old new after a'
+  told_deals (Ok done) answer q before after s a a' r old new asks step answered w t ok err =
+      (frame_of r.number answer, step (frame_of r.number answer) after (record { answer = answer; not_memory = ok; asks = answered; bytes_are = refl; state_is = t }), w)
+  told_deals (Err stop.Write) answer q before after s a a' r old new asks step answered w t ok err =
+      (frame_of r.number answer, told before r.number answer, step (frame_of r.number answer) (told before r.number answer) (record { answer = answer; not_memory = err refl; asks = answered; bytes_are = refl; state_is = refl }), w)
+  told_deals (Err stop.Memory) answer q before after s a a' r old new asks step answered w t ok err =
+      (w, subst (λ (o : Option Question). MayAsk answers o a a') (sym asks) (inr (answer, answered)))
+
+  pub asks_new : (result : Result (Unit {0}) Stop) (answer : Asked) (asked_for : Request) (mid before after s : State) (a a' : A) (r : WireRequest) (old new : Option (List ℕ))
+      → Ask ≡ move_of s r → mid ≡ accepted s r → before ≡ added mid r.request → asked_for ≡ r.request
+      → answers a (question.Ask asked_for) answer a'
+      → Writes result old new (frame_of r.number answer)
+      → OnOk result (after ≡ told before r.number answer)
+      → OnOk result (answer ≢ asked.Memory)
+      → (result ≡ Err stop.Write → answer ≢ asked.Memory)
+      → Deals answers result s a r old new after a'
+  asks_new result answer asked_for mid before after s a a' r old new e t b same answered w ok1 ok2 err =
+      told_deals result answer (question.Ask r.request) before after s a a' r old new (ap (λ (m : Move). question_of m r) (sym e))
+      (λ bytes s' h. with_move Ask mid s a r bytes s' a' e t (subst (λ (u : State). Asks answers u a (question.Ask r.request) r.number bytes s' a') b h))
+      (subst (λ (x : Request). answers a (question.Ask x) answer a') same answered) w ok1 ok2 err
+
+  pub asks_again : (result : Result (Unit {0}) Stop) (answer : Asked) (mid after s : State) (a a' : A) (r : WireRequest) (old new : Option (List ℕ))
+      → Retry ≡ move_of s r → mid ≡ accepted s r
+      → answers a (question.Retry r.number) answer a'
+      → Writes result old new (frame_of r.number answer)
+      → OnOk result (after ≡ told mid r.number answer)
+      → OnOk result (answer ≢ asked.Memory)
+      → (result ≡ Err stop.Write → answer ≢ asked.Memory)
+      → Deals answers result s a r old new after a'
+  asks_again result answer mid after s a a' r old new e t answered w ok1 ok2 err =
+      told_deals result answer (question.Retry r.number) mid after s a a' r old new (ap (λ (m : Move). question_of m r) (sym e))
+      (λ bytes s' h. with_move Retry mid s a r bytes s' a' e t h) answered w ok1 ok2 err

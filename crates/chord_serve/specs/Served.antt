@@ -1,0 +1,159 @@
+-- What a session has written for the bytes that it read.
+use Rattle.std.specs.Prelude.{◌≡◌, ◌⊎◌, ◌<◌, ℕ, List, [], ◌∷◌, ◌++◌, length, Bool, true, false, not, ◌==◌, Option, Some, None, Result, Ok, Err}
+use Rattle.std.specs.List.{flat_map}
+use Rattle.std.specs.Io.KnownBytes.{Appends, Consumes, Keeps, IsAtEnd}
+use Rattle.chord_wire.specs.declared.request.WireRequest.{WireRequest}
+use Rattle.chord_wire.specs.declared.fault.WireFault.{WireFault}
+use Rattle.chord_wire.specs.declared.fault.FaultCode.TheVariants.{BadVersion}
+use Rattle.chord_wire.specs.Fault.{fault}
+use Rattle.chord_wire.specs.Spelling.{IsWireRequest, frame}
+use Rattle.chord_wire.specs.Streams.{request_frame}
+use Rattle.chord_wire.specs.Replies.{fault_body}
+use Rattle.chord_wire.specs.Reading.{next_request}
+use Rattle.chord_serve.specs.declared.asker.Asked.{Asked}
+use Rattle.chord_serve.specs.declared.served.Served.{Served}
+use Rattle.chord_serve.specs.declared.served.Served.TheVariants as served
+use Rattle.chord_serve.specs.declared.stop.Stop.{Stop}
+use Rattle.chord_serve.specs.declared.stop.Stop.TheVariants as stop
+use Rattle.chord_serve.specs.Question.{Question}
+use Rattle.chord_serve.specs.State.{State}
+use Rattle.chord_serve.specs.Session.{move_of}
+use Rattle.chord_serve.specs.declared.connection.Connection.{Connection}
+use Rattle.chord_serve.specs.Output.{written, state_after, questions, question_of, AreAnswers}
+use Rattle.chord_serve.specs.Writes.{WritesFront}
+
+-- the end that stops a session in the midst of a request
+abbrev pub end_of : Stop → Served
+end_of stop.Write = served.Write
+end_of stop.Memory = served.Memory
+
+-- the frame of a fault
+abbrev pub fault_frame : WireFault → List ℕ
+fault_frame f = frame (fault_body f.number f.code)
+
+-- another version than the first one, if that is known
+abbrev pub is_other : Option ℕ → ℕ → Bool
+is_other None version = false
+is_other (Some first) version = not (first == version)
+
+-- requests of one version, which is that of the first one, or the one known before
+abbrev pub AreOfVersion : Option ℕ → List WireRequest → Option ℕ → Type 0
+AreOfVersion before [] after = after ≡ before
+AreOfVersion before (r ∷ rs) after = IsWireRequest r × (is_other before r.version ≡ false) × AreOfVersion (Some r.version) rs after
+
+module _ {A : Type 0} (answers : A → Question → Asked → A → Type 0) where
+  -- The front of the bytes spells requests. Their questions were asked once each, in order, and answered so; what these
+  -- answers make of them was written, and nothing else.
+  pub record Dealt (v : Option ℕ) (s : State) (a : A) (bytes output rest : List ℕ) (v' : Option ℕ) (s' : State) (a' : A) : Type 0 where
+    pub requests : List WireRequest
+    pub given : List Asked
+    pub spelled : bytes ≡ flat_map request_frame requests ++ rest
+    pub versions : AreOfVersion v requests v'
+    pub output_is : output ≡ written s requests given
+    pub state_is : s' ≡ state_after s requests given
+    pub answered : AreAnswers answers a (questions s requests given) given a'
+
+  -- the next bytes are refused: a fault is in them, or they ask in another version
+  abbrev pub IsRefused : Option ℕ → List ℕ → WireFault → Type 0
+  IsRefused v rest f = (next_request rest ≡ Err f)
+      ⊎ ((r : WireRequest) × (after : List ℕ) × (next_request rest ≡ Ok (Some (r, after))) × (is_other v r.version ≡ true) × (f ≡ fault BadVersion 0))
+
+  -- some requests were dealt with, and the bytes behind them refused
+  pub record Refuses (v : Option ℕ) (s : State) (a : A) (bytes output : List ℕ) (f : WireFault) (a' : A) : Type 0 where
+    pub before : List ℕ
+    pub rest : List ℕ
+    pub version : Option ℕ
+    pub state : State
+    pub dealt : Dealt v s a bytes before rest version state a'
+    pub refused : IsRefused version rest f
+    pub output_is : output ≡ before ++ fault_frame f
+
+  -- all whole requests were dealt with
+  pub record DealsWithAll (v : Option ℕ) (s : State) (a : A) (bytes output rest : List ℕ) (a' : A) : Type 0 where
+    pub version : Option ℕ
+    pub state : State
+    pub dealt : Dealt v s a bytes output rest version state a'
+    pub undecided : next_request rest ≡ Ok None
+
+  -- some requests were dealt with
+  pub record DealsWithSome (v : Option ℕ) (s : State) (a : A) (bytes output : List ℕ) (a' : A) : Type 0 where
+    pub rest : List ℕ
+    pub version : Option ℕ
+    pub state : State
+    pub dealt : Dealt v s a bytes output rest version state a'
+
+  -- the question of the request that is next, which was asked last and is not answered in bytes
+  pub record AsksNext (v : Option ℕ) (s : State) (a : A) (rest : List ℕ) (a' : A) : Type 0 where
+    pub request : WireRequest
+    pub behind : List ℕ
+    pub question : Question
+    pub answer : Asked
+    pub next : next_request rest ≡ Ok (Some (request, behind))
+    pub same_version : is_other v request.version ≡ false
+    pub is_its_own : question_of (move_of s request) request ≡ Some question
+    pub asks : answers a question answer a'
+
+  -- some requests were dealt with, and the question of the next one was asked or not
+  pub record StopsAfter (v : Option ℕ) (s : State) (a : A) (bytes output : List ℕ) (a' : A) : Type 0 where
+    pub rest : List ℕ
+    pub version : Option ℕ
+    pub state : State
+    pub asker : A
+    pub dealt : Dealt v s a bytes output rest version state asker
+    pub last : (a' ≡ asker) ⊎ AsksNext version state asker rest a'
+
+  -- How a session stands to its input and output where it ended so.
+  abbrev pub IsServed : Served → Option ℕ → State → A → List ℕ → List ℕ → A → Type 0
+  IsServed served.Ended v s a input output a' = DealsWithAll v s a input output [] a'
+  IsServed served.Truncated v s a input output a' = (rest : List ℕ) × (0 < length rest) × DealsWithAll v s a input output rest a'
+  IsServed served.Read v s a input output a' = (rest : List ℕ) × DealsWithAll v s a input output rest a'
+  IsServed served.TurnsSpent v s a input output a' = (rest : List ℕ) × DealsWithAll v s a input output rest a'
+  IsServed (served.Malformed code) v s a input output a' = (f : WireFault) × (f.code ≡ code) × Refuses v s a input output f a'
+  IsServed served.Write v s a input output a' = (whole : List ℕ) × (rest : List ℕ) × (whole ≡ output ++ rest) × (DealsWithSome v s a input whole a' ⊎ ((f : WireFault) × Refuses v s a input whole f a'))
+  IsServed served.Memory v s a input output a' = StopsAfter v s a input output a'
+
+  -- the next request was dealt with, or none is next, or the session ended
+  abbrev pub DealsWithNext : Result Bool Served → (c : Connection) (a : A) (old new : Option (List ℕ)) (c' : Connection) (a' : A) → Type 0
+  DealsWithNext (Ok true) c a old new c' a' = (output : List ℕ) × Dealt c.version c.session a c.frames output c'.frames c'.version c'.session a' × Appends old new output
+  DealsWithNext (Ok false) c a old new c' a' = (next_request c.frames ≡ Ok None) × (c'.frames ≡ c.frames) × (c'.version ≡ c.version) × (c'.session ≡ c.session) × (a' ≡ a) × Keeps old new
+  DealsWithNext (Err end) c a old new c' a' = (output : List ℕ) × IsServed end c.version c.session a c.frames output a' × Appends old new output
+
+  -- all whole requests were dealt with, or the session ended
+  abbrev pub DealsWithBatch : Result (Unit {0}) Served → (c : Connection) (a : A) (old new : Option (List ℕ)) (c' : Connection) (a' : A) → Type 0
+  DealsWithBatch (Ok done) c a old new c' a' = (output : List ℕ) × Dealt c.version c.session a c.frames output c'.frames c'.version c'.session a' × (next_request c'.frames ≡ Ok None) × Appends old new output
+  DealsWithBatch (Err end) c a old new c' a' = (output : List ℕ) × IsServed end c.version c.session a c.frames output a' × Appends old new output
+
+  -- One read, and what was dealt with then, with what was read and what was written. Or the session ended.
+  abbrev pub TakesTurn : Result (Unit {0}) Served → (c : Connection) (a : A) (left left' old new : Option (List ℕ)) (c' : Connection) (a' : A) → Type 0
+  TakesTurn (Ok done) c a left left' old new c' a' = (input : List ℕ) × (output : List ℕ) × Consumes left left' input × Dealt c.version c.session a (c.frames ++ input) output c'.frames c'.version c'.session a' × (next_request c'.frames ≡ Ok None) × Appends old new output
+  TakesTurn (Err end) c a left left' old new c' a' = (input : List ℕ) × (output : List ℕ) × Consumes left left' input × IsServed end c.version c.session a (c.frames ++ input) output a' × Appends old new output
+
+-- a fault frame was written, or a front of it, or nothing
+abbrev pub WritesFault : Served → WireFault → Option (List ℕ) → Option (List ℕ) → Type 0
+WritesFault (served.Malformed code) f old new = (f.code ≡ code) × Appends old new (fault_frame f)
+WritesFault served.Write f old new = WritesFront old new (fault_frame f)
+WritesFault served.Memory f old new = Keeps old new
+WritesFault served.Ended f old new = ⊥
+WritesFault served.Truncated f old new = ⊥
+WritesFault served.Read f old new = ⊥
+WritesFault served.TurnsSpent f old new = ⊥
+
+-- an end that comes of a request
+abbrev pub IsStop : Served → Type 0
+IsStop (served.Malformed code) = Unit {0}
+IsStop served.Write = Unit {0}
+IsStop served.Memory = Unit {0}
+IsStop served.Ended = ⊥
+IsStop served.Truncated = ⊥
+IsStop served.Read = ⊥
+IsStop served.TurnsSpent = ⊥
+
+-- where the input ended, nothing is left of it
+abbrev pub EndsInput : Served → Option (List ℕ) → Type 0
+EndsInput served.Ended left = IsAtEnd left
+EndsInput served.Truncated left = IsAtEnd left
+EndsInput served.Read left = Unit {0}
+EndsInput served.TurnsSpent left = Unit {0}
+EndsInput (served.Malformed code) left = Unit {0}
+EndsInput served.Write left = Unit {0}
+EndsInput served.Memory left = Unit {0}

@@ -1,0 +1,49 @@
+-- One request of a session, with the question that it asks.
+use Rattle.std.specs.Prelude.{◌≡◌, ◌≢◌, ◌⊎◌, ℕ, List, Option, Some, None, Result, Ok, Err}
+use Rattle.std.specs.Io.KnownBytes.{Appends, Keeps}
+use Rattle.chord_wire.specs.declared.request.WireRequest.{WireRequest}
+use Rattle.chord_wire.specs.Spelling.{frame}
+use Rattle.chord_wire.specs.Replies.{fault_body}
+use Rattle.chord_serve.specs.declared.asker.Asked.{Asked}
+use Rattle.chord_serve.specs.declared.asker.Asked.TheVariants as asked
+use Rattle.chord_serve.specs.declared.session.Move.{Move}
+use Rattle.chord_serve.specs.declared.session.Move.TheVariants.{Refuse, Again, Ask, Retry}
+use Rattle.chord_serve.specs.declared.stop.Stop.{Stop}
+use Rattle.chord_serve.specs.declared.stop.Stop.TheVariants as stop
+use Rattle.chord_serve.specs.Question.{Question}
+use Rattle.chord_serve.specs.Question as question
+use Rattle.chord_serve.specs.State.{State}
+use Rattle.chord_serve.specs.Session.{accepted, added, repeated, move_of}
+use Rattle.chord_serve.specs.Output.{frame_of, told, question_of}
+use Rattle.chord_serve.specs.Writes.{WritesFront}
+
+module _ {A : Type 0} (answers : A → Question → Asked → A → Type 0) where
+  -- the question is asked once, and its answer is what is written and kept
+  pub record Asks (s : State) (a : A) (q : Question) (number : ℕ) (bytes : List ℕ) (s' : State) (a' : A) : Type 0 where
+    pub answer : Asked
+    pub not_memory : answer ≢ asked.Memory
+    pub asks : answers a q answer a'
+    pub bytes_are : bytes ≡ frame_of number answer
+    pub state_is : s' ≡ told s number answer
+
+  -- a move from a session that let the request in
+  abbrev pub Does : Move → State → A → WireRequest → List ℕ → State → A → Type 0
+  Does (Refuse code) s a r bytes s' a' = (bytes ≡ frame (fault_body r.number code)) × (s' ≡ s) × (a' ≡ a)
+  Does Again s a r bytes s' a' = (bytes ≡ repeated s r.number) × (s' ≡ s) × (a' ≡ a)
+  Does Ask s a r bytes s' a' = Asks (added s r.request) a (question.Ask r.request) r.number bytes s' a'
+  Does Retry s a r bytes s' a' = Asks s a (question.Retry r.number) r.number bytes s' a'
+
+  -- what is written for one request, and the session and the asker after it
+  abbrev pub Step : State → A → WireRequest → List ℕ → State → A → Type 0
+  Step s a r bytes s' a' = Does (move_of s r) (accepted s r) a r bytes s' a'
+
+  -- the question, if there is one, was asked or not
+  abbrev pub MayAsk : Option Question → A → A → Type 0
+  MayAsk None a a' = a' ≡ a
+  MayAsk (Some q) a a' = (a' ≡ a) ⊎ ((answer : Asked) × answers a q answer a')
+
+  -- a step with its bytes; at Write only a front of them was written; at Memory nothing
+  abbrev pub Deals : Result (Unit {0}) Stop → State → A → WireRequest → Option (List ℕ) → Option (List ℕ) → State → A → Type 0
+  Deals (Ok done) s a r old new s' a' = (bytes : List ℕ) × Step s a r bytes s' a' × Appends old new bytes
+  Deals (Err stop.Write) s a r old new s' a' = (bytes : List ℕ) × (later : State) × Step s a r bytes later a' × WritesFront old new bytes
+  Deals (Err stop.Memory) s a r old new s' a' = Keeps old new × MayAsk (question_of (move_of s r) r) a a'

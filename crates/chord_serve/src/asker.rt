@@ -1,0 +1,41 @@
+//! Who answers the requests.
+ghost use Rattle.std.specs.Prelude.{◌≡◌, ◌≢◌, List};
+ghost use Rattle.chord_map.specs.declared.request.Request.{Request};
+ghost use Rattle.chord_serve.specs.Question.{Question, Ask, Retry, IsAnswer, IsReplyTo, asked_with, request_asked};
+ghost use Rattle.chord_serve.specs.declared.asker.Asked.{Asked};
+ghost use Rattle.chord_serve.specs.declared.asker.Asked.TheVariants.{Memory};
+
+use chord_map::{Reply, Request};
+
+/// What came of a question.
+#[derive(Debug, Drop)]
+pub enum Asked {
+    Reply(Reply),
+    Full,
+    NoAnswer,
+    Memory,
+}
+
+pub trait Asker {
+    /// From this state the question may be answered so, which leaves the next state.
+    ghost answers: { Self → Question → Asked → Self → Type 0 };
+
+    /// The requests that it was asked, in order. Their numbers are 1, 2 and so on.
+    ghost asked: { Self → List Request };
+
+    /// Asks a new request.
+    fn ask(&mut self, request: &Request) -> Asked
+        ensures answer { answers self.old (Ask request.now) result self.new }
+        ensures fits { IsAnswer result };
+
+    /// Asks again for the request with this number, which was not answered.
+    fn retry(&mut self, number: u64) -> Asked
+        ensures answer { answers self.old (Retry number) result self.new }
+        ensures fits { IsAnswer result };
+
+    /// A new request is noted behind those before.
+    ghost notes: { (a b : Self) (question : Question) (answer : Asked) → answers a question answer b → answer ≢ Memory → asked b ≡ asked_with question (asked a) };
+
+    /// A reply is of its request's kind.
+    ghost kind: { (a b : Self) (question : Question) (answer : Asked) → answers a question answer b → IsReplyTo answer (request_asked question (asked a)) };
+}

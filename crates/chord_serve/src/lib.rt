@@ -1,0 +1,21 @@
+//! A byte server: frames in, frames out.
+#![tactic(auto)]
+
+mod asker;
+mod client;
+mod connection;
+mod kept;
+mod served;
+mod server;
+mod session;
+mod step;
+mod stop;
+mod write_bytes;
+
+pub use asker::{Asked, Asker};
+pub use client::{CallFault, call, call_2};
+pub use served::Served;
+pub use server::serve;
+
+#[cfg(test)]
+mod tests;

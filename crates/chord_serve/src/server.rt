@@ -1,0 +1,34 @@
+//! The server's loop.
+ghost use Rattle.std.specs.Prelude.{◌≡◌, List, ℕ, None};
+ghost use Rattle.std.specs.Io.KnownBytes.{Appends, Consumes};
+ghost use Rattle.chord_serve.specs.Session.{start};
+ghost use Rattle.chord_serve.specs.Served.{IsServed, EndsInput};
+
+use crate::asker::Asker;
+use crate::connection::Connection;
+use crate::served::Served;
+use std::alloc::Global;
+use std::io::{Read, Write};
+
+/// Answers the requests that the reader gives, until the input ends, a frame is refused, a call fails, or that many
+/// reads were made.
+pub fn serve<R: Read, W: Write, A: Asker>(
+    alloc: Global,
+    reader: &mut R,
+    writer: &mut W,
+    asker: &mut A,
+    turns: u64,
+) -> Served
+    ensures end { EndsInput result (R.remaining reader.new) }
+    ensures served { (input : List ℕ) × (output : List ℕ) × Consumes (R.remaining reader.old) (R.remaining reader.new) input
+        × IsServed A.answers result None start asker.old input output asker.new
+        × Appends (W.contents writer.old) (W.contents writer.new) output }
+{
+    let mut connection = Connection::new(alloc);
+    for _ in 0..turns {
+        if let Err(end) = connection.take_turn(alloc, reader, writer, asker) {
+            return end;
+        }
+    }
+    Served::TurnsSpent
+}

@@ -1,0 +1,167 @@
+//! What a session keeps of its requests.
+ghost use Rattle.chord_wire.specs.Spelling.{IsWireRequest};
+ghost use Rattle.std.specs.Prelude.{◌≡◌, ◌≢◌, IsSome, ◌≤◌, ◌^◌, slice_get, Some, ◌<◌, ◌-◌, ◌+◌, length, OnOk, OnErr};
+ghost use Rattle.chord_serve.specs.Session.{start, last, answered_of, is_out, raised, accepted, place_of, move_at, move_of, added, answered_at, frame_kept};
+ghost use Rattle.std.specs.Option.{option_map};
+
+use crate::kept::Kept;
+use chord_map::{Bytes, Request};
+use chord_wire::{FaultCode, WireRequest};
+use std::alloc::{AllocError, Global};
+use std::marker::Model;
+
+/// What a request calls for.
+#[derive(Clone, Copy, Debug, PartialEq, Eq)]
+pub enum Move {
+    /// This fault is written.
+    Refuse(FaultCode),
+    /// Its reply frame is written again.
+    Again,
+    /// It is asked.
+    Ask,
+    /// It was asked and not answered, and is asked again by its number.
+    Retry,
+}
+
+/// The requests above the greatest floor accepted, by number from floor + 1 on.
+#[derive(Debug, Drop)]
+pub struct Session {
+    floor: u64,
+    kept: Vec<Kept>,
+}
+
+impl Model for Session {
+    ghost use Rattle.std.specs.Prelude.{◌+◌, ◌<◌, ◌^◌, vec_len};
+    ghost use Rattle.chord_serve.specs.State.{State};
+
+    ghost Value = { State };
+
+    ghost view = { λ s. record { floor = s.floor; kept = s.kept.items } };
+
+    ghost invariant = { λ s. s.floor + vec_len s.kept < 2 ^ 64 };
+}
+
+fn answered_of(kept: &[Kept]) -> usize
+    ensures count { result ≡ answered_of kept.now }
+    ensures bound { result ≤ length kept.now }
+{
+    let mut count = 0;
+    for one in kept {
+        if one.frame.is_none() {
+            return count;
+        }
+        count += 1;
+    }
+    count
+}
+
+impl Session {
+    pub fn new(alloc: Global) -> Session
+        ensures { result ≡ start }
+    {
+        Session {
+            floor: 0,
+            kept: Vec::new(alloc),
+        }
+    }
+
+    /// What the request calls for. Unless its number is out of line, the floor rises to its floor.
+    pub fn accept(&mut self, wire: &WireRequest) -> Move
+        requires { IsWireRequest wire.now }
+        ensures call { result ≡ move_of self.old wire.now }
+        ensures state { self.new ≡ accepted self.old wire.now }
+        ensures above { result ≢ Move.Refuse FaultCode.BadNumber → self.new.floor < wire.now.number }
+        ensures next { result ≡ Move.Ask → wire.now.number ≡ last self.new + 1 }
+        ensures asked { result ≡ Move.Retry → wire.now.number ≤ last self.new }
+        ensures answered { result ≡ Move.Again → IsSome (frame_kept self.new wire.now.number) }
+    {
+        if self.is_out(wire) {
+            return Move::Refuse(FaultCode::BadNumber);
+        }
+        self.raise(wire.floor);
+        self.move_at(wire.number, &wire.request)
+    }
+
+    fn is_out(&self, wire: &WireRequest) -> bool
+        ensures test { result ≡ is_out self.now wire.now }
+        ensures in_range { last self.now < 2 ^ 64 }
+    {
+        let answered = self.floor + answered_of(&self.kept) as u64;
+        let last = self.floor + self.kept.len() as u64;
+        let number = wire.number;
+        number == 0 || answered < wire.floor || number <= self.floor || last < number - 1
+    }
+
+    fn raise(&mut self, floor: u64)
+        requires { floor ≤ last self.old }
+        ensures { self.new ≡ raised self.old floor }
+    {
+        if self.floor < floor {
+            self.kept.drain(..(floor - self.floor) as usize);
+            self.floor = floor;
+        }
+    }
+
+    /// Adds a request that is not answered yet.
+    pub fn add(&mut self, request: Request) -> Result<(), AllocError>
+        requires { last self.old < 2 ^ 64 - 1 }
+        ensures ok { OnOk result (self.new ≡ added self.old request) }
+    {
+        self.kept.push(Kept {
+            request,
+            frame: None,
+        })?;
+        Ok(())
+    }
+
+    /// The request that was added last.
+    pub fn newest(&self) -> &Request
+        requires { 0 < length self.now.kept }
+        ensures { option_map (λ k. k.request) (slice_get self.now.kept (length self.now.kept - 1)) ≡ Some result.now }
+    {
+        &self.kept[self.kept.len() - 1].request
+    }
+
+    /// Keeps the reply frame of a number.
+    pub fn keep(&mut self, number: u64, frame: Bytes)
+        requires above { self.old.floor < number }
+        requires kept { number ≤ last self.old }
+        ensures { self.new ≡ answered_at self.old number frame }
+    {
+        let place = self.place_of(number);
+        self.kept[place].frame = Some(frame);
+    }
+
+    /// The reply frame of a number, where there is one.
+    pub fn frame_of(&self, number: u64) -> Option<&Bytes>
+        requires { self.now.floor < number }
+        ensures { option_map (λ f. f.now) result ≡ frame_kept self.now number }
+    {
+        self.kept.get(self.place_of(number))?.frame.as_ref()
+    }
+
+    fn place_of(&self, number: u64) -> usize
+        requires { self.now.floor < number }
+        ensures { result ≡ place_of self.now number }
+    {
+        (number - self.floor - 1) as usize
+    }
+
+    fn move_at(&self, number: u64, request: &Request) -> Move
+        requires { self.now.floor < number }
+        ensures { result ≡ move_at (slice_get self.now.kept (place_of self.now number)) request.now }
+    {
+        match self.kept.get(self.place_of(number)) {
+            None => Move::Ask,
+            Some(kept) => {
+                if kept.request != *request {
+                    Move::Refuse(FaultCode::NumberReused)
+                } else if kept.frame.is_some() {
+                    Move::Again
+                } else {
+                    Move::Retry
+                }
+            }
+        }
+    }
+}

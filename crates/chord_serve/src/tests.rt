@@ -1,0 +1,5 @@
+//! Worked sessions, over memory.
+
+mod askers;
+mod devices;
+mod sessions;
