@@ -3,3 +3,4 @@ pub mod Places
 pub mod StepLaws
 pub mod Serving
 pub mod BatchLaws
+pub mod FittingReplies

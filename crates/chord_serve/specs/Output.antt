@@ -1,5 +1,6 @@
 -- Session: what is written, and what is asked, as functions of the requests and of the list of the asker's answers. Source: our own.
 use Rattle.std.specs.Prelude.{◌≡◌, ◌≢◌, ℕ, List, [], ◌∷◌, ◌++◌, Option, Some, None}
+use Rattle.chord_map.specs.declared.request.Request.{Request}
 use Rattle.chord_wire.specs.declared.request.WireRequest.{WireRequest}
 use Rattle.chord_wire.specs.declared.fault.FaultCode.TheVariants as fault
 use Rattle.chord_wire.specs.Spelling.{frame}
@@ -8,7 +9,7 @@ use Rattle.chord_serve.specs.declared.asker.Asked.{Asked}
 use Rattle.chord_serve.specs.declared.asker.Asked.TheVariants as asked
 use Rattle.chord_serve.specs.declared.session.Move.{Move}
 use Rattle.chord_serve.specs.declared.session.Move.TheVariants.{Refuse, Again, Ask, Retry}
-use Rattle.chord_serve.specs.Question.{Question}
+use Rattle.chord_serve.specs.Question.{Question, IsReplyTo}
 use Rattle.chord_serve.specs.Question as question
 use Rattle.chord_serve.specs.State.{State}
 use Rattle.chord_serve.specs.Session.{accepted, added, answered_at, repeated, move_of}
@@ -81,3 +82,19 @@ AreAnswers {A = A} answers a [] [] a' = a' ≡ a
 AreAnswers {A = A} answers a (q ∷ questions) (x ∷ given) a' = (b : A) × answers a q x b × (x ≢ asked.Memory) × AreAnswers answers b questions given a'
 AreAnswers {A = A} answers a [] (x ∷ given) a' = ⊥
 AreAnswers {A = A} answers a (q ∷ questions) [] a' = ⊥
+
+-- a request whose question was answered, before the others
+abbrev pub and_pair : Option Question → WireRequest → List Asked → List (Request × Asked) → List (Request × Asked)
+and_pair None r given pairs = pairs
+and_pair (Some q) r [] pairs = pairs
+and_pair (Some q) r (x ∷ given) pairs = (r.request, x) ∷ pairs
+
+-- the requests whose questions were answered, in order, each with its answer
+unfoldable pub answered_requests : State → List WireRequest → List Asked → List (Request × Asked)
+answered_requests s [] given = []
+answered_requests s (r ∷ requests) given =
+    and_pair (question_of (move_of s r) r) r given (answered_requests (reaction s r given).state requests (reaction s r given).unused)
+
+-- a reply is of the request's kind
+abbrev pub IsPaired : (Request × Asked) → Type 0
+IsPaired pair = IsReplyTo pair.1 (Some pair.0)

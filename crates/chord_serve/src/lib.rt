@@ -5,6 +5,7 @@ mod asker;
 mod client;
 mod connection;
 mod kept;
+pub mod laws;
 mod served;
 mod server;
 mod session;

@@ -1,0 +1,198 @@
+-- Each reply is of the kind of the request that it is written for.
+use Rattle.std.proofs.Common.{◌≡◌, ◌≢◌, ℕ, zero, suc, ◌+◌, ◌-◌, ◌<◌, ◌≤◌, max, Bool, true, false, cond, ◌||◌, eqb, ltb, leb, List, [], ◌∷◌, ◌++◌, length, take, drop, map, Option, Some, None, refl, sym, ap, subst, ◌∙◌, append_assoc, arith, inl, inr}
+use Rattle.std.specs.Prelude.{slice_get, is_some}
+use Rattle.std.specs.List.{AllByRecursion}
+use Rattle.std.proofs.lemmas.Bool.{cases_Bool, or_parts, ltb-false, leb-false, eqb-false}
+use Rattle.std.proofs.lemmas.List.{length-append, length-map, length-take, take-append-drop, map-append}
+use Rattle.chord_map.specs.declared.request.Request.{Request}
+use Rattle.chord_map.specs.Same.{same_request, same_request-Decides}
+use Rattle.chord_wire.specs.declared.request.WireRequest.{WireRequest}
+use Rattle.chord_wire.specs.declared.fault.FaultCode.TheVariants.{BadNumber, NumberReused}
+use Rattle.chord_wire.specs.Spelling.{IsWireRequest}
+use Rattle.chord_serve.specs.declared.asker.Asked.{Asked}
+use Rattle.chord_serve.specs.declared.asker.Asked.TheVariants as asked
+use Rattle.chord_serve.specs.declared.kept.Kept.{Kept}
+use Rattle.chord_serve.specs.declared.session.Move.{Move}
+use Rattle.chord_serve.specs.declared.session.Move.TheVariants.{Refuse, Again, Ask, Retry}
+use Rattle.chord_serve.specs.Question.{Question, IsReplyTo, asked_with, request_at, request_asked}
+use Rattle.chord_serve.specs.Question as question
+use Rattle.chord_serve.specs.State.{State}
+use Rattle.chord_serve.specs.Session.{accepted, added, answered, answered_of, answered_at, frame_at, is_out, last, move_at, move_of, place_of, raised, start}
+use Rattle.chord_serve.specs.Output.{reaction, react, told, question_of, and_then, and_pair, answered_requests, questions, AreAnswers, IsPaired}
+
+abbrev request_in : Kept → Request
+request_in k = k.request
+
+-- the requests that were asked are those at or below the floor, and those that are kept
+pub record IsNoted (s : State) (requests : List Request) : Type 0 where
+  pub front : List Request
+  pub long : length front ≡ s.floor
+  pub same : requests ≡ front ++ map request_in s.kept
+
+requests_stay : (kept : List Kept) (place : ℕ) (frame : List ℕ) → map request_in (frame_at kept place frame) ≡ map request_in kept
+requests_stay [] place frame = refl
+requests_stay (k ∷ kept) zero frame = refl
+requests_stay (k ∷ kept) (suc place) frame = ap (λ (xs : List Request). k.request ∷ xs) (requests_stay kept place frame)
+
+few_answered : (kept : List Kept) → answered_of kept ≤ length kept
+few_answered [] = omega arith
+few_answered (k ∷ kept) = elim (cases_Bool (is_some k.frame)) [
+  | inl some ↦ rw some (omega (arith, few_answered kept))
+  | inr none ↦ rw none (omega arith)
+]
+
+abbrev more_front : State → ℕ → List Request
+more_front s floor = map request_in (take (floor - s.floor) s.kept)
+
+noted_raised : (s : State) (floor : ℕ) (requests : List Request) → floor ≤ last s → IsNoted s requests → IsNoted (raised s floor) requests
+noted_raised s floor requests le n =
+    let long : length (n.front ++ more_front s floor) ≡ max s.floor floor =
+    omega (arith, length-append n.front (more_front s floor), length-map (take (floor - s.floor) s.kept) request_in, length-take (floor - s.floor) s.kept, n.long, le) in
+    let split : map request_in s.kept ≡ more_front s floor ++ map request_in (drop (floor - s.floor) s.kept) =
+    ap (map request_in) (sym (take-append-drop (floor - s.floor) s.kept)) ∙ map-append request_in (take (floor - s.floor) s.kept) (drop (floor - s.floor) s.kept) in
+    record {
+      front = n.front ++ more_front s floor;
+      long = long;
+      same = n.same ∙ ap (λ (xs : List Request). n.front ++ xs) split ∙ sym (append_assoc n.front (more_front s floor) (map request_in (drop (floor - s.floor) s.kept)));
+    }
+
+low_floor : (s : State) (r : WireRequest) → is_out s r ≡ false → r.floor ≤ last s
+low_floor s r e =
+    let all = or_parts ((eqb r.number 0 || ltb (answered s) r.floor) || leb r.number s.floor) (ltb (last s + 1) r.number) e in
+    let three = or_parts (eqb r.number 0 || ltb (answered s) r.floor) (leb r.number s.floor) all.0 in
+    let two = or_parts (eqb r.number 0) (ltb (answered s) r.floor) three.0 in
+    let le : r.floor ≤ answered s = ltb-false _ _ two.1 in
+    omega (arith, le, few_answered s.kept)
+
+noted_accepted : (s : State) (r : WireRequest) (requests : List Request) → IsNoted s requests → IsNoted (accepted s r) requests
+noted_accepted s r requests n = elim (cases_Bool (is_out s r)) [
+  | inl out ↦ subst (λ (b : Bool). IsNoted (cond b s (raised s r.floor)) requests) (sym out) n
+  | inr goes ↦ subst (λ (b : Bool). IsNoted (cond b s (raised s r.floor)) requests) (sym goes) (noted_raised s r.floor requests (low_floor s r goes) n)
+]
+
+noted_added : (s : State) (request : Request) (requests : List Request) → IsNoted s requests → IsNoted (added s request) (requests ++ request ∷ [])
+noted_added s request requests n = record {
+  front = n.front;
+  long = n.long;
+  same = ap (λ (xs : List Request). xs ++ request ∷ []) n.same ∙ append_assoc n.front (map request_in s.kept) (request ∷ [])
+      ∙ ap (λ (xs : List Request). n.front ++ xs) (sym (map-append request_in s.kept (record { request = request; frame = None } ∷ [])));
+}
+
+noted_framed : (s : State) (number : ℕ) (frame : List ℕ) (requests : List Request) → IsNoted s requests → IsNoted (answered_at s number frame) requests
+noted_framed s number frame requests n = record {
+  front = n.front;
+  long = n.long;
+  same = n.same ∙ ap (λ (xs : List Request). n.front ++ xs) (sym (requests_stay s.kept (place_of s number) frame));
+}
+
+noted_told : (s : State) (number : ℕ) (answer : Asked) (requests : List Request) → IsNoted s requests → IsNoted (told s number answer) requests
+noted_told s number (asked.Reply reply) requests n = noted_framed s number _ requests n
+noted_told s number asked.Full requests n = n
+noted_told s number asked.NoAnswer requests n = n
+noted_told s number asked.Memory requests n = n
+
+-- ---- the request of a number that is asked again
+
+slice_behind : {X : Type 0} (front xs : List X) (i : ℕ) → slice_get (front ++ xs) (length front + i) ≡ slice_get xs i
+slice_behind {X = X} [] xs i = let none : length {A = X} [] + i ≡ i = omega arith in rw none refl
+slice_behind (y ∷ front) xs i =
+    let one : length (y ∷ front) + i ≡ suc (length front + i) = omega arith in
+    rw one (slice_behind front xs i)
+
+slice_kept : (kept : List Kept) (place : ℕ) (k : Kept) → slice_get kept place ≡ Some k → slice_get (map request_in kept) place ≡ Some k.request
+slice_kept [] place k e = absurd cc
+slice_kept (x ∷ kept) zero k e = cc
+slice_kept (x ∷ kept) (suc place) k e = slice_kept kept place k e
+
+record Found (o : Option Kept) (request : Request) : Type 0 where
+  one : Kept
+  there : o ≡ Some one
+  same : one.request ≡ request
+
+tested : (k : Kept) (request : Request) → (a b : Bool) → same_request k.request request ≡ a → is_some k.frame ≡ b → cond a (cond b Again Retry) (Refuse NumberReused) ≡ Retry → Found (Some k) request
+tested k request true b e f h = record { one = k; there = refl; same = (same_request-Decides k.request request).0 e }
+tested k request false b e f h = absurd cc
+
+found : (o : Option Kept) (request : Request) → move_at o request ≡ Retry → Found o request
+found None request e = absurd cc
+found (Some k) request e = tested k request (same_request k.request request) (is_some k.frame) refl refl e
+
+not_refused : (s : State) (r : WireRequest) → move_of s r ≡ Retry → (is_out s r ≡ false) × (move_at (slice_get (raised s r.floor).kept (place_of (raised s r.floor) r.number)) r.request ≡ Retry)
+not_refused s r e =
+    let inner = move_at (slice_get (raised s r.floor).kept (place_of (raised s r.floor) r.number)) r.request in
+    let go : (b : Bool) → cond b (Refuse BadNumber) inner ≡ Retry → (b ≡ false) × (inner ≡ Retry) = λ b. elim b as (λ v. cond v (Refuse BadNumber) inner ≡ Retry → (v ≡ false) × (inner ≡ Retry)) [
+      | true ↦ λ h. absurd cc
+      | false ↦ λ h. (refl, h)
+    ] in
+    go (is_out s r) e
+
+-- the number is above the floor
+above : (s : State) (r : WireRequest) → IsWireRequest r → is_out s r ≡ false → (raised s r.floor).floor < r.number
+above s r fits e =
+    let all = or_parts ((eqb r.number 0 || ltb (answered s) r.floor) || leb r.number s.floor) (ltb (last s + 1) r.number) e in
+    let three = or_parts (eqb r.number 0 || ltb (answered s) r.floor) (leb r.number s.floor) all.0 in
+    let two = or_parts (eqb r.number 0) (ltb (answered s) r.floor) three.0 in
+    let some : r.number ≡ 0 → ⊥ = eqb-false _ _ two.0 in
+    let over : s.floor < r.number = leb-false _ _ three.1 in
+    let own : r.floor < r.number = elim fits.floor [
+      | inl one ↦ omega (arith, one.1, some)
+      | inr two ↦ two.1
+    ] in
+    omega (arith, over, own)
+
+retried_is : (s : State) (r : WireRequest) (requests : List Request) → IsWireRequest r → IsNoted (accepted s r) requests → move_of s r ≡ Retry → request_at r.number requests ≡ Some r.request
+retried_is s r requests fits n e =
+    let moved = not_refused s r e in
+    let t = raised s r.floor in
+    let noted : IsNoted t requests = subst (λ (b : Bool). IsNoted (cond b s t) requests) moved.0 n in
+    let it = found (slice_get t.kept (place_of t r.number)) r.request moved.1 in
+    let number : r.number ≡ suc (length noted.front + place_of t r.number) = omega (arith, above s r fits moved.0, noted.long) in
+    ap (λ (k : ℕ). request_at k requests) number
+    ∙ ap (λ (xs : List Request). slice_get xs (length noted.front + place_of t r.number)) noted.same
+    ∙ slice_behind noted.front (map request_in t.kept) (place_of t r.number)
+    ∙ slice_kept t.kept (place_of t r.number) it.one it.there
+    ∙ ap (λ (x : Request). Some x) it.same
+
+-- ---- all replies
+
+module _ {A : Type 0} (answers : A → Question → Asked → A → Type 0) (asked_of : A → List Request)
+    (notes : (a b : A) (q : Question) (x : Asked) → answers a q x b → x ≢ asked.Memory → asked_of b ≡ asked_with q (asked_of a))
+    (kind : (a b : A) (q : Question) (x : Asked) → answers a q x b → IsReplyTo x (request_asked q (asked_of a))) where
+  record Goes (m : Move) (t : State) (a : A) (r : WireRequest) (given : List Asked) (qs : List Question) (c : A) : Type 0 where
+    after : A
+    noted : IsNoted (react m t r given).state (asked_of after)
+    rest : AreAnswers answers after qs (react m t r given).unused c
+    fits : (pairs : List (Request × Asked)) → AllByRecursion IsPaired pairs → AllByRecursion IsPaired (and_pair (question_of m r) r given pairs)
+
+  goes : (m : Move) (s : State) (a : A) (r : WireRequest) (given : List Asked) (qs : List Question) (c : A) → move_of s r ≡ m → IsWireRequest r → IsNoted (accepted s r) (asked_of a) → AreAnswers answers a (and_then (question_of m r) qs) given c → Goes m (accepted s r) a r given qs c
+  goes (Refuse code) s a r given qs c e whole n h = record { after = a; noted = n; rest = h; fits = λ pairs all. all }
+  goes Again s a r given qs c e whole n h = record { after = a; noted = n; rest = h; fits = λ pairs all. all }
+  goes Ask s a r [] qs c e whole n h = absurd h
+  goes Ask s a r (x ∷ given) qs c e whole n h =
+      let next : asked_of h.0 ≡ asked_of a ++ r.request ∷ [] = notes a h.0 (question.Ask r.request) x h.1 h.2 in
+      record {
+        after = h.0;
+        noted = noted_told (added (accepted s r) r.request) r.number x (asked_of h.0) (subst (IsNoted (added (accepted s r) r.request)) (sym next) (noted_added (accepted s r) r.request (asked_of a) n));
+        rest = h.3;
+        fits = λ pairs all. (kind a h.0 (question.Ask r.request) x h.1, all);
+      }
+  goes Retry s a r [] qs c e whole n h = absurd h
+  goes Retry s a r (x ∷ given) qs c e whole n h =
+      let next : asked_of h.0 ≡ asked_of a = notes a h.0 (question.Retry r.number) x h.1 h.2 in
+      record {
+        after = h.0;
+        noted = noted_told (accepted s r) r.number x (asked_of h.0) (subst (IsNoted (accepted s r)) (sym next) n);
+        rest = h.3;
+        fits = λ pairs all. (subst (IsReplyTo x) (retried_is s r (asked_of a) whole n e) (kind a h.0 (question.Retry r.number) x h.1), all);
+      }
+
+  all_fit : (s : State) (a : A) (rs : List WireRequest) (given : List Asked) (b : A) → AllByRecursion IsWireRequest rs → IsNoted s (asked_of a) → AreAnswers answers a (questions s rs given) given b → AllByRecursion IsPaired (answered_requests s rs given)
+  unfolding questions answered_requests
+  all_fit s a [] given b whole n h = tt
+  all_fit s a (r ∷ rs) given b whole n h =
+      let x = reaction s r given in
+      let g = goes (move_of s r) s a r given (questions x.state rs x.unused) b refl whole.0 (noted_accepted s r (asked_of a) n) h in
+      g.fits (answered_requests x.state rs x.unused) (all_fit x.state g.after rs x.unused b whole.1 g.noted g.rest)
+
+  pub replies_fit : (a : A) (rs : List WireRequest) (given : List Asked) (b : A) → asked_of a ≡ [] → AllByRecursion IsWireRequest rs → AreAnswers answers a (questions start rs given) given b → AllByRecursion IsPaired (answered_requests start rs given)
+  replies_fit a rs given b none whole h = all_fit start a rs given b whole (record { front = []; long = refl; same = none }) h
