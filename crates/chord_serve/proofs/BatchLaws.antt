@@ -1,6 +1,6 @@
 -- Requests dealt with one after another, and how a session ends.
 use Rattle.std.proofs.Common.{◌≡◌, ◌⊎◌, ℕ, ◌<◌, List, [], ◌∷◌, ◌++◌, length, false, Option, Some, None, Result, Ok, Err, refl, sym, ap, subst, ◌∙◌, append_assoc, inl, inr}
-use Rattle.std.specs.List.{flat_map}
+use Rattle.std.specs.List.{flat_map, AllByRecursion}
 use Rattle.std.specs.Io.KnownBytes.{Appends, Consumes, Keeps}
 use Rattle.std.proofs.KnownBytes.{Appends-nil, Appends-kept, Appends-trans, Consumes-nil, Consumes-kept, Consumes-trans}
 use Rattle.std.proofs.lemmas.List.{append-nil}
@@ -21,7 +21,7 @@ use Rattle.chord_serve.specs.Output.{written, state_after, questions, question_o
 use Rattle.chord_serve.specs.Steps.{Step, MayAsk, Deals}
 use Rattle.chord_serve.specs.declared.connection.Connection.{Connection}
 use Rattle.chord_serve.proofs.Serving.{Serves, Serves-append, as_function, serves}
-use Rattle.chord_wire.specs.Streams.{request_frame}
+use Rattle.chord_wire.specs.Streams.{request_frame, Spells}
 use Rattle.chord_serve.specs.Served.{end_of, fault_frame, is_other, AreOfVersion, Dealt, IsRefused, Refuses, DealsWithAll, DealsWithSome, AsksNext, StopsAfter, DealsWithBatch, TakesTurn, IsServed, WritesFault, IsStop, EndsInput}
 
 -- nothing is decided before the first byte
@@ -39,7 +39,11 @@ Keeps-nothing old new k = Appends-kept old old new [] (Appends-nil old) k
 
 AreOfVersion-append : (v w x : Option ℕ) (rs ts : List WireRequest) → AreOfVersion v rs w → AreOfVersion w ts x → AreOfVersion v (rs ++ ts) x
 AreOfVersion-append v w x [] ts p q = subst (λ (u : Option ℕ). AreOfVersion u ts x) p q
-AreOfVersion-append v w x (r ∷ rs) ts p q = (p.0, p.1, AreOfVersion-append (Some r.version) w x rs ts p.2 q)
+AreOfVersion-append v w x (r ∷ rs) ts p q = (p.0, AreOfVersion-append (Some r.version) w x rs ts p.1 q)
+
+each-append : (rs ts : List WireRequest) → AllByRecursion IsWireRequest rs → AllByRecursion IsWireRequest ts → AllByRecursion IsWireRequest (rs ++ ts)
+each-append [] ts p q = q
+each-append (r ∷ rs) ts p q = (p.0, each-append rs ts p.1 q)
 
 -- an end that comes of a request says nothing of the input
 pub stop_ends : (left : Option (List ℕ)) (end : Served) → IsStop end → EndsInput end left
@@ -54,13 +58,13 @@ stop_ends left served.TurnsSpent stop = absurd stop
 module _ {A : Type 0} (answers : A → Question → Asked → A → Type 0) where
   pub nothing : (v : Option ℕ) (s : State) (a : A) (bytes : List ℕ) → Dealt answers v s a bytes [] bytes v s a
   unfolding written state_after questions
-  nothing v s a bytes = record { requests = []; given = []; spelled = refl; versions = refl; output_is = refl; state_is = refl; answered = refl }
+  nothing v s a bytes = record { requests = []; given = []; spelled = record { each = tt; parts = refl }; versions = refl; output_is = refl; state_is = refl; answered = refl }
 
   -- the steps of what was dealt with
   steps : (v : Option ℕ) (s : State) (a : A) (bytes output rest : List ℕ) (w : Option ℕ) (t : State) (b : A) (p : Dealt answers v s a bytes output rest w t b) → Serves answers s a p.requests output t b
   steps v s a bytes output rest w t b p = serves answers s a p.requests output t b (record { given = p.given; output_is = p.output_is; state_is = p.state_is; answered = p.answered })
 
-  made_of : (v : Option ℕ) (s : State) (a : A) (requests : List WireRequest) (bytes output rest : List ℕ) (w : Option ℕ) (t : State) (b : A) → bytes ≡ flat_map request_frame requests ++ rest → AreOfVersion v requests w → Serves answers s a requests output t b → Dealt answers v s a bytes output rest w t b
+  made_of : (v : Option ℕ) (s : State) (a : A) (requests : List WireRequest) (bytes output rest : List ℕ) (w : Option ℕ) (t : State) (b : A) → Spells bytes requests rest → AreOfVersion v requests w → Serves answers s a requests output t b → Dealt answers v s a bytes output rest w t b
   made_of v s a requests bytes output rest w t b spelled versions h =
       let f = as_function answers s a requests output t b h in
       record { requests = requests; given = f.given; spelled = spelled; versions = versions; output_is = f.output_is; state_is = f.state_is; answered = f.answered }
@@ -68,9 +72,9 @@ module _ {A : Type 0} (answers : A → Question → Asked → A → Type 0) wher
   -- one after the other
   pub Dealt-then : (v w x : Option ℕ) (s t u : State) (a b c : A) (bytes first rest second end : List ℕ) → Dealt answers v s a bytes first rest w t b → Dealt answers w t b rest second end x u c → Dealt answers v s a bytes (first ++ second) end x u c
   Dealt-then v w x s t u a b c bytes first rest second end p q =
-      let spelled : bytes ≡ flat_map request_frame (p.requests ++ q.requests) ++ end =
-      p.spelled ∙ ap (λ (ys : List ℕ). flat_map request_frame p.requests ++ ys) q.spelled ∙ sym (append_assoc (flat_map request_frame p.requests) (flat_map request_frame q.requests) end) ∙ ap (λ (ys : List ℕ). ys ++ end) (sym (flat_map-append request_frame p.requests q.requests)) in
-      made_of v s a (p.requests ++ q.requests) bytes (first ++ second) end x u c spelled
+      let parts : bytes ≡ flat_map request_frame (p.requests ++ q.requests) ++ end =
+      p.spelled.parts ∙ ap (λ (ys : List ℕ). flat_map request_frame p.requests ++ ys) q.spelled.parts ∙ sym (append_assoc (flat_map request_frame p.requests) (flat_map request_frame q.requests) end) ∙ ap (λ (ys : List ℕ). ys ++ end) (sym (flat_map-append request_frame p.requests q.requests)) in
+      made_of v s a (p.requests ++ q.requests) bytes (first ++ second) end x u c (record { each = each-append p.requests q.requests p.spelled.each q.spelled.each; parts = parts })
       (AreOfVersion-append v w x p.requests q.requests p.versions q.versions)
       (Serves-append answers s a p.requests q.requests first second t u b c (steps v s a bytes first rest w t b p) (steps w t b rest second end x u c q))
 
@@ -79,7 +83,7 @@ module _ {A : Type 0} (answers : A → Question → Asked → A → Type 0) wher
   Dealt-fed v w s t a b bytes output rest more p = record {
     requests = p.requests;
     given = p.given;
-    spelled = ap (λ (ys : List ℕ). ys ++ more) p.spelled ∙ append_assoc (flat_map request_frame p.requests) rest more;
+    spelled = record { each = p.spelled.each; parts = ap (λ (ys : List ℕ). ys ++ more) p.spelled.parts ∙ append_assoc (flat_map request_frame p.requests) rest more };
     versions = p.versions;
     output_is = p.output_is;
     state_is = p.state_is;
@@ -90,8 +94,8 @@ module _ {A : Type 0} (answers : A → Question → Asked → A → Type 0) wher
   pub one_dealt : (v : Option ℕ) (s t : State) (a b : A) (r : WireRequest) (bytes output rest : List ℕ) → IsWireRequest r × (bytes ≡ request_frame r ++ rest) → is_other v r.version ≡ false → Step answers s a r output t b → Dealt answers v s a bytes output rest (Some r.version) t b
   one_dealt v s t a b r bytes output rest fits same step =
       made_of v s a (r ∷ []) bytes output rest (Some r.version) t b
-      (fits.1 ∙ ap (λ (ys : List ℕ). ys ++ rest) (sym (append-nil (request_frame r)) ∙ sym (flat_map-cons request_frame r [])))
-      (fits.0, same, refl)
+      (record { each = (fits.0, tt); parts = fits.1 ∙ ap (λ (ys : List ℕ). ys ++ rest) (sym (append-nil (request_frame r)) ∙ sym (flat_map-cons request_frame r [])) })
+      (same, refl)
       (output, [], t, b, step, (refl, refl, refl), sym (append-nil output))
 
   stops_at_once : (v : Option ℕ) (s : State) (a : A) (bytes : List ℕ) → StopsAfter answers v s a bytes [] a

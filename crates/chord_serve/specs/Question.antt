@@ -1,4 +1,4 @@
--- Questions to an asker, and what may come of them.
+-- Questions to an asker, and what may come of them. Source: our own.
 use Rattle.std.specs.Prelude.{◌≡◌, ◌≢◌, ℕ, zero, suc, List, [], ◌∷◌, ◌++◌, Option, Some, None, slice_get, IsTrue}
 use Rattle.chord_map.specs.declared.request.Request.{Request}
 use Rattle.chord_map.specs.Map.{fits}

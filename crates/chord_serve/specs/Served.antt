@@ -1,13 +1,12 @@
--- What a session has written for the bytes that it read.
+-- What a session has written for the bytes that it read. Source: our own.
 use Rattle.std.specs.Prelude.{◌≡◌, ◌⊎◌, ◌<◌, ℕ, List, [], ◌∷◌, ◌++◌, length, Bool, true, false, not, ◌==◌, Option, Some, None, Result, Ok, Err}
-use Rattle.std.specs.List.{flat_map}
 use Rattle.std.specs.Io.KnownBytes.{Appends, Consumes, Keeps, IsAtEnd}
 use Rattle.chord_wire.specs.declared.request.WireRequest.{WireRequest}
 use Rattle.chord_wire.specs.declared.fault.WireFault.{WireFault}
 use Rattle.chord_wire.specs.declared.fault.FaultCode.TheVariants.{BadVersion}
 use Rattle.chord_wire.specs.Fault.{fault}
-use Rattle.chord_wire.specs.Spelling.{IsWireRequest, frame}
-use Rattle.chord_wire.specs.Streams.{request_frame}
+use Rattle.chord_wire.specs.Spelling.{frame}
+use Rattle.chord_wire.specs.Streams.{Spells}
 use Rattle.chord_wire.specs.Replies.{fault_body}
 use Rattle.chord_wire.specs.Reading.{next_request}
 use Rattle.chord_serve.specs.declared.asker.Asked.{Asked}
@@ -39,7 +38,7 @@ is_other (Some first) version = not (first == version)
 -- requests of one version, which is that of the first one, or the one known before
 abbrev pub AreOfVersion : Option ℕ → List WireRequest → Option ℕ → Type 0
 AreOfVersion before [] after = after ≡ before
-AreOfVersion before (r ∷ rs) after = IsWireRequest r × (is_other before r.version ≡ false) × AreOfVersion (Some r.version) rs after
+AreOfVersion before (r ∷ rs) after = (is_other before r.version ≡ false) × AreOfVersion (Some r.version) rs after
 
 module _ {A : Type 0} (answers : A → Question → Asked → A → Type 0) where
   -- The front of the bytes spells requests. Their questions were asked once each, in order, and answered so; what these
@@ -47,7 +46,7 @@ module _ {A : Type 0} (answers : A → Question → Asked → A → Type 0) wher
   pub record Dealt (v : Option ℕ) (s : State) (a : A) (bytes output rest : List ℕ) (v' : Option ℕ) (s' : State) (a' : A) : Type 0 where
     pub requests : List WireRequest
     pub given : List Asked
-    pub spelled : bytes ≡ flat_map request_frame requests ++ rest
+    pub spelled : Spells bytes requests rest
     pub versions : AreOfVersion v requests v'
     pub output_is : output ≡ written s requests given
     pub state_is : s' ≡ state_after s requests given

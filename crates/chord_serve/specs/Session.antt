@@ -1,4 +1,4 @@
--- What a session does with a request.
+-- What a session does with a request. Source: our own.
 use Rattle.std.specs.Prelude.{ℕ, zero, suc, ◌+◌, ◌-◌, max, Bool, ◌||◌, List, [], ◌∷◌, ◌++◌, length, drop, Option, Some, None, is_some, slice_get, option_and_then, nat_lt, nat_le, ◌==◌, if◌then◌else◌}
 use Rattle.chord_map.specs.declared.request.Request.{Request}
 use Rattle.chord_map.specs.Same.{same_request}

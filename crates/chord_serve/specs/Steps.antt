@@ -1,4 +1,4 @@
--- One request of a session, with the question that it asks.
+-- One request of a session, with the question that it asks. Source: our own.
 use Rattle.std.specs.Prelude.{◌≡◌, ◌≢◌, ◌⊎◌, ℕ, List, Option, Some, None, Result, Ok, Err}
 use Rattle.std.specs.Io.KnownBytes.{Appends, Keeps}
 use Rattle.chord_wire.specs.declared.request.WireRequest.{WireRequest}

@@ -4,6 +4,7 @@ pub mod RequestLaws
 pub mod ReplyLaws
 pub mod ValueLaws
 pub mod Rising
+pub mod MapValues
 pub mod FrameLaws
 pub mod StreamLaws
 pub mod AnswerLaws

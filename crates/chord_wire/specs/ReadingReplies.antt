@@ -1,4 +1,4 @@
--- Reading answers from left to right, with the first fault that is met.
+-- Reading answers from left to right, with the first fault that is met. Source: our own.
 use Rattle.std.specs.Prelude.{◌≡◌, ℕ, zero, suc, Bool, true, false, not, ◌||◌, List, [], ◌∷◌, length, Option, Some, None, Result, Ok, Err, nat_lt, ◌==◌, if◌then◌else◌, ◌⊎◌, IsOk}
 use Rattle.std.specs.Int.{w32, w64}
 use Rattle.std.specs.Ordering.{nat_cmp, is_lt}

@@ -1,4 +1,4 @@
--- The one spelling of each request.
+-- The one spelling of each request. Source: our own.
 use Rattle.std.specs.Prelude.{◌≡◌, ℕ, ◌+◌, ◌-◌, ◌<◌, ◌≤◌, ◌^◌, ◌⊎◌, List, [], ◌∷◌, ◌++◌, length, slice_index, if◌then◌else◌, ◌==◌}
 use Rattle.std.specs.Int.{w16, w32, w64, to_be_bytes}
 use Rattle.chord_map.specs.declared.request.Request.{Request}

@@ -1,4 +1,4 @@
--- What a whole stream spells.
+-- What a whole stream spells. Source: our own.
 use Rattle.std.specs.Prelude.{◌≡◌, ℕ, List, ◌++◌, Some, Ok}
 use Rattle.std.specs.List.{flat_map, AllByRecursion}
 use Rattle.chord_wire.specs.declared.request.WireRequest.{WireRequest}
@@ -9,8 +9,11 @@ use Rattle.chord_wire.specs.Reading.{next_request}
 abbrev pub request_frame : WireRequest → List ℕ
 request_frame r = frame (request_body r)
 
--- The bytes spell these requests, and behind them stands the rest, in which no request is next. Source: our own.
+-- the bytes spell these requests, and behind them stands the rest
 pub record Spells (bytes : List ℕ) (requests : List WireRequest) (rest : List ℕ) : Type 0 where
   pub each : AllByRecursion IsWireRequest requests
   pub parts : bytes ≡ flat_map request_frame requests ++ rest
-  pub no_next : (r : WireRequest) (behind : List ℕ) → next_request rest ≡ Ok (Some (r, behind)) → ⊥
+
+-- no request is next: a fault is, or nothing is decided
+abbrev pub HasNoNext : List ℕ → Type 0
+HasNoNext rest = (r : WireRequest) (behind : List ℕ) → next_request rest ≡ Ok (Some (r, behind)) → ⊥

@@ -1,4 +1,4 @@
--- A request that lies in a frame, as the request that it says.
+-- A request that lies in a frame, as the request that it says. Source: our own.
 use Rattle.chord_map.specs.declared.request.Request.{Request}
 use Rattle.chord_map.specs.declared.request.Request.TheVariants as whole
 use Rattle.chord_wire.specs.declared.request.RequestView.{RequestView}
