@@ -2,12 +2,10 @@
 use Rattle.std.proofs.Common.{◌≡◌, ℕ, ◌+◌, ◌<◌, ◌≤◌, Bool, true, false, cond, not, List, [], ◌∷◌, ◌++◌, length, take, get_or, Less, Equal, Greater, refl, sym, ap, ◌∙◌, subst, arith, inl, inr, ◌^◌, map, bytes_eq}
 use Rattle.std.specs.List.{filter}
 use Rattle.std.proofs.lemmas.List.{take_more}
-use Rattle.std.specs.List.Sorted.{IsStrictlySortedBy}
 use Rattle.chord_ident.specs.declared.id.Id.{Id}
 use Rattle.chord_ident.specs.declared.span.Span.{Span}
 use Rattle.chord_ident.proofs.Spans.{whole_circle}
 use Rattle.chord_ident.proofs.Digest.{key_id-below}
-use Rattle.chord_map.specs.Pairs.{IsRising}
 use Rattle.chord_ident.specs.Circle.{in_span, key_id}
 use Rattle.chord_map.specs.declared.pair.Pair.{Pair}
 use Rattle.chord_map.specs.Map.{values_at, pair_cmp, by_order, insert_pair, put_all, reply_to, pairs_by, pairs_after}

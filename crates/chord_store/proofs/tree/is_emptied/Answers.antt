@@ -1,4 +1,4 @@
-use Rattle.std.proofs.Common.{◌≡◌, ◌∙◌, sym, ap, length, true, false, Some, None}
+use Rattle.std.proofs.Common.{◌∙◌, sym, ap, length}
 use Rattle.std.proofs.lemmas.Bool.{true≢false}
 use Rattle.std.specs.Option.{option_copied}
 use Rattle.chord_store.specs.Tree.{set_values}

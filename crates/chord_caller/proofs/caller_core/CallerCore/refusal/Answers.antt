@@ -1,4 +1,4 @@
-use Rattle.std.proofs.Common.{rules, ◌≡◌, length, refl, arith}
+use Rattle.std.proofs.Common.{rules, length, refl, arith}
 use Rattle.chord_map.specs.Checked.{IsRequest}
 use Rattle.chord_caller.proofs.Views.{Shows, shows}
 use Rattle.chord_caller.proofs.caller_core.CallerCore.refusal.Goals as goal
