@@ -1,11 +1,12 @@
 -- Which requests keep the limits, what is wrong with the others, and what a map answers.
-use Rattle.std.specs.Prelude.{◌≡◌, ℕ, ◌<◌, ◌≤◌, List, [], length, Result, Ok, Err}
+use Rattle.std.specs.Prelude.{◌≡◌, ℕ, Bool, true, false, ◌<◌, ◌≤◌, List, [], length, Result, Ok, Err}
 use Rattle.chord_map.specs.declared.pair.Pair.{Pair}
 use Rattle.chord_map.specs.declared.request.Request.{Request}
 use Rattle.chord_map.specs.declared.request.Request.TheVariants.{Insert, Retrieve, Remove}
 use Rattle.chord_map.specs.declared.request.RequestFault.{RequestFault}
 use Rattle.chord_map.specs.declared.request.RequestFault.TheVariants.{KeyEmpty, KeyLong, ValueLong}
 use Rattle.chord_map.specs.declared.reply.Reply.{Reply}
+use Rattle.chord_map.specs.declared.reply.Reply.TheVariants.{Added, Values}
 use Rattle.chord_map.specs.Map.{key_of, reply_to, pairs_after}
 
 -- a key has 1 to 255 bytes
@@ -37,7 +38,13 @@ abbrev pub CheckIs : {A : Type 0} → Request → Result A RequestFault → Type
 CheckIs request (Ok passed) = IsRequest request
 CheckIs request (Err fault) = HasFault request fault
 
--- the map gives the reply and has the pairs that are then due, or memory was wanting and nothing changed
+-- a reply takes memory where a value is added, and where values are told
+abbrev pub takes_memory : Reply → Bool
+takes_memory Added = true
+takes_memory (Values values) = true
+takes_memory reply = false
+
+-- the map gives the reply and has the pairs that are then due, or a reply that takes memory lacked it and nothing changed
 abbrev pub ApplyIs : {E : Type 0} → Request → List Pair → Result Reply E → List Pair → Type 0
 ApplyIs request pairs (Ok reply) pairs' = (reply ≡ reply_to request pairs) × (pairs' ≡ pairs_after request pairs)
-ApplyIs request pairs (Err fault) pairs' = pairs' ≡ pairs
+ApplyIs request pairs (Err fault) pairs' = (takes_memory (reply_to request pairs) ≡ true) × (pairs' ≡ pairs)
