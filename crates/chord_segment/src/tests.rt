@@ -6,18 +6,18 @@ use chord_map::{Bytes, Reply, Request};
 use std::alloc::{AllocError, Global};
 use std::test::Fail;
 
-const A: u128 = 0x40000000000000000000000000000000;
+pub const A: u128 = 0x40000000000000000000000000000000;
 
-const B: u128 = 0x80000000000000000000000000000000;
+pub const B: u128 = 0x80000000000000000000000000000000;
 
 const C: u128 = 0xc0000000000000000000000000000000;
 
-fn span(after: u128, upto: u128) -> Span {
+pub fn span(after: u128, upto: u128) -> Span {
     Span::new(Id::new(after), Id::new(upto))
 }
 
 /// The call of this caller and number that added x under the key.
-fn added(alloc: Global, caller: u64, number: u64, key: &[u8]) -> Result<Done, AllocError> {
+pub fn added(alloc: Global, caller: u64, number: u64, key: &[u8]) -> Result<Done, AllocError> {
     let request = Request::Insert {
         key: Bytes::from_slice(alloc, key)?,
         value: Bytes::from_slice(alloc, b"x")?,
@@ -43,7 +43,7 @@ fn keep(segment: &mut Segment, done: Done, floor: u64) -> bool {
 }
 
 /// A segment that keeps that call alone.
-fn one(alloc: Global, span: Span, key: &[u8]) -> Result<Segment, AllocError> {
+pub fn one(alloc: Global, span: Span, key: &[u8]) -> Result<Segment, AllocError> {
     let mut segment = Segment::empty(alloc, span);
     segment.reserve()?;
     let done = added(alloc, 0, 1, key)?;

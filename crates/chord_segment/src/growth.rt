@@ -1,0 +1,96 @@
+//! A refused growth leaves all as it was, and a second try succeeds. With ample memory nothing is refused; the tests are
+//! run with each growth refused in turn too.
+
+use crate::tests::{A, B, added, one, span};
+use crate::{CutFault, Done, JoinFault, Past, Segment};
+use chord_ident::Id;
+use std::alloc::{AllocError, Global};
+use std::test::Fail;
+
+/// A segment that keeps one call.
+fn kept_one(alloc: Global) -> Result<Segment, AllocError> {
+    match one(alloc, span(A, A), b"abc") {
+        Ok(segment) => Ok(segment),
+        Err(_) => one(alloc, span(A, A), b"abc"),
+    }
+}
+
+fn copied(segment: &Segment) -> Result<Segment, AllocError> {
+    match segment.try_copy() {
+        Ok(copy) => Ok(copy),
+        Err(_) => segment.try_copy(),
+    }
+}
+
+/// Keeps a call where its asks are met, or hands it back.
+fn kept(segment: &mut Segment, done: Done, floor: u64) -> Result<bool, Done> {
+    let inside = segment.span().contains(Id::of_bytes(done.request.key()));
+    if !inside || done.number <= floor || done.number - floor > 16 {
+        return Ok(false);
+    }
+    if let Past::New = segment.find(done.caller, done.number) {
+        return match segment.append(done, floor) {
+            Ok(()) => Ok(true),
+            Err(refused) => Err(refused.value),
+        };
+    }
+    Ok(false)
+}
+
+#[test]
+fn a_refused_reserve_or_copy(rt: HostRuntime) -> Result<(), Fail> {
+    let mut segment = kept_one(rt.alloc())?;
+    let before = copied(&segment)?;
+    if segment.reserve().is_err() {
+        assert!(rt; segment.equals(&before));
+        segment.reserve()?;
+    }
+    assert!(rt; segment.equals(&before));
+    Ok(())
+}
+
+#[test]
+fn a_refused_append_hands_the_call_back(rt: HostRuntime) -> Result<(), Fail> {
+    let mut segment = Segment::empty(rt.alloc(), span(A, A));
+    let done = match added(rt.alloc(), 0, 1, b"abc") {
+        Ok(done) => done,
+        Err(_) => added(rt.alloc(), 0, 1, b"abc")?,
+    };
+    if let Err(back) = kept(&mut segment, done, 0) {
+        assert_eq!(rt; segment.kept().len(), 0);
+        assert_eq!(rt; (back.caller, back.number), (0, 1));
+        assert!(rt; matches!(kept(&mut segment, back, 0), Ok(true)));
+    }
+    assert_eq!(rt; segment.kept().len(), 1);
+    Ok(())
+}
+
+#[test]
+fn a_refused_cut_or_join_hands_all_back(rt: HostRuntime) -> Result<(), Fail> {
+    let segment = kept_one(rt.alloc())?;
+    let before = copied(&segment)?;
+    let (first, second) = match segment.cut(Id::new(B)) {
+        Ok(parts) => parts,
+        Err(uncut) => {
+            assert_eq!(rt; uncut.fault, CutFault::Memory);
+            assert!(rt; uncut.segment.equals(&before));
+            uncut.segment.cut(Id::new(B)).ok().ok_or("not cut")?
+        }
+    };
+    let (front, rear) = (copied(&first)?, copied(&second)?);
+    let whole = match first.join(second) {
+        Ok(whole) => whole,
+        Err(unjoined) => {
+            assert_eq!(rt; unjoined.fault, JoinFault::Memory);
+            assert!(rt; unjoined.first.equals(&front));
+            assert!(rt; unjoined.second.equals(&rear));
+            unjoined
+                .first
+                .join(unjoined.second)
+                .ok()
+                .ok_or("not joined")?
+        }
+    };
+    assert!(rt; whole.equals(&before));
+    Ok(())
+}
