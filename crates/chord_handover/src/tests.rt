@@ -7,10 +7,10 @@ use chord_segment::Segment;
 use std::alloc::{AllocError, Global};
 use std::test::Fail;
 
-const A: u128 = 0x40000000000000000000000000000000;
+pub const A: u128 = 0x40000000000000000000000000000000;
 
 /// The whole circle with no pairs.
-fn empty_parcel(alloc: Global) -> Parcelled {
+pub fn empty_parcel(alloc: Global) -> Parcelled {
     let span = Span::new(Id::new(A), Id::new(A));
     Parcelled::new(Segment::empty(alloc, span), Vec::new(alloc))
 }
@@ -84,7 +84,7 @@ fn numbers_are_taken_in_order(rt: HostRuntime) -> Result<(), Fail> {
 }
 
 /// So many pairs under one key, whose values rise.
-fn pairs(alloc: Global, count: u8) -> Result<Vec<Pair>, AllocError> {
+pub fn pairs(alloc: Global, count: u8) -> Result<Vec<Pair>, AllocError> {
     let mut pairs = Vec::new(alloc);
     for i in 0..count {
         pairs.push(Pair {
@@ -96,7 +96,7 @@ fn pairs(alloc: Global, count: u8) -> Result<Vec<Pair>, AllocError> {
 }
 
 /// The whole circle as part i of two, with these pairs.
-fn part(alloc: Global, i: u64, pairs: Vec<Pair>) -> Part {
+pub fn part(alloc: Global, i: u64, pairs: Vec<Pair>) -> Part {
     let span = Span::new(Id::new(A), Id::new(A));
     let segment = if i == 1 {
         Some(Segment::empty(alloc, span))
@@ -167,7 +167,7 @@ fn parts_that_do_not_fit(rt: HostRuntime) -> Result<(), Fail> {
 }
 
 /// What it makes with what is noted.
-fn taken_with(taken: &Taken, part: &Part) -> Result<Option<Gather>, AllocError> {
+pub fn taken_with(taken: &Taken, part: &Part) -> Result<Option<Gather>, AllocError> {
     if taken.judge(part.from, part.number) != Verdict::Next {
         return Ok(None);
     }
