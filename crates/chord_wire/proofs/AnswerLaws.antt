@@ -20,7 +20,7 @@ use Rattle.chord_wire.specs.Reading.{◌>>=◌, number_at, value_at, body_at, Ta
 use Rattle.chord_wire.specs.ReadingReplies.{is_above, or_fault, status_of, status_at, code_at, rising_at, values_at, answer_at, ended, answer_fields, answer_in, answer_of_body, next_answer}
 use Rattle.chord_wire.proofs.Steps.{IsBytes-rest, IsBytes-front, IsBytes-back, bind_ok, guard_on, guard_then, ok_is, Takes, Takes-then, wide32, wide64, number_takes, number_again}
 use Rattle.std.specs.Prelude.{IfOk, IfSome}
-use Rattle.chord_wire.proofs.RequestLaws.{body_takes, body_again, body_stays}
+use Rattle.chord_wire.proofs.RequestLaws.{ends, body_takes, body_again, body_stays}
 use Rattle.chord_wire.proofs.Rising.{AreRising, are_rising, is_sorted}
 use Rattle.chord_wire.proofs.ReplyLaws.{length_reply}
 use Rattle.chord_wire.proofs.FieldLaws.{value_takes, value_again}
@@ -233,7 +233,7 @@ fields_take kind bytes a known fits e =
     let t = answer_takes kind b.0.0 b.0.1 d.0 known n.0.rest_fits d.1 in
     let nothing : d.0.1 ≡ [] = nil_from_length d.0.1 (eqb-true _ _ g.0) in
     let both = (Takes-then bytes (to_be_bytes w64 b.0.0) b.0.1 (fields_of d.0.0) d.0.1 n.0 t.0).parts in
-    let whole : bytes ≡ to_be_bytes w64 b.0.0 ++ fields_of d.0.0 = both ∙ ap (λ (w : List ℕ). (to_be_bytes w64 b.0.0 ++ fields_of d.0.0) ++ w) nothing ∙ append-nil (to_be_bytes w64 b.0.0 ++ fields_of d.0.0) in
+    let whole : bytes ≡ to_be_bytes w64 b.0.0 ++ fields_of d.0.0 = ends bytes (to_be_bytes w64 b.0.0 ++ fields_of d.0.0) d.0.1 both nothing in
     let small : number_of d.0.0 < 2 ^ 64 = omega (arith, t.2, n.1) in
     subst (BodyTaken kind bytes) g.1 (is_answer d.0.0 small t.3, t.1, whole ∙ ap (λ (k : ℕ). to_be_bytes w64 k ++ fields_of d.0.0) (sym t.2))
 

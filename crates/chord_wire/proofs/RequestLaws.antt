@@ -17,6 +17,10 @@ use Rattle.chord_wire.specs.Reading.{◌>>=◌, number_at, floor_at, operands_at
 use Rattle.chord_wire.proofs.Steps.{IsBytes-rest, IsBytes-drop, IsBytes-front, IsBytes-back, bind_ok, guard_then, guard_on, Takes, Takes-then, wide32, wide64, number_takes, number_again}
 use Rattle.chord_wire.proofs.FieldLaws.{floor_takes, floor_again, operands_take, operands_again}
 
+-- nothing stands behind the text
+pub ends : (bytes text rest : List ℕ) → bytes ≡ text ++ rest → rest ≡ [] → bytes ≡ text
+ends bytes text rest parts nothing = parts ∙ ap (λ (w : List ℕ). text ++ w) nothing ∙ append-nil text
+
 -- what stands behind the operation
 abbrev tail_of : WireRequest → List ℕ
 tail_of r = to_be_bytes w64 r.number ++ (floor_field r.version r.floor ++ operands r.request)
@@ -38,7 +42,7 @@ fields_take version op bytes r known low high fits e =
     let nothing : d.0.1 ≡ [] = nil_from_length d.0.1 (eqb-true _ _ g.0) in
     let e12 = Takes-then a.0.1 (floor_field version b.0.0) b.0.1 (operands d.0.0) d.0.1 t1.0 t2.0 in
     let e02 = Takes-then bytes (to_be_bytes w64 a.0.0) a.0.1 (floor_field version b.0.0 ++ operands d.0.0) d.0.1 t0.0 e12 in
-    let whole : bytes ≡ tail_of made = e02.parts ∙ ap (λ (w : List ℕ). tail_of made ++ w) nothing ∙ append-nil (tail_of made) in
+    let whole : bytes ≡ tail_of made = ends bytes (tail_of made) d.0.1 e02.parts nothing in
     subst (FieldsTaken version op bytes) g.1 (record { number = t0.1; floor = t1.1; request = t2.1 }, refl, t2.2, whole)
 
 fields_again : (r : WireRequest) → IsWireRequest r → fields_at r.version (operation r.request) (tail_of r) ≡ Ok r

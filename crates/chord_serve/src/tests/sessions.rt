@@ -133,6 +133,14 @@ fn short_and_faulty_sessions(rt: HostRuntime) -> Result<(), Fail> {
     let alloc = rt.alloc();
     let mut bad_version = RETRIEVE;
     bad_version[4] = 9;
+    let mut bad_operation = RETRIEVE;
+    bad_operation[5] = 4;
+    let mut bad_key = RETRIEVE;
+    bad_key[14] = 0;
+    let mut bad_value = INSERT;
+    bad_value[17] = 2;
+    let mut trailing = INSERT;
+    trailing[17] = 0;
     let mut bad_floor = INSERT_2;
     bad_floor[21] = 1;
     let mixed = joined(alloc, &[&INSERT_2, &INSERT])?;
@@ -151,6 +159,26 @@ fn short_and_faulty_sessions(rt: HostRuntime) -> Result<(), Fail> {
             bad_version.as_slice(),
             Served::Malformed(FaultCode::BadVersion),
             fault(0, 2).as_slice(),
+        ),
+        (
+            bad_operation.as_slice(),
+            Served::Malformed(FaultCode::BadOperation),
+            fault(0, 3).as_slice(),
+        ),
+        (
+            bad_key.as_slice(),
+            Served::Malformed(FaultCode::BadKey),
+            fault(2, 4).as_slice(),
+        ),
+        (
+            bad_value.as_slice(),
+            Served::Malformed(FaultCode::BadValue),
+            fault(1, 5).as_slice(),
+        ),
+        (
+            trailing.as_slice(),
+            Served::Malformed(FaultCode::Trailing),
+            fault(1, 6).as_slice(),
         ),
         (
             bad_floor.as_slice(),
