@@ -27,12 +27,14 @@ pub struct Part {
 }
 
 impl Model for Part {
-    ghost use Rattle.chord_handover.specs.Handover.{Part as PartOf};
+    ghost use Rattle.chord_handover.specs.Handover.{Part as PartOf, IsPart};
     ghost use Rattle.chord_handover.specs.Known.{known_of};
 
     ghost Value = { PartOf };
 
     ghost view = { λ part. record { from = part.from; to = part.to; number = part.number; part = part.part; of = part.of; segment = known_of part.segment; pairs = part.pairs.items } };
+
+    ghost invariant = { λ part. IsPart (record { from = part.from; to = part.to; number = part.number; part = part.part; of = part.of; segment = known_of part.segment; pairs = part.pairs.items }) };
 }
 
 impl Part {

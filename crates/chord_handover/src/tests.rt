@@ -1,4 +1,5 @@
 //! Worked values.
+ghost use Rattle.std.specs.Prelude.{◌≤◌};
 
 use crate::{Gather, Outbox, Parcelled, Part, Taken, Ticket, Verdict};
 use chord_ident::{Id, Span};
@@ -96,7 +97,18 @@ pub fn pairs(alloc: Global, count: u8) -> Result<Vec<Pair>, AllocError> {
 }
 
 /// The whole circle as part i of two, with these pairs.
-pub fn part(alloc: Global, i: u64, pairs: Vec<Pair>) -> Part {
+pub fn part(alloc: Global, i: u64, pairs: Vec<Pair>) -> Part
+    requires low { 1 ≤ i }
+    requires high { i ≤ 2 }
+{
+    part_of(alloc, i, 2, pairs)
+}
+
+/// The same as part i of so many.
+fn part_of(alloc: Global, i: u64, of: u64, pairs: Vec<Pair>) -> Part
+    requires low { 1 ≤ i }
+    requires high { i ≤ of }
+{
     let span = Span::new(Id::new(A), Id::new(A));
     let segment = if i == 1 {
         Some(Segment::empty(alloc, span))
@@ -108,7 +120,7 @@ pub fn part(alloc: Global, i: u64, pairs: Vec<Pair>) -> Part {
         to: 1,
         number: 1,
         part: i,
-        of: 2,
+        of,
         segment,
         pairs,
     }
@@ -156,8 +168,7 @@ fn parts_that_do_not_fit(rt: HostRuntime) -> Result<(), Fail> {
     let mut taken = Taken::new(alloc);
     let first = part(alloc, 1, pairs(alloc, 64)?);
     assert!(rt; matches!(take_in(&mut taken, &first)?, Some(Gather::More)));
-    let mut other_count = part(alloc, 2, pairs(alloc, 1)?);
-    other_count.of = 3;
+    let other_count = part_of(alloc, 2, 3, pairs(alloc, 1)?);
     assert!(rt; matches!(taken_with(&taken, &other_count)?, Some(Gather::Unfit)));
     let again = part(alloc, 2, pairs(alloc, 1)?);
     assert!(rt; matches!(taken_with(&taken, &again)?, Some(Gather::Unfit)));
