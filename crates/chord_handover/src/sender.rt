@@ -1,8 +1,8 @@
 //! Handovers that are kept until their receivers have or have declined them.
-ghost use Rattle.std.specs.Prelude.{◌≡◌, ◌↔◌, true, [], IsTrue, IfOk, OnOk, ◌<◌, ◌^◌, IsOk, slice_get, position};
+ghost use Rattle.std.specs.Prelude.{◌≡◌, ◌↔◌, true, [], IsTrue, IfOk, OnOk, OnErr, IfSome, IfNone, ◌<◌, ◌≤◌, ◌^◌, IsOk, is_some, length, slice_get, position};
 ghost use Rattle.std.specs.Option.{option_copied};
 ghost use Rattle.chord_handover.specs.Handover.{is_item, item_at};
-ghost use Rattle.chord_handover.specs.Outbox.{empty_outbox, next_to, with_none, parcel_of, part_of_item, named, GiveIs};
+ghost use Rattle.chord_handover.specs.Outbox.{IsOutbox, empty_outbox, next_to, with_none, parcel_of, part_of_item, named, GiveIs};
 
 use crate::fault::{GiveFault, Ungiven};
 use crate::item::Item;
@@ -46,6 +46,13 @@ impl Outbox {
         }
     }
 
+    /// How many items are under way.
+    pub fn len(&self) -> usize
+        ensures { result ≡ length self.now.known.items }
+    {
+        self.items.len()
+    }
+
     /// Whether nothing is under way.
     pub fn is_empty(&self) -> bool
         ensures { IsTrue result ↔ (self.now.known.items ≡ []) }
@@ -55,7 +62,8 @@ impl Outbox {
 
     /// The receiver and the number of an item, from 0 in the order given.
     pub fn nth(&self, i: u64) -> Option<(u64, u64)>
-        ensures { result ≡ named (slice_get self.now.known.items i) }
+        ensures value { result ≡ named (slice_get self.now.known.items i) }
+        ensures rules { IsOutbox self.now.known.given self.now.known.items }
     {
         let item = self.items.get(i as usize)?;
         Some((item.to, item.number))
@@ -75,7 +83,8 @@ impl Outbox {
 
     /// The part of this place, from 1, of the item of this receiver and number. `None` where there is no such item or part.
     pub fn part(&self, to: u64, number: u64, part: u64) -> Result<Option<Part>, AllocError>
-        ensures { IfOk result (λ found. found ≡ part_of_item self.now.known.owner to number part (parcel_of (item_at to number self.now.known.items))) }
+        ensures found { IfOk result (λ found. found ≡ part_of_item self.now.known.owner to number part (parcel_of (item_at to number self.now.known.items))) }
+        ensures there { OnErr result (is_some (part_of_item self.now.known.owner to number part (parcel_of (item_at to number self.now.known.items))) ≡ true) }
     {
         let Some(parcelled) = self.item(to, number) else {
             return Ok(None);
@@ -90,6 +99,14 @@ impl Outbox {
         };
         let found = parcelled.part(ticket, part)?;
         Ok(Some(found))
+    }
+
+    /// The number that the next item for this receiver gets, none where they are spent.
+    pub fn next_number(&self, to: u64) -> Option<u64>
+        ensures some { IfSome result (λ number. (number ≡ next_to to self.now.known) × (number < 2 ^ 64)) }
+        ensures none { IfNone result (2 ^ 64 ≤ next_to to self.now.known) }
+    {
+        number_of(&self.given, to).checked_add(1)
     }
 
     /// Makes room for one more item, which the next `give` then cannot lack.

@@ -1,7 +1,7 @@
 -- What an Ask does to a node, from what it does to a segment and a store.
 use Rattle.std.proofs.Common.{◌≡◌, ◌≢◌, ◌-◌, ◌||◌, ◌==◌, ℕ, zero, suc, ◌<◌, Bool, true, false, cond, Option, None, Some, Result, Ok, Err, List, [], ◌∷◌, length, get_or, set, refl, sym, ◌∙◌, ap, subst, arith, leb}
 use Rattle.std.proofs.lemmas.Bool.{ltb-false, leb-true}
-use Rattle.std.specs.Prelude.{find, position}
+use Rattle.std.specs.Prelude.{find, position, is_some}
 use Rattle.std.specs.List.{position_or_len}
 use Rattle.std.proofs.lemmas.List.Quantifiers.{position-Some}
 use Rattle.std.proofs.lemmas.Option.{slice_get_past}
@@ -16,15 +16,15 @@ use Rattle.chord_segment.specs.declared.done.Done.{Done}
 use Rattle.chord_segment.specs.Segment.{Segment, RoomySegment, Past, id_of, past_at, append}
 use Rattle.chord_segment.specs.Segment.Past.{New, Kept, Seen}
 use Rattle.chord_caller.specs.declared.ask.Ask.{Ask}
-use Rattle.chord_node.specs.declared.answered.Answered.{Answered}
-use Rattle.chord_node.specs.declared.answered.Answered.TheVariants as answer
+use Rattle.chord_node.specs.declared.asks.answered.Answered.{Answered}
+use Rattle.chord_node.specs.declared.asks.answered.Answered.TheVariants as answer
 use Rattle.chord_node.specs.declared.message.Message.TheVariants.{Ask as AskMessage}
 use Rattle.chord_node.specs.Node.{Node, NodeStep, segment_with, append_at, done_of, told_of}
 use Rattle.chord_node.specs.Node.NodeStep.{Tells_again, Drops_seen, Executes, Answers_full, Forwards, Drops}
 use Rattle.chord_node.specs.View.{knowns}
 use Rattle.chord_segment.proofs.MarkLemmas.{eqb_same}
 use Rattle.chord_node.specs.Passed.{peer_of, PassesOn}
-use Rattle.chord_node.specs.Asked.{adds, is_full_for, past_answer, past_done, segment_after, entries_after, AnswersIn, done_in, ask_done, after_done, sent_by, note_of, AnswersBy, AskIs, AskNotes, AskSteps, AskStepsNoting}
+use Rattle.chord_node.specs.Asked.{adds, is_full_for, past_answer, past_done, segment_after, entries_after, AnswersIn, done_in, ask_done, after_done, sent_by, note_of, AnswersBy, TakesMemory, AsksMemory, AskIs, AskNotes, AskSteps, AskStepsNoting}
 
 -- ---- the segment at a place
 
@@ -117,7 +117,11 @@ asked_here ask noting old held i s s' (Ok both) pairs limit e place same h =
       h.1 ∙ ap (note_of noting) (sym did),
     )
 asked_here ask noting old held i s s' (Err fault) pairs limit e place same h =
-    same_node old _ pairs limit (put_same held i s s' place.in_range h.0 ∙ sym e) h.1 same
+    let found : segment_with (id_of ask.request) old.held ≡ Some (get_or held i s).known = ap (segment_with (id_of ask.request)) e ∙ with_here (id_of ask.request) held i s place in
+    let answered : Answered = past_answer (past_at ask.caller ask.number (get_or held i s).known) ask old.entries old.limit in (
+      (answered, subst (λ o. AnswersBy o ask old answered) (sym found) refl, h.0),
+      same_node old _ pairs limit (put_same held i s s' place.in_range h.1 ∙ sym e) h.2 same,
+    )
 
 note_none : (noting : Bool) → None ≡ note_of noting None
 note_none true = refl
@@ -132,6 +136,13 @@ asked_elsewhere ask noting old held answered e none passed =
       (subst (λ o. AnswersBy o ask old answered) (sym missed) passed, ap (λ o. after_done (done_in o ask old) ask old) (sym missed)),
       note_none noting ∙ ap (λ o. note_of noting (done_in o ask old)) (sym missed),
     )
+
+-- out of memory where it would go on
+pub asked_no_further : (ask : Ask) (view old : Node) → view ≡ old → (held : List RoomySegment) → view.held ≡ knowns held → find (has (id_of ask.request)) held ≡ None
+    → ((answered : Answered) × PassesOn view.links ask answered × TakesMemory answered) → AsksMemory ask old
+asked_no_further ask view old e held v none (answered, passed, takes) =
+    let missed : segment_with (id_of ask.request) view.held ≡ None = ap (segment_with (id_of ask.request)) v ∙ find_none (id_of ask.request) held none in
+    subst (AsksMemory ask) e (answered, subst (λ o. AnswersBy o ask view answered) (sym missed) passed, takes)
 
 -- ---- the step
 
@@ -204,6 +215,15 @@ none_step false i e = refl
 pub find_from : (x : ℕ) (held : List RoomySegment) → position (has x) held ≡ None → find (has x) held ≡ None
 find_from x held e =
     find_at (has x) held ∙ slice_get_past held (position_or_len (has x) held) (ltb-false _ _ (none_step _ _ e))
+
+-- a place is found just where a segment is
+holds_by : (x : ℕ) (held : List RoomySegment) (o : Option ℕ) → o ≡ position (has x) held → is_some o ≡ is_some (segment_with x (knowns held))
+holds_by x held None e = sym (ap is_some (find_none x held (find_from x held (sym e))))
+holds_by x [] (Some i) e = cc
+holds_by x (s ∷ held) (Some i) e = sym (ap is_some (with_here x (s ∷ held) i (get_or (s ∷ held) i s) (place_from x (s ∷ held) i (get_or (s ∷ held) i s) e)))
+
+pub holds_at : (x : ℕ) (held : List RoomySegment) → is_some (position (has x) held) ≡ is_some (segment_with x (knowns held))
+holds_at x held = holds_by x held (position (has x) held) refl
 
 -- the same over the view of the fields, which is the old value, and what the store held
 pub asked_at : (ask : Ask) (noting : Bool) (view old : Node) → view ≡ old → (held : List RoomySegment) (i : ℕ) (s s' : RoomySegment) (result : Result (Answered × Option Done) AllocError)

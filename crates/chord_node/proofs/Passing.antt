@@ -9,7 +9,9 @@ use Rattle.chord_route.specs.declared.hop.Hop.{Hop}
 use Rattle.chord_route.specs.Hops.{IsNextHop}
 use Rattle.chord_map.specs.declared.request.Request.{Request}
 use Rattle.chord_caller.specs.declared.ask.Ask.{Ask}
-use Rattle.chord_node.specs.declared.answered.Answered.TheVariants.{Dropped, Forward}
+use Rattle.chord_node.specs.declared.asks.answered.Answered.TheVariants.{Dropped, Forward}
+use Rattle.chord_node.specs.declared.asks.answered.Answered.{Answered}
+use Rattle.chord_node.specs.Asked.{TakesMemory}
 use Rattle.chord_node.specs.Passed.{peer_of, PassesOn}
 
 -- a copy of the call with a hop less
@@ -40,3 +42,10 @@ passed_is links ask hop peer target me request above near next e p m some other 
       subst (λ t. IsNextHop links t hop) e next,
       ap (Forward peer.no) (same_passed ask request above near r) ∙ ap (λ (q : Peer). Forward q.no (record ask { hops = ask.hops - 1 })) p ∙ sym goes,
     )
+
+-- memory is taken where it goes on
+pub passed_takes : (links : NodeLinks) (ask : Ask) (hop : Hop) (peer : Peer) (target : ℕ) (me : ℕ)
+    → IsNextHop links target hop → target ≡ id_of ask.request → peer ≡ peer_of hop → me ≡ links.me.no → ask.hops ≢ 0 → peer.no ≢ me
+    → (answered : Answered) × PassesOn links ask answered × TakesMemory answered
+passed_takes links ask hop peer target me next e p m some other =
+    (_, passed_is links ask hop peer target me ask.request ask.above ask.near next e p m some other refl, tt)

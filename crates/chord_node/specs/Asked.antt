@@ -12,9 +12,9 @@ use Rattle.chord_segment.specs.declared.done.Done.{Done}
 use Rattle.chord_segment.specs.Segment.{Segment, Past, id_of, past_at, append}
 use Rattle.chord_segment.specs.Segment.Past.{New, Kept, Seen}
 use Rattle.chord_caller.specs.declared.ask.Ask.{Ask}
-use Rattle.chord_node.specs.declared.apply.Replies.{Replies}
-use Rattle.chord_node.specs.declared.answered.Answered.{Answered}
-use Rattle.chord_node.specs.declared.answered.Answered.TheVariants as answer
+use Rattle.chord_node.specs.declared.asks.apply.Replies.{Replies}
+use Rattle.chord_node.specs.declared.asks.answered.Answered.{Answered}
+use Rattle.chord_node.specs.declared.asks.answered.Answered.TheVariants as answer
 use Rattle.chord_node.specs.declared.message.Message.{Message}
 use Rattle.chord_node.specs.declared.message.Message.TheVariants.{Ask as AskMessage, Told as ToldMessage, Full as FullMessage}
 use Rattle.chord_node.specs.Passed.{PassesOn}
@@ -43,7 +43,7 @@ abbrev pub Applied : Request → Bool → List Pair → ℕ → Result Replies S
 Applied request noting old limit (Ok replies) new =
     AreReplies (reply_to request old) noting replies × (is_full_for request old limit ≡ false) × (new ≡ pairs_after request old)
 Applied request noting old limit (Err fault.Full) new = (is_full_for request old limit ≡ true) × (new ≡ old)
-Applied request noting old limit (Err fault.Memory) new = new ≡ old
+Applied request noting old limit (Err fault.Memory) new = (is_full_for request old limit ≡ false) × (new ≡ old)
 
 -- the answer to a call that the segment knows so, over a store that holds these pairs
 abbrev pub past_answer : Past → Ask → List Pair → ℕ → Answered
@@ -51,6 +51,13 @@ past_answer Seen ask pairs limit = answer.Dropped
 past_answer (Kept done) ask pairs limit = answer.Told (told_of ask done.reply)
 past_answer New ask pairs limit =
     if is_full_for ask.request pairs limit then answer.Full else answer.Told (told_of ask (reply_to ask.request pairs))
+
+-- the answers that copy something: memory may be out for them alone
+abbrev pub TakesMemory : Answered → Type 0
+TakesMemory (answer.Told told) = Unit {0}
+TakesMemory (answer.Forward to passed) = Unit {0}
+TakesMemory answer.Dropped = ⊥
+TakesMemory answer.Full = ⊥
 
 -- the call that is executed, where the segment knows it so
 abbrev pub past_done : Past → Ask → List Pair → ℕ → Option Done
@@ -79,13 +86,14 @@ note_of true did = did
 note_of false did = None
 
 -- what a segment and a store do with a call: whether to note it, the segment, the pairs and the limit, what came of
--- it, and the segment and the pairs then
+-- it, and the segment and the pairs then. Out of memory both are as they were
 abbrev pub AnswersIn : Ask → Bool → Segment → List Pair → ℕ → Result (Answered × Option Done) AllocError → Segment → List Pair → Type 0
 AnswersIn ask noting segment pairs limit (Ok both) segment' pairs' =
     let past = past_at ask.caller ask.number segment in
     let did = past_done past ask pairs limit in
     (both.0 ≡ past_answer past ask pairs limit) × (both.1 ≡ note_of noting did) × (segment' ≡ segment_after did ask segment) × (pairs' ≡ entries_after did ask pairs)
-AnswersIn ask noting segment pairs limit (Err fault) segment' pairs' = (segment' ≡ segment) × (pairs' ≡ pairs)
+AnswersIn ask noting segment pairs limit (Err fault) segment' pairs' =
+    TakesMemory (past_answer (past_at ask.caller ask.number segment) ask pairs limit) × (segment' ≡ segment) × (pairs' ≡ pairs)
 
 -- the call that an Ask executes at the segment, if it does
 abbrev pub done_in : Option Segment → Ask → Node → Option Done
@@ -113,18 +121,22 @@ abbrev pub AnswersBy : Option Segment → Ask → Node → Answered → Type 0
 AnswersBy None ask node answered = PassesOn node.links ask answered
 AnswersBy (Some segment) ask node answered = answered ≡ past_answer (past_at ask.caller ask.number segment) ask node.entries node.limit
 
--- what a node answers to an Ask, and what it is then. Where memory is wanting it is as it was
+-- the node is out of memory for an answer that takes some
+abbrev pub AsksMemory : Ask → Node → Type 0
+AsksMemory ask node = (answered : Answered) × AnswersBy (segment_with (id_of ask.request) node.held) ask node answered × TakesMemory answered
+
+-- what a node answers to an Ask, and what it is then. Out of memory it is as it was
 abbrev pub AskIs : Ask → Node → Result Answered AllocError → Node → Type 0
 AskIs ask old (Ok answered) new =
     AnswersBy (segment_with (id_of ask.request) old.held) ask old answered × (new ≡ after_done (ask_done ask old) ask old)
-AskIs ask old (Err fault) new = new ≡ old
+AskIs ask old (Err fault) new = AsksMemory ask old × (new ≡ old)
 
 -- the same, with the call that it executed where that is to be noted
 abbrev pub AskNotes : Ask → Bool → Node → Result (Answered × Option Done) AllocError → Node → Type 0
 AskNotes ask noting old (Ok both) new = AskIs ask old (Ok both.0) new × (both.1 ≡ note_of noting (ask_done ask old))
-AskNotes ask noting old (Err fault) new = new ≡ old
+AskNotes ask noting old (Err fault) new = AsksMemory ask old × (new ≡ old)
 
--- the same is one step of the node, if memory was not wanting
+-- the same is one step of the node, unless it was out of memory
 abbrev pub AskSteps : Ask → Node → Result Answered AllocError → Node → Type 0
 AskSteps ask old (Ok answered) new = NodeStep old (Some (AskMessage ask)) new (sent_by ask answered) (ask_done ask old)
 AskSteps ask old (Err fault) new = Unit {0}

@@ -7,8 +7,8 @@ use Rattle.chord_route.specs.declared.hop.Hop.TheVariants.{Last, Near}
 use Rattle.chord_route.specs.Hops.{IsNextHop}
 use Rattle.chord_segment.specs.Segment.{id_of}
 use Rattle.chord_caller.specs.declared.ask.Ask.{Ask}
-use Rattle.chord_node.specs.declared.answered.Answered.{Answered}
-use Rattle.chord_node.specs.declared.answered.Answered.TheVariants.{Dropped, Forward}
+use Rattle.chord_node.specs.declared.asks.answered.Answered.{Answered}
+use Rattle.chord_node.specs.declared.asks.answered.Answered.TheVariants.{Dropped, Forward}
 
 -- the node that a hop goes to
 abbrev pub peer_of : Hop → Peer

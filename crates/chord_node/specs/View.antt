@@ -1,11 +1,23 @@
 -- What a node of the program is seen as.
-use Rattle.std.specs.Prelude.{◌≡◌, ℕ, Option, None, Some, List, [], map}
+use Rattle.std.specs.Prelude.{ℕ, Option, None, Some, List, [], map}
+use Rattle.chord_ident.specs.declared.span.Span.{Span}
 use Rattle.chord_map.specs.declared.pair.Pair.{Pair}
+use Rattle.chord_handover.specs.Handover.{Item}
 use Rattle.chord_segment.specs.Segment.{Segment, RoomySegment}
 
 -- the segments without their room
 abbrev pub knowns : List RoomySegment → List Segment
 knowns held = map (λ (segment : RoomySegment). segment.known) held
+
+-- the receiver, the number and the span of an item of the outbox, if there is one
+abbrev pub kept_as : Option Item → Option (ℕ × ℕ × Span)
+kept_as None = None
+kept_as (Some item) = Some (item.to, item.number, item.segment.span)
+
+-- the span of a held segment, if there is one
+abbrev pub span_of : Option Segment → Option Span
+span_of None = None
+span_of (Some segment) = Some segment.span
 
 module _ {S : Type 0} where
   -- the pairs of a store, none where it is gone
@@ -17,8 +29,3 @@ module _ {S : Type 0} where
   abbrev pub limit_in : (S → ℕ) → Option S → ℕ
   limit_in limit None = 0
   limit_in limit (Some store) = limit store
-
-  -- where the store is gone nothing is held
-  abbrev pub HasStoreFor : List RoomySegment → Option S → Type 0
-  HasStoreFor held None = held ≡ []
-  HasStoreFor held (Some store) = Unit {0}

@@ -12,19 +12,19 @@ ghost use Rattle.chord_segment.specs.Marks.{mark_of};
 
 /// In every world that some steps lead to, once a node was created, each identifier has one holder.
 pub fn one_holder()
-    ensures { (world : World) (x : ℕ) → Reached world → world.nodes ≢ [] → x < 2 ^ 128 → HasOneHolder x world.nodes }
+    ensures { (world : World) (x : ℕ) → ∥ Reached world ∥₁ → world.nodes ≢ [] → x < 2 ^ 128 → HasOneHolder x world.nodes }
 {}
 
 /// No handover that a node takes, or takes back, meets a span that the node holds, and no two of those meet.
 pub fn no_clash()
-    ensures taken { (world : World) (part : Part) (handover : Handover) (node : Node) → Reached world → Contains world.sent (PartMessage part)
+    ensures taken { (world : World) (part : Part) (handover : Handover) (node : Node) → ∥ Reached world ∥₁ → Contains world.sent (PartMessage part)
         → IsWhole (gathered part node.noted) handover
         → node_at handover.to world.nodes ≡ Some node → node.phase ≢ Gone → handover.number ≡ mark_of handover.from node.taken + 1
         → MeetsNone handover.segment.span node.held }
-    ensures taken_back { (world : World) (ticket : Ticket) (node : Node) (item : Item) → Reached world
+    ensures taken_back { (world : World) (ticket : Ticket) (node : Node) (item : Item) → ∥ Reached world ∥₁
         → Contains world.sent (DeclinedMessage ticket) → node_at ticket.from world.nodes ≡ Some node
         → item_at ticket.to ticket.number node.outbox ≡ Some item → MeetsNone item.segment.span node.held }
-    ensures held { (world : World) (number : ℕ) (node : Node) → Reached world → node_at number world.nodes ≡ Some node → AllApart node.held }
+    ensures held { (world : World) (number : ℕ) (node : Node) → ∥ Reached world ∥₁ → node_at number world.nodes ≡ Some node → AllApart node.held }
 {}
 
 /// In every world that some steps lead to, the executed calls form one history of one map, each call at most once,

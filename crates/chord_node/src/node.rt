@@ -1,16 +1,29 @@
 //! A node with one store.
-ghost use Rattle.std.specs.Prelude.{◌≡◌, ◌≤◌, true, None, [], position, IfOk, IfErr};
+ghost use Rattle.std.specs.Prelude.{◌≡◌, ◌≢◌, ◌≤◌, true, Some, None, [], length, slice_get, position, is_some, IfOk, IfErr};
 ghost use Rattle.chord_ident.specs.Circle.{in_span};
 ghost use Rattle.chord_links.specs.NodeLinks.{alone};
+ghost use Rattle.chord_segment.specs.Marks.{mark_of};
 ghost use Rattle.chord_segment.specs.Segment.{RoomySegment};
-ghost use Rattle.chord_node.specs.Node.{newborn, founder, NodeStep};
+ghost use Rattle.chord_node.specs.declared.message.Message.TheVariants.{Got as GotMessage};
+ghost use Rattle.chord_node.specs.declared.phase.Phase.TheVariants.{Gone};
+ghost use Rattle.chord_node.specs.Node.{newborn, founder, segment_with, NodeStep};
+ghost use Rattle.chord_node.specs.View.{span_of, kept_as};
 ghost use Rattle.chord_node.specs.Asked.{AskIs, AskNotes, AskSteps, AskStepsNoting};
+ghost use Rattle.chord_node.specs.Moves.{MoveSteps, SendSteps, CutAtIs, MergeIs, MayGive, GiveIs, ResendIs, LeaveIs, RetireIs};
+ghost use Rattle.chord_node.specs.Received.{PartIs, PartSteps, GotIs, BackIs, BackSteps};
 
-use crate::answered::Answered;
-use crate::execute::answer_in;
-use crate::pass_on::pass_on;
+use crate::asks::answered::Answered;
+use crate::asks::execute::answer_in;
+use crate::asks::pass_on::pass_on;
+use crate::fault::{CutAtFault, GiveFault, MergeFault, NotStaying, ResendFault, RetireFault};
+use crate::handovers::give::prepare_give;
+use crate::handovers::given::{Back, Given};
+use crate::handovers::held::{cut_segment, merge_segments};
+use crate::handovers::hold::{PutFault, make_held};
+use crate::handovers::take_in::take_next;
 use crate::phase::Phase;
 use chord_caller::Ask;
+use chord_handover::{Declined, Got, Outbox, Parcelled, Part, Taken, Ticket, Verdict};
 use chord_ident::{Id, Span};
 use chord_links::{Links, Peer};
 use chord_segment::{Done, Segment};
@@ -18,7 +31,7 @@ use chord_store::EntryStore;
 use std::alloc::{AllocError, Global};
 use std::marker::Model;
 
-/// A node: its links, and its held segments with their entries in its store.
+/// A node: its links, its held segments with their entries in its store, and its handovers.
 #[derive(Drop)]
 pub struct Node<S: EntryStore> {
     alloc: Global,
@@ -27,18 +40,20 @@ pub struct Node<S: EntryStore> {
     held: Vec<Segment>,
     /// Gone where the node is.
     store: Option<S>,
+    outbox: Outbox,
+    taken: Taken,
 }
 
 impl<S: EntryStore> Model for Node<S> {
-    ghost use Rattle.std.specs.Prelude.{[]};
     ghost use Rattle.chord_node.specs.Node.{Node as NodeOf};
-    ghost use Rattle.chord_node.specs.View.{knowns, entries_in, limit_in, HasStoreFor};
+    ghost use Rattle.chord_node.specs.View.{knowns, entries_in, limit_in};
+    ghost use Rattle.chord_node.specs.Rules.{IsNode};
 
     ghost Value = { NodeOf };
 
-    ghost view = { λ a. record { number = a.links.me.no; phase = a.phase; links = a.links; held = knowns a.held.items; entries = entries_in S.content a.store; limit = limit_in S.limit a.store; given = []; outbox = []; taken = []; noted = [] } };
+    ghost view = { λ a. record { number = a.links.me.no; phase = a.phase; links = a.links; held = knowns a.held.items; entries = entries_in S.content a.store; limit = limit_in S.limit a.store; given = a.outbox.known.given; outbox = a.outbox.known.items; taken = a.taken.known.last; noted = a.taken.known.noted } };
 
-    ghost invariant = { λ a. HasStoreFor a.held.items a.store };
+    ghost invariant = { λ a. IsNode S.content a.phase a.links.me.no (knowns a.held.items) a.store a.outbox.known };
 }
 
 /// The place of the held segment whose span contains x.
@@ -59,6 +74,7 @@ impl<S: EntryStore> Node<S> {
     {
         let mut held = Vec::new(alloc);
         let whole = Segment::empty(alloc, Span::new(me.id, me.id));
+        let outbox = Outbox::new(alloc, me.no);
         match held.push(whole) {
             Ok(()) => Ok(Node {
                 alloc,
@@ -66,6 +82,8 @@ impl<S: EntryStore> Node<S> {
                 links: Links::alone(me, r),
                 held,
                 store: Some(store),
+                outbox,
+                taken: Taken::new(alloc),
             }),
             Err(_) => Err(store),
         }
@@ -76,12 +94,15 @@ impl<S: EntryStore> Node<S> {
         requires { S.content store ≡ [] }
         ensures { result ≡ newborn links (S.limit store) }
     {
+        let outbox = Outbox::new(alloc, links.me().no);
         Node {
             alloc,
             phase: Phase::Staying,
             links,
             held: Vec::new(alloc),
             store: Some(store),
+            outbox,
+            taken: Taken::new(alloc),
         }
     }
 
@@ -110,12 +131,21 @@ impl<S: EntryStore> Node<S> {
     {
         let x = Id::of_bytes(ask.request.key());
         let Some(place) = place_with(&self.held, x) else {
-            let answered = pass_on(&self.links, ask)?;
-            return Ok((answered, None));
+            match pass_on(&self.links, ask) {
+                Ok(passed) => return Ok((passed, None)),
+                Err(fault) => return Err(fault),
+            }
         };
         let segment = &mut self.held[place];
         let store = self.store.as_mut().unwrap();
         answer_in(self.alloc, segment, store, ask, noting)
+    }
+
+    /// Its number.
+    pub fn number(&self) -> u64
+        ensures { result ≡ self.now.number }
+    {
+        self.links.me().no
     }
 
     /// What the node knows of the others.
@@ -140,5 +170,213 @@ impl<S: EntryStore> Node<S> {
         ensures { result ≡ self.now.phase }
     {
         self.phase
+    }
+
+    /// The span of the held segment at the place, counted from 0.
+    pub fn span(&self, place: usize) -> Option<Span>
+        ensures { result ≡ span_of (slice_get self.now.held place) }
+    {
+        let segment = self.held.get(place)?;
+        Some(segment.span())
+    }
+
+    /// Whether it holds the identifier.
+    pub fn holds(&self, x: Id) -> bool
+        ensures { result ≡ is_some (segment_with x.number self.now.held) }
+    {
+        place_with(&self.held, x).is_some()
+    }
+
+    /// The last number taken from a sender, 0 at first.
+    pub fn last_taken(&self, from: u64) -> u64
+        ensures { result ≡ mark_of from self.now.taken }
+    {
+        self.taken.last(from)
+    }
+
+    /// How many segments it holds.
+    pub fn held_count(&self) -> usize
+        ensures { result ≡ length self.now.held }
+    {
+        self.held.len()
+    }
+
+    /// How many items its outbox has.
+    pub fn kept_count(&self) -> usize
+        ensures { result ≡ length self.now.outbox }
+    {
+        self.outbox.len()
+    }
+
+    /// The receiver, the number and the span of an item of the outbox, counted from 0 in the order given.
+    pub fn kept(&self, i: u64) -> Option<(u64, u64, Span)>
+        ensures { result ≡ kept_as (slice_get self.now.outbox i) }
+    {
+        let (to, number) = self.outbox.nth(i)?;
+        let parcelled = self.outbox.item(to, number)?;
+        Some((to, number, parcelled.segment().span()))
+    }
+
+    /// A part of an item of the outbox, to be sent again.
+    pub fn resend_part(&self, to: u64, number: u64, part: u64) -> Result<Part, ResendFault>
+        ensures answer { ResendIs to number part self.now result }
+        ensures step { SendSteps self.now result self.now }
+    {
+        match self.outbox.part(to, number, part) {
+            Ok(Some(found)) => Ok(found),
+            Ok(None) => Err(ResendFault::NoPart),
+            Err(_) => Err(ResendFault::Memory),
+        }
+    }
+
+    /// Its receiver has a handover: the item leaves the outbox. Says whether it was there.
+    pub fn on_got(&mut self, got: &Got) -> bool
+        requires from { got.now.from ≡ self.old.number }
+        ensures answer { GotIs got.now self.old result self.new }
+        ensures step { NodeStep self.old (Some (GotMessage got.now)) self.new None None }
+    {
+        let freed = self.outbox.got(got.to, got.number);
+        freed.is_some()
+    }
+
+    /// Cuts the held segment at the place, counted from 0. The part behind stands behind the part before.
+    pub fn cut_at(&mut self, place: usize, at: Id) -> Result<(), CutAtFault>
+        ensures answer { CutAtIs place at self.old result self.new }
+        ensures step { MoveSteps self.old result self.new }
+    {
+        cut_segment(&mut self.held, place, at)
+    }
+
+    /// Joins the held segment at the second place behind the one at the first, in the first one's place.
+    pub fn merge(&mut self, place: usize, other: usize) -> Result<(), MergeFault>
+        ensures answer { MergeIs place other self.old result self.new }
+        ensures step { MoveSteps self.old result self.new }
+    {
+        merge_segments(self.alloc, &mut self.held, place, other)
+    }
+
+    /// Whether the held segment at the place may be given, want of memory apart.
+    pub fn may_give(&self, place: usize, to: u64) -> Result<(), GiveFault>
+        ensures { MayGive place to self.now result }
+    {
+        if self.held.len() <= place {
+            return Err(GiveFault::NoSegment);
+        }
+        if self.outbox.next_number(to).is_none() {
+            return Err(GiveFault::NumbersSpent);
+        }
+        Ok(())
+    }
+
+    /// Puts the held segment at the place, with its pairs, into the outbox, and gives the first part of this handover.
+    pub fn give(&mut self, place: usize, to: u64) -> Result<Part, GiveFault>
+        ensures answer { GiveIs place to self.old result self.new }
+        ensures step { SendSteps self.old result self.new }
+    {
+        if self.held.len() <= place {
+            return Err(GiveFault::NoSegment);
+        }
+        let Some(number) = self.outbox.next_number(to) else {
+            return Err(GiveFault::NumbersSpent);
+        };
+        let from = self.links.me().no;
+        let store = self.store.as_mut().unwrap();
+        let ticket = Ticket { from, to, number };
+        let Ok((part, pairs)) = prepare_give(self.alloc, store, &self.held[place], ticket) else {
+            return Err(GiveFault::Memory);
+        };
+        if self.outbox.reserve().is_err() {
+            return Err(GiveFault::Memory);
+        }
+        let segment = self.held.remove(place);
+        store.take_out(&segment.span());
+        match self.outbox.give(to, Parcelled::new(segment, pairs)) {
+            Ok(_) => Ok(part),
+            Err(_) => unreachable!(),
+        }
+    }
+
+    /// Answers a part of a handover: notes it, or takes the handover that is whole with it.
+    pub fn on_give(&mut self, part: &Part) -> Result<Given, AllocError>
+        requires to { part.now.to ≡ self.old.number }
+        ensures answer { PartIs part.now self.old result self.new }
+        ensures step { PartSteps part.now self.old result self.new }
+    {
+        let verdict = self.taken.judge(part.from, part.number);
+        if verdict == Verdict::Again {
+            return Ok(Given::Got);
+        }
+        if self.phase == Phase::Gone {
+            return Ok(Given::Declined);
+        }
+        if verdict == Verdict::Early {
+            return Ok(Given::Early);
+        }
+        let store = self.store.as_mut().unwrap();
+        take_next(&mut self.held, store, &mut self.taken, part)
+    }
+
+    /// Its receiver declined a handover: the item is held again.
+    pub fn on_declined(&mut self, declined: &Declined) -> Result<Back, AllocError>
+        requires from { declined.now.from ≡ self.old.number }
+        ensures answer { BackIs declined.now self.old result self.new }
+        ensures step { BackSteps declined.now self.old result self.new }
+    {
+        let Some(parcelled) = self.outbox.item(declined.to, declined.number) else {
+            return Ok(Back::Unknown);
+        };
+        let store = self.store.as_mut().unwrap();
+        match make_held(&mut self.held, store, parcelled) {
+            Ok(()) => {}
+            Err(PutFault::Clash) => return Ok(Back::Clash),
+            Err(PutFault::Full) => return Ok(Back::Full),
+            Err(PutFault::Memory) => return Err(AllocError),
+        }
+        let Some(back) = self.outbox.declined(declined.to, declined.number) else {
+            unreachable!()
+        };
+        let (segment, _) = back.into_parts();
+        self.held.push_reserved(segment);
+        Ok(Back::Held)
+    }
+
+    /// Begins to leave.
+    pub fn begin_leave(&mut self) -> Result<(), NotStaying>
+        ensures answer { LeaveIs self.old result self.new }
+        ensures step { MoveSteps self.old result self.new }
+    {
+        if self.phase != Phase::Staying {
+            return Err(NotStaying);
+        }
+        self.phase = Phase::Leaving;
+        Ok(())
+    }
+
+    /// Is gone, and drops its store, which is empty, and the parts that it noted.
+    pub fn retire(&mut self) -> Result<(), RetireFault>
+        ensures answer { RetireIs self.old result self.new }
+        ensures step { MoveSteps self.old result self.new }
+    {
+        if self.phase != Phase::Leaving {
+            return Err(RetireFault::NotLeaving);
+        }
+        let holds_none = self.held.is_empty();
+        let gives_none = self.outbox.is_empty();
+        if !holds_none || !gives_none {
+            return Err(RetireFault::NotEmpty);
+        }
+        self.store = None;
+        self.taken.forget_noted();
+        self.phase = Phase::Gone;
+        Ok(())
+    }
+
+    /// The store of a node that is to go no further.
+    pub fn into_store(self) -> S
+        requires { self.phase ≢ Gone }
+        ensures content { S.content result ≡ self.entries }
+        ensures limit { S.limit result ≡ self.limit }
+    {
+        self.store.unwrap()
     }
 }

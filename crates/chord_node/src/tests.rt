@@ -2,14 +2,19 @@
 
 ghost use Rattle.std.specs.Prelude.{◌≤◌};
 
-use crate::{Answered, Node, Phase};
+use crate::{Answered, Back, Given, Node, Phase};
 use chord_caller::Ask;
-use chord_ident::Id;
+use chord_handover::{Declined, Got, Part, Ticket};
+use chord_ident::{Id, Span};
 use chord_links::{Links, Peer, SuccList};
 use chord_map::{Bytes, Reply, Request};
 use chord_store::{CappedStore, EntryStore};
 use std::alloc::Global;
 use std::test::Fail;
+
+const A: u128 = 0x40000000000000000000000000000000;
+
+const B: u128 = 0xc0000000000000000000000000000000;
 
 fn insert(alloc: Global, number: u64, value: &[u8]) -> Result<Ask, Fail>
     requires low { 1 ≤ number }
@@ -93,5 +98,92 @@ fn forwards_and_drops(rt: HostRuntime) -> Result<(), Fail> {
     spent.hops = 0;
     let dropped = node.on_ask(&spent)?;
     assert!(rt; matches!(&dropped, Answered::Dropped));
+    Ok(())
+}
+
+/// What the node answers to a part that is for it.
+fn handed<S: EntryStore>(node: &mut Node<S>, part: &Part) -> Result<Option<Given>, Fail> {
+    if part.to != node.number() {
+        return Ok(None);
+    }
+    Ok(Some(node.on_give(part)?))
+}
+
+/// Whether an item that it gave left the outbox.
+fn freed<S: EntryStore>(node: &mut Node<S>, got: &Got) -> Option<bool> {
+    if got.from != node.number() {
+        return None;
+    }
+    Some(node.on_got(got))
+}
+
+/// What comes of an item that it gave and that was declined.
+fn taken_back<S: EntryStore>(
+    node: &mut Node<S>,
+    declined: &Declined,
+) -> Result<Option<Back>, Fail> {
+    if declined.from != node.number() {
+        return Ok(None);
+    }
+    Ok(Some(node.on_declined(declined)?))
+}
+
+/// The first node of a ring, over a store of nine pairs.
+fn first_node(alloc: Global) -> Result<Node<CappedStore>, Fail> {
+    let me = Peer {
+        no: 0,
+        id: Id::new(A),
+    };
+    match Node::found(alloc, me, 3, CappedStore::new(alloc, 9)) {
+        Ok(node) => Ok(node),
+        Err(_) => Err(Fail::from("no node")),
+    }
+}
+
+#[test]
+fn cuts_and_merges(rt: HostRuntime) -> Result<(), Fail> {
+    let mut node = first_node(rt.alloc())?;
+    assert!(rt; node.cut_at(0, Id::new(B)).is_ok());
+    assert_eq!(rt; node.span(1), Some(Span::new(Id::new(B), Id::new(A))));
+    assert!(rt; node.merge(0, 1).is_ok());
+    assert_eq!(rt; node.span(1), None);
+    Ok(())
+}
+
+/// What it gives stays in its outbox until its receiver has it, and then it retires.
+#[test]
+fn gives_and_retires(rt: HostRuntime) -> Result<(), Fail> {
+    let mut node = first_node(rt.alloc())?;
+    assert!(rt; node.begin_leave().is_ok());
+    assert!(rt; node.retire().is_err());
+    assert!(rt; node.give(0, 1).is_ok());
+    assert_eq!(rt;
+        node.kept(0),
+        Some((1, 1, Span::new(Id::new(A), Id::new(A))))
+    );
+    let got = Ticket {
+        from: 0,
+        to: 1,
+        number: 1,
+    };
+    assert_eq!(rt; freed(&mut node, &got), Some(true));
+    assert_eq!(rt; taken_back(&mut node, &got)?, Some(Back::Unknown));
+    assert!(rt; node.retire().is_ok());
+    Ok(())
+}
+
+#[test]
+fn takes_what_is_given(rt: HostRuntime) -> Result<(), Fail> {
+    let alloc = rt.alloc();
+    let mut node = first_node(alloc)?;
+    let part = node.give(0, 1).ok().ok_or("not given")?;
+    let other = Peer {
+        no: 1,
+        id: Id::new(B),
+    };
+    let mut next = Node::newborn(alloc, Links::alone(other, 3), CappedStore::new(alloc, 9));
+    assert_eq!(rt; handed(&mut next, &part)?, Some(Given::Got));
+    assert_eq!(rt; handed(&mut next, &part)?, Some(Given::Got));
+    assert_eq!(rt; next.last_taken(0), 1);
     Ok(())
 }

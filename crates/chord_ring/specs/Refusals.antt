@@ -21,6 +21,10 @@ abbrev pub OfTwo : Ring → ℕ → ℕ → (NodeLinks → NodeLinks → Type 0)
 OfTwo ring node other P =
     (links : NodeLinks) × (theirs : NodeLinks) × (links_of ring.members node ≡ Some links) × (links_of ring.members other ≡ Some theirs) × P links theirs
 
+-- the links are of the member of this number: the same node, with as many successors at most
+abbrev pub AreOwn : Ring → ℕ → NodeLinks → Type 0
+AreOwn ring node after = (links : NodeLinks) × (links_of ring.members node ≡ Some links) × (after.me ≡ links.me) × (after.r ≡ links.r)
+
 -- behind no member; an identifier that was used; one that does not lie before the first entry; no memory, where all else is well
 abbrev pub JoinRefused : Ring → ℕ → ℕ → RingFault → Type 0
 JoinRefused ring id pred NoSuchNode = is_member ring.members pred ≡ false

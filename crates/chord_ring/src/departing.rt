@@ -1,29 +1,27 @@
 //! Whether a member can depart.
-ghost use Rattle.std.specs.Prelude.{◌≡◌, ℕ, ◌<◌, ◌↔◌, IsTrue, is_some, IsSome, slice_set, None, Some};
+ghost use Rattle.std.specs.Prelude.{◌≡◌, ℕ, ◌<◌, ◌↔◌, IsTrue, is_some, IsSome, slice_set, None, Some, []};
 ghost use Rattle.std.specs.Option.{option_copied};
 ghost use Rattle.chord_links.specs.NodeLinks.{NodeLinks};
 ghost use Rattle.chord_links.specs.Successors.{Skips};
 ghost use Rattle.chord_ring.specs.Ring.{links_of, is_member, first_live, IsPrincipal, CanDepart};
 
+use crate::members::MemberReader;
 use chord_ident::{Id, between};
 use chord_links::Links;
 
 /// The links of the member of this number once another has departed.
-fn member_without(members: &[Option<Links>], gone: u64, no: u64) -> Option<&Links>
-    ensures { option_copied result ≡ links_of (slice_set members.now gone None) no }
+fn member_without<M: MemberReader>(members: &M, gone: u64, no: u64) -> Option<&Links>
+    ensures { option_copied result ≡ links_of (slice_set (M.ring members.now).members gone None) no }
 {
     if no == gone {
         return None;
     }
-    match members.get(no as usize) {
-        Some(Some(links)) => Some(links),
-        _ => None,
-    }
+    members.member(no)
 }
 
 /// Whether some entry is live once a member has departed.
-fn has_live_entry(members: &[Option<Links>], gone: u64, links: &Links) -> bool
-    ensures { result ≡ is_some (first_live (slice_set members.now gone None) links.now.entries) }
+fn has_live_entry<M: MemberReader>(members: &M, gone: u64, links: &Links) -> bool
+    ensures { result ≡ is_some (first_live (slice_set (M.ring members.now).members gone None) links.now.entries) }
 {
     for peer in links.list().entries() {
         if member_without(members, gone, peer.no).is_some() {
@@ -49,16 +47,16 @@ fn skips(links: &Links, x: Id) -> bool
 
 /// Whether a node is a principal once another has departed.
 #[tactic(auto, using(crate::proofs::Lookups::member_within_without))]
-fn is_principal(members: &[Option<Links>], gone: u64, no: u64) -> bool
-    ensures yes { IsTrue result → IsPrincipal (slice_set members.now gone None) no }
-    ensures no { IsPrincipal (slice_set members.now gone None) no → IsTrue result }
+fn is_principal<M: MemberReader>(members: &M, gone: u64, no: u64) -> bool
+    ensures yes { IsTrue result → IsPrincipal (slice_set (M.ring members.now).members gone None) no }
+    ensures no { IsPrincipal (slice_set (M.ring members.now).members gone None) no → IsTrue result }
 {
     let Some(links) = member_without(members, gone, no) else {
         return false;
     };
     let id = links.me().id;
-    for other in 0..members.len() {
-        if let Some(theirs) = member_without(members, gone, other as u64) {
+    for other in 0..members.count() {
+        if let Some(theirs) = member_without(members, gone, other) {
             if skips(theirs, id) {
                 return false;
             }
@@ -69,12 +67,12 @@ fn is_principal(members: &[Option<Links>], gone: u64, no: u64) -> bool
 
 /// Whether each member has a live entry once another has departed.
 #[tactic(auto, using(crate::proofs::Lookups::member_within_without))]
-fn are_live(members: &[Option<Links>], gone: u64) -> bool
-    ensures { let left = slice_set members.now gone None in IsTrue result ↔
+fn are_live<M: MemberReader>(members: &M, gone: u64) -> bool
+    ensures { let left = slice_set (M.ring members.now).members gone None in IsTrue result ↔
         ((no : ℕ) (links : NodeLinks) → links_of left no ≡ Some links → IsSome (first_live left links.entries)) }
 {
-    for no in 0..members.len() {
-        if let Some(links) = member_without(members, gone, no as u64) {
+    for no in 0..members.count() {
+        if let Some(links) = member_without(members, gone, no) {
             if !has_live_entry(members, gone, links) {
                 return false;
             }
@@ -85,12 +83,12 @@ fn are_live(members: &[Option<Links>], gone: u64) -> bool
 
 /// Whether there is a principal once another has departed.
 #[tactic(auto, using(crate::proofs::Lookups::principal_within_without))]
-fn has_principal(members: &[Option<Links>], gone: u64) -> bool
-    ensures yes { IsTrue result → (no : ℕ) × IsPrincipal (slice_set members.now gone None) no }
-    ensures no { (no : ℕ) → IsPrincipal (slice_set members.now gone None) no → IsTrue result }
+fn has_principal<M: MemberReader>(members: &M, gone: u64) -> bool
+    ensures yes { IsTrue result → (no : ℕ) × IsPrincipal (slice_set (M.ring members.now).members gone None) no }
+    ensures no { (no : ℕ) → IsPrincipal (slice_set (M.ring members.now).members gone None) no → IsTrue result }
 {
-    for no in 0..members.len() {
-        if is_principal(members, gone, no as u64) {
+    for no in 0..members.count() {
+        if is_principal(members, gone, no) {
             return true;
         }
     }
@@ -98,10 +96,37 @@ fn has_principal(members: &[Option<Links>], gone: u64) -> bool
 }
 
 /// Whether a node is a member and, once it has departed, each member's list has a live entry and there is a principal.
-/// The members stand under their numbers. At worst each list is looked at once for each member.
+/// At worst each list is looked at once for each member.
+pub fn can_depart_in<M: MemberReader>(members: &M, no: u64) -> bool
+    ensures { IsTrue result ↔ CanDepart (M.ring members.now).members no }
+{
+    members.member(no).is_some() && are_live(members, no) && has_principal(members, no)
+}
+
+/// The links of each member, in a list by number.
+#[derive(Clone, Copy)]
+struct Listed<'a> {
+    members: &'a [Option<Links>],
+}
+
+impl<'a> MemberReader for Listed<'a> {
+    ghost ring = { λ listed. record { ids = []; members = listed.members.now } };
+
+    fn member(&self, no: u64) -> Option<&Links> {
+        match self.members.get(no as usize) {
+            Some(Some(links)) => Some(links),
+            _ => None,
+        }
+    }
+
+    fn count(&self) -> u64 {
+        self.members.len() as u64
+    }
+}
+
+/// The same over the members' links in a list, by number.
 pub fn can_depart_among(members: &[Option<Links>], no: u64) -> bool
     ensures { IsTrue result ↔ CanDepart members.now no }
 {
-    let is_member = matches!(members.get(no as usize), Some(Some(_)));
-    is_member && are_live(members, no) && has_principal(members, no)
+    can_depart_in(&Listed { members }, no)
 }

@@ -1,5 +1,5 @@
 -- Messages that are delivered.
-use Rattle.std.proofs.Common.{◌≡◌, ◌≢◌, ℕ, ◌+◌, ◌<◌, ◌≤◌, ⊎_elim, inl, inr, Bool, true, false, cond, Option, None, Some, Result, Ok, Err, List, [], length, set, get_or, refl, sym, ◌∙◌, ap, subst, arith}
+use Rattle.std.proofs.Common.{◌≡◌, ℕ, ◌+◌, ◌<◌, ◌≤◌, ⊎_elim, inl, inr, Bool, true, false, cond, Option, None, Some, Result, Ok, Err, List, length, set, get_or, refl, sym, ◌∙◌, ap, subst, arith}
 use Rattle.std.proofs.lemmas.Option.{slice_get_past, slice_get_within, get_or_from_slice_get, slice_get_cases}
 use Rattle.std.specs.Prelude.{slice_get, Contains}
 use Rattle.std.specs.declared.alloc.AllocError.{AllocError}
@@ -16,25 +16,28 @@ use Rattle.chord_caller.specs.Caller.Letter.{ToldLetter, FullLetter}
 use Rattle.chord_caller.specs.Caller.CallerStep.{Hears_full}
 use Rattle.chord_caller.specs.Answers.{IsForeign, TakeIs}
 use Rattle.chord_caller.proofs.Steps.{fresh_steps, known_steps}
-use Rattle.chord_node.specs.declared.answered.Answered.{Answered}
-use Rattle.chord_node.specs.declared.answered.Answered.TheVariants as answer
+use Rattle.chord_node.specs.declared.asks.answered.Answered.{Answered}
+use Rattle.chord_node.specs.declared.asks.answered.Answered.TheVariants as answer
 use Rattle.chord_node.specs.declared.message.Message.{Message}
 use Rattle.chord_node.specs.declared.message.Message.TheVariants.{Ask as AskMessage, Told as ToldMessage, Full as FullMessage}
 use Rattle.chord_node.specs.Headline.{Headline, request_with, submitted_by, answers}
 use Rattle.chord_node.specs.Node.{Node, segment_with}
 use Rattle.chord_node.specs.Asked.{AskIs, AskNotes, AnswersBy, ask_done, after_done, past_answer, is_full_for, sent_by}
 use Rattle.chord_node.specs.World.{WorldStep, put_node, caller_at, put_caller, with_one}
-use Rattle.chord_node.specs.World.WorldStep.{Calls, Acts}
+use Rattle.chord_node.specs.World.WorldStep.{Calls}
 use Rattle.chord_node.proofs.Asking.{asked_steps}
-use Rattle.chord_world.specs.State.{WorldState, with_heard, NodesFrom, IsCall, AreCalls, IsWorld}
-use Rattle.chord_world.specs.Steps.{target_of, outcome_of, outcome_heard, with_answer, IsAstray, Delivers}
-use Rattle.chord_world.specs.Steps.Delivers.{To_node, To_caller, Full_to_caller}
+use Rattle.chord_world.specs.State.{WorldState, with_heard, IsWorld, is_crashed}
+use Rattle.chord_world.specs.Members.{is_gone}
+use Rattle.chord_world.specs.Delivered.{target_of, outcome_of, outcome_heard, with_answer, IsAstray, IsForCrashed, TakesMemory, Delivers}
+use Rattle.chord_world.specs.Delivered.TakesMemory.{Ask_takes}
+use Rattle.chord_world.specs.Delivered.Delivers.{To_node, To_caller, Full_to_caller}
+use Rattle.chord_world.specs.Delivered.IsFor.{Ask_for}
 use Rattle.chord_world.specs.declared.outcome.Outcome.{Outcome}
 use Rattle.chord_world.specs.declared.outcome.Outcome.TheVariants as did
 use Rattle.chord_world.specs.Delivering.{Answers, AnswersAt, Hears, IsOwed, message_by}
-use Rattle.chord_world.proofs.Placing.{node_at_place, put_node_place, nodes_set, node_number, caller_at_place, put_caller_place, caller_number, calls_pushed, call_at}
-use Rattle.chord_world.proofs.Keeping.{further}
-use Rattle.chord_world.proofs.Posting.{length_pushed, got, set_same}
+use Rattle.chord_world.proofs.Placing.{node_at_place, put_node_place, node_number, caller_at_place, put_caller_place, caller_number, call_at}
+use Rattle.chord_world.proofs.Acting.{After, SendsCall, ring_stays, acts_at}
+use Rattle.chord_world.proofs.Posting.{length_pushed, got, set_same, slice_get_there}
 use Rattle.chord_world.proofs.Speaking.{heard_is_world}
 
 -- a message at its place was sent
@@ -56,31 +59,22 @@ message_is ask (answer.Forward to passed) = refl
 message_is ask answer.Dropped = refl
 message_is ask answer.Full = refl
 
--- what an answer sends is a message of the same caller
-abbrev SendsCall : ℕ → Option Message → Type 0
-SendsCall count None = Unit {0}
-SendsCall count (Some message) = IsCall count message
+new_call : (nodes count : ℕ) (ask : Ask) (told : Told) (full : Bool) → ask.caller < count → told.caller < count → SendsCall nodes count (sent_by ask (cond full answer.Full (answer.Told told)))
+new_call nodes count ask told true within own = within
+new_call nodes count ask told false within own = own
 
-new_call : (count : ℕ) (ask : Ask) (told : Told) (full : Bool) → ask.caller < count → told.caller < count → SendsCall count (sent_by ask (cond full answer.Full (answer.Told told)))
-new_call count ask told true within own = within
-new_call count ask told false within own = own
+past_call : (nodes count : ℕ) (ask : Ask) (node : Node) (past : Past) → ask.caller < count → SendsCall nodes count (sent_by ask (past_answer past ask node.entries node.limit))
+past_call nodes count ask node Seen within = tt
+past_call nodes count ask node (Kept done) within = within
+past_call nodes count ask node New within = new_call nodes count ask _ (is_full_for ask.request node.entries node.limit) within within
 
-past_call : (count : ℕ) (ask : Ask) (node : Node) (past : Past) → ask.caller < count → SendsCall count (sent_by ask (past_answer past ask node.entries node.limit))
-past_call count ask node Seen within = tt
-past_call count ask node (Kept done) within = within
-past_call count ask node New within = new_call count ask _ (is_full_for ask.request node.entries node.limit) within within
+pass_call : (nodes count : ℕ) (ask passed : Ask) (to : ℕ) (spent : Bool) → passed.caller ≡ ask.caller → ask.caller < count → SendsCall nodes count (sent_by ask (cond spent answer.Dropped (answer.Forward to passed)))
+pass_call nodes count ask passed to true same within = tt
+pass_call nodes count ask passed to false same within = omega arith
 
-pass_call : (count : ℕ) (ask passed : Ask) (to : ℕ) (spent : Bool) → passed.caller ≡ ask.caller → ask.caller < count → SendsCall count (sent_by ask (cond spent answer.Dropped (answer.Forward to passed)))
-pass_call count ask passed to true same within = tt
-pass_call count ask passed to false same within = omega arith
-
-answer_call : (count : ℕ) (ask : Ask) (node : Node) (answered : Answered) (o : Option Segment) → AnswersBy o ask node answered → ask.caller < count → SendsCall count (sent_by ask answered)
-answer_call count ask node answered None (hop, next, is) within = subst (λ a. SendsCall count (sent_by ask a)) (sym is) (pass_call count ask _ _ _ refl within)
-answer_call count ask node answered (Some segment) is within = subst (λ a. SendsCall count (sent_by ask a)) (sym is) (past_call count ask node (past_at ask.caller ask.number segment) within)
-
-calls_with : (count : ℕ) (sent : List Message) (o : Option Message) → AreCalls count sent → SendsCall count o → AreCalls count (with_one sent o)
-calls_with count sent None all here = all
-calls_with count sent (Some message) all here = calls_pushed count sent message all here
+answer_call : (nodes count : ℕ) (ask : Ask) (node : Node) (answered : Answered) (o : Option Segment) → AnswersBy o ask node answered → ask.caller < count → SendsCall nodes count (sent_by ask answered)
+answer_call nodes count ask node answered None (hop, next, is) within = subst (λ a. SendsCall nodes count (sent_by ask a)) (sym is) (pass_call nodes count ask _ _ _ refl within)
+answer_call nodes count ask node answered (Some segment) is within = subst (λ a. SendsCall nodes count (sent_by ask a)) (sym is) (past_call nodes count ask node (past_at ask.caller ask.number segment) within)
 
 lengths : (targets : List ℕ) (sent : List Message) (ask : Ask) (answered : Answered) → length targets ≡ length sent → length (with_one targets (target_of answered)) ≡ length (with_one sent (sent_by ask answered))
 lengths targets sent ask (answer.Told told) e = length_pushed targets 0 ∙ ap (λ n. n + 1) e ∙ sym (length_pushed sent (ToldMessage told))
@@ -95,35 +89,39 @@ pub record Asked (place to : ℕ) (ask : Ask) (view : WorldState) (answered : An
   pub here : slice_get view.known.nodes to ≡ Some node
   pub answers : AskIs ask node (Ok answered) after
 
-pub answer_step : (place to : ℕ) (ask : Ask) (view : WorldState) (answered : Answered) (node after : Node) → IsWorld view → Asked place to ask view answered node after
-    → WorldStep view.known (with_answer ask node after answered view).known
-answer_step place to ask view answered node after kept asked =
-    Acts to node after (Some (AskMessage ask)) (sent_by ask answered) (ask_done ask node)
-    (node_at_place 0 to to view.known.nodes kept.nodes (omega arith) ∙ asked.here) (was_sent view.known.sent place (AskMessage ask) asked.sent)
-    (asked_steps ask node (Ok answered) after asked.answers)
+done_phase : (did : Option Done) (ask : Ask) (node : Node) → (after_done did ask node).phase ≡ node.phase
+done_phase None ask node = refl
+done_phase (Some done) ask node = refl
 
-pub answer_is_world : (place to : ℕ) (ask : Ask) (view : WorldState) (answered : Answered) (node after : Node) → IsWorld view → Asked place to ask view answered node after
-    → IsWorld (with_answer ask node after answered view)
-answer_is_world place to ask view answered node after kept asked =
-    let at = answered_number ask node after answered asked.answers ∙ node_number 0 to node view.known.nodes kept.nodes asked.here in
-    let put : put_node after view.known.nodes ≡ set view.known.nodes to after = put_node_place 0 to after view.known.nodes kept.nodes at in
-    let own : ask.caller < length view.known.callers = call_at (length view.known.callers) view.known.sent place (AskMessage ask) kept.calls asked.sent in
-    record {
-      reached = further view.known (with_answer ask node after answered view).known kept.reached (answer_step place to ask view answered node after kept asked);
-      nodes = subst (NodesFrom 0) (sym put) (nodes_set 0 to after view.known.nodes kept.nodes at);
-      callers = kept.callers;
-      targets = lengths view.targets view.known.sent ask answered kept.targets;
-      calls = calls_with (length view.known.callers) view.known.sent (sent_by ask answered) kept.calls
-          (answer_call (length view.known.callers) ask node answered (segment_with (id_of ask.request) node.held) asked.answers.0 own);
-      low = kept.low;
-      high = kept.high;
-    }
+done_links : (did : Option Done) (ask : Ask) (node : Node) → (after_done did ask node).links ≡ node.links
+done_links None ask node = refl
+done_links (Some done) ask node = refl
+
+pub answer_after : (place to : ℕ) (ask : Ask) (view old : WorldState) (answered : Answered) (node after : Node) (new : WorldState) → view ≡ old → IsWorld view → Asked place to ask view answered node after
+    → is_crashed to old ≡ false → new ≡ with_answer ask node after answered view → After old new
+answer_after place to ask view old answered node after new same kept asked running is =
+    acts_at to node after (Some (AskMessage ask)) (sent_by ask answered) (target_of answered) (ask_done ask node) view old new same kept
+    (record {
+      here = asked.here;
+      running = ap (is_crashed to) same ∙ running;
+      number = answered_number ask node after answered asked.answers;
+      was = was_sent view.known.sent place (AskMessage ask) asked.sent;
+      does = asked_steps ask node (Ok answered) after asked.answers;
+      call = answer_call (length view.known.nodes) (length view.known.callers) ask node answered (segment_with (id_of ask.request) node.held) asked.answers.0
+          (call_at (length view.known.nodes) (length view.known.callers) view.known.sent place (AskMessage ask) kept.calls asked.sent);
+      paired = lengths view.targets view.known.sent ask answered kept.targets;
+      ring = ring_stays to node after view kept asked.here
+          (ap (λ (n : Node). is_gone n.phase) asked.answers.1 ∙ ap is_gone (done_phase (ask_done ask node) ask node))
+          (ap (λ (n : Node). n.links) asked.answers.1 ∙ done_links (ask_done ask node) ask node);
+    })
+    is
 
 pub answer_delivers : (place to : ℕ) (ask : Ask) (view old : WorldState) (answered : Answered) (node after : Node) → view ≡ old → IsWorld view → Asked place to ask view answered node after
-    → Delivers place old (outcome_of answered (length view.known.sent)) (with_answer ask node after answered view)
-answer_delivers place to ask view old answered node after same kept asked =
+    → is_crashed to old ≡ false → Delivers place old (outcome_of answered (length view.known.sent)) (with_answer ask node after answered view)
+answer_delivers place to ask view old answered node after same kept asked running =
     subst (λ (w : WorldState). Delivers place w (outcome_of answered (length view.known.sent)) (with_answer ask node after answered view)) same
-    (To_node ask to node after answered asked.sent asked.target (node_at_place 0 to to view.known.nodes kept.nodes (omega arith) ∙ asked.here) asked.answers)
+    (To_node ask to node after answered asked.sent asked.target (node_at_place 0 to to view.known.nodes kept.nodes (omega arith) ∙ asked.here)
+    (ap (is_crashed to) same ∙ running) asked.answers)
 
 -- in the words of the code
 abbrev pub after_answer : List Node → List Message → List Done → List ℕ → WorldState → WorldState
@@ -204,7 +202,7 @@ told_owed told place view kept headline sent core here foreign =
 pub full_there : (place caller number : ℕ) (view : WorldState) → IsWorld view → slice_get view.known.sent place ≡ Some (FullMessage caller number)
     → (core : Caller) × (slice_get view.known.callers caller ≡ Some core)
 full_there place caller number view kept sent =
-    let within : caller < length view.known.callers = call_at (length view.known.callers) view.known.sent place (FullMessage caller number) kept.calls sent in
+    let within : caller < length view.known.callers = call_at (length view.known.nodes) (length view.known.callers) view.known.sent place (FullMessage caller number) kept.calls sent in
     ⊎_elim (λ h. (h.0, h.2)) (λ h. absurd (let past = h.0 in omega arith)) (slice_get_cases view.known.callers caller).1
 
 pub full_delivers : (place caller number : ℕ) (view old : WorldState) → view ≡ old → IsWorld view → slice_get view.known.sent place ≡ Some (FullMessage caller number)
@@ -233,7 +231,7 @@ pub answers_from : (place : ℕ) (ask : Ask) (old : List Node) (node after : Nod
 answers_from place ask old node after (Ok both) new within here h is =
     record { node = node; after = after; here = got old place node within here; answers = h; new_is = is }
 answers_from place ask old node after (Err fault) new within here h is =
-    is ∙ ap (set old place) h ∙ set_same old place node (got old place node within here)
+    is ∙ ap (set old place) h.1 ∙ set_same old place node (got old place node within here)
 
 -- what was read at a place is what stands there
 pub read : {A : Type 0} (items before : List A) (place : ℕ) (x : A) → items ≡ before → place < length items → x ≡ get_or items place x → slice_get before place ≡ Some x
@@ -254,6 +252,18 @@ pub astray : (place to : ℕ) (ask : Ask) (view old : WorldState) → view ≡ o
 astray place to ask view old same kept sent target past =
     subst (IsAstray place) same
     (record { ask = ask; to = to; sent = sent; target = target; missing = node_at_place 0 to to view.known.nodes kept.nodes (omega arith) ∙ slice_get_past view.known.nodes to past })
+
+pub for_crashed : (place to : ℕ) (ask : Ask) (node : Node) (view old : WorldState) → view ≡ old → IsWorld view → slice_get view.known.sent place ≡ Some (AskMessage ask) → slice_get view.targets place ≡ Some to
+    → slice_get view.known.nodes to ≡ Some node → is_crashed to old ≡ true → IsForCrashed place old
+for_crashed place to ask node view old same kept sent target here out =
+    subst (IsForCrashed place) same
+    (record {
+      to = to;
+      node = node;
+      is_for = Ask_for ask to sent target;
+      here = node_at_place 0 to to view.known.nodes kept.nodes (omega arith) ∙ here;
+      crashed = ap (is_crashed to) same ∙ out;
+    })
 
 -- the calls that are delivered
 pub asked_of : (place to : ℕ) (ask : Ask) (view : WorldState) (answered : Answered) (did : Option Done) (nodes : List Node) → slice_get view.known.sent place ≡ Some (AskMessage ask)
@@ -278,9 +288,15 @@ pub same_fields : (view : WorldState) (nodes : List Node) (sent : List Message) 
     → history ≡ view.known.history → targets ≡ view.targets → after_answer nodes sent history targets view ≡ view
 same_fields view nodes sent history targets n s h t = λ i. after_answer (n i) (s i) (h i) (t i) view
 
-pub stays : (view old new : WorldState) (place : ℕ) (message : Message) → view ≡ old → old.known.nodes ≢ [] → slice_get old.known.sent place ≡ Some message → new ≡ view
-    → (old.known.nodes ≢ []) × (place < length old.known.sent) × (new ≡ old)
-stays view old new place message same created here e = (created, slice_get_within old.known.sent place message here, e ∙ same)
+-- out of memory for a message that takes some
+pub stays : (view old new : WorldState) (place : ℕ) → view ≡ old → TakesMemory place view → new ≡ view → TakesMemory place old × (new ≡ old)
+stays view old new place same takes e = (subst (TakesMemory place) same takes, e ∙ same)
+
+pub ask_takes : (place to : ℕ) (ask : Ask) (view old : WorldState) → view ≡ old → IsWorld view → slice_get view.known.sent place ≡ Some (AskMessage ask)
+    → slice_get view.targets place ≡ Some to → to < length view.known.nodes → is_crashed to old ≡ false → TakesMemory place view
+ask_takes place to ask view old same kept sent target within running =
+    let found = slice_get_there view.known.nodes to within in
+    Ask_takes ask to found.0 sent target (node_at_place 0 to to view.known.nodes kept.nodes (omega arith) ∙ found.1) (ap (is_crashed to) same ∙ running)
 
 pub told_to : (place : ℕ) (told : Told) (view : WorldState) (heard : Heard) (callers : List Caller) → slice_get view.known.sent place ≡ Some (ToldMessage told)
     → (did : Hears told.caller told view.known.callers heard callers) → ToldTo place told view heard did.core did.after

@@ -1,32 +1,41 @@
 -- Each step leads to a world that is kept.
-use Rattle.std.proofs.Common.{◌≡◌, ℕ, ◌<◌, ◌≤◌, Some, Ok, List, [], ◌∷◌, ◌++◌, length, get_or, map, refl, sym, ◌∙◌, ap, subst, arith, length-append}
-use Rattle.std.proofs.lemmas.Option.{slice_get_past}
+use Rattle.std.proofs.Common.{◌≡◌, ◌≢◌, ℕ, ◌<◌, ◌≤◌, Bool, false, Some, Ok, List, [], ◌∷◌, ◌++◌, length, get_or, map, refl, sym, ◌∙◌, ap, subst, arith, length-append}
+use Rattle.std.proofs.lemmas.Option.{slice_get_past, none-some}
 use Rattle.std.specs.Prelude.{slice_get, ◌^◌}
 use mathlib.Core.Logic.{∥∥₁_map}
 use Rattle.chord_ident.specs.declared.id.Id.{Id}
 use Rattle.chord_links.specs.NodeLinks.{alone}
+use Rattle.chord_ring.specs.Sound.{IsSound}
+use Rattle.chord_ring.specs.Steps.{founded}
+use Rattle.chord_ring.proofs.Reached.{IsSound-founded}
 use Rattle.chord_caller.specs.Caller.{Caller}
 use Rattle.chord_caller.specs.Answers.{new_caller}
 use Rattle.chord_node.specs.Node.{Node, founder}
 use Rattle.chord_node.specs.World.{World, WorldStep, Reached}
 use Rattle.chord_node.specs.World.WorldStep.{Creates, Opens}
 use Rattle.chord_node.specs.World.Run.{Stays, Goes_on}
-use Rattle.chord_world.specs.State.{WorldState, new_world, IsWorld}
+use Rattle.chord_world.specs.Members.{members_of, ids_of, ring_with}
+use Rattle.chord_world.specs.State.{WorldState, new_world, IsWorld, KeepsRing}
 use Rattle.chord_world.specs.declared.outcome.Outcome.TheVariants as did
 use Rattle.chord_world.specs.Steps.{with_founder, CreateIs, IsWindow, with_caller}
 use Rattle.chord_world.proofs.Placing.{callers_pushed, caller_at_place, calls_of_more}
+use Rattle.chord_world.proofs.RingLemmas.{member_past, flag_within}
 
 -- the world after one more step is reached
 pub further : (old new : World) → ∥ Reached old ∥₁ → WorldStep old new → ∥ Reached new ∥₁
 further old new reached step = ∥∥₁_map reached (λ run. Goes_on run step)
 
 pub new_is_world : (r : ℕ) → 2 ≤ r → r ≤ 16 → IsWorld (new_world r)
-new_is_world r low high = record { reached = ∣ Stays ∣₁; nodes = tt; callers = tt; targets = refl; calls = tt; low = low; high = high }
+new_is_world r low high = record { reached = ∣ Stays ∣₁; nodes = tt; callers = tt; targets = refl; calls = tt; crashed = refl; ring = λ some. absurd (some refl); low = low; high = high }
 
 -- ---- a first node
 
 pub founds : (id : Id) (limit : ℕ) (old : WorldState) → id.number < 2 ^ 128 → old.known.nodes ≡ [] → WorldStep old.known (with_founder id limit old).known
 founds id limit old circle none = Creates (alone (record { no = 0; id = id }) old.r) limit circle none
+
+founded_ring : (id : Id) (r limit : ℕ) → ring_with (founder (alone (record { no = 0; id = id }) r) limit ∷ []) (false ∷ []) ≡ founded id.number r
+unfolding members_of ids_of
+founded_ring id r limit = refl
 
 pub founded_is_world : (id : Id) (limit : ℕ) (old : WorldState) → id.number < 2 ^ 128 → old.known.nodes ≡ [] → IsWorld old → IsWorld (with_founder id limit old)
 founded_is_world id limit old circle none kept = record {
@@ -34,7 +43,10 @@ founded_is_world id limit old circle none kept = record {
   nodes = (refl, tt);
   callers = kept.callers;
   targets = kept.targets;
-  calls = kept.calls;
+  calls = calls_of_more (length old.known.nodes) 1 (length old.known.callers) (length old.known.callers) old.known.sent
+      (let empty = ap (λ (ns : List Node). length ns) none in omega arith) (omega arith) kept.calls;
+  crashed = refl;
+  ring = λ _. subst IsSound (sym (founded_ring id old.r limit)) (IsSound-founded id.number old.r circle (let low = kept.low in omega arith));
   low = kept.low;
   high = kept.high;
 }
@@ -53,7 +65,9 @@ opened_is_world window old fits kept = record {
   nodes = kept.nodes;
   callers = callers_pushed 0 (new_caller (length old.known.callers) window) old.known.callers kept.callers (omega arith);
   targets = kept.targets;
-  calls = calls_of_more (length old.known.callers) _ old.known.sent (let more = length-append old.known.callers (new_caller (length old.known.callers) window ∷ []) in omega arith) kept.calls;
+  calls = calls_of_more (length old.known.nodes) (length old.known.nodes) (length old.known.callers) _ old.known.sent (omega arith) (let more = length-append old.known.callers (new_caller (length old.known.callers) window ∷ []) in omega arith) kept.calls;
+  crashed = kept.crashed;
+  ring = kept.ring;
   low = kept.low;
   high = kept.high;
 }
@@ -64,8 +78,16 @@ opened_is_world window old fits kept = record {
 abbrev pub with_nodes : List Node → WorldState → WorldState
 with_nodes nodes view = record view { known = record view.known { nodes = nodes } }
 
+-- and with these flags
+abbrev pub with_more : List Node → List Bool → WorldState → WorldState
+with_more nodes crashed view = record view { known = record view.known { nodes = nodes }; crashed = crashed }
+
 abbrev pub with_callers : List Caller → WorldState → WorldState
 with_callers callers view = record view { known = record view.known { callers = callers } }
+
+-- where memory was wanting
+pub no_room : (view old : WorldState) (nodes : List Node) (flags : List Bool) → view ≡ old → nodes ≡ view.known.nodes → flags ≡ view.crashed → with_more nodes flags view ≡ old
+no_room view old nodes flags same n f = (λ i. with_more (n i) (f i) view) ∙ same
 
 -- a first node, in the words of the code
 pub founded_items : (id : Id) (limit : ℕ) (view : WorldState) (nodes before : List Node) (node : Node) → view.known.nodes ≡ []
@@ -74,27 +96,51 @@ pub founded_items : (id : Id) (limit : ℕ) (view : WorldState) (nodes before : 
 founded_items id limit view nodes before node none items same is =
     items ∙ ap (λ (ns : List Node). ns ++ node ∷ []) (same ∙ none) ∙ ap (λ (n : Node). n ∷ []) is
 
-pub founded_at : (id : Id) (limit : ℕ) (view : WorldState) (nodes before : List Node) (node : Node) → id.number < 2 ^ 128 → view.known.nodes ≡ [] → IsWorld view
-    → nodes ≡ before ++ node ∷ [] → before ≡ view.known.nodes → node ≡ founder (alone (record { no = 0; id = id }) view.r) limit → IsWorld (with_nodes nodes view)
-founded_at id limit view nodes before node circle none kept items same is =
-    subst (λ ns. IsWorld (with_nodes ns view)) (sym (founded_items id limit view nodes before node none items same is)) (founded_is_world id limit view circle none kept)
+-- the flags of the nodes, of which there were none
+pub founded_flags : (view : WorldState) (flags before : List Bool) → IsWorld view → view.known.nodes ≡ [] → flags ≡ before ++ false ∷ [] → before ≡ view.crashed → flags ≡ false ∷ []
+founded_flags view flags before kept none is same =
+    is ∙ ap (λ fs. fs ++ false ∷ []) (same ∙ no_flags view.crashed (kept.crashed ∙ ap (λ (ns : List Node). length ns) none))
+  where
+    no_flags : (fs : List Bool) → length fs ≡ 0 → fs ≡ []
+    no_flags [] e = refl
+    no_flags (f ∷ fs) e = absurd (omega arith)
+
+pub founded_at : (id : Id) (limit : ℕ) (view : WorldState) (nodes : List Node) (flags : List Bool) → id.number < 2 ^ 128 → view.known.nodes ≡ [] → IsWorld view
+    → nodes ≡ founder (alone (record { no = 0; id = id }) view.r) limit ∷ [] → flags ≡ false ∷ [] → IsWorld (with_more nodes flags view)
+founded_at id limit view nodes flags circle none kept is flagged =
+    subst IsWorld (λ i. with_more (sym is i) (sym flagged i) view) (founded_is_world id limit view circle none kept)
 
 pub limit_first : {S : Type 0} (f : S → ℕ) (xs : List S) (x : S) → 0 < length xs → x ≡ get_or xs 0 x → slice_get (map f xs) 0 ≡ Some (f x)
 limit_first f [] x some e = absurd (omega arith)
 limit_first f (y ∷ xs) x some e = ap (λ z. Some (f z)) (sym e)
 
-pub founded_answer : (id : Id) (limits : List ℕ) (limit : ℕ) (view old : WorldState) (nodes : List Node) → view ≡ old → view.known.nodes ≡ []
-    → slice_get limits 0 ≡ Some limit → nodes ≡ founder (alone (record { no = 0; id = id }) view.r) limit ∷ []
-    → CreateIs id limits old (Ok (did.Node 0)) (with_nodes nodes view)
-founded_answer id limits limit view old nodes same none first is =
-    subst (λ w. CreateIs id limits w (Ok (did.Node 0)) (with_nodes nodes view)) same
-    (none, refl, (limit, first, ap (λ ns. with_nodes ns view) is))
+pub map_some : {S : Type 0} (f : S → ℕ) (xs : List S) → 0 < length xs → map f xs ≢ []
+map_some f [] some e = omega arith
+map_some f (x ∷ xs) some e = cc
 
-pub founded_step : (id : Id) (limit : ℕ) (view old : WorldState) (nodes : List Node) → view ≡ old → id.number < 2 ^ 128 → view.known.nodes ≡ []
-    → nodes ≡ founder (alone (record { no = 0; id = id }) view.r) limit ∷ [] → WorldStep old.known (with_nodes nodes view).known
-founded_step id limit view old nodes same circle none is =
-    subst (λ w. WorldStep w.known (with_nodes nodes view).known) same
-    (subst (λ ns. WorldStep view.known (with_nodes ns view).known) (sym is) (founds id limit view circle none))
+pub founded_answer : (id : Id) (limits : List ℕ) (limit : ℕ) (view old : WorldState) (nodes : List Node) (flags : List Bool) → view ≡ old → view.known.nodes ≡ []
+    → slice_get limits 0 ≡ Some limit → nodes ≡ founder (alone (record { no = 0; id = id }) view.r) limit ∷ [] → flags ≡ false ∷ []
+    → CreateIs id limits old (Ok (did.Node 0)) (with_more nodes flags view)
+founded_answer id limits limit view old nodes flags same none first is flagged =
+    subst (λ w. CreateIs id limits w (Ok (did.Node 0)) (with_more nodes flags view)) same
+    (none, refl, (limit, first, λ i. with_more (is i) (flagged i) view))
+
+pub founded_step : (id : Id) (limit : ℕ) (view old : WorldState) (nodes : List Node) (flags : List Bool) → view ≡ old → id.number < 2 ^ 128 → view.known.nodes ≡ []
+    → nodes ≡ founder (alone (record { no = 0; id = id }) view.r) limit ∷ [] → WorldStep old.known (with_more nodes flags view).known
+founded_step id limit view old nodes flags same circle none is =
+    subst (λ w. WorldStep w.known (with_more nodes flags view).known) same
+    (subst (λ ns. WorldStep view.known (with_more ns flags view).known) (sym is) (founds id limit view circle none))
+
+-- there was no ring before
+pub founded_keeps : (view old : WorldState) (nodes : List Node) (flags : List Bool) → view ≡ old → IsWorld view → view.known.nodes ≡ [] → KeepsRing old (with_more nodes flags view)
+founded_keeps view old nodes flags same kept none =
+    subst (λ w. KeepsRing w (with_more nodes flags view)) same
+    (record {
+      principals = λ node principal still.
+          absurd (none-some principal.links (sym (member_past node view.known.nodes view.crashed kept.crashed (let empty = ap (λ (ns : List Node). length ns) none in omega arith)) ∙ principal.is_its));
+      crashed = λ number out.
+          absurd (let within = flag_within view.crashed number out in let empty = ap (λ (ns : List Node). length ns) none in let count = kept.crashed in omega arith);
+    })
 
 -- a caller, in the words of the code
 pub opened_items : (window number : ℕ) (view : WorldState) (callers before : List Caller) (caller : Caller)

@@ -1,7 +1,14 @@
+pub mod Rooms
 pub mod Placing
+pub mod RingLemmas
 pub mod Keeping
+pub mod Acting
+pub mod Upkeeping
 pub mod Posting
 pub mod Speaking
 pub mod Answering
 pub mod Pointing
+pub mod Handing
+pub mod Taking
 pub mod RunLemmas
+pub mod Holders

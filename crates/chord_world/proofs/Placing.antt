@@ -7,7 +7,7 @@ use Rattle.chord_node.specs.declared.message.Message.{Message}
 use Rattle.chord_node.specs.declared.message.Message.TheVariants.{Ask as AskMessage, Told as ToldMessage, Full as FullMessage, Part as PartMessage, Got as GotMessage, Declined as DeclinedMessage, Note as NoteMessage}
 use Rattle.chord_node.specs.Node.{Node}
 use Rattle.chord_node.specs.World.{node_at, put_node, caller_at, put_caller}
-use Rattle.chord_world.specs.State.{NodesFrom, CallersFrom, IsCall, AreCalls}
+use Rattle.chord_world.specs.State.{NodesFrom, CallersFrom, IsKnown, AreKnown}
 
 -- ---- nodes
 
@@ -87,25 +87,26 @@ caller_number start (suc place) caller (other ∷ rest) numbered e = let number 
 
 -- ---- messages
 
--- with more callers
-pub call_of_more : (count more : ℕ) (message : Message) → count ≤ more → IsCall count message → IsCall more message
-call_of_more count more (AskMessage ask) le h = omega arith
-call_of_more count more (ToldMessage told) le h = omega arith
-call_of_more count more (FullMessage caller number) le h = omega arith
-call_of_more count more (PartMessage part) le h = h
-call_of_more count more (GotMessage ticket) le h = h
-call_of_more count more (DeclinedMessage ticket) le h = h
-call_of_more count more (NoteMessage note) le h = omega arith
+-- with more nodes and callers
+pub call_of_more : (nodes more_nodes count more : ℕ) (message : Message) → nodes ≤ more_nodes → count ≤ more → IsKnown nodes count message → IsKnown more_nodes more message
+call_of_more nodes more_nodes count more (AskMessage ask) ln le h = omega arith
+call_of_more nodes more_nodes count more (ToldMessage told) ln le h = omega arith
+call_of_more nodes more_nodes count more (FullMessage caller number) ln le h = omega arith
+call_of_more nodes more_nodes count more (PartMessage part) ln le (f, t) = (omega arith, omega arith)
+call_of_more nodes more_nodes count more (GotMessage ticket) ln le (f, t) = (omega arith, omega arith)
+call_of_more nodes more_nodes count more (DeclinedMessage ticket) ln le (f, t) = (omega arith, omega arith)
+call_of_more nodes more_nodes count more (NoteMessage note) ln le h = omega arith
 
-pub calls_of_more : (count more : ℕ) (sent : List Message) → count ≤ more → AreCalls count sent → AreCalls more sent
-calls_of_more count more [] le h = tt
-calls_of_more count more (message ∷ sent) le h = (call_of_more count more message le h.0, calls_of_more count more sent le h.1)
+pub calls_of_more : (nodes more_nodes count more : ℕ) (sent : List Message) → nodes ≤ more_nodes → count ≤ more → AreKnown nodes count sent → AreKnown more_nodes more sent
+calls_of_more nodes more_nodes count more [] ln le h = tt
+calls_of_more nodes more_nodes count more (message ∷ sent) ln le h =
+    (call_of_more nodes more_nodes count more message ln le h.0, calls_of_more nodes more_nodes count more sent ln le h.1)
 
-pub calls_pushed : (count : ℕ) (sent : List Message) (message : Message) → AreCalls count sent → IsCall count message → AreCalls count (sent ++ message ∷ [])
-calls_pushed count [] message all here = (here, tt)
-calls_pushed count (other ∷ sent) message all here = (all.0, calls_pushed count sent message all.1 here)
+pub calls_pushed : (nodes count : ℕ) (sent : List Message) (message : Message) → AreKnown nodes count sent → IsKnown nodes count message → AreKnown nodes count (sent ++ message ∷ [])
+calls_pushed nodes count [] message all here = (here, tt)
+calls_pushed nodes count (other ∷ sent) message all here = (all.0, calls_pushed nodes count sent message all.1 here)
 
-pub call_at : (count : ℕ) (sent : List Message) (place : ℕ) (message : Message) → AreCalls count sent → slice_get sent place ≡ Some message → IsCall count message
-call_at count [] place message all e = cc
-call_at count (other ∷ sent) zero message all e = let same : other ≡ message = cc in subst (IsCall count) same all.0
-call_at count (other ∷ sent) (suc place) message all e = call_at count sent place message all.1 e
+pub call_at : (nodes count : ℕ) (sent : List Message) (place : ℕ) (message : Message) → AreKnown nodes count sent → slice_get sent place ≡ Some message → IsKnown nodes count message
+call_at nodes count [] place message all e = cc
+call_at nodes count (other ∷ sent) zero message all e = let same : other ≡ message = cc in subst (IsKnown nodes count) same all.0
+call_at nodes count (other ∷ sent) (suc place) message all e = call_at nodes count sent place message all.1 e

@@ -1,16 +1,21 @@
 -- Nodes whose links change.
-use Rattle.std.proofs.Common.{◌≡◌, ℕ, ◌<◌, ◌≤◌, None, Some, List, length, set, refl, sym, ◌∙◌, ap, subst, arith}
+use Rattle.std.proofs.Common.{◌≡◌, ℕ, ◌<◌, ◌≤◌, ◌||◌, Bool, true, false, inl, inr, None, Some, List, length, set, refl, sym, ◌∙◌, ap, subst, arith}
 use Rattle.std.specs.Prelude.{slice_get}
+use Rattle.std.proofs.lemmas.Bool.{cases_Bool}
 use Rattle.std.proofs.lemmas.Option.{slice_get_past}
 use Rattle.chord_links.specs.declared.peer.Peer.{Peer}
 use Rattle.chord_node.specs.Node.{Node}
 use Rattle.chord_node.specs.Node.NodeStep.{Links_change}
-use Rattle.chord_node.specs.World.{WorldStep, node_at, put_node}
-use Rattle.chord_node.specs.World.WorldStep.{Acts}
-use Rattle.chord_world.specs.State.{WorldState, NodesFrom, IsWorld}
+use Rattle.chord_node.specs.World.{node_at, put_node}
+use Rattle.chord_links.specs.NodeLinks.{NodeLinks}
+use Rattle.chord_ring.proofs.Stepping.{Kept, Kept-fingers}
+use Rattle.chord_world.specs.Members.{is_gone, links_unless, member_links, ring_with}
+use Rattle.chord_world.specs.State.{WorldState, IsWorld, ring_of, is_crashed}
 use Rattle.chord_world.specs.Linking.{IsFinger, pointed, with_node, Points, PointsAt}
-use Rattle.chord_world.proofs.Placing.{node_at_place, put_node_place, nodes_set, node_number}
-use Rattle.chord_world.proofs.Keeping.{further, with_nodes}
+use Rattle.chord_world.proofs.Placing.{node_at_place, put_node_place, node_number}
+use Rattle.chord_world.proofs.RingLemmas.{member_at, ring_relinked}
+use Rattle.chord_world.proofs.Keeping.{with_nodes}
+use Rattle.chord_world.proofs.Acting.{After, node_there, ring_is, acts_at}
 use Rattle.chord_world.proofs.Posting.{slice_get_there}
 
 pub node_stands : (place : ℕ) (view old : WorldState) (node : Node) → view ≡ old → IsWorld view → slice_get view.known.nodes place ≡ Some node → node_at place old.known.nodes ≡ Some node
@@ -22,25 +27,43 @@ node_missing place view old same kept past =
     subst (λ (w : WorldState). node_at place w.known.nodes ≡ None) same
     (node_at_place 0 place place view.known.nodes kept.nodes (omega arith) ∙ slice_get_past view.known.nodes place past)
 
-pub pointed_step : (place finger : ℕ) (peer : Peer) (node : Node) (view : WorldState) → IsWorld view → slice_get view.known.nodes place ≡ Some node
-    → WorldStep view.known (with_node (pointed finger peer node) view).known
-pointed_step place finger peer node view kept here =
-    Acts place node (pointed finger peer node) None None None (node_at_place 0 place place view.known.nodes kept.nodes (omega arith) ∙ here) tt
-    (Links_change (pointed finger peer node).links refl)
+-- the ring after it: the same but for the fingers
+pointed_ring : (place finger : ℕ) (peer : Peer) (node : Node) (view : WorldState) → IsWorld view → slice_get view.known.nodes place ≡ Some node → is_crashed place view ≡ false
+    → Kept (ring_of view) (ring_with (set view.known.nodes place (pointed finger peer node)) view.crashed)
+pointed_ring place finger peer node view kept here running =
+    let after = pointed finger peer node in
+    elim (cases_Bool (is_gone node.phase)) [
+      | inl gone ↦ ring_is place node after view kept here refl
+          (ap (λ g. links_unless (is_crashed place view || g) after.links) gone
+          ∙ gone_both (is_crashed place view) after.links node.links
+          ∙ sym (ap (λ g. links_unless (is_crashed place view || g) node.links) gone))
+      | inr staying ↦
+          let sound = kept.ring (node_there place view.known.nodes node here) in
+          let member = member_at place view.known.nodes view.crashed node kept.crashed here ∙ ap (λ out. member_links out node) running ∙ ap (λ g. links_unless g node.links) staying in
+          subst (Kept (ring_of view)) (sym (ring_relinked place node after.links view.known.nodes view.crashed kept.crashed here running staying refl))
+          (Kept-fingers (ring_of view) place node.links after.links.fingers sound member)
+    ]
+  where
+    gone_both : (out : Bool) (links other : NodeLinks) → links_unless (out || true) links ≡ links_unless (out || true) other
+    gone_both true links other = refl
+    gone_both false links other = refl
 
-pub pointed_is_world : (place finger : ℕ) (peer : Peer) (node : Node) (view : WorldState) → IsWorld view → slice_get view.known.nodes place ≡ Some node → IsWorld (with_node (pointed finger peer node) view)
-pointed_is_world place finger peer node view kept here =
-    let at = node_number 0 place node view.known.nodes kept.nodes here in
-    let put : put_node (pointed finger peer node) view.known.nodes ≡ set view.known.nodes place (pointed finger peer node) = put_node_place 0 place (pointed finger peer node) view.known.nodes kept.nodes at in
-    record {
-      reached = further view.known (with_node (pointed finger peer node) view).known kept.reached (pointed_step place finger peer node view kept here);
-      nodes = subst (NodesFrom 0) (sym put) (nodes_set 0 place (pointed finger peer node) view.known.nodes kept.nodes at);
-      callers = kept.callers;
-      targets = kept.targets;
-      calls = kept.calls;
-      low = kept.low;
-      high = kept.high;
-    }
+pub pointed_after : (place finger : ℕ) (peer : Peer) (node : Node) (view old new : WorldState) → view ≡ old → IsWorld view → slice_get view.known.nodes place ≡ Some node → is_crashed place old ≡ false
+    → new ≡ with_node (pointed finger peer node) view → After old new
+pointed_after place finger peer node view old new same kept here running is =
+    let runs : is_crashed place view ≡ false = ap (is_crashed place) same ∙ running in
+    acts_at place node (pointed finger peer node) None None None None view old new same kept
+    (record {
+      here = here;
+      running = runs;
+      number = refl;
+      was = tt;
+      does = Links_change (pointed finger peer node).links refl;
+      call = tt;
+      paired = kept.targets;
+      ring = pointed_ring place finger peer node view kept here runs;
+    })
+    is
 
 -- in the words of the code
 pub pointed_is : (place finger : ℕ) (peer : Peer) (view : WorldState) (nodes : List Node) → IsWorld view → (points : PointsAt place finger peer view.known.nodes nodes)
@@ -55,15 +78,16 @@ node_within place view old same kept within =
     let found = slice_get_there view.known.nodes place within in
     (found.0, node_stands place view old found.0 same kept found.1)
 
-pub points_after : (place finger to : ℕ) (other : Node) (peer : Peer) (view old : WorldState) (nodes : List Node) → view ≡ old → IsWorld view → IsFinger finger
+pub points_after : (place finger to : ℕ) (other : Node) (peer : Peer) (view old : WorldState) (nodes : List Node) → view ≡ old → IsWorld view → IsFinger finger → is_crashed place old ≡ false
     → slice_get view.known.nodes to ≡ Some other → peer ≡ other.links.me → (points : PointsAt place finger peer view.known.nodes nodes) → Points place finger to old (with_nodes nodes view)
-points_after place finger to other peer view old nodes same kept fits there me points =
+points_after place finger to other peer view old nodes same kept fits running there me points =
     subst (λ w. Points place finger to w (with_nodes nodes view)) same
     (record {
       node = points.node;
       peer = other;
       here = node_stands place view view points.node refl kept points.here;
       there = node_stands to view view other refl kept there;
+      running = ap (is_crashed place) same ∙ running;
       is_finger = fits;
       new_is = pointed_is place finger peer view nodes kept points ∙ ap (λ p. with_node (pointed finger p points.node) view) me;
     })

@@ -17,7 +17,7 @@ use Rattle.chord_node.specs.declared.message.Message.TheVariants.{Ask as AskMess
 use Rattle.chord_node.specs.Node.{Node}
 use Rattle.chord_node.specs.World.{WorldStep, caller_at, put_caller}
 use Rattle.chord_node.specs.World.WorldStep.{Calls}
-use Rattle.chord_world.specs.State.{WorldState, IsThere, CallersFrom, AreCalls, IsWorld}
+use Rattle.chord_world.specs.State.{WorldState, IsThere, CallersFrom, AreKnown, IsWorld}
 use Rattle.chord_world.specs.declared.refusal.Refusal.{Refusal}
 use Rattle.chord_world.specs.Refusals.{refusal_of}
 use Rattle.chord_world.specs.Steps.{with_ask, Sends, RefusesCall, SubmitStepIs}
@@ -115,7 +115,9 @@ sent_is_world caller via request old core after ask there submits kept =
       nodes = kept.nodes;
       callers = subst (CallersFrom 0) (sym put) (callers_set 0 caller after old.known.callers kept.callers (omega arith));
       targets = length_pushed old.targets via ∙ ap (λ n. n + 1) kept.targets ∙ sym (length_pushed old.known.sent (AskMessage ask));
-      calls = subst (λ n. AreCalls n (old.known.sent ++ AskMessage ask ∷ [])) (sym count) (calls_pushed (length old.known.callers) old.known.sent (AskMessage ask) kept.calls (omega arith));
+      calls = subst (λ n. AreKnown (length old.known.nodes) n (old.known.sent ++ AskMessage ask ∷ [])) (sym count) (calls_pushed (length old.known.nodes) (length old.known.callers) old.known.sent (AskMessage ask) kept.calls (omega arith));
+      crashed = kept.crashed;
+      ring = kept.ring;
       low = kept.low;
       high = kept.high;
     }

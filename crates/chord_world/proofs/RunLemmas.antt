@@ -11,9 +11,9 @@ use Rattle.chord_world.specs.declared.refusal.Refusal.{Refusal}
 use Rattle.chord_world.specs.declared.running.Answer.{Answer}
 use Rattle.chord_world.specs.declared.running.Answer.TheVariants.{Did, Refused}
 use Rattle.chord_world.specs.declared.step.Step.{Step}
-use Rattle.chord_world.specs.declared.step.Step.TheVariants.{Create, OpenCaller, Submit, Resend, Deliver, Show, Meet, Finger}
+use Rattle.chord_world.specs.declared.step.Step.TheVariants.{Create, Join, OpenCaller, Submit, Resend, Deliver, Show, Meet, Cut, Merge, Give, SendPart, Leave, Retire, Stabilise, Candidate, DropDead, Rectify, Crash, Finger}
 use Rattle.chord_world.specs.State.{WorldState}
-use Rattle.chord_world.specs.Steps.{StepIs, Advances, StoresLeft}
+use Rattle.chord_world.specs.Steps.{StepIs, Advances, AdvancesBy, CreateLeaves, StoresLeft}
 use Rattle.chord_world.specs.Runs.{Ran, result_of, limits_left}
 use Rattle.chord_world.specs.Runs.Ran.{Then}
 
@@ -28,6 +28,8 @@ ran_more limits first steps steps' answers answers' left left' middle last step 
 limits_by : {S : Type 0} (f : S → ℕ) (step : Step) (answer : Answer) (stores left : List S) → StoresLeft step (result_of answer) stores left → map f left ≡ limits_left step answer (map f stores)
 limits_by f (Create id) (Did outcome) stores left e = ap (map f) e ∙ sym (drop-map f 1 stores)
 limits_by f (Create id) (Refused refusal) stores left e = ap (map f) e
+limits_by f (Join id behind) (Did outcome) stores left e = ap (map f) e ∙ sym (drop-map f 1 stores)
+limits_by f (Join id behind) (Refused refusal) stores left e = ap (map f) e
 limits_by f (OpenCaller window) (Did outcome) stores left e = ap (map f) e
 limits_by f (OpenCaller window) (Refused refusal) stores left e = ap (map f) e
 limits_by f (Submit caller via request) (Did outcome) stores left e = ap (map f) e
@@ -40,6 +42,28 @@ limits_by f (Show caller) (Did outcome) stores left e = ap (map f) e
 limits_by f (Show caller) (Refused refusal) stores left e = ap (map f) e
 limits_by f (Meet caller message) (Did outcome) stores left e = ap (map f) e
 limits_by f (Meet caller message) (Refused refusal) stores left e = ap (map f) e
+limits_by f (Cut node place at) (Did outcome) stores left e = ap (map f) e
+limits_by f (Cut node place at) (Refused refusal) stores left e = ap (map f) e
+limits_by f (Merge node place behind) (Did outcome) stores left e = ap (map f) e
+limits_by f (Merge node place behind) (Refused refusal) stores left e = ap (map f) e
+limits_by f (Give node place to) (Did outcome) stores left e = ap (map f) e
+limits_by f (Give node place to) (Refused refusal) stores left e = ap (map f) e
+limits_by f (SendPart node to number part) (Did outcome) stores left e = ap (map f) e
+limits_by f (SendPart node to number part) (Refused refusal) stores left e = ap (map f) e
+limits_by f (Leave node) (Did outcome) stores left e = ap (map f) e
+limits_by f (Leave node) (Refused refusal) stores left e = ap (map f) e
+limits_by f (Retire node) (Did outcome) stores left e = ap (map f) e
+limits_by f (Retire node) (Refused refusal) stores left e = ap (map f) e
+limits_by f (Stabilise node head) (Did outcome) stores left e = ap (map f) e
+limits_by f (Stabilise node head) (Refused refusal) stores left e = ap (map f) e
+limits_by f (Candidate node peer) (Did outcome) stores left e = ap (map f) e
+limits_by f (Candidate node peer) (Refused refusal) stores left e = ap (map f) e
+limits_by f (DropDead node) (Did outcome) stores left e = ap (map f) e
+limits_by f (DropDead node) (Refused refusal) stores left e = ap (map f) e
+limits_by f (Rectify node notifier) (Did outcome) stores left e = ap (map f) e
+limits_by f (Rectify node notifier) (Refused refusal) stores left e = ap (map f) e
+limits_by f (Crash node) (Did outcome) stores left e = ap (map f) e
+limits_by f (Crash node) (Refused refusal) stores left e = ap (map f) e
 limits_by f (Finger node finger to) (Did outcome) stores left e = ap (map f) e
 limits_by f (Finger node finger to) (Refused refusal) stores left e = ap (map f) e
 
@@ -48,21 +72,58 @@ pub limits_after : {S : Type 0} (f : S → ℕ) (step : Step) (answer : Answer) 
 limits_after f step answer result stores left e h = limits_by f step answer stores left (subst (λ r. StoresLeft step r stores left) (sym e) h)
 
 -- the run goes on, or stays where it is
-pub run_more : (first : World) (middle last : WorldState) (result : Result Outcome Refusal) → ∥ Run first middle.known ∥₁ → Advances middle result last → ∥ Run first last.known ∥₁
-run_more first middle last (Ok outcome) run step = ∥∥₁_map run (λ r. Goes_on r step)
-run_more first middle last (Err refusal) run same = subst (λ (w : WorldState). ∥ Run first w.known ∥₁) (sym same) run
+run_by : (first : World) (middle last : WorldState) (result : Result Outcome Refusal) → ∥ Run first middle.known ∥₁ → Advances middle result last → ∥ Run first last.known ∥₁
+run_by first middle last (Ok outcome) run step = ∥∥₁_map run (λ r. Goes_on r step)
+run_by first middle last (Err refusal) run same = subst (λ (w : WorldState). ∥ Run first w.known ∥₁) (sym same) run
+
+pub run_more : (first : World) (middle last : WorldState) (step : Step) (result : Result Outcome Refusal) → ∥ Run first middle.known ∥₁ → AdvancesBy step middle result last → ∥ Run first last.known ∥₁
+run_more first middle last (Crash node) result run same = subst (λ w. ∥ Run first w ∥₁) (sym same) run
+run_more first middle last (Create id) result run step = run_by first middle last result run step
+run_more first middle last (Join id behind) result run step = run_by first middle last result run step
+run_more first middle last (OpenCaller window) result run step = run_by first middle last result run step
+run_more first middle last (Submit caller via request) result run step = run_by first middle last result run step
+run_more first middle last (Resend caller via number) result run step = run_by first middle last result run step
+run_more first middle last (Deliver message) result run step = run_by first middle last result run step
+run_more first middle last (Show caller) result run step = run_by first middle last result run step
+run_more first middle last (Meet caller message) result run step = run_by first middle last result run step
+run_more first middle last (Cut node place at) result run step = run_by first middle last result run step
+run_more first middle last (Merge node place behind) result run step = run_by first middle last result run step
+run_more first middle last (Give node place to) result run step = run_by first middle last result run step
+run_more first middle last (SendPart node to number part) result run step = run_by first middle last result run step
+run_more first middle last (Leave node) result run step = run_by first middle last result run step
+run_more first middle last (Retire node) result run step = run_by first middle last result run step
+run_more first middle last (Stabilise node head) result run step = run_by first middle last result run step
+run_more first middle last (Candidate node peer) result run step = run_by first middle last result run step
+run_more first middle last (DropDead node) result run step = run_by first middle last result run step
+run_more first middle last (Rectify node notifier) result run step = run_by first middle last result run step
+run_more first middle last (Finger node finger to) result run step = run_by first middle last result run step
 
 pub run_none : (first : World) → ∥ Run first first ∥₁
 run_none first = ∣ Stays ∣₁
 
 -- what holds of all stores holds of those that are left
+pub vacant_left : {S : Type 0} (P : S → Type 0) (result : Result Outcome Refusal) (stores left : List S) → CreateLeaves result stores left → All P stores → All P left
+vacant_left P (Ok outcome) stores left e all = subst (All P) (sym e) (All-drop P 1 stores all)
+vacant_left P (Err refusal) stores left e all = subst (All P) (sym e) all
+
 pub vacant_after : {S : Type 0} (P : S → Type 0) (step : Step) (result : Result Outcome Refusal) (stores left : List S) → StoresLeft step result stores left → All P stores → All P left
-vacant_after P (Create id) (Ok outcome) stores left e all = subst (All P) (sym e) (All-drop P 1 stores all)
-vacant_after P (Create id) (Err refusal) stores left e all = subst (All P) (sym e) all
+vacant_after P (Create id) result stores left e all = vacant_left P result stores left e all
+vacant_after P (Join id behind) result stores left e all = vacant_left P result stores left e all
 vacant_after P (OpenCaller window) result stores left e all = subst (All P) (sym e) all
 vacant_after P (Submit caller via request) result stores left e all = subst (All P) (sym e) all
 vacant_after P (Deliver message) result stores left e all = subst (All P) (sym e) all
 vacant_after P (Resend caller via number) result stores left e all = subst (All P) (sym e) all
 vacant_after P (Show caller) result stores left e all = subst (All P) (sym e) all
 vacant_after P (Meet caller message) result stores left e all = subst (All P) (sym e) all
+vacant_after P (Cut node place at) result stores left e all = subst (All P) (sym e) all
+vacant_after P (Merge node place behind) result stores left e all = subst (All P) (sym e) all
+vacant_after P (Give node place to) result stores left e all = subst (All P) (sym e) all
+vacant_after P (SendPart node to number part) result stores left e all = subst (All P) (sym e) all
+vacant_after P (Leave node) result stores left e all = subst (All P) (sym e) all
+vacant_after P (Retire node) result stores left e all = subst (All P) (sym e) all
+vacant_after P (Stabilise node head) result stores left e all = subst (All P) (sym e) all
+vacant_after P (Candidate node peer) result stores left e all = subst (All P) (sym e) all
+vacant_after P (DropDead node) result stores left e all = subst (All P) (sym e) all
+vacant_after P (Rectify node notifier) result stores left e all = subst (All P) (sym e) all
+vacant_after P (Crash node) result stores left e all = subst (All P) (sym e) all
 vacant_after P (Finger node finger to) result stores left e all = subst (All P) (sym e) all

@@ -20,7 +20,7 @@ use Rattle.chord_world.specs.declared.outcome.Outcome.{Outcome}
 use Rattle.chord_world.specs.declared.refusal.Refusal.{Refusal}
 use Rattle.chord_world.specs.declared.refusal.Refusal.TheVariants as refused
 use Rattle.chord_world.specs.declared.refusal.PartFault.TheVariants as part
-use Rattle.chord_world.specs.State.{WorldState, CallersFrom, IsCall, AreCalls, IsWorld, IsThere, with_heard, with_sent}
+use Rattle.chord_world.specs.State.{WorldState, CallersFrom, IsKnown, AreKnown, IsWorld, IsThere, with_heard, with_sent}
 use Rattle.chord_world.specs.Calling.{CallerIs, WantedIs, IsIdle, IsWaiting, AsksAgain, AgainIs, SendsAgain, ResendStepIs, note_of, SendsNote, with_note, MeetsNote, MeetIs, SentIs, Met, MeetsAt}
 use Rattle.chord_world.specs.Calling.IsIdle.{Not_pending}
 use Rattle.chord_world.proofs.Placing.{caller_at_place, put_caller_place, callers_set, caller_number, calls_pushed}
@@ -39,13 +39,15 @@ sent_step place to core letter view kept here step =
     (Calls place core core None (Some letter) (caller_at_place 0 place place view.known.callers kept.callers (omega arith) ∙ here) tt step)
 
 pub sent_is_world : (place to : ℕ) (core : Caller) (letter : Letter) (view : WorldState) → IsWorld view → slice_get view.known.callers place ≡ Some core → CallerStep core None core (Some letter)
-    → IsCall (length view.known.callers) (message_of letter) → IsWorld (with_sent (message_of letter) to view)
+    → IsKnown (length view.known.nodes) (length view.known.callers) (message_of letter) → IsWorld (with_sent (message_of letter) to view)
 sent_is_world place to core letter view kept here step call = record {
   reached = further view.known (with_sent (message_of letter) to view).known kept.reached (sent_step place to core letter view kept here step);
   nodes = kept.nodes;
   callers = kept.callers;
   targets = length_pushed view.targets to ∙ ap (λ n. n + 1) kept.targets ∙ sym (length_pushed view.known.sent (message_of letter));
-  calls = calls_pushed (length view.known.callers) view.known.sent (message_of letter) kept.calls call;
+  calls = calls_pushed (length view.known.nodes) (length view.known.callers) view.known.sent (message_of letter) kept.calls call;
+  crashed = kept.crashed;
+  ring = kept.ring;
   low = kept.low;
   high = kept.high;
 }
@@ -61,14 +63,14 @@ sent_not message to view refused sent targets h = λ i. posted view.known.caller
 
 -- the call that goes out again is the caller's own
 pub again_call : (named : Option ℕ) (place : ℕ) (core : Caller) (ask : Ask) (view : WorldState) → IsWorld view → slice_get view.known.callers place ≡ Some core → AsksAgain named core ask
-    → IsCall (length view.known.callers) (AskMessage ask)
+    → IsKnown (length view.known.nodes) (length view.known.callers) (AskMessage ask)
 again_call named place core ask view kept here asks =
     let within = slice_get_within view.known.callers place core here in
     let number = caller_number 0 place core view.known.callers kept.callers here in
     let own = asks.resends.3.caller in
     omega arith
 
-pub note_call : (place : ℕ) (core : Caller) (view : WorldState) → IsWorld view → slice_get view.known.callers place ≡ Some core → IsCall (length view.known.callers) (NoteMessage (note_of core))
+pub note_call : (place : ℕ) (core : Caller) (view : WorldState) → IsWorld view → slice_get view.known.callers place ≡ Some core → IsKnown (length view.known.nodes) (length view.known.callers) (NoteMessage (note_of core))
 note_call place core view kept here =
     let within = slice_get_within view.known.callers place core here in
     let number = caller_number 0 place core view.known.callers kept.callers here in
@@ -90,7 +92,9 @@ heard_is_world place core after view kept here same step =
       nodes = kept.nodes;
       callers = subst (CallersFrom 0) (sym put) (callers_set 0 place after view.known.callers kept.callers at);
       targets = kept.targets;
-      calls = subst (λ n. AreCalls n view.known.sent) (sym count) kept.calls;
+      calls = subst (λ n. AreKnown (length view.known.nodes) n view.known.sent) (sym count) kept.calls;
+      crashed = kept.crashed;
+      ring = kept.ring;
       low = kept.low;
       high = kept.high;
     }
@@ -139,12 +143,31 @@ again_because caller via named old core refused.NotCreated there why = absurd wh
 again_because caller via named old core refused.NoSuchNode there why = absurd why
 again_because caller via named old core refused.NoSuchCaller there why = absurd why
 again_because caller via named old core refused.NoSuchMessage there why = absurd why
+again_because caller via named old core refused.IdTaken there why = absurd why
 again_because caller via named old core refused.NoStore there why = absurd why
+again_because caller via named old core refused.Unsafe there why = absurd why
+again_because caller via named old core (refused.Part part.Crashed) there why = absurd why
+again_because caller via named old core (refused.Part part.NotBetween) there why = absurd why
+again_because caller via named old core (refused.Part part.HeadDead) there why = absurd why
+again_because caller via named old core (refused.Part part.NotHead) there why = absurd why
+again_because caller via named old core (refused.Part part.Dead) there why = absurd why
+again_because caller via named old core (refused.Part part.NotCloser) there why = absurd why
+again_because caller via named old core (refused.Part part.HeadLive) there why = absurd why
+again_because caller via named old core (refused.Part part.Empty) there why = absurd why
 again_because caller via named old core (refused.Part part.BadWindow) there why = absurd why
 again_because caller via named old core (refused.Part (part.Request fault)) there why = absurd why
 again_because caller via named old core (refused.Part part.WindowFull) there why = absurd why
 again_because caller via named old core (refused.Part part.NumbersSpent) there why = absurd why
 again_because caller via named old core (refused.Part part.Idle) there why = ((core, there, why), refl)
+again_because caller via named old core (refused.Part part.NoSegment) there why = absurd why
+again_because caller via named old core (refused.Part part.NotInside) there why = absurd why
+again_because caller via named old core (refused.Part part.NotAdjacent) there why = absurd why
+again_because caller via named old core (refused.Part part.Overlap) there why = absurd why
+again_because caller via named old core (refused.Part part.Twice) there why = absurd why
+again_because caller via named old core (refused.Part part.NoPart) there why = absurd why
+again_because caller via named old core (refused.Part part.NotStaying) there why = absurd why
+again_because caller via named old core (refused.Part part.NotLeaving) there why = absurd why
+again_because caller via named old core (refused.Part part.NotEmpty) there why = absurd why
 again_because caller via named old core (refused.Part part.BadFinger) there why = absurd why
 again_because caller via named old core (refused.Part part.NotNote) there why = absurd why
 again_because caller via named old core (refused.Part part.NeedsMeet) there why = absurd why

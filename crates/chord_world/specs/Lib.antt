@@ -1,7 +1,15 @@
+pub mod Members
 pub mod State
+pub mod View
 pub mod Refusals
 pub mod Calling
 pub mod Linking
+pub mod Joining
+pub mod Upkeep
+pub mod Handing
+pub mod Taking
+pub mod Holding
+pub mod Delivered
 pub mod Steps
 pub mod Sending
 pub mod Delivering

@@ -1,5 +1,5 @@
 -- What a World answers where a node's links are set, or read.
-use Rattle.std.specs.Prelude.{◌≡◌, ◌≢◌, ℕ, ◌≤◌, ◌⊎◌, Option, None, Some, Result, Ok, Err, List, [], slice_get, slice_set}
+use Rattle.std.specs.Prelude.{◌≡◌, ◌≢◌, ℕ, ◌≤◌, ◌⊎◌, true, false, Option, None, Some, Result, Ok, Err, List, [], slice_get, slice_set}
 use Rattle.std.specs.Borrow.{Bor}
 use Rattle.chord_links.specs.declared.peer.Peer.{Peer}
 use Rattle.chord_links.specs.Fingers.{with_finger}
@@ -11,7 +11,7 @@ use Rattle.chord_world.specs.declared.outcome.Outcome.TheVariants as did
 use Rattle.chord_world.specs.declared.refusal.Refusal.{Refusal}
 use Rattle.chord_world.specs.declared.refusal.Refusal.TheVariants as refused
 use Rattle.chord_world.specs.declared.refusal.PartFault.TheVariants as part
-use Rattle.chord_world.specs.State.{WorldState}
+use Rattle.chord_world.specs.State.{WorldState, is_crashed}
 
 -- a node has the fingers 1 to 128
 abbrev pub IsFinger : ℕ → Type 0
@@ -31,6 +31,7 @@ pub record Points (number finger to : ℕ) (old new : WorldState) : Type 0 where
   pub peer : Node
   pub here : node_at number old.known.nodes ≡ Some node
   pub there : node_at to old.known.nodes ≡ Some peer
+  pub running : is_crashed number old ≡ false
   pub is_finger : IsFinger finger
   pub new_is : new ≡ with_node (pointed finger peer.links.me node) old
 
@@ -45,7 +46,9 @@ FingerIs number finger to old (Ok outcome) new = ⊥
 FingerIs number finger to old (Err refused.NotCreated) new = (old.known.nodes ≡ []) × (new ≡ old)
 FingerIs number finger to old (Err refused.NoSuchNode) new =
     (old.known.nodes ≢ []) × ((node_at number old.known.nodes ≡ None) ⊎ (node_at to old.known.nodes ≡ None)) × (new ≡ old)
-FingerIs number finger to old (Err (refused.Part part.BadFinger)) new = AreNodes number to old × (¬ IsFinger finger) × (new ≡ old)
+FingerIs number finger to old (Err (refused.Part part.Crashed)) new = AreNodes number to old × (is_crashed number old ≡ true) × (new ≡ old)
+FingerIs number finger to old (Err (refused.Part part.BadFinger)) new =
+    AreNodes number to old × (is_crashed number old ≡ false) × (¬ IsFinger finger) × (new ≡ old)
 FingerIs number finger to old (Err refusal) new = ⊥
 
 -- the links of the node of this number, where there is one

@@ -2,6 +2,11 @@
 use Rattle.std.specs.Prelude.{ℕ}
 use Rattle.chord_caller.specs.declared.fault.SubmitFault.{SubmitFault}
 use Rattle.chord_caller.specs.declared.fault.SubmitFault.TheVariants.{Bad, WindowFull, NumbersSpent, Memory as NoMemory}
+use Rattle.chord_ring.specs.declared.ring_fault.RingFault.{RingFault}
+use Rattle.chord_ring.specs.declared.ring_fault.RingFault.TheVariants as ring
+use Rattle.chord_ring.specs.declared.steps.StabiliseFault.TheVariants.{HeadDead, NotHead}
+use Rattle.chord_ring.specs.declared.steps.CandidateFault.TheVariants.{Dead, NotCloser}
+use Rattle.chord_ring.specs.declared.steps.DropFault.TheVariants.{HeadLive, Empty}
 use Rattle.chord_world.specs.declared.refusal.Refusal.{Refusal}
 use Rattle.chord_world.specs.declared.refusal.Refusal.TheVariants as refused
 use Rattle.chord_world.specs.declared.refusal.PartFault.TheVariants as part
@@ -13,7 +18,9 @@ number_of refused.NotCreated = 2
 number_of refused.NoSuchNode = 3
 number_of refused.NoSuchCaller = 4
 number_of refused.NoSuchMessage = 5
+number_of refused.IdTaken = 6
 number_of refused.NoStore = 7
+number_of refused.Unsafe = 8
 number_of (refused.Part fault) = 9
 number_of refused.Memory = 10
 
@@ -23,3 +30,16 @@ refusal_of (Bad fault) = refused.Part (part.Request fault)
 refusal_of WindowFull = refused.Part part.WindowFull
 refusal_of NumbersSpent = refused.Part part.NumbersSpent
 refusal_of NoMemory = refused.Memory
+
+-- a ring's refusal, as the refusal of a step
+abbrev pub refusal_of_ring : RingFault → Refusal
+refusal_of_ring ring.NoSuchNode = refused.NoSuchNode
+refusal_of_ring ring.IdTaken = refused.IdTaken
+refusal_of_ring ring.NotBetween = refused.Part part.NotBetween
+refusal_of_ring (ring.Stabilise HeadDead) = refused.Part part.HeadDead
+refusal_of_ring (ring.Stabilise NotHead) = refused.Part part.NotHead
+refusal_of_ring (ring.Candidate Dead) = refused.Part part.Dead
+refusal_of_ring (ring.Candidate NotCloser) = refused.Part part.NotCloser
+refusal_of_ring (ring.Drop HeadLive) = refused.Part part.HeadLive
+refusal_of_ring (ring.Drop Empty) = refused.Part part.Empty
+refusal_of_ring ring.Memory = refused.Memory

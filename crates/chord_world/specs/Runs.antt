@@ -1,5 +1,5 @@
 -- What a run of steps answers.
-use Rattle.std.specs.Prelude.{◌≡◌, ℕ, Option, None, Some, Result, Ok, Err, List, [], ◌∷◌, ◌++◌, drop}
+use Rattle.std.specs.Prelude.{◌≡◌, ◌≢◌, ℕ, Option, None, Some, Result, Ok, Err, List, [], ◌∷◌, ◌++◌, drop}
 use Rattle.std.specs.Borrow.{Bor}
 use Rattle.chord_segment.specs.declared.done.Done.{Done}
 use Rattle.chord_caller.specs.Caller.{Caller}
@@ -9,8 +9,9 @@ use Rattle.chord_world.specs.declared.refusal.Refusal.{Refusal}
 use Rattle.chord_world.specs.declared.running.Answer.{Answer}
 use Rattle.chord_world.specs.declared.running.Answer.TheVariants.{Did, Refused}
 use Rattle.chord_world.specs.declared.step.Step.{Step}
-use Rattle.chord_world.specs.declared.step.Step.TheVariants.{Create}
-use Rattle.chord_world.specs.State.{WorldState}
+use Rattle.chord_world.specs.declared.step.Step.TheVariants.{Create, Join}
+use Rattle.chord_ring.specs.Ring.{IsSettled, IsOneRing}
+use Rattle.chord_world.specs.State.{WorldState, ring_of}
 use Rattle.chord_world.specs.Steps.{StepIs}
 
 -- the replies that the caller took, where there is such a caller
@@ -23,6 +24,10 @@ abbrev pub ToldIs : ℕ → WorldState → Option (Bor (List Done)) → Type 0
 ToldIs number state None = caller_at number state.known.callers ≡ None
 ToldIs number state (Some told) = (caller : Caller) × (caller_at number state.known.callers ≡ Some caller) × (told.now ≡ caller.told)
 
+-- once there is a node: each member's list has a live entry, there is a principal, and the principals stand on one ring
+abbrev pub StandsOnOneRing : WorldState → Type 0
+StandsOnOneRing state = state.known.nodes ≢ [] → IsSettled (ring_of state).members × IsOneRing (ring_of state).members
+
 -- the result that an answer tells
 abbrev pub result_of : Answer → Result Outcome Refusal
 result_of (Did outcome) = Ok outcome
@@ -31,6 +36,7 @@ result_of (Refused refusal) = Err refusal
 -- the limits of the stores at hand after a step
 abbrev pub limits_left : Step → Answer → List ℕ → List ℕ
 limits_left (Create id) (Did outcome) limits = drop 1 limits
+limits_left (Join id behind) (Did outcome) limits = drop 1 limits
 limits_left step answer limits = limits
 
 -- From a world and stores of these limits, the steps were answered so one after another, and left this world and

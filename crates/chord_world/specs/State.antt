@@ -1,21 +1,30 @@
 -- What a World of the program is seen as, and what it keeps.
-use Rattle.std.specs.Prelude.{◌≡◌, ℕ, ◌+◌, ◌<◌, ◌≤◌, Some, List, [], ◌∷◌, ◌++◌, length}
+use Rattle.std.specs.Prelude.{◌≡◌, ◌≢◌, ℕ, Bool, true, false, ◌+◌, ◌<◌, ◌≤◌, Some, List, [], ◌∷◌, ◌++◌, length, slice_get, slice_index_or}
+use Rattle.chord_ring.specs.Ring.{KeepsPrincipals}
+use Rattle.chord_ring.specs.Sound.{IsSound}
+use Rattle.chord_ring.specs.Steps.{Ring}
 use Rattle.chord_caller.specs.Caller.{Caller}
 use Rattle.chord_node.specs.declared.message.Message.{Message}
 use Rattle.chord_node.specs.declared.message.Message.TheVariants.{Ask as AskMessage, Told as ToldMessage, Full as FullMessage, Part as PartMessage, Got as GotMessage, Declined as DeclinedMessage, Note as NoteMessage}
 use Rattle.chord_node.specs.Node.{Node}
 use Rattle.chord_node.specs.World.{World, Reached, empty_world, caller_at, put_caller}
+use Rattle.chord_world.specs.Members.{ring_with}
 
--- the world of the definitions; for each message sent the node that it goes to, where it is an Ask; and how many
--- successors a node may list
+-- the world of the definitions; for each message sent the node that it goes to, where it is an Ask; for each node
+-- whether it crashed; and how many successors a node may list
 pub record WorldState : Type 0 where
   pub known : World
   pub targets : List ℕ
+  pub crashed : List Bool
   pub r : ℕ
+
+-- the ring that its nodes make
+abbrev pub ring_of : WorldState → Ring
+ring_of state = ring_with state.known.nodes state.crashed
 
 -- a world in which nothing has happened
 abbrev pub new_world : ℕ → WorldState
-new_world r = record { known = empty_world; targets = []; r = r }
+new_world r = record { known = empty_world; targets = []; crashed = []; r = r }
 
 -- the nodes' numbers count up from this one
 abbrev pub NodesFrom : ℕ → List Node → Type 0
@@ -27,28 +36,31 @@ abbrev pub CallersFrom : ℕ → List Caller → Type 0
 CallersFrom start [] = Unit {0}
 CallersFrom start (caller ∷ rest) = (caller.number ≡ start) × CallersFrom (start + 1) rest
 
--- a message of one of so many callers: no step of a World sends another
-abbrev pub IsCall : ℕ → Message → Type 0
-IsCall count (AskMessage ask) = ask.caller < count
-IsCall count (ToldMessage told) = told.caller < count
-IsCall count (FullMessage caller number) = caller < count
-IsCall count (PartMessage part) = ⊥
-IsCall count (GotMessage ticket) = ⊥
-IsCall count (DeclinedMessage ticket) = ⊥
-IsCall count (NoteMessage note) = note.caller < count
+-- a message of one of so many callers, or of a handover between two of so many nodes
+abbrev pub IsKnown : ℕ → ℕ → Message → Type 0
+IsKnown nodes callers (AskMessage ask) = ask.caller < callers
+IsKnown nodes callers (ToldMessage told) = told.caller < callers
+IsKnown nodes callers (FullMessage caller number) = caller < callers
+IsKnown nodes callers (PartMessage part) = (part.from < nodes) × (part.to < nodes)
+IsKnown nodes callers (GotMessage ticket) = (ticket.from < nodes) × (ticket.to < nodes)
+IsKnown nodes callers (DeclinedMessage ticket) = (ticket.from < nodes) × (ticket.to < nodes)
+IsKnown nodes callers (NoteMessage note) = note.caller < callers
 
 -- each is one
-abbrev pub AreCalls : ℕ → List Message → Type 0
-AreCalls count [] = Unit {0}
-AreCalls count (message ∷ rest) = IsCall count message × AreCalls count rest
+abbrev pub AreKnown : ℕ → ℕ → List Message → Type 0
+AreKnown nodes callers [] = Unit {0}
+AreKnown nodes callers (message ∷ rest) = IsKnown nodes callers message × AreKnown nodes callers rest
 
--- some steps lead to it, its nodes and callers stand at their numbers, each message has its node and is one of its callers'
+-- some steps lead to it, its nodes and callers stand at their numbers, each message has its node and is one of its
+-- callers' or between its nodes, and its nodes make a sound ring
 pub record IsWorld (state : WorldState) : Type 0 where
   pub reached : ∥ Reached state.known ∥₁
   pub nodes : NodesFrom 0 state.known.nodes
   pub callers : CallersFrom 0 state.known.callers
   pub targets : length state.targets ≡ length state.known.sent
-  pub calls : AreCalls (length state.known.callers) state.known.sent
+  pub calls : AreKnown (length state.known.nodes) (length state.known.callers) state.known.sent
+  pub crashed : length state.crashed ≡ length state.known.nodes
+  pub ring : state.known.nodes ≢ [] → IsSound (ring_of state)
   pub low : 2 ≤ state.r
   pub high : state.r ≤ 16
 
@@ -64,3 +76,13 @@ with_heard after old = record old { known = record old.known { callers = put_cal
 abbrev pub with_sent : Message → ℕ → WorldState → WorldState
 with_sent message to old =
     record old { known = record old.known { sent = old.known.sent ++ message ∷ [] }; targets = old.targets ++ to ∷ [] }
+
+-- whether the node of this number crashed
+abbrev pub is_crashed : ℕ → WorldState → Bool
+is_crashed number state = slice_index_or state.crashed number false
+
+-- a principal that is still a member stays one, and a node that crashed stays as it was
+pub record KeepsRing (old new : WorldState) : Type 0 where
+  pub principals : KeepsPrincipals (ring_of old).members (ring_of new).members
+  pub crashed : (number : ℕ) → is_crashed number old ≡ true
+      → (is_crashed number new ≡ true) × (slice_get new.known.nodes number ≡ slice_get old.known.nodes number)

@@ -1,44 +1,49 @@
 -- What a World answers to a step, and what it is afterwards.
-use Rattle.std.specs.Prelude.{◌≡◌, ◌≢◌, ℕ, ◌<◌, ◌≤◌, Option, None, Some, Result, Ok, Err, List, [], ◌∷◌, ◌++◌, length, slice_get, drop}
+use Rattle.std.specs.Prelude.{◌≡◌, ◌≢◌, ℕ, false, ◌<◌, ◌≤◌, None, Some, Result, Ok, Err, List, [], ◌∷◌, ◌++◌, length, slice_get, drop}
 use Rattle.chord_ident.specs.declared.id.Id.{Id}
 use Rattle.chord_links.specs.NodeLinks.{alone}
+use Rattle.chord_ring.specs.declared.ring_step.RingStep.TheVariants as ring
 use Rattle.chord_map.specs.declared.request.Request.{Request}
 use Rattle.chord_caller.specs.declared.ask.Ask.{Ask}
-use Rattle.chord_caller.specs.declared.told.Told.{Told}
-use Rattle.chord_caller.specs.declared.heard.Heard.{Heard}
-use Rattle.chord_caller.specs.declared.heard.Heard.TheVariants.{Fresh as FreshReply, Known as KnownReply}
 use Rattle.chord_caller.specs.declared.fault.SubmitFault.{SubmitFault}
-use Rattle.chord_caller.specs.Caller.{Note, Caller}
-use Rattle.chord_caller.specs.Answers.{new_caller, SubmitIs, TakeIs}
-use Rattle.chord_node.specs.declared.answered.Answered.{Answered}
-use Rattle.chord_node.specs.declared.answered.Answered.TheVariants as answer
-use Rattle.chord_node.specs.declared.message.Message.TheVariants.{Ask as AskMessage, Told as ToldMessage, Full as FullMessage, Note as NoteMessage}
-use Rattle.chord_node.specs.Node.{Node, founder}
-use Rattle.chord_node.specs.Asked.{AskIs, ask_done, sent_by}
-use Rattle.chord_node.specs.World.{WorldStep, node_at, put_node, caller_at, put_caller, with_one}
+use Rattle.chord_caller.specs.Caller.{Caller}
+use Rattle.chord_caller.specs.Answers.{new_caller, SubmitIs}
+use Rattle.chord_node.specs.declared.message.Message.TheVariants.{Ask as AskMessage}
+use Rattle.chord_node.specs.Moves.{CutAtIs, MergeIs, LeaveIs}
+use Rattle.chord_node.specs.Node.{founder}
+use Rattle.chord_node.specs.World.{WorldStep, caller_at, put_caller}
 use Rattle.chord_world.specs.declared.outcome.Outcome.{Outcome}
 use Rattle.chord_world.specs.declared.outcome.Outcome.TheVariants as did
 use Rattle.chord_world.specs.declared.refusal.Refusal.{Refusal}
 use Rattle.chord_world.specs.declared.refusal.Refusal.TheVariants as refused
 use Rattle.chord_world.specs.declared.refusal.PartFault.TheVariants as part
 use Rattle.chord_world.specs.declared.step.Step.{Step}
-use Rattle.chord_world.specs.declared.step.Step.TheVariants.{Create, OpenCaller, Submit, Resend, Deliver, Show, Meet, Finger}
+use Rattle.chord_world.specs.declared.step.Step.TheVariants.{Create, Join, OpenCaller, Submit, Resend, Deliver, Show, Meet, Cut, Merge, Give, SendPart, Leave, Retire, Stabilise, Candidate, DropDead, Rectify, Crash, Finger}
 use Rattle.chord_world.specs.Refusals.{refusal_of}
-use Rattle.chord_world.specs.State.{WorldState, IsThere, with_heard}
+use Rattle.chord_world.specs.State.{WorldState, IsThere}
 use Rattle.chord_world.specs.Calling.{ResendStepIs, ShowIs, MeetIs}
 use Rattle.chord_world.specs.Linking.{FingerIs}
+use Rattle.chord_world.specs.Joining.{JoinIs}
+use Rattle.chord_world.specs.Upkeep.{UpkeepIs, CrashIs}
+use Rattle.chord_world.specs.Handing.{MoveIs, GiveStepIs, SendPartIs, RetireStepIs, refusal_of_cut, refusal_of_merge, refusal_of_leave}
+use Rattle.chord_world.specs.Delivered.{DeliverIs}
 
 -- an answered step is a step of the world, and a refused one changes nothing
 abbrev pub Advances : WorldState → Result Outcome Refusal → WorldState → Type 0
 Advances old (Ok outcome) new = WorldStep old.known new.known
 Advances old (Err refusal) new = new ≡ old
 
+-- so is each step but a crash, which changes nothing of the world
+abbrev pub AdvancesBy : Step → WorldState → Result Outcome Refusal → WorldState → Type 0
+AdvancesBy (Crash node) old result new = new.known ≡ old.known
+AdvancesBy step old result new = Advances old result new
+
 -- ---- a first node
 
 -- the world with a first node, whose store has this limit
 abbrev pub with_founder : Id → ℕ → WorldState → WorldState
 with_founder id limit old =
-    record old { known = record old.known { nodes = founder (alone (record { no = 0; id = id }) old.r) limit ∷ [] } }
+    record old { known = record old.known { nodes = founder (alone (record { no = 0; id = id }) old.r) limit ∷ [] }; crashed = false ∷ [] }
 
 -- the limits are those of the stores at hand
 abbrev pub CreateIs : Id → List ℕ → WorldState → Result Outcome Refusal → WorldState → Type 0
@@ -107,85 +112,33 @@ SubmitStepIs caller via request old (Err refused.NoSuchCaller) new = (via < leng
 SubmitStepIs caller via request old (Err refusal) new =
     (fault : SubmitFault) × (refusal ≡ refusal_of fault) × RefusesCall caller via request old fault × (new ≡ old)
 
--- ---- a message
-
--- what an answer is as an outcome, where this many messages were sent before
-abbrev pub outcome_of : Answered → ℕ → Outcome
-outcome_of (answer.Told told) count = did.Told count
-outcome_of (answer.Forward to passed) count = did.Forwarded count
-outcome_of answer.Dropped count = did.Dropped
-outcome_of answer.Full count = did.Full count
-
--- the node that an answer goes to, where it is a call; 0 stands for none
-abbrev pub target_of : Answered → Option ℕ
-target_of (answer.Told told) = Some 0
-target_of (answer.Forward to passed) = Some to
-target_of answer.Dropped = None
-target_of answer.Full = Some 0
-
--- the world after this node answered a call so
-abbrev pub with_answer : Ask → Node → Node → Answered → WorldState → WorldState
-with_answer ask node after answered old =
-    record old {
-      known = record old.known {
-        nodes = put_node after old.known.nodes;
-        sent = with_one old.known.sent (sent_by ask answered);
-        history = with_one old.known.history (ask_done ask node);
-      };
-      targets = with_one old.targets (target_of answered);
-    }
-
--- what hearing a reply is as an outcome
-abbrev pub outcome_heard : Heard → ℕ → Outcome
-outcome_heard FreshReply caller = did.Fresh caller
-outcome_heard KnownReply caller = did.Known
-
--- What comes of the message of this number, where it is delivered.
-pub data Delivers (message : ℕ) (old : WorldState) : Outcome → WorldState → Type 0 where
-  -- a call comes to its node
-  To_node : (ask : Ask) (to : ℕ) (node after : Node) (answered : Answered) → slice_get old.known.sent message ≡ Some (AskMessage ask)
-      → slice_get old.targets message ≡ Some to → node_at to old.known.nodes ≡ Some node → AskIs ask node (Ok answered) after
-      → Delivers message old (outcome_of answered (length old.known.sent)) (with_answer ask node after answered old)
-  -- a reply comes to its caller
-  To_caller : (told : Told) (core after : Caller) (heard : Heard) → slice_get old.known.sent message ≡ Some (ToldMessage told)
-      → caller_at told.caller old.known.callers ≡ Some core → TakeIs told core (Ok heard) after
-      → Delivers message old (outcome_heard heard told.caller) (with_heard after old)
-  -- a caller hears that a store was full
-  Full_to_caller : (caller number : ℕ) (core : Caller) → slice_get old.known.sent message ≡ Some (FullMessage caller number)
-      → caller_at caller old.known.callers ≡ Some core → Delivers message old did.HeardFull old
-
--- the call of this number is for a node that is not there
-pub record IsAstray (message : ℕ) (old : WorldState) : Type 0 where
-  pub ask : Ask
-  pub to : ℕ
-  pub sent : slice_get old.known.sent message ≡ Some (AskMessage ask)
-  pub target : slice_get old.targets message ≡ Some to
-  pub missing : node_at to old.known.nodes ≡ None
-
-abbrev pub DeliverIs : ℕ → WorldState → Result Outcome Refusal → WorldState → Type 0
-DeliverIs message old (Ok outcome) new = Delivers message old outcome new
-DeliverIs message old (Err refused.NotCreated) new = (old.known.nodes ≡ []) × (new ≡ old)
-DeliverIs message old (Err refused.NoSuchNode) new = IsAstray message old × (new ≡ old)
-DeliverIs message old (Err refused.NoSuchMessage) new = (old.known.nodes ≢ []) × (length old.known.sent ≤ message) × (new ≡ old)
-DeliverIs message old (Err (refused.Part part.NeedsMeet)) new =
-    ((note : Note) × (slice_get old.known.sent message ≡ Some (NoteMessage note))) × (new ≡ old)
-DeliverIs message old (Err refused.Memory) new = (old.known.nodes ≢ []) × (message < length old.known.sent) × (new ≡ old)
-DeliverIs message old (Err refusal) new = ⊥
-
 -- ---- all steps
 
 -- what a step is answered, where the stores at hand have these limits
 abbrev pub StepIs : Step → List ℕ → WorldState → Result Outcome Refusal → WorldState → Type 0
 StepIs (Create id) limits old result new = CreateIs id limits old result new
+StepIs (Join id behind) limits old result new = JoinIs id behind limits old result new
 StepIs (OpenCaller window) limits old result new = OpenIs window old result new
 StepIs (Submit caller via request) limits old result new = SubmitStepIs caller via request old result new
 StepIs (Resend caller via number) limits old result new = ResendStepIs caller via number old result new
 StepIs (Deliver message) limits old result new = DeliverIs message old result new
 StepIs (Show caller) limits old result new = ShowIs caller old result new
 StepIs (Meet caller message) limits old result new = MeetIs caller message old result new
+StepIs (Cut node place at) limits old result new = MoveIs (CutAtIs place at) refusal_of_cut node old result new
+StepIs (Merge node place behind) limits old result new = MoveIs (MergeIs place behind) refusal_of_merge node old result new
+StepIs (Give node place to) limits old result new = GiveStepIs node place to old result new
+StepIs (SendPart node to number part) limits old result new = SendPartIs node to number part old result new
+StepIs (Leave node) limits old result new = MoveIs LeaveIs refusal_of_leave node old result new
+StepIs (Retire node) limits old result new = RetireStepIs node old result new
+StepIs (Stabilise node head) limits old result new = UpkeepIs (ring.Stabilise node head) node old result new
+StepIs (Candidate node peer) limits old result new = UpkeepIs (ring.Candidate node peer) node old result new
+StepIs (DropDead node) limits old result new = UpkeepIs (ring.DropDead node) node old result new
+StepIs (Rectify node notifier) limits old result new = UpkeepIs (ring.Rectify node notifier) node old result new
+StepIs (Crash node) limits old result new = CrashIs node old result new
 StepIs (Finger node finger to) limits old result new = FingerIs node finger to old result new
 
 -- the stores at hand after a step
 abbrev pub StoresLeft : {S : Type 0} → Step → Result Outcome Refusal → List S → List S → Type 0
 StoresLeft (Create id) result stores left = CreateLeaves result stores left
+StoresLeft (Join id behind) result stores left = CreateLeaves result stores left
 StoresLeft step result stores left = left ≡ stores

@@ -1,5 +1,7 @@
 //! Requests that go out again.
-ghost use Rattle.std.specs.Prelude.{◌≡◌};
+ghost use Rattle.std.specs.Prelude.{◌≡◌, ◌<◌, [], ◌∷◌, ◌++◌, length};
+ghost use Rattle.std.specs.Vec.{vec_len, vec_capacity};
+ghost use Rattle.chord_world.specs.State.{KeepsRing};
 ghost use Rattle.chord_world.specs.Steps.{Advances};
 ghost use Rattle.chord_world.specs.Calling.{AreThere, WantedIs, AgainIs, SentIs, ResendStepIs};
 
@@ -11,6 +13,25 @@ use chord_caller::{Ask, CallerCore, ResendFault};
 use chord_node::Message;
 use chord_store::EntryStore;
 use std::alloc::AllocError;
+
+/// Sends one more message, for which there is room.
+pub(crate) fn push_message(
+    sent: &mut Vec<Message>,
+    targets: &mut Vec<u64>,
+    message: Message,
+    to: u64,
+) -> u64
+    requires sent { vec_len sent.old < vec_capacity sent.old }
+    requires targets { vec_len targets.old < vec_capacity targets.old }
+    ensures number { result ≡ length sent.old.items }
+    ensures sent { sent.new.items ≡ sent.old.items ++ message ∷ [] }
+    ensures targets { targets.new.items ≡ targets.old.items ++ to ∷ [] }
+{
+    let number = sent.len() as u64;
+    sent.push_reserved(message);
+    targets.push_reserved(to);
+    number
+}
 
 /// Sends one more message, for this node where it is a call.
 pub(crate) fn send(
@@ -79,6 +100,7 @@ impl<S: EntryStore> World<S> {
     ) -> Result<Outcome, Refusal>
         ensures answer { ResendStepIs caller via number self.old result self.new }
         ensures step { Advances self.old result self.new }
+        ensures ring { KeepsRing self.old self.new }
     {
         self.are_there(caller, via)?;
         let ask = ask_again(&self.callers[caller as usize], number)?;

@@ -1,8 +1,9 @@
 //! The first node.
-ghost use Rattle.std.specs.Prelude.{◌≡◌, ◌<◌, [], ◌∷◌, map};
+ghost use Rattle.std.specs.Prelude.{◌≡◌, ◌<◌, [], ◌∷◌, ◌++◌, map, false, OnOk};
 ghost use Rattle.std.specs.List.{All};
 ghost use Rattle.std.specs.Vec.{vec_len, vec_capacity};
 ghost use Rattle.chord_node.specs.World.{WorldStep};
+ghost use Rattle.chord_world.specs.State.{KeepsRing};
 ghost use Rattle.chord_world.specs.Steps.{CreateIs, CreateLeaves, Advances};
 
 use crate::outcome::Outcome;
@@ -12,6 +13,7 @@ use chord_ident::Id;
 use chord_links::Peer;
 use chord_node::Node;
 use chord_store::EntryStore;
+use std::alloc::AllocError;
 
 /// Puts a store back where one was taken.
 fn put_back<S: EntryStore>(stores: &mut Vec<S>, store: S)
@@ -24,12 +26,43 @@ fn put_back<S: EntryStore>(stores: &mut Vec<S>, store: S)
     }
 }
 
+/// Makes room for one more node.
+pub(crate) fn room_for_node<S: EntryStore>(
+    nodes: &mut Vec<Node<S>>,
+    crashed: &mut Vec<bool>,
+) -> Result<(), AllocError>
+    ensures nodes { nodes.new.items ≡ nodes.old.items }
+    ensures crashed { crashed.new.items ≡ crashed.old.items }
+    ensures nodes_room { OnOk result (vec_len nodes.new < vec_capacity nodes.new) }
+    ensures crashed_room { OnOk result (vec_len crashed.new < vec_capacity crashed.new) }
+{
+    nodes.reserve(1)?;
+    crashed.reserve(1)?;
+    Ok(())
+}
+
+/// One more node, which has not crashed.
+pub(crate) fn add_node<S: EntryStore>(
+    nodes: &mut Vec<Node<S>>,
+    crashed: &mut Vec<bool>,
+    node: Node<S>,
+)
+    requires nodes_room { vec_len nodes.old < vec_capacity nodes.old }
+    requires crashed_room { vec_len crashed.old < vec_capacity crashed.old }
+    ensures nodes { nodes.new.items ≡ nodes.old.items ++ node ∷ [] }
+    ensures crashed { crashed.new.items ≡ crashed.old.items ++ false ∷ [] }
+{
+    nodes.push_reserved(node);
+    crashed.push_reserved(false);
+}
+
 impl<S: EntryStore> World<S> {
     /// Creates the first node, over the first store.
     pub(crate) fn create(&mut self, stores: &mut Vec<S>, id: Id) -> Result<Outcome, Refusal>
         requires { All (λ s. S.content s ≡ []) stores.old.items }
         ensures answer { CreateIs id (map S.limit stores.old.items) self.old result self.new }
         ensures step { Advances self.old result self.new }
+        ensures ring { KeepsRing self.old self.new }
         ensures stores { CreateLeaves result stores.old.items stores.new.items }
     {
         if !self.nodes.is_empty() {
@@ -38,13 +71,13 @@ impl<S: EntryStore> World<S> {
         if stores.is_empty() {
             return Err(Refusal::NoStore);
         }
-        if self.nodes.reserve(1).is_err() {
+        if room_for_node(&mut self.nodes, &mut self.crashed).is_err() {
             return Err(Refusal::Memory);
         }
         let store = stores.remove(0);
         match Node::found(self.alloc, Peer { no: 0, id }, self.r, store) {
             Ok(node) => {
-                self.nodes.push_reserved(node);
+                add_node(&mut self.nodes, &mut self.crashed, node);
                 Ok(Outcome::Node(0))
             }
             Err(store) => {

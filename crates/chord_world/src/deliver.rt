@@ -5,9 +5,12 @@ ghost use Rattle.chord_caller.specs.declared.told.Told.{Told as ToldOf};
 ghost use Rattle.chord_caller.specs.declared.ask.Ask.{Ask as AskOf};
 ghost use Rattle.chord_node.specs.declared.message.Message.TheVariants.{Ask as AskMessage, Told as ToldMessage};
 ghost use Rattle.chord_node.specs.World.{with_one};
-ghost use Rattle.chord_world.specs.Steps.{DeliverIs, Advances, outcome_of, outcome_heard, target_of};
+ghost use Rattle.chord_world.specs.State.{KeepsRing};
+ghost use Rattle.chord_world.specs.Steps.{Advances};
+ghost use Rattle.chord_world.specs.Delivered.{DeliverIs, outcome_of, outcome_heard, target_of};
 ghost use Rattle.chord_world.specs.Delivering.{AnswersAt, HearsAt, IsOwed, message_by};
 
+use crate::members::is_out;
 use crate::outcome::Outcome;
 use crate::refusal::{PartFault, Refusal};
 use crate::submit::make_room;
@@ -113,10 +116,14 @@ impl<S: EntryStore> World<S> {
         requires created { self.old.known.nodes ≢ [] }
         ensures answer { DeliverIs place self.old result self.new }
         ensures step { Advances self.old result self.new }
+        ensures ring { KeepsRing self.old self.new }
     {
         let to = self.targets[place];
         if to >= self.nodes.len() as u64 {
             return Err(Refusal::NoSuchNode);
+        }
+        if is_out(&self.crashed, to) {
+            return Err(Refusal::Part(PartFault::Crashed));
         }
         if make_room(&mut self.sent, &mut self.targets).is_err() {
             return Err(Refusal::Memory);
@@ -142,6 +149,7 @@ impl<S: EntryStore> World<S> {
         requires created { self.old.known.nodes ≢ [] }
         ensures answer { DeliverIs place self.old result self.new }
         ensures step { Advances self.old result self.new }
+        ensures ring { KeepsRing self.old self.new }
     {
         let Message::Told(told) = &self.sent[place] else {
             unreachable!()
@@ -158,6 +166,7 @@ impl<S: EntryStore> World<S> {
     pub(crate) fn deliver(&mut self, message: u64) -> Result<Outcome, Refusal>
         ensures answer { DeliverIs message self.old result self.new }
         ensures step { Advances self.old result self.new }
+        ensures ring { KeepsRing self.old self.new }
     {
         if self.nodes.is_empty() {
             return Err(Refusal::NotCreated);
@@ -170,9 +179,18 @@ impl<S: EntryStore> World<S> {
             Message::Ask(_) => self.deliver_ask(place),
             Message::Told(_) => self.deliver_told(place),
             Message::Full { .. } => Ok(Outcome::HeardFull),
-            Message::Part(_) => unreachable!(),
-            Message::Got(_) => unreachable!(),
-            Message::Declined(_) => unreachable!(),
+            Message::Part(part) => {
+                let to = part.to;
+                self.deliver_part(place, to)
+            }
+            Message::Got(got) => {
+                let got = *got;
+                self.deliver_got(place, got)
+            }
+            Message::Declined(declined) => {
+                let declined = *declined;
+                self.deliver_declined(place, declined)
+            }
             Message::Note(_) => Err(Refusal::Part(PartFault::NeedsMeet)),
         }
     }

@@ -1,8 +1,10 @@
 //! Fingers that are set.
 ghost use Rattle.std.specs.Prelude.{◌≡◌, ◌<◌, ◌≤◌, length};
+ghost use Rattle.chord_world.specs.State.{KeepsRing};
 ghost use Rattle.chord_world.specs.Steps.{Advances};
 ghost use Rattle.chord_world.specs.Linking.{PointsAt, FingerIs};
 
+use crate::members::is_out;
 use crate::outcome::Outcome;
 use crate::refusal::{PartFault, Refusal};
 use crate::world::World;
@@ -27,6 +29,7 @@ impl<S: EntryStore> World<S> {
     pub(crate) fn finger(&mut self, node: u64, finger: u64, to: u64) -> Result<Outcome, Refusal>
         ensures answer { FingerIs node finger to self.old result self.new }
         ensures step { Advances self.old result self.new }
+        ensures ring { KeepsRing self.old self.new }
     {
         let count = self.nodes.len() as u64;
         if count == 0 {
@@ -34,6 +37,9 @@ impl<S: EntryStore> World<S> {
         }
         if node >= count || to >= count {
             return Err(Refusal::NoSuchNode);
+        }
+        if is_out(&self.crashed, node) {
+            return Err(Refusal::Part(PartFault::Crashed));
         }
         if finger < 1 || 128 < finger {
             return Err(Refusal::Part(PartFault::BadFinger));

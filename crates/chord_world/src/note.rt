@@ -1,5 +1,6 @@
 //! Notes that are shown and met.
 ghost use Rattle.std.specs.Prelude.{◌≡◌, ◌<◌, length};
+ghost use Rattle.chord_world.specs.State.{KeepsRing};
 ghost use Rattle.chord_world.specs.Steps.{Advances};
 ghost use Rattle.chord_world.specs.Calling.{CallerIs, ShowIs, MeetsAt, MeetIs};
 
@@ -39,6 +40,7 @@ impl<S: EntryStore> World<S> {
     pub(crate) fn show(&mut self, caller: u64) -> Result<Outcome, Refusal>
         ensures answer { ShowIs caller self.old result self.new }
         ensures step { Advances self.old result self.new }
+        ensures ring { KeepsRing self.old self.new }
     {
         self.is_caller(caller)?;
         let note = self.callers[caller as usize].show()?;
@@ -50,6 +52,7 @@ impl<S: EntryStore> World<S> {
     pub(crate) fn meet(&mut self, caller: u64, message: u64) -> Result<Outcome, Refusal>
         ensures answer { MeetIs caller message self.old result self.new }
         ensures step { Advances self.old result self.new }
+        ensures ring { KeepsRing self.old self.new }
     {
         self.is_caller(caller)?;
         if message >= self.sent.len() as u64 {

@@ -1,4 +1,5 @@
 //! Callers.
+ghost use Rattle.chord_world.specs.State.{KeepsRing};
 ghost use Rattle.chord_world.specs.Steps.{OpenIs, Advances};
 
 use crate::outcome::Outcome;
@@ -12,6 +13,7 @@ impl<S: EntryStore> World<S> {
     pub(crate) fn open_caller(&mut self, window: u64) -> Result<Outcome, Refusal>
         ensures answer { OpenIs window self.old result self.new }
         ensures step { Advances self.old result self.new }
+        ensures ring { KeepsRing self.old self.new }
     {
         if window < 1 || 16 < window {
             return Err(Refusal::Part(PartFault::BadWindow));

@@ -1,10 +1,13 @@
 //! Why a step is refused.
 ghost use Rattle.std.specs.Prelude.{◌≡◌};
 ghost use Rattle.chord_world.specs.declared.refusal.Refusal.TheVariants.{Memory as NoMemory};
-ghost use Rattle.chord_world.specs.Refusals.{number_of, refusal_of};
+ghost use Rattle.chord_world.specs.Refusals.{number_of, refusal_of, refusal_of_ring};
+ghost use Rattle.chord_world.specs.Handing.{refusal_of_cut, refusal_of_merge, refusal_of_give, refusal_of_resend, refusal_of_leave, refusal_of_retire};
 
 use chord_caller::SubmitFault;
 use chord_map::RequestFault;
+use chord_node::{CutAtFault, GiveFault, MergeFault, NotStaying, ResendFault, RetireFault};
+use chord_ring::{CandidateFault, DropFault, RingFault, StabiliseFault};
 use std::alloc::AllocError;
 use thiserror::Error;
 
@@ -21,8 +24,12 @@ pub enum Refusal {
     NoSuchCaller,
     #[error("no message has this number")]
     NoSuchMessage,
+    #[error("the identifier was used before")]
+    IdTaken,
     #[error("there is no store for a node")]
     NoStore,
+    #[error("the ring would not stand without the member")]
+    Unsafe,
     /// A node or a caller refused.
     #[error(transparent)]
     Part(PartFault),
@@ -43,6 +50,40 @@ pub enum PartFault {
     NumbersSpent,
     #[error("the request is not pending")]
     Idle,
+    #[error("the node crashed")]
+    Crashed,
+    #[error("the new node does not lie before the first entry")]
+    NotBetween,
+    #[error("the first entry is dead")]
+    HeadDead,
+    #[error("the node is not the first entry")]
+    NotHead,
+    #[error("the candidate is dead")]
+    Dead,
+    #[error("the candidate does not lie before the first entry")]
+    NotCloser,
+    #[error("the first entry is live")]
+    HeadLive,
+    #[error("there is no other entry")]
+    Empty,
+    #[error("the node holds no segment there")]
+    NoSegment,
+    #[error("the cut is not inside the segment")]
+    NotInside,
+    #[error("the second does not begin where the first ends")]
+    NotAdjacent,
+    #[error("the segments meet")]
+    Overlap,
+    #[error("a call is kept in both")]
+    Twice,
+    #[error("there is no such part")]
+    NoPart,
+    #[error("the node does not stay")]
+    NotStaying,
+    #[error("the node is not leaving")]
+    NotLeaving,
+    #[error("the node holds a segment or hands one over")]
+    NotEmpty,
     #[error("a node has the fingers 1 to 128")]
     BadFinger,
     #[error("the message is no note")]
@@ -52,8 +93,7 @@ pub enum PartFault {
 }
 
 impl Refusal {
-    /// Its number in the order in which refusals are checked: 9 for those of parts, 10 for want of memory. No step
-    /// answers 6 and 8 yet.
+    /// Its number in the order in which refusals are checked: 9 for those of parts, 10 for want of memory.
     pub fn number(self) -> u8
         ensures { result ≡ number_of self }
     {
@@ -63,7 +103,9 @@ impl Refusal {
             Refusal::NoSuchNode => 3,
             Refusal::NoSuchCaller => 4,
             Refusal::NoSuchMessage => 5,
+            Refusal::IdTaken => 6,
             Refusal::NoStore => 7,
+            Refusal::Unsafe => 8,
             Refusal::Part(_) => 9,
             Refusal::Memory => 10,
         }
@@ -79,6 +121,93 @@ impl From<SubmitFault> for Refusal {
             SubmitFault::WindowFull => Refusal::Part(PartFault::WindowFull),
             SubmitFault::NumbersSpent => Refusal::Part(PartFault::NumbersSpent),
             SubmitFault::Memory => Refusal::Memory,
+        }
+    }
+}
+
+impl From<RingFault> for Refusal {
+    ghost from_gives = { λ fault refusal. refusal ≡ refusal_of_ring fault };
+
+    fn from(fault: RingFault) -> Refusal {
+        match fault {
+            RingFault::NoSuchNode => Refusal::NoSuchNode,
+            RingFault::IdTaken => Refusal::IdTaken,
+            RingFault::NotBetween => Refusal::Part(PartFault::NotBetween),
+            RingFault::Stabilise(StabiliseFault::HeadDead) => Refusal::Part(PartFault::HeadDead),
+            RingFault::Stabilise(StabiliseFault::NotHead) => Refusal::Part(PartFault::NotHead),
+            RingFault::Candidate(CandidateFault::Dead) => Refusal::Part(PartFault::Dead),
+            RingFault::Candidate(CandidateFault::NotCloser) => Refusal::Part(PartFault::NotCloser),
+            RingFault::Drop(DropFault::HeadLive) => Refusal::Part(PartFault::HeadLive),
+            RingFault::Drop(DropFault::Empty) => Refusal::Part(PartFault::Empty),
+            RingFault::Memory => Refusal::Memory,
+        }
+    }
+}
+
+impl From<CutAtFault> for Refusal {
+    ghost from_gives = { λ fault refusal. refusal ≡ refusal_of_cut fault };
+
+    fn from(fault: CutAtFault) -> Refusal {
+        match fault {
+            CutAtFault::NoSegment => Refusal::Part(PartFault::NoSegment),
+            CutAtFault::NotInside => Refusal::Part(PartFault::NotInside),
+            CutAtFault::Memory => Refusal::Memory,
+        }
+    }
+}
+
+impl From<MergeFault> for Refusal {
+    ghost from_gives = { λ fault refusal. refusal ≡ refusal_of_merge fault };
+
+    fn from(fault: MergeFault) -> Refusal {
+        match fault {
+            MergeFault::NoSegment => Refusal::Part(PartFault::NoSegment),
+            MergeFault::NotAdjacent => Refusal::Part(PartFault::NotAdjacent),
+            MergeFault::Overlap => Refusal::Part(PartFault::Overlap),
+            MergeFault::Twice => Refusal::Part(PartFault::Twice),
+            MergeFault::Memory => Refusal::Memory,
+        }
+    }
+}
+
+impl From<GiveFault> for Refusal {
+    ghost from_gives = { λ fault refusal. refusal ≡ refusal_of_give fault };
+
+    fn from(fault: GiveFault) -> Refusal {
+        match fault {
+            GiveFault::NoSegment => Refusal::Part(PartFault::NoSegment),
+            GiveFault::NumbersSpent => Refusal::Part(PartFault::NumbersSpent),
+            GiveFault::Memory => Refusal::Memory,
+        }
+    }
+}
+
+impl From<ResendFault> for Refusal {
+    ghost from_gives = { λ fault refusal. refusal ≡ refusal_of_resend fault };
+
+    fn from(fault: ResendFault) -> Refusal {
+        match fault {
+            ResendFault::NoPart => Refusal::Part(PartFault::NoPart),
+            ResendFault::Memory => Refusal::Memory,
+        }
+    }
+}
+
+impl From<NotStaying> for Refusal {
+    ghost from_gives = { λ fault refusal. refusal ≡ refusal_of_leave fault };
+
+    fn from(_fault: NotStaying) -> Refusal {
+        Refusal::Part(PartFault::NotStaying)
+    }
+}
+
+impl From<RetireFault> for Refusal {
+    ghost from_gives = { λ fault refusal. refusal ≡ refusal_of_retire fault };
+
+    fn from(fault: RetireFault) -> Refusal {
+        match fault {
+            RetireFault::NotLeaving => Refusal::Part(PartFault::NotLeaving),
+            RetireFault::NotEmpty => Refusal::Part(PartFault::NotEmpty),
         }
     }
 }

@@ -2,7 +2,7 @@
 ghost use Rattle.std.specs.Prelude.{◌≡◌, [], map, IfOk, OnErr};
 ghost use Rattle.std.specs.List.{All};
 ghost use Rattle.chord_node.specs.Headline.{Headline, SeenFirst};
-ghost use Rattle.chord_world.specs.Runs.{Ran, result_of};
+ghost use Rattle.chord_world.specs.Runs.{Ran, result_of, StandsOnOneRing};
 
 use crate::outcome::Outcome;
 use crate::refusal::Refusal;
@@ -43,8 +43,10 @@ pub fn run<S: EntryStore>(
     ensures vacant { All (λ s. S.content s ≡ []) stores.new.items }
     ensures headline { Headline world.new.known }
     ensures seen { SeenFirst world.old.known world.new.known }
+    ensures ring { StandsOnOneRing world.new }
 {
     world.headline();
+    world.stands_on_one_ring();
     chord_node::laws::seen_first();
     let mut answers = Vec::with_capacity(alloc, steps.len())?;
     for step in steps {
@@ -52,5 +54,6 @@ pub fn run<S: EntryStore>(
         answers.push_reserved(answer_of(result));
     }
     world.headline();
+    world.stands_on_one_ring();
     Ok(answers)
 }

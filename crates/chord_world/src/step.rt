@@ -10,6 +10,11 @@ pub enum Step {
     Create {
         id: Id,
     },
+    /// A node joins behind the member `behind`, and holds nothing.
+    Join {
+        id: Id,
+        behind: u64,
+    },
     /// A caller opens with a window of 1 to 16 requests.
     OpenCaller {
         window: u64,
@@ -39,6 +44,62 @@ pub enum Step {
     Meet {
         caller: u64,
         message: u64,
+    },
+    /// The node cuts the held segment at this place, counted from 0.
+    Cut {
+        node: u64,
+        place: u64,
+        at: Id,
+    },
+    /// The node joins the held segment at the place `behind` behind the one at `place`, in the latter's place.
+    Merge {
+        node: u64,
+        place: u64,
+        behind: u64,
+    },
+    /// The node gives the held segment at this place to the node `to`.
+    Give {
+        node: u64,
+        place: u64,
+        to: u64,
+    },
+    /// The node sends a part, counted from 1, of its handover of this number to the node `to`.
+    SendPart {
+        node: u64,
+        to: u64,
+        number: u64,
+        part: u64,
+    },
+    /// The node begins to leave.
+    Leave {
+        node: u64,
+    },
+    /// The leaving node, which holds nothing and hands nothing over, is gone.
+    Retire {
+        node: u64,
+    },
+    /// The member copies the list of its first entry `head`.
+    Stabilise {
+        node: u64,
+        head: u64,
+    },
+    /// The member takes the nearer node `peer` as its first entry.
+    Candidate {
+        node: u64,
+        peer: u64,
+    },
+    /// The member drops its dead first entry.
+    DropDead {
+        node: u64,
+    },
+    /// The member hears of the member `notifier`, which may be its predecessor.
+    Rectify {
+        node: u64,
+        notifier: u64,
+    },
+    /// The member crashes: it does nothing more, and is dead for the others.
+    Crash {
+        node: u64,
     },
     /// The finger of this node, 1 to 128, goes to the node `to`.
     Finger {

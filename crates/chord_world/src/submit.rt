@@ -1,6 +1,7 @@
 //! Calls that are submitted.
 ghost use Rattle.std.specs.Prelude.{◌≡◌, ◌<◌, length, OnOk};
 ghost use Rattle.std.specs.Vec.{vec_len, vec_capacity};
+ghost use Rattle.chord_world.specs.State.{KeepsRing};
 ghost use Rattle.chord_world.specs.Steps.{SubmitStepIs, Advances};
 ghost use Rattle.chord_world.specs.Sending.{MaySubmit, CanSubmit, SubmitsAt};
 
@@ -73,6 +74,7 @@ impl<S: EntryStore> World<S> {
     ) -> Result<Outcome, Refusal>
         ensures answer { SubmitStepIs caller via request.now self.old result self.new }
         ensures step { Advances self.old result self.new }
+        ensures ring { KeepsRing self.old self.new }
     {
         self.may_submit(caller, via, request)?;
         if make_room(&mut self.sent, &mut self.targets).is_err() {

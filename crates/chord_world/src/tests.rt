@@ -14,6 +14,7 @@ use std::alloc::{AllocError, Global};
 use std::test::Fail;
 
 mod growths;
+mod rings;
 
 /// A caller inserts x under abc, and the call is delivered twice.
 fn script(alloc: Global) -> Result<Vec<Step>, AllocError> {

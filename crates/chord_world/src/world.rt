@@ -4,9 +4,9 @@ ghost use Rattle.std.specs.List.{All};
 ghost use Rattle.std.specs.Option.{option_copied};
 ghost use Rattle.chord_node.specs.Headline.{Headline};
 ghost use Rattle.chord_node.specs.World.{Reached};
-ghost use Rattle.chord_world.specs.State.{new_world};
-ghost use Rattle.chord_world.specs.Steps.{StepIs, StoresLeft, Advances};
-ghost use Rattle.chord_world.specs.Runs.{MineIs, ToldIs};
+ghost use Rattle.chord_world.specs.State.{new_world, KeepsRing};
+ghost use Rattle.chord_world.specs.Steps.{StepIs, StoresLeft, AdvancesBy};
+ghost use Rattle.chord_world.specs.Runs.{MineIs, ToldIs, StandsOnOneRing};
 ghost use Rattle.chord_world.specs.Linking.{LinksAre};
 
 use crate::outcome::Outcome;
@@ -30,6 +30,7 @@ pub struct World<S: EntryStore> {
     pub(crate) callers: Vec<CallerCore>,
     pub(crate) sent: Vec<Message>,
     pub(crate) targets: Vec<u64>,
+    pub(crate) crashed: Vec<bool>,
     pub(crate) history: Vec<Done>,
 }
 
@@ -38,9 +39,11 @@ impl<S: EntryStore> Model for World<S> {
 
     ghost Value = { WorldState };
 
-    ghost view = { λ a. record { known = record { nodes = a.nodes.items; callers = a.callers.items; sent = a.sent.items; history = a.history.items }; targets = a.targets.items; r = a.r } };
+    ghost use Rattle.chord_world.specs.View.{state_of};
 
-    ghost invariant = { λ a. IsWorld (record { known = record { nodes = a.nodes.items; callers = a.callers.items; sent = a.sent.items; history = a.history.items }; targets = a.targets.items; r = a.r }) };
+    ghost view = { λ a. state_of a };
+
+    ghost invariant = { λ a. IsWorld (state_of a) };
 }
 
 impl<S: EntryStore> World<S> {
@@ -57,6 +60,7 @@ impl<S: EntryStore> World<S> {
             callers: Vec::new(alloc),
             sent: Vec::new(alloc),
             targets: Vec::new(alloc),
+            crashed: Vec::new(alloc),
             history: Vec::new(alloc),
         }
     }
@@ -117,16 +121,26 @@ impl<S: EntryStore> World<S> {
         Some(self.nodes[node as usize].links())
     }
 
+    /// Once there is a node: each member's list has a live entry, there is a principal, and the principals stand on
+    /// one ring. It does nothing.
+    pub fn stands_on_one_ring(&self)
+        ensures { StandsOnOneRing self.now }
+    {
+        let _ = &self.nodes;
+    }
+
     /// Does one step. A refused step changes neither the world nor the stores.
     pub fn step(&mut self, stores: &mut Vec<S>, step: &Step) -> Result<Outcome, Refusal>
         requires { All (λ s. S.content s ≡ []) stores.old.items }
         ensures answer { StepIs step.now (map S.limit stores.old.items) self.old result self.new }
-        ensures step { Advances self.old result self.new }
+        ensures step { AdvancesBy step.now self.old result self.new }
+        ensures ring { KeepsRing self.old self.new }
         ensures stores { StoresLeft step.now result stores.old.items stores.new.items }
         ensures vacant { All (λ s. S.content s ≡ []) stores.new.items }
     {
         match step {
             Step::Create { id } => self.create(stores, *id),
+            Step::Join { id, behind } => self.join(stores, *id, *behind),
             Step::OpenCaller { window } => self.open_caller(*window),
             Step::Submit {
                 caller,
@@ -141,6 +155,26 @@ impl<S: EntryStore> World<S> {
             Step::Deliver { message } => self.deliver(*message),
             Step::Show { caller } => self.show(*caller),
             Step::Meet { caller, message } => self.meet(*caller, *message),
+            Step::Cut { node, place, at } => self.cut(*node, *place, *at),
+            Step::Merge {
+                node,
+                place,
+                behind,
+            } => self.merge(*node, *place, *behind),
+            Step::Give { node, place, to } => self.give(*node, *place, *to),
+            Step::SendPart {
+                node,
+                to,
+                number,
+                part,
+            } => self.send_part(*node, *to, *number, *part),
+            Step::Leave { node } => self.leave(*node),
+            Step::Retire { node } => self.retire(*node),
+            Step::Stabilise { node, head } => self.stabilise(*node, *head),
+            Step::Candidate { node, peer } => self.take_candidate(*node, *peer),
+            Step::DropDead { node } => self.drop_dead(*node),
+            Step::Rectify { node, notifier } => self.rectify(*node, *notifier),
+            Step::Crash { node } => self.crash(*node),
             Step::Finger { node, finger, to } => self.finger(*node, *finger, *to),
         }
     }

@@ -1,6 +1,7 @@
 //! Lines of the console.
 
 use crate::console::words::{LineFault, Words};
+use chord_ident::Id;
 use chord_map::Request;
 use chord_world::Step;
 use std::alloc::Global;
@@ -11,8 +12,12 @@ pub enum Line {
     Step(Step),
     /// How many calls were executed.
     History,
+    /// Who holds this identifier.
+    Holder(Id),
     /// The successors that this node lists.
     List(u64),
+    /// A member copies the list of its first entry, whichever that is.
+    Stabilise(u64),
 }
 
 impl Line {
@@ -35,7 +40,28 @@ impl Line {
                 caller: words.number()?,
             }),
             "meet" => Line::Step(meet(&mut words)?),
+            "join" => Line::Step(join(&mut words)?),
+            "cut" => Line::Step(cut(&mut words)?),
+            "merge" => Line::Step(merge(&mut words)?),
+            "give" => Line::Step(give(&mut words)?),
+            "part" => Line::Step(part(&mut words)?),
+            "stabilise" => Line::Stabilise(words.number()?),
+            "candidate" => Line::Step(candidate(&mut words)?),
+            "drop" => Line::Step(Step::DropDead {
+                node: words.number()?,
+            }),
+            "rectify" => Line::Step(rectify(&mut words)?),
             "finger" => Line::Step(finger(&mut words)?),
+            "leave" => Line::Step(Step::Leave {
+                node: words.number()?,
+            }),
+            "retire" => Line::Step(Step::Retire {
+                node: words.number()?,
+            }),
+            "crash" => Line::Step(Step::Crash {
+                node: words.number()?,
+            }),
+            "holder" => Line::Holder(words.id()?),
             "history" => Line::History,
             "list" => Line::List(words.number()?),
             _ => return Err(LineFault::Grammar),
@@ -109,6 +135,63 @@ fn meet(words: &mut Words) -> Result<Step, LineFault> {
     let caller = words.number()?;
     let message = words.number()?;
     Ok(Step::Meet { caller, message })
+}
+
+fn join(words: &mut Words) -> Result<Step, LineFault> {
+    let id = words.id()?;
+    let behind = words.number()?;
+    Ok(Step::Join { id, behind })
+}
+
+fn cut(words: &mut Words) -> Result<Step, LineFault> {
+    let node = words.number()?;
+    let place = words.number()?;
+    let at = words.id()?;
+    Ok(Step::Cut { node, place, at })
+}
+
+fn merge(words: &mut Words) -> Result<Step, LineFault> {
+    let node = words.number()?;
+    let place = words.number()?;
+    let behind = words.number()?;
+    Ok(Step::Merge {
+        node,
+        place,
+        behind,
+    })
+}
+
+fn give(words: &mut Words) -> Result<Step, LineFault> {
+    let node = words.number()?;
+    let place = words.number()?;
+    let to = words.number()?;
+    Ok(Step::Give { node, place, to })
+}
+
+/// A part of a handover, again.
+fn part(words: &mut Words) -> Result<Step, LineFault> {
+    let node = words.number()?;
+    let to = words.number()?;
+    let number = words.number()?;
+    let part = words.number()?;
+    Ok(Step::SendPart {
+        node,
+        to,
+        number,
+        part,
+    })
+}
+
+fn candidate(words: &mut Words) -> Result<Step, LineFault> {
+    let node = words.number()?;
+    let peer = words.number()?;
+    Ok(Step::Candidate { node, peer })
+}
+
+fn rectify(words: &mut Words) -> Result<Step, LineFault> {
+    let node = words.number()?;
+    let notifier = words.number()?;
+    Ok(Step::Rectify { node, notifier })
 }
 
 fn finger(words: &mut Words) -> Result<Step, LineFault> {

@@ -7,7 +7,8 @@ use crate::console::reply::{Shown, name_of};
 use crate::console::words::LineFault;
 use crate::finish::{Fault, Finish};
 use chord_store::EntryStore;
-use chord_world::{Outcome, Refusal, World};
+use chord_node::Holder;
+use chord_world::{Outcome, Refusal, Step, World};
 use std::alloc::Global;
 use std::io::{self, BufWriter, Read, Write};
 
@@ -42,7 +43,18 @@ fn write_outcome<S: EntryStore, W: Write>(
         Outcome::Full(number) => writeln!(writer, "full {number}"),
         Outcome::Known => writeln!(writer, "known"),
         Outcome::HeardFull => writeln!(writer, "full"),
+        Outcome::Got(number) => writeln!(writer, "got {number}"),
+        Outcome::Declined(number) => writeln!(writer, "declined {number}"),
+        Outcome::Early => writeln!(writer, "early"),
+        Outcome::Clash => writeln!(writer, "clash"),
+        Outcome::NoRoom => writeln!(writer, "full"),
+        Outcome::Noted => writeln!(writer, "part"),
+        Outcome::Freed => writeln!(writer, "freed"),
+        Outcome::Unknown => writeln!(writer, "unknown"),
+        Outcome::Held => writeln!(writer, "held"),
         Outcome::Met => writeln!(writer, "met"),
+        Outcome::Candidate(Some(number)) => writeln!(writer, "candidate {number}"),
+        Outcome::Candidate(None) => writeln!(writer, "none"),
         Outcome::Done => writeln!(writer, "ok"),
         Outcome::Fresh(caller) => match world.mine(caller).and_then(|mine| mine.last()) {
             Some(done) => {
@@ -51,6 +63,25 @@ fn write_outcome<S: EntryStore, W: Write>(
             }
             None => writeln!(writer, "fresh"),
         },
+    }
+}
+
+/// Writes who holds an identifier.
+fn write_holder<W: Write>(holder: Option<Holder>, writer: &mut W) -> io::Result<()> {
+    match holder {
+        Some(Holder::Node(number)) => writeln!(writer, "node {number}"),
+        Some(Holder::UnderWay { from, to, number }) => {
+            writeln!(writer, "underway {from} {to} {number}")
+        }
+        None => writeln!(writer, "none"),
+    }
+}
+
+/// The first entry of a node, 0 where there is no such node.
+fn head_of<S: EntryStore>(world: &World<S>, node: u64) -> u64 {
+    match world.links(node) {
+        Some(links) => links.first().no,
+        None => 0,
     }
 }
 
@@ -115,11 +146,29 @@ impl<S: EntryStore> Session<S> {
                 let count = self.world.history().len();
                 written(writeln!(writer, "history {count}"))
             }
+            Line::Holder(id) => written(write_holder(self.world.holder(id), writer)),
             Line::List(node) => written(write_list(&self.world, node, writer)),
-            Line::Step(step) => match self.world.step(stores, &step) {
-                Ok(outcome) => written(write_outcome(&self.world, outcome, writer)),
-                Err(refusal) => write_refusal(refusal, writer),
-            },
+            Line::Stabilise(node) => {
+                let head = head_of(&self.world, node);
+                self.do_step(stores, &Step::Stabilise { node, head }, writer)
+            }
+            Line::Step(step) => self.do_step(stores, &step, writer),
+        }
+    }
+
+    /// Does a step, and writes what came of it.
+    fn do_step<W: Write>(
+        &mut self,
+        stores: &mut Vec<S>,
+        step: &Step,
+        writer: &mut W,
+    ) -> Result<(), Finish>
+        requires { All (λ s. S.content s ≡ []) stores.old.items }
+        ensures { All (λ s. S.content s ≡ []) stores.new.items }
+    {
+        match self.world.step(stores, step) {
+            Ok(outcome) => written(write_outcome(&self.world, outcome, writer)),
+            Err(refusal) => write_refusal(refusal, writer),
         }
     }
 

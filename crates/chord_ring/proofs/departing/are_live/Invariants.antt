@@ -6,6 +6,6 @@ use Rattle.chord_ring.proofs.departing.are_live.Given as goal
 
 -- each member so far has a live entry
 abbrev pub invariant-loop-no : goal.invariant-loop-no
-invariant-loop-no l =
-    (node : ℕ) → node < l.no → (links : NodeLinks) → links_of (slice_set l.members l.gone None) node ≡ Some links
-    → IsSome (first_live (slice_set l.members l.gone None) links.entries)
+invariant-loop-no g l =
+    (node : ℕ) → node < l.no → (links : NodeLinks) → links_of (slice_set (g.M.MemberReader.ring l.members).members l.gone None) node ≡ Some links
+    → IsSome (first_live (slice_set (g.M.MemberReader.ring l.members).members l.gone None) links.entries)

@@ -7,6 +7,6 @@ use Rattle.chord_ring.proofs.departing.is_principal.Given as goal
 
 -- no member so far skips it
 abbrev pub invariant-loop-other : goal.invariant-loop-other
-invariant-loop-other l =
-    (node : ℕ) → node < l.other → (theirs : NodeLinks) → links_of (slice_set l.members l.gone None) node ≡ Some theirs
+invariant-loop-other g l =
+    (node : ℕ) → node < l.other → (theirs : NodeLinks) → links_of (slice_set (g.M.MemberReader.ring l.members).members l.gone None) node ≡ Some theirs
     → ¬ (Skips theirs.me.id.number theirs.entries l.id.number)

@@ -1,26 +1,78 @@
-use Rattle.std.proofs.Common.{◌≡◌, ◌<◌, [], arith, rules, length}
+use Rattle.std.proofs.Common.{◌≡◌, ◌<◌, [], arith, rules, length, map, refl, sym, ap, ◌∙◌}
 use Rattle.std.proofs.lemmas.Grind.{common_steps}
+use Rattle.chord_world.specs.View.{state_of}
 use Rattle.chord_world.specs.State.{WorldState}
-use Rattle.chord_world.proofs.Keeping.{founded_items, founded_at, founded_answer, founded_step, limit_first}
+use Rattle.chord_world.proofs.Keeping.{founded_items, founded_flags, founded_at, founded_answer, founded_step, founded_keeps, limit_first, map_some, no_room}
+use Rattle.chord_world.proofs.Acting.{keeps_same}
 use Rattle.chord_world.proofs.world.World.create.Goals as goal
 
 pub invariant_of-self-in-Ok : goal.invariant_of-self-in-Ok
 invariant_of-self-in-Ok g c =
-    let none : c.self.inside.nodes.items ≡ [] = grind (arith, common_steps) in
-    founded_at c.args.id _ (record { known = record { nodes = c.self.inside.nodes.items; callers = c.self.inside.callers.items; sent = c.self.inside.sent.items; history = c.self.inside.history.items }; targets = c.self.inside.targets.items; r = c.self.inside.r })
-    _ _ c.in-Ok.node (search rules) none c.self.invariant c.push_reserved.ensures.items c.reserve.ensures.items c.in-Ok.ensures.ok
+    let view : WorldState = state_of c.self.inside in
+    let none : view.known.nodes ≡ [] = grind (arith, common_steps) in
+    let nodes = founded_items c.args.id _ view _ _ c.in-Ok.node none c.add_node.ensures.nodes c.room_for_node.ensures.nodes c.in-Ok.ensures.ok in
+    let flags = founded_flags view _ _ c.self.invariant none c.add_node.ensures.crashed c.room_for_node.ensures.crashed in
+    founded_at c.args.id _ view _ _ (search rules) none c.self.invariant nodes flags
 
 pub returns-in-Ok-clause-answer : goal.returns-in-Ok-clause-answer
 returns-in-Ok-clause-answer g c =
-    let none : c.self.inside.nodes.items ≡ [] = grind (arith, common_steps) in
-    let view : WorldState = record { known = record { nodes = c.self.inside.nodes.items; callers = c.self.inside.callers.items; sent = c.self.inside.sent.items; history = c.self.inside.history.items }; targets = c.self.inside.targets.items; r = c.self.inside.r } in
+    let view : WorldState = state_of c.self.inside in
+    let none : view.known.nodes ≡ [] = grind (arith, common_steps) in
+    let nodes = founded_items c.args.id _ view _ _ c.in-Ok.node none c.add_node.ensures.nodes c.room_for_node.ensures.nodes c.in-Ok.ensures.ok in
+    let flags = founded_flags view _ _ c.self.invariant none c.add_node.ensures.crashed c.room_for_node.ensures.crashed in
     let some : 0 < length c.args.stores.now.items = search rules in
-    founded_answer c.args.id _ _ view _ _ c.self.view_is none (limit_first g.S.EntryStore.limit c.args.stores.now.items c.remove-store.result some c.remove-store.ensures.value)
-    (founded_items c.args.id _ view _ _ c.in-Ok.node none c.push_reserved.ensures.items c.reserve.ensures.items c.in-Ok.ensures.ok)
+    founded_answer c.args.id _ _ view _ _ _ c.self.view_is none (limit_first g.S.EntryStore.limit c.args.stores.now.items c.remove-store.result some c.remove-store.ensures.value) nodes flags
 
 pub returns-in-Ok-clause-step : goal.returns-in-Ok-clause-step
 returns-in-Ok-clause-step g c =
+    let view : WorldState = state_of c.self.inside in
+    let none : view.known.nodes ≡ [] = grind (arith, common_steps) in
+    let nodes = founded_items c.args.id _ view _ _ c.in-Ok.node none c.add_node.ensures.nodes c.room_for_node.ensures.nodes c.in-Ok.ensures.ok in
+    let flags = founded_flags view _ _ c.self.invariant none c.add_node.ensures.crashed c.room_for_node.ensures.crashed in
+    founded_step c.args.id _ view _ _ c.add_node.new.crashed.items c.self.view_is (search rules) none nodes
+
+pub returns-in-Ok-clause-ring : goal.returns-in-Ok-clause-ring
+returns-in-Ok-clause-ring g c =
+    let view : WorldState = state_of c.self.inside in
+    let none : view.known.nodes ≡ [] = grind (arith, common_steps) in
+    founded_keeps view _ _ _ c.self.view_is c.self.invariant none
+
+pub returns-then-is_err-clause-answer : goal.returns-then-is_err-clause-answer
+returns-then-is_err-clause-answer g c =
+    let view : WorldState = state_of c.self.inside in
+    let same = no_room view c.args.self.now _ _ c.self.view_is c.room_for_node.ensures.nodes c.room_for_node.ensures.crashed in
+    let none : view.known.nodes ≡ [] = grind (arith, common_steps) in
+    let some : 0 < length c.args.stores.now.items = search rules in
+    (ap (λ (w : WorldState). w.known.nodes) (sym c.self.view_is) ∙ none, map_some g.S.EntryStore.limit c.args.stores.now.items some, same)
+
+pub returns-then-is_err-clause-step : goal.returns-then-is_err-clause-step
+returns-then-is_err-clause-step g c =
+    let view : WorldState = state_of c.self.inside in
+    let same = no_room view c.args.self.now _ _ c.self.view_is c.room_for_node.ensures.nodes c.room_for_node.ensures.crashed in
+    same
+
+pub returns-then-is_err-clause-ring : goal.returns-then-is_err-clause-ring
+returns-then-is_err-clause-ring g c = keeps_same _ c.args.self.now _ c.self.view_is c.room_for_node.ensures.nodes c.room_for_node.ensures.crashed
+
+pub returns-in-Err-clause-answer : goal.returns-in-Err-clause-answer
+returns-in-Err-clause-answer g c =
+    let view : WorldState = state_of c.self.inside in
+    let same = no_room view c.args.self.now _ _ c.self.view_is c.room_for_node.ensures.nodes c.room_for_node.ensures.crashed in
+    let none : view.known.nodes ≡ [] = grind (arith, common_steps) in
+    let some : 0 < length c.args.stores.now.items = search rules in
+    (ap (λ (w : WorldState). w.known.nodes) (sym c.self.view_is) ∙ none, map_some g.S.EntryStore.limit c.args.stores.now.items some, same)
+
+pub returns-in-Err-clause-step : goal.returns-in-Err-clause-step
+returns-in-Err-clause-step g c =
+    let view : WorldState = state_of c.self.inside in
+    let same = no_room view c.args.self.now _ _ c.self.view_is c.room_for_node.ensures.nodes c.room_for_node.ensures.crashed in
+    same
+
+pub returns-in-Err-clause-ring : goal.returns-in-Err-clause-ring
+returns-in-Err-clause-ring g c = keeps_same _ c.args.self.now _ c.self.view_is c.room_for_node.ensures.nodes c.room_for_node.ensures.crashed
+
+pub returns-then-is_empty-clause-answer : goal.returns-then-is_empty-clause-answer
+returns-then-is_empty-clause-answer g c =
     let none : c.self.inside.nodes.items ≡ [] = grind (arith, common_steps) in
-    let view : WorldState = record { known = record { nodes = c.self.inside.nodes.items; callers = c.self.inside.callers.items; sent = c.self.inside.sent.items; history = c.self.inside.history.items }; targets = c.self.inside.targets.items; r = c.self.inside.r } in
-    founded_step c.args.id _ view _ _ c.self.view_is (search rules) none
-    (founded_items c.args.id _ view _ _ c.in-Ok.node none c.push_reserved.ensures.items c.reserve.ensures.items c.in-Ok.ensures.ok)
+    let empty : c.args.stores.now.items ≡ [] = grind (arith, common_steps) in
+    (ap (λ (w : WorldState). w.known.nodes) (sym c.self.view_is) ∙ none, ap (map g.S.EntryStore.limit) empty, refl)

@@ -1,10 +1,12 @@
 use Rattle.std.proofs.Common.{◌≡◌, Some, refl, ◌∙◌, ap, arith}
 use Rattle.std.specs.Prelude.{slice_get}
 use Rattle.chord_node.specs.declared.message.Message.TheVariants.{Note as NoteMessage}
+use Rattle.chord_world.specs.View.{state_of}
 use Rattle.chord_world.specs.State.{WorldState}
 use Rattle.chord_world.specs.Calling.{Met}
 use Rattle.chord_world.proofs.Answering.{read, sent_there, was_sent, world_after, step_after}
 use Rattle.chord_world.proofs.Speaking.{caller_in, heard_is_world, met_step, met_is, meets_after, meets_not}
+use Rattle.chord_world.proofs.Acting.{keeps_same}
 use Rattle.chord_world.proofs.world.World.meet.Goals as goal
 
 pub meet_at-requires : goal.meet_at-requires
@@ -12,14 +14,14 @@ meet_at-requires g c = caller_in c.args.caller _ c.args.self.now _ c.self.view_i
 
 pub returns-in_err-meet_at-clause-answer : goal.returns-in_err-meet_at-clause-answer
 returns-in_err-meet_at-clause-answer g c =
-    let view : WorldState = record { known = record { nodes = c.self.inside.nodes.items; callers = c.self.inside.callers.items; sent = c.self.inside.sent.items; history = c.self.inside.history.items }; targets = c.self.inside.targets.items; r = c.self.inside.r } in
+    let view : WorldState = state_of c.self.inside in
     let sent : slice_get view.known.sent c.args.message ≡ Some (NoteMessage c.in-Note.note) = read view.known.sent view.known.sent c.args.message c.index.result.now refl (omega arith) c.index.ensures ∙ ap (λ m. Some m) c.in-Note.is in
     meets_not c.args.caller c.args.message view c.args.self.now c.in-Note.note c.meet_at.new.callers.items c.from_residual-in_err-meet_at.result c.self.view_is c.in_ok-is_caller.ensures
     (sent_there view c.args.self.now c.args.message (NoteMessage c.in-Note.note) c.self.view_is sent) c.in_err-meet_at.ensures c.from_residual-in_err-meet_at.ensures.1
 
 pub invariant_of-self-2 : goal.invariant_of-self-2
 invariant_of-self-2 g c =
-    let view : WorldState = record { known = record { nodes = c.self.inside.nodes.items; callers = c.self.inside.callers.items; sent = c.self.inside.sent.items; history = c.self.inside.history.items }; targets = c.self.inside.targets.items; r = c.self.inside.r } in
+    let view : WorldState = state_of c.self.inside in
     let sent : slice_get view.known.sent c.args.message ≡ Some (NoteMessage c.in-Note.note) = read view.known.sent view.known.sent c.args.message c.index.result.now refl (omega arith) c.index.ensures ∙ ap (λ m. Some m) c.in-Note.is in
     let met : Met c.args.caller c.in-Note.note view.known.callers c.meet_at.new.callers.items = c.in_ok-meet_at.ensures in
     world_after view _ _ (met_is c.args.caller c.in-Note.note view c.meet_at.new.callers.items c.self.invariant met)
@@ -28,15 +30,18 @@ invariant_of-self-2 g c =
 
 pub returns-clause-answer : goal.returns-clause-answer
 returns-clause-answer g c =
-    let view : WorldState = record { known = record { nodes = c.self.inside.nodes.items; callers = c.self.inside.callers.items; sent = c.self.inside.sent.items; history = c.self.inside.history.items }; targets = c.self.inside.targets.items; r = c.self.inside.r } in
+    let view : WorldState = state_of c.self.inside in
     let sent : slice_get view.known.sent c.args.message ≡ Some (NoteMessage c.in-Note.note) = read view.known.sent view.known.sent c.args.message c.index.result.now refl (omega arith) c.index.ensures ∙ ap (λ m. Some m) c.in-Note.is in
     let met : Met c.args.caller c.in-Note.note view.known.callers c.meet_at.new.callers.items = c.in_ok-meet_at.ensures in
     meets_after c.args.caller c.args.message view c.args.self.now c.in-Note.note c.meet_at.new.callers.items c.self.view_is c.self.invariant sent met
 
 pub returns-clause-step : goal.returns-clause-step
 returns-clause-step g c =
-    let view : WorldState = record { known = record { nodes = c.self.inside.nodes.items; callers = c.self.inside.callers.items; sent = c.self.inside.sent.items; history = c.self.inside.history.items }; targets = c.self.inside.targets.items; r = c.self.inside.r } in
+    let view : WorldState = state_of c.self.inside in
     let sent : slice_get view.known.sent c.args.message ≡ Some (NoteMessage c.in-Note.note) = read view.known.sent view.known.sent c.args.message c.index.result.now refl (omega arith) c.index.ensures ∙ ap (λ m. Some m) c.in-Note.is in
     let met : Met c.args.caller c.in-Note.note view.known.callers c.meet_at.new.callers.items = c.in_ok-meet_at.ensures in
     step_after view c.args.self.now _ _ c.self.view_is (met_is c.args.caller c.in-Note.note view c.meet_at.new.callers.items c.self.invariant met)
     (met_step c.args.caller c.in-Note.note met.core view c.self.invariant met.here (was_sent view.known.sent c.args.message (NoteMessage c.in-Note.note) sent))
+
+pub returns-clause-ring : goal.returns-clause-ring
+returns-clause-ring g c = keeps_same _ c.args.self.now _ c.self.view_is refl refl

@@ -1,10 +1,12 @@
-use Rattle.std.proofs.Common.{◌≡◌, Some, arith}
+use Rattle.std.proofs.Common.{◌≡◌, Some, arith, refl}
 use Rattle.std.specs.Prelude.{slice_get}
 use Rattle.chord_caller.specs.Caller.Letter.{AskLetter}
+use Rattle.chord_world.specs.View.{state_of}
 use Rattle.chord_world.specs.State.{WorldState}
 use Rattle.chord_world.proofs.Answering.{world_after, step_after}
 use Rattle.chord_world.proofs.Posting.{got}
 use Rattle.chord_world.proofs.Speaking.{caller_in, there_now, again_refused, again_memory, again_sends, again_step, again_call, sent_now, sent_step, sent_is_world}
+use Rattle.chord_world.proofs.Acting.{keeps_same}
 use Rattle.chord_world.proofs.world.World.resend.Goals as goal
 
 pub index-requires : goal.index-requires
@@ -14,7 +16,7 @@ index-requires g c =
 
 pub returns-in_err-ask-clause-answer : goal.returns-in_err-ask-clause-answer
 returns-in_err-ask-clause-answer g c =
-    let view : WorldState = record { known = record { nodes = c.self.inside.nodes.items; callers = c.self.inside.callers.items; sent = c.self.inside.sent.items; history = c.self.inside.history.items }; targets = c.self.inside.targets.items; r = c.self.inside.r } in
+    let view : WorldState = state_of c.self.inside in
     let within = caller_in c.args.caller view c.args.self.now _ c.self.view_is c.self.invariant c.in_ok-are_there.ensures.1.1 in
     let here : slice_get view.known.callers c.args.caller ≡ Some c.index.result.now = got view.known.callers c.args.caller c.index.result.now within c.index.ensures in
     again_refused c.args.caller c.args.via c.args.number c.args.self.now c.index.result.now c.in_err-ask.field-0.0 c.from_residual-in_err-ask.result
@@ -22,7 +24,7 @@ returns-in_err-ask-clause-answer g c =
 
 pub returns-in_err-message-clause-answer : goal.returns-in_err-message-clause-answer
 returns-in_err-message-clause-answer g c =
-    let view : WorldState = record { known = record { nodes = c.self.inside.nodes.items; callers = c.self.inside.callers.items; sent = c.self.inside.sent.items; history = c.self.inside.history.items }; targets = c.self.inside.targets.items; r = c.self.inside.r } in
+    let view : WorldState = state_of c.self.inside in
     let within = caller_in c.args.caller view c.args.self.now _ c.self.view_is c.self.invariant c.in_ok-are_there.ensures.1.1 in
     let here : slice_get view.known.callers c.args.caller ≡ Some c.index.result.now = got view.known.callers c.args.caller c.index.result.now within c.index.ensures in
     again_memory c.args.caller c.args.via c.args.number view c.args.self.now c.index.result.now c.in_ok-ask.ask _ c.send.new.sent.items c.send.new.targets.items c.from_residual-in_err-message.result c.self.view_is
@@ -30,7 +32,7 @@ returns-in_err-message-clause-answer g c =
 
 pub invariant_of-self-2 : goal.invariant_of-self-2
 invariant_of-self-2 g c =
-    let view : WorldState = record { known = record { nodes = c.self.inside.nodes.items; callers = c.self.inside.callers.items; sent = c.self.inside.sent.items; history = c.self.inside.history.items }; targets = c.self.inside.targets.items; r = c.self.inside.r } in
+    let view : WorldState = state_of c.self.inside in
     let within = caller_in c.args.caller view c.args.self.now _ c.self.view_is c.self.invariant c.in_ok-are_there.ensures.1.1 in
     let here : slice_get view.known.callers c.args.caller ≡ Some c.index.result.now = got view.known.callers c.args.caller c.index.result.now within c.index.ensures in
     world_after view _ _ (sent_now _ c.args.via view c.in_ok-message.message c.send.new.sent.items c.send.new.targets.items c.in_ok-message.ensures)
@@ -39,7 +41,7 @@ invariant_of-self-2 g c =
 
 pub returns-clause-answer : goal.returns-clause-answer
 returns-clause-answer g c =
-    let view : WorldState = record { known = record { nodes = c.self.inside.nodes.items; callers = c.self.inside.callers.items; sent = c.self.inside.sent.items; history = c.self.inside.history.items }; targets = c.self.inside.targets.items; r = c.self.inside.r } in
+    let view : WorldState = state_of c.self.inside in
     let within = caller_in c.args.caller view c.args.self.now _ c.self.view_is c.self.invariant c.in_ok-are_there.ensures.1.1 in
     let here : slice_get view.known.callers c.args.caller ≡ Some c.index.result.now = got view.known.callers c.args.caller c.index.result.now within c.index.ensures in
     again_sends c.args.caller c.args.via c.in_ok-message.message c.args.number view c.args.self.now c.index.result.now c.in_ok-ask.ask c.send.new.sent.items c.send.new.targets.items c.self.view_is
@@ -47,8 +49,11 @@ returns-clause-answer g c =
 
 pub returns-clause-step : goal.returns-clause-step
 returns-clause-step g c =
-    let view : WorldState = record { known = record { nodes = c.self.inside.nodes.items; callers = c.self.inside.callers.items; sent = c.self.inside.sent.items; history = c.self.inside.history.items }; targets = c.self.inside.targets.items; r = c.self.inside.r } in
+    let view : WorldState = state_of c.self.inside in
     let within = caller_in c.args.caller view c.args.self.now _ c.self.view_is c.self.invariant c.in_ok-are_there.ensures.1.1 in
     let here : slice_get view.known.callers c.args.caller ≡ Some c.index.result.now = got view.known.callers c.args.caller c.index.result.now within c.index.ensures in
     step_after view c.args.self.now _ _ c.self.view_is (sent_now _ c.args.via view c.in_ok-message.message c.send.new.sent.items c.send.new.targets.items c.in_ok-message.ensures)
     (sent_step c.args.caller c.args.via c.index.result.now (AskLetter c.in_ok-ask.ask) view c.self.invariant here (again_step c.args.number c.index.result.now c.in_ok-ask.ask c.in_ok-ask.ensures))
+
+pub returns-clause-ring : goal.returns-clause-ring
+returns-clause-ring g c = keeps_same _ c.args.self.now _ c.self.view_is refl refl

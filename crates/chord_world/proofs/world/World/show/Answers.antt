@@ -1,11 +1,13 @@
-use Rattle.std.proofs.Common.{◌≡◌, Some, length, sym, subst, arith}
+use Rattle.std.proofs.Common.{◌≡◌, Some, length, sym, subst, arith, refl}
 use Rattle.std.specs.Prelude.{slice_get}
 use Rattle.chord_caller.specs.Caller.Letter.{NoteLetter}
-use Rattle.chord_world.specs.State.{WorldState, IsCall}
+use Rattle.chord_world.specs.View.{state_of}
+use Rattle.chord_world.specs.State.{WorldState, IsKnown}
 use Rattle.chord_node.specs.declared.message.Message.TheVariants.{Note as NoteMessage}
 use Rattle.chord_world.proofs.Answering.{world_after, step_after}
 use Rattle.chord_world.proofs.Posting.{got, caller_stands}
 use Rattle.chord_world.proofs.Speaking.{caller_in, note_call, show_sends, sent_now, sent_step, sent_is_world}
+use Rattle.chord_world.proofs.Acting.{keeps_same}
 use Rattle.chord_world.proofs.world.World.show.Goals as goal
 
 pub index-requires : goal.index-requires
@@ -15,16 +17,16 @@ index-requires g c =
 
 pub invariant_of-self-2 : goal.invariant_of-self-2
 invariant_of-self-2 g c =
-    let view : WorldState = record { known = record { nodes = c.self.inside.nodes.items; callers = c.self.inside.callers.items; sent = c.self.inside.sent.items; history = c.self.inside.history.items }; targets = c.self.inside.targets.items; r = c.self.inside.r } in
+    let view : WorldState = state_of c.self.inside in
     let within = caller_in c.args.caller view c.args.self.now _ c.self.view_is c.self.invariant c.in_ok-is_caller.ensures.1.1 in
     let here : slice_get view.known.callers c.args.caller ≡ Some c.index.result.now = got view.known.callers c.args.caller c.index.result.now within c.index.ensures in
     world_after view _ _ (sent_now _ 0 view c.in_ok-message.message c.send.new.sent.items c.send.new.targets.items c.in_ok-message.ensures)
     (sent_is_world c.args.caller 0 c.index.result.now (NoteLetter c.in_ok-note.note) view c.self.invariant here c.in_ok-note.ensures.step
-    (subst (λ n. IsCall (length view.known.callers) (NoteMessage n)) (sym c.in_ok-note.ensures.note) (note_call c.args.caller c.index.result.now view c.self.invariant here)))
+    (subst (λ n. IsKnown (length view.known.nodes) (length view.known.callers) (NoteMessage n)) (sym c.in_ok-note.ensures.note) (note_call c.args.caller c.index.result.now view c.self.invariant here)))
 
 pub returns-clause-answer : goal.returns-clause-answer
 returns-clause-answer g c =
-    let view : WorldState = record { known = record { nodes = c.self.inside.nodes.items; callers = c.self.inside.callers.items; sent = c.self.inside.sent.items; history = c.self.inside.history.items }; targets = c.self.inside.targets.items; r = c.self.inside.r } in
+    let view : WorldState = state_of c.self.inside in
     let within = caller_in c.args.caller view c.args.self.now _ c.self.view_is c.self.invariant c.in_ok-is_caller.ensures.1.1 in
     let here : slice_get view.known.callers c.args.caller ≡ Some c.index.result.now = got view.known.callers c.args.caller c.index.result.now within c.index.ensures in
     show_sends c.args.caller c.in_ok-message.message view c.args.self.now c.index.result.now c.in_ok-note.note c.send.new.sent.items c.send.new.targets.items c.self.view_is
@@ -32,8 +34,11 @@ returns-clause-answer g c =
 
 pub returns-clause-step : goal.returns-clause-step
 returns-clause-step g c =
-    let view : WorldState = record { known = record { nodes = c.self.inside.nodes.items; callers = c.self.inside.callers.items; sent = c.self.inside.sent.items; history = c.self.inside.history.items }; targets = c.self.inside.targets.items; r = c.self.inside.r } in
+    let view : WorldState = state_of c.self.inside in
     let within = caller_in c.args.caller view c.args.self.now _ c.self.view_is c.self.invariant c.in_ok-is_caller.ensures.1.1 in
     let here : slice_get view.known.callers c.args.caller ≡ Some c.index.result.now = got view.known.callers c.args.caller c.index.result.now within c.index.ensures in
     step_after view c.args.self.now _ _ c.self.view_is (sent_now _ 0 view c.in_ok-message.message c.send.new.sent.items c.send.new.targets.items c.in_ok-message.ensures)
     (sent_step c.args.caller 0 c.index.result.now (NoteLetter c.in_ok-note.note) view c.self.invariant here c.in_ok-note.ensures.step)
+
+pub returns-clause-ring : goal.returns-clause-ring
+returns-clause-ring g c = keeps_same _ c.args.self.now _ c.self.view_is refl refl

@@ -1,23 +1,25 @@
-use Rattle.std.proofs.Common.{◌≡◌, length, arith, ap}
+use Rattle.std.proofs.Common.{◌≡◌, length, arith, ap, refl}
 use Rattle.std.proofs.lemmas.Option.{slice_get_within}
+use Rattle.chord_world.specs.View.{state_of}
 use Rattle.chord_world.specs.State.{WorldState}
 use Rattle.chord_world.proofs.Posting.{can_submit, node_there, posted_is, posted_is_world, posted_sends, posted_step}
+use Rattle.chord_world.proofs.Acting.{keeps_same}
 use Rattle.chord_world.proofs.world.World.submit.Goals as goal
 
 pub submit_at-requires-clause-place : goal.submit_at-requires-clause-place
 submit_at-requires-clause-place g c =
-    let view : WorldState = record { known = record { nodes = c.self.inside.nodes.items; callers = c.self.inside.callers.items; sent = c.self.inside.sent.items; history = c.self.inside.history.items }; targets = c.self.inside.targets.items; r = c.self.inside.r } in
+    let view : WorldState = state_of c.self.inside in
     let can = can_submit c.args.caller c.args.via c.args.request.now view c.args.self.now c.self.view_is c.self.invariant c.in_ok-may_submit.ensures in
     slice_get_within c.self.inside.callers.items c.args.caller can.core can.here
 
 pub submit_at-requires-clause-can : goal.submit_at-requires-clause-can
 submit_at-requires-clause-can g c =
-    let view : WorldState = record { known = record { nodes = c.self.inside.nodes.items; callers = c.self.inside.callers.items; sent = c.self.inside.sent.items; history = c.self.inside.history.items }; targets = c.self.inside.targets.items; r = c.self.inside.r } in
+    let view : WorldState = state_of c.self.inside in
     can_submit c.args.caller c.args.via c.args.request.now view c.args.self.now c.self.view_is c.self.invariant c.in_ok-may_submit.ensures
 
 pub invariant_of-self-2 : goal.invariant_of-self-2
 invariant_of-self-2 g c =
-    let view : WorldState = record { known = record { nodes = c.self.inside.nodes.items; callers = c.self.inside.callers.items; sent = c.self.inside.sent.items; history = c.self.inside.history.items }; targets = c.self.inside.targets.items; r = c.self.inside.r } in
+    let view : WorldState = state_of c.self.inside in
     let node = node_there c.args.caller c.args.via c.args.request.now view c.args.self.now c.self.view_is c.in_ok-may_submit.ensures in
     let is = posted_is c.args.caller c.args.via c.args.request.now view c.submit_at.new.callers.items c.push_reserved.new.self.items _ c.push_reserved-2.new.self.items _ c.in-Ok.ask c.self.invariant c.in-Ok.ensures
     c.push_reserved.ensures.items c.make_room.ensures.sent c.push_reserved-2.ensures.items c.make_room.ensures.targets in
@@ -25,7 +27,7 @@ invariant_of-self-2 g c =
 
 pub returns-clause-answer : goal.returns-clause-answer
 returns-clause-answer g c =
-    let view : WorldState = record { known = record { nodes = c.self.inside.nodes.items; callers = c.self.inside.callers.items; sent = c.self.inside.sent.items; history = c.self.inside.history.items }; targets = c.self.inside.targets.items; r = c.self.inside.r } in
+    let view : WorldState = state_of c.self.inside in
     let node = node_there c.args.caller c.args.via c.args.request.now view c.args.self.now c.self.view_is c.in_ok-may_submit.ensures in
     let is = posted_is c.args.caller c.args.via c.args.request.now view c.submit_at.new.callers.items c.push_reserved.new.self.items _ c.push_reserved-2.new.self.items _ c.in-Ok.ask c.self.invariant c.in-Ok.ensures
     c.push_reserved.ensures.items c.make_room.ensures.sent c.push_reserved-2.ensures.items c.make_room.ensures.targets in
@@ -34,8 +36,11 @@ returns-clause-answer g c =
 
 pub returns-clause-step : goal.returns-clause-step
 returns-clause-step g c =
-    let view : WorldState = record { known = record { nodes = c.self.inside.nodes.items; callers = c.self.inside.callers.items; sent = c.self.inside.sent.items; history = c.self.inside.history.items }; targets = c.self.inside.targets.items; r = c.self.inside.r } in
+    let view : WorldState = state_of c.self.inside in
     let node = node_there c.args.caller c.args.via c.args.request.now view c.args.self.now c.self.view_is c.in_ok-may_submit.ensures in
     let is = posted_is c.args.caller c.args.via c.args.request.now view c.submit_at.new.callers.items c.push_reserved.new.self.items _ c.push_reserved-2.new.self.items _ c.in-Ok.ask c.self.invariant c.in-Ok.ensures
     c.push_reserved.ensures.items c.make_room.ensures.sent c.push_reserved-2.ensures.items c.make_room.ensures.targets in
     posted_step c.args.caller c.args.via c.args.request.now view c.args.self.now c.submit_at.new.callers.items c.in-Ok.ask _ c.self.view_is c.self.invariant node c.in-Ok.ensures is
+
+pub returns-clause-ring : goal.returns-clause-ring
+returns-clause-ring g c = keeps_same _ c.args.self.now _ c.self.view_is refl refl

@@ -1,0 +1,65 @@
+-- The items of an outbox by their places.
+use Rattle.std.proofs.Common.{◌≡◌, ℕ, zero, suc, cond, Option, None, Some, List, [], ◌∷◌, refl, sym, ◌∙◌, ap, subst}
+use Rattle.std.proofs.lemmas.Option.{same_Some}
+use Rattle.std.specs.Prelude.{slice_get, find}
+use Rattle.chord_handover.proofs.OutboxLemmas.{is_item_parts, is_item_from}
+use Rattle.chord_handover.specs.Handover.{Item, is_item, item_at}
+use Rattle.chord_handover.specs.Outbox.{AreApart, named, parcel_of}
+use Rattle.chord_handover.specs.Parcelled.{Parcelled}
+use Rattle.chord_ident.specs.declared.span.Span.{Span}
+use Rattle.chord_map.proofs.Lists.{by_test}
+use Rattle.chord_node.specs.View.{kept_as}
+
+-- the item at a place is the one of its receiver and number
+found_at : (items : List Item) (i : ℕ) (item : Item) → AreApart items → slice_get items i ≡ Some item → item_at item.to item.number items ≡ Some item
+unfolding item_at
+found_at [] i item apart e = cc
+found_at (first ∷ items) zero item apart e =
+    let same : first ≡ item = cc in
+    subst (λ (x : Item). cond (is_item item.to item.number x) (Some x) (find (is_item item.to item.number) items) ≡ Some item) (sym same)
+    (ap (λ b. cond b (Some item) (find (is_item item.to item.number) items)) (is_item_from item.to item.number item refl refl))
+found_at (first ∷ items) (suc i) item apart e =
+    let later = found_at items i item apart.1 e in
+    by_test (is_item item.to item.number first)
+    (λ yes.
+    let parts = is_item_parts item.to item.number first yes in
+    let none : item_at item.to item.number items ≡ None =
+    ap (λ n. item_at item.to n items) (sym parts.1) ∙ ap (λ t. item_at t first.number items) (sym parts.0) ∙ apart.0 in
+    cc)
+    (λ no. ap (λ b. cond b (Some first) (find (is_item item.to item.number) items)) no ∙ later)
+
+-- what is named there is found there
+kept_by : (items : List Item) (i to number : ℕ) (o : Option Item) (parcelled : Parcelled) → AreApart items → slice_get items i ≡ o → Some (to, number) ≡ named o
+    → Some parcelled ≡ parcel_of (item_at to number items) → Some (to, number, parcelled.segment.span) ≡ kept_as o
+kept_by items i to number None parcelled apart e name found = cc
+kept_by items i to number (Some item) parcelled apart e name found =
+    let both = same_Some (to, number) (item.to, item.number) name in
+    let to_is : to ≡ item.to = ap (λ (p : ℕ × ℕ). p.0) both in
+    let number_is : number ≡ item.number = ap (λ (p : ℕ × ℕ). p.1) both in
+    let there = found_at items i item apart e in
+    let at : item_at to number items ≡ Some item = ap (λ t. item_at t number items) to_is ∙ ap (λ n. item_at item.to n items) number_is ∙ there in
+    let same : Some parcelled ≡ parcel_of (Some item) = found ∙ ap parcel_of at in
+    let span = ap (λ (p : Parcelled). p.segment.span) (same_Some parcelled (record { segment = item.segment; pairs = item.pairs }) same) in
+    ap (λ (s : Span). Some (to, number, s)) span ∙ ap (λ t. Some (t, number, item.segment.span)) to_is ∙ ap (λ n. Some (item.to, n, item.segment.span)) number_is
+
+pub kept_is : (items : List Item) (i to number : ℕ) (parcelled : Parcelled) (span : Span) → AreApart items → Some (to, number) ≡ named (slice_get items i)
+    → Some parcelled ≡ parcel_of (item_at to number items) → span ≡ parcelled.segment.span → Some (to, number, span) ≡ kept_as (slice_get items i)
+kept_is items i to number parcelled span apart name found same =
+    ap (λ (s : Span). Some (to, number, s)) same ∙ kept_by items i to number (slice_get items i) parcelled apart refl name found
+
+-- nothing is named past the end
+pub none_kept : (o : Option Item) → None ≡ named o → None ≡ kept_as o
+none_kept None e = refl
+none_kept (Some item) e = cc
+
+-- what is named is there
+pub none_missing : {G : Type 0} → (items : List Item) (i to number : ℕ) (o : Option Item) → AreApart items → slice_get items i ≡ o → Some (to, number) ≡ named o
+    → None ≡ parcel_of (item_at to number items) → G
+none_missing items i to number None apart e name found = cc
+none_missing items i to number (Some item) apart e name found =
+    let both = same_Some (to, number) (item.to, item.number) name in
+    let to_is : to ≡ item.to = ap (λ (p : ℕ × ℕ). p.0) both in
+    let number_is : number ≡ item.number = ap (λ (p : ℕ × ℕ). p.1) both in
+    let at : item_at to number items ≡ Some item = ap (λ t. item_at t number items) to_is ∙ ap (λ n. item_at item.to n items) number_is ∙ found_at items i item apart e in
+    let same : None ≡ parcel_of (Some item) = found ∙ ap parcel_of at in
+    cc

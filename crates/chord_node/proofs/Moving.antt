@@ -1,0 +1,195 @@
+-- Edits of the held segments, with their room and without it, and the steps that a node does of its own accord.
+use Rattle.std.proofs.Common.{◌≡◌, ◌≢◌, ℕ, zero, suc, ◌+◌, ◌<◌, ◌&&◌, ◌^◌, nat_le, Bool, true, false, cond, Option, None, Some, Result, Ok, Err, List, [], ◌∷◌, ◌++◌, length, get_or, set, refl, sym, ◌∙◌, ap, subst, arith, rules}
+use Rattle.std.proofs.lemmas.Bool.{and_parts, leb-true}
+use Rattle.std.specs.Prelude.{slice_get, insert, remove}
+use Rattle.std.specs.Option.{IsSome}
+use Rattle.chord_handover.proofs.OutboxLemmas.{item_at_is}
+use Rattle.chord_handover.specs.Handover.{Item, Part, item_at, part_at, parts_in, without, handover_of}
+use Rattle.chord_handover.specs.Outbox.{parcel_of, part_of_item}
+use Rattle.chord_handover.specs.Parcelled.{handed}
+use Rattle.chord_handover.specs.Taken.{Taken}
+use Rattle.chord_handover.specs.declared.ticket.Ticket.{Ticket}
+use Rattle.chord_ident.specs.declared.id.Id.{Id}
+use Rattle.chord_map.specs.declared.pair.Pair.{Pair}
+use Rattle.chord_node.specs.declared.fault.CutAtFault.{CutAtFault}
+use Rattle.chord_node.specs.declared.fault.CutAtFault.TheVariants as cut
+use Rattle.chord_node.specs.declared.fault.NotStaying.{NotStaying}
+use Rattle.chord_node.specs.declared.fault.ResendFault.{ResendFault}
+use Rattle.chord_node.specs.declared.fault.RetireFault.{RetireFault}
+use Rattle.chord_node.specs.declared.message.Message.TheVariants.{Part as PartMessage, Got as GotMessage}
+use Rattle.chord_node.specs.declared.phase.Phase.{Phase}
+use Rattle.chord_node.specs.declared.phase.Phase.TheVariants.{Leaving, Gone}
+use Rattle.chord_node.specs.Moves.{MoveSteps, SendSteps, ResendIs, LeaveIs, RetireIs, CutHeld, with_held, CutAtIs}
+use Rattle.chord_node.specs.Node.{Node, NodeStep, cut_held}
+use Rattle.chord_node.specs.Node.NodeStep.{Cuts, Gives_again, Frees, Leaves, Retires}
+use Rattle.chord_node.specs.Rules.{HasStoreFor}
+use Rattle.chord_node.specs.Received.{GotIs}
+use Rattle.chord_node.specs.View.{knowns}
+use Rattle.chord_segment.specs.Segment.{Segment, RoomySegment, before, behind}
+
+-- ---- the held segments without their room
+
+pub knowns_get : (held : List RoomySegment) (i : ℕ) (s : RoomySegment) → i < length held → s ≡ get_or held i s → slice_get (knowns held) i ≡ Some s.known
+knowns_get [] i s h e = absurd (omega arith)
+knowns_get (y ∷ held) zero s h e = ap (λ (r : RoomySegment). Some r.known) (sym e)
+knowns_get (y ∷ held) (suc i) s h e = knowns_get held i s (omega arith) e
+
+pub knowns_set : (held : List RoomySegment) (i : ℕ) (s : RoomySegment) → knowns (set held i s) ≡ set (knowns held) i s.known
+knowns_set [] zero s = refl
+knowns_set [] (suc i) s = refl
+knowns_set (y ∷ held) zero s = refl
+knowns_set (y ∷ held) (suc i) s = ap (λ (ks : List Segment). y.known ∷ ks) (knowns_set held i s)
+
+pub knowns_insert : (held : List RoomySegment) (i : ℕ) (s : RoomySegment) → knowns (insert held i s) ≡ insert (knowns held) i s.known
+knowns_insert [] zero s = refl
+knowns_insert [] (suc i) s = refl
+knowns_insert (y ∷ held) zero s = refl
+knowns_insert (y ∷ held) (suc i) s = ap (λ (ks : List Segment). y.known ∷ ks) (knowns_insert held i s)
+
+pub knowns_remove : (held : List RoomySegment) (i : ℕ) → knowns (remove held i) ≡ remove (knowns held) i
+knowns_remove [] zero = refl
+knowns_remove [] (suc i) = refl
+knowns_remove (y ∷ held) zero = refl
+knowns_remove (y ∷ held) (suc i) = ap (λ (ks : List Segment). y.known ∷ ks) (knowns_remove held i)
+
+pub knowns_length : (held : List RoomySegment) → length (knowns held) ≡ length held
+knowns_length [] = refl
+knowns_length (y ∷ held) = omega (arith, knowns_length held)
+
+-- a segment that comes to be held
+pub knowns_push : (held : List RoomySegment) (s : RoomySegment) → knowns (held ++ s ∷ []) ≡ knowns held ++ s.known ∷ []
+knowns_push [] s = refl
+knowns_push (y ∷ held) s = ap (λ (ks : List Segment). y.known ∷ ks) (knowns_push held s)
+
+pub held_more : (held made new : List RoomySegment) (s : RoomySegment) (segment : Segment) → new ≡ made ++ s ∷ [] → made ≡ held → s.known ≡ segment
+    → knowns new ≡ knowns held ++ segment ∷ []
+held_more held made new s segment e f g =
+    ap knowns e ∙ knowns_push made s ∙ ap (λ (hs : List RoomySegment). knowns hs ++ s.known ∷ []) f ∙ ap (λ (k : Segment). knowns held ++ k ∷ []) g
+
+-- the held segments after the cut
+pub cut_knowns : (held new : List RoomySegment) (i : ℕ) (s first second : RoomySegment) (at : Id) → new ≡ insert (set held i first) (i + 1) second
+    → first.known ≡ before at s.known → second.known ≡ behind at s.known → knowns new ≡ cut_held i s.known at (knowns held)
+cut_knowns held new i s first second at e f g =
+    ap knowns e ∙ knowns_insert (set held i first) (i + 1) second
+    ∙ ap (λ (ks : List Segment). insert ks (i + 1) second.known) (knowns_set held i first)
+    ∙ ap (λ (k : Segment). insert (set (knowns held) i k) (i + 1) second.known) f
+    ∙ ap (λ (k : Segment). insert (set (knowns held) i (before at s.known)) (i + 1) k) g
+
+-- what stands at a place, read twice
+pub same_at : (held held' : List RoomySegment) (i : ℕ) (a b : RoomySegment) → i < length held → held' ≡ held → a ≡ get_or held i a → b ≡ get_or held' i b → a.known ≡ b.known
+same_at held held' i a b h e f g =
+    let first = knowns_get held i a h f in
+    let h' : i < length held' = let l = ap (λ (hs : List RoomySegment). length hs) e in omega arith in
+    let second = ap (λ (hs : List RoomySegment). slice_get (knowns hs) i) (sym e) ∙ knowns_get held' i b h' g in
+    let both : Some a.known ≡ Some b.known = sym first ∙ second in
+    cc
+
+-- ---- a cut
+
+pub no_place : (held : List Segment) (place : ℕ) (segment : Segment) → held ≡ [] → slice_get held place ≡ Some segment → ⊥
+no_place [] place segment none e = cc
+no_place (first ∷ held) place segment none e = cc
+
+unchanged : (old new : Node) → new.held ≡ old.held → new ≡ with_held new.held old → new ≡ old
+unchanged old new e f = f ∙ ap (λ (held : List Segment). with_held held old) e
+
+pub cut_steps : (place : ℕ) (at : Id) (old : Node) (result : Result (Unit {0}) CutAtFault) (new : Node) → at.number < 2 ^ 128 → CutAtIs place at old result new → MoveSteps old result new
+cut_steps place at old (Ok done) new circle h =
+    let cut = h.0 in
+    let e : new ≡ with_held (cut_held place cut.0 at old.held) old = h.1 ∙ ap (λ (held : List Segment). with_held held old) cut.3 in
+    subst (λ (node : Node). NodeStep old None node None None) (sym e) (Cuts place cut.0 at cut.1 circle cut.2)
+cut_steps place at old (Err fault) new circle h = tt
+
+-- over the view of the fields, which is the old value
+pub cut_at_is : (place : ℕ) (at : Id) (view old : Node) → view ≡ old → (result : Result (Unit {0}) CutAtFault) (held : List Segment)
+    → CutHeld place at view.held result held → CutAtIs place at old result (with_held held view)
+cut_at_is place at view old e result held h =
+    let P : Node → Type 0 = λ node. CutAtIs place at node result (with_held held view) in
+    subst P e (h, refl)
+
+pub cut_none : (place : ℕ) (at : Id) (old new : List Segment) (result : Result (Unit {0}) CutAtFault) → CutHeld place at old result new → old ≡ [] → new ≡ []
+cut_none place at old new (Ok done) h none = absurd (no_place old place h.0 none h.1)
+cut_none place at old new (Err cut.NoSegment) h none = h.1 ∙ none
+cut_none place at old new (Err cut.NotInside) h none = h.3 ∙ none
+cut_none place at old new (Err cut.Memory) h none = h.3 ∙ none
+
+-- ---- leaving
+
+pub nil_by : {A : Type 0} (xs : List A) → length xs ≡ 0 → xs ≡ []
+nil_by [] e = refl
+nil_by (x ∷ xs) e = absurd (omega arith)
+
+pub leave_steps : (old : Node) (result : Result (Unit {0}) NotStaying) (new : Node) → LeaveIs old result new → MoveSteps old result new
+leave_steps old (Ok done) new h = subst (λ (node : Node). NodeStep old None node None None) (sym h.1) (Leaves h.0)
+leave_steps old (Err fault) new h = tt
+
+pub retire_steps : (old : Node) (result : Result (Unit {0}) RetireFault) (new : Node) → RetireIs old result new → MoveSteps old result new
+retire_steps old (Ok done) new h = subst (λ (node : Node). NodeStep old None node None None) (sym h.4) (Retires h.0 h.1 h.2)
+retire_steps old (Err fault) new h = tt
+
+module _ {S : Type 0} where
+  -- a node that is not gone keeps its store through other phases
+  pub stored_there : (phase phase' : Phase) (held held' : List Segment) (items items' : List Item) (store : Option S) → phase ≢ Gone
+      → HasStoreFor phase held items store → HasStoreFor phase' held' items' store
+  stored_there phase phase' held held' items items' None there h = absurd (there h.0)
+  stored_there phase phase' held held' items items' (Some store) there h = tt
+
+same_gone : (view : Node) (entries : List Pair) (taken : Taken) → entries ≡ view.entries → taken ≡ record { last = view.taken; noted = [] }
+    → ◌≡◌ {A = Node} (record view { phase = Gone; entries = entries; limit = 0; taken = taken.last; noted = taken.noted }) (record view { phase = Gone; limit = 0; noted = [] })
+same_gone view entries taken e f = rw (e, f) refl
+
+pub retired : (view old : Node) → view ≡ old → (taken : Taken) → view.phase ≡ Leaving → view.held ≡ [] → view.outbox ≡ [] → view.entries ≡ [] → taken ≡ record { last = view.taken; noted = [] }
+    → RetireIs old (Ok tt) (record view { phase = Gone; entries = []; limit = 0; taken = taken.last; noted = taken.noted })
+retired view old same taken leaving held outbox entries is =
+    subst (λ (node : Node). RetireIs node (Ok tt) (record view { phase = Gone; entries = []; limit = 0; taken = taken.last; noted = taken.noted })) same
+    (leaving, held, outbox, entries, same_gone view [] taken (sym entries) is)
+
+-- ---- what goes out again
+
+given_again : (to number part : ℕ) (node : Node) (item : Item) (found : Part) → item_at to number node.outbox ≡ Some item
+    → (b : Bool) → (nat_le 1 part && nat_le part (parts_in item.pairs)) ≡ b
+    → cond b (Some (part_at (handed (record { from = node.number; to = to; number = number }) (record { segment = item.segment; pairs = item.pairs })) part)) None ≡ Some found
+    → NodeStep node None node (Some (PartMessage found)) None
+given_again to number part node item found e true inside same =
+    let bounds = and_parts (nat_le 1 part) (nat_le part (parts_in item.pairs)) inside in
+    let name = item_at_is to number node.outbox item e in
+    let is : part_at (handover_of node.number item) part ≡ found =
+    ap (λ n. part_at (record { from = node.number; to = n; number = item.number; segment = item.segment; pairs = item.pairs }) part) name.0
+    ∙ ap (λ n. part_at (record { from = node.number; to = to; number = n; segment = item.segment; pairs = item.pairs }) part) name.1 ∙ cc in
+    subst (λ (p : Part). NodeStep node None node (Some (PartMessage p)) None) is
+    (Gives_again to number part item e (leb-true _ _ bounds.0) (leb-true _ _ bounds.1))
+given_again to number part node item found e false inside same = cc
+
+resend_by : (to number part : ℕ) (node : Node) (found : Part) (o : Option Item) → item_at to number node.outbox ≡ o
+    → part_of_item node.number to number part (parcel_of o) ≡ Some found → NodeStep node None node (Some (PartMessage found)) None
+resend_by to number part node found None e same = cc
+resend_by to number part node found (Some item) e same =
+    given_again to number part node item found e (nat_le 1 part && nat_le part (parts_in item.pairs)) refl same
+
+pub resend_steps : (to number part : ℕ) (node : Node) (result : Result Part ResendFault) → ResendIs to number part node result → SendSteps node result node
+resend_steps to number part node (Ok found) h = resend_by to number part node found (item_at to number node.outbox) refl h
+resend_steps to number part node (Err fault) h = tt
+
+-- ---- what its receiver has
+
+pub got_steps : (ticket : Ticket) (old : Node) (found : Bool) (new : Node) → ticket.from ≡ old.number → GotIs ticket old found new
+    → NodeStep old (Some (GotMessage ticket)) new None None
+got_steps ticket old found new from h = subst (λ (node : Node). NodeStep old (Some (GotMessage ticket)) node None None) (sym h.1) (Frees ticket from)
+
+module _ {S : Type 0} where
+  -- where something is under way there is a store
+  pub has_store : (phase : Phase) (held : List Segment) (items : List Item) (store : Option S) → HasStoreFor phase held items store → (items ≡ [] → ⊥) → IsSome store
+  has_store phase held items None h some = absurd (some h.2)
+  has_store phase held items (Some store) h some = search rules
+
+  -- where nothing was held nothing is
+  pub stored_held : (phase : Phase) (held held' : List Segment) (items : List Item) (store : Option S) → (held ≡ [] → held' ≡ [])
+      → HasStoreFor phase held items store → HasStoreFor phase held' items store
+  stored_held phase held held' items None none h = (h.0, none h.1, h.2)
+  stored_held phase held held' items (Some store) none h = tt
+
+  pub stored_without : (to number : ℕ) (phase : Phase) (held : List Segment) (items : List Item) (store : Option S)
+      → HasStoreFor phase held items store → HasStoreFor phase held (without to number items) store
+  unfolding without
+  stored_without to number phase held items None h = (h.0, h.1, ap (without to number) h.2)
+  stored_without to number phase held items (Some store) h = tt

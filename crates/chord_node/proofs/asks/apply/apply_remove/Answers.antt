@@ -1,0 +1,5 @@
+use Rattle.chord_node.proofs.Applying.{removed_for}
+use Rattle.chord_node.proofs.asks.apply.apply_remove.Goals as goal
+
+pub returns-clause-applied : goal.returns-clause-applied
+returns-clause-applied g c = removed_for c.remove-found.result _ _ _ _ _ _ _ c.args.noting _ c.as_slice.ensures c.as_slice-2.ensures c.remove-found.ensures.was_there c.remove-found.ensures.change c.replies_to_remove.ensures

@@ -1,0 +1,58 @@
+use Rattle.std.proofs.Common.{◌≡◌, ◌<◌, ◌^◌, List, length, true, Ok, Err, sym, ap, ◌∙◌, rules, arith, subst}
+use Rattle.chord_ident.specs.Circle.{cuts}
+use Rattle.chord_segment.specs.Segment.{Segment, RoomySegment}
+use Rattle.chord_node.specs.declared.fault.CutAtFault.TheVariants.{Memory}
+use Rattle.chord_node.specs.Rules.{IsOnCircle}
+use Rattle.chord_node.specs.View.{knowns}
+use Rattle.chord_node.specs.Node.{cut_held}
+use Rattle.chord_node.proofs.Asking.{put_same}
+use Rattle.chord_node.proofs.Covering.{on_at, cut_covers}
+use Rattle.chord_node.proofs.Moving.{knowns_get, cut_knowns, same_at}
+use Rattle.chord_node.proofs.handovers.held.cut_segment.Goals as goal
+
+pub returns-in_default-clause-answer : goal.returns-in_default-clause-answer
+returns-in_default-clause-answer c =
+    let held = c.args.held.now.items in
+    let r = c.reserve.ensures.items in
+    let inside : c.args.place < length held = omega arith in
+    let inside' : c.args.place < length c.reserve.new.self.items = let l = ap (λ (hs : List RoomySegment). length hs) r in omega arith in
+    let same = same_at held c.reserve.new.self.items c.args.place c.index.result.now c.index_mut-segment.result.now inside r c.index.ensures c.index_mut-segment.ensures.value in
+    let cut : cuts c.index.result.now.known.span c.args.at ≡ true = search rules in (
+      c.index.result.now.known,
+      knowns_get held c.args.place c.index.result.now inside c.index.ensures,
+      cut,
+      put_same c.reserve.new.self.items c.args.place c.index_mut-segment.result.now c.split_off.new.self inside' (c.in_default.ensures.1 ∙ ap (λ (s : RoomySegment). s.known) c.index_mut-segment.ensures.value) ∙ ap knowns r,
+    )
+
+pub returns-clause-answer : goal.returns-clause-answer
+returns-clause-answer c =
+    let held = c.args.held.now.items in
+    let r = c.reserve.ensures.items in
+    let inside : c.args.place < length held = omega arith in
+    let same = same_at held c.reserve.new.self.items c.args.place c.index.result.now c.index_mut-segment.result.now inside r c.index.ensures c.index_mut-segment.ensures.value in
+    let cut : cuts c.index.result.now.known.span c.args.at ≡ true = search rules in (
+      c.index.result.now.known,
+      knowns_get held c.args.place c.index.result.now inside c.index.ensures,
+      cut,
+      cut_knowns c.reserve.new.self.items c.insert.new.self.items c.args.place c.index_mut-segment.result.now c.split_off.new.self c.in-Ok.second c.args.at c.in-Ok-insert.ensures.items c.in-Ok.ensures.1 c.in-Ok.ensures.2
+          ∙ ap (λ (s : Segment). cut_held c.args.place s c.args.at (knowns c.reserve.new.self.items)) (sym same)
+          ∙ ap (λ (hs : List RoomySegment). cut_held c.args.place c.index.result.now.known c.args.at (knowns hs)) r,
+    )
+
+pub returns-in_default-clause-covers : goal.returns-in_default-clause-covers
+returns-in_default-clause-covers c =
+    let held = c.args.held.now.items in
+    let inside : c.args.place < length held = omega arith in
+    let circle : c.args.at.number < 2 ^ 128 = search rules in
+    cut_covers c.args.place c.args.at (knowns held) _ (Err Memory)
+    (on_at (knowns held) c.args.place c.index.result.now.known (knowns_get held c.args.place c.index.result.now inside c.index.ensures) (subst IsOnCircle c.span_of-span.ensures.value c.span_of-span.ensures.circle))
+    circle (returns-in_default-clause-answer c)
+
+pub returns-clause-covers : goal.returns-clause-covers
+returns-clause-covers c =
+    let held = c.args.held.now.items in
+    let inside : c.args.place < length held = omega arith in
+    let circle : c.args.at.number < 2 ^ 128 = search rules in
+    cut_covers c.args.place c.args.at (knowns held) _ (Ok tt)
+    (on_at (knowns held) c.args.place c.index.result.now.known (knowns_get held c.args.place c.index.result.now inside c.index.ensures) (subst IsOnCircle c.span_of-span.ensures.value c.span_of-span.ensures.circle))
+    circle (returns-clause-answer c)

@@ -1,0 +1,73 @@
+use Rattle.std.proofs.Common.{◌≢◌, ◌<◌, length, set, Ok, Err, refl, subst, ap, sym, ◌∙◌, arith, rules}
+use Rattle.std.proofs.Math.ListN.{length-set}
+use Rattle.chord_ident.specs.declared.span.Span.{Span}
+use Rattle.chord_segment.specs.Segment.{RoomySegment}
+use Rattle.chord_segment.specs.Join.{JoinIs}
+use Rattle.chord_node.specs.Rules.{IsOnCircle}
+use Rattle.chord_node.specs.View.{knowns}
+use Rattle.chord_node.proofs.Covering.{on_at, merge_covers}
+use Rattle.chord_node.proofs.Merging.{Read, merged, unmerged, refused}
+use Rattle.chord_node.proofs.Moving.{knowns_get}
+use Rattle.chord_node.proofs.handovers.held.merge_segments.Goals as goal
+
+pub returns-then-ne-clause-answer : goal.returns-then-ne-clause-answer
+returns-then-ne-clause-answer c =
+    let held = c.args.held.now.items in
+    let inside : c.args.place < length held = omega arith in
+    let other : c.args.other < length held = omega arith in
+    let apart : c.span_of-span.result.upto ≢ c.span_of-behind.result.after = search rules in (
+      (
+        c.index.result.now.known,
+        c.index-2.result.now.known,
+        knowns_get held c.args.place c.index.result.now inside c.index.ensures,
+        knowns_get held c.args.other c.index-2.result.now other c.index-2.ensures,
+        c.if-place-other.false,
+        λ e. apart (ap (λ (s : Span). s.upto) c.span_of-span.ensures.value ∙ e ∙ sym (ap (λ (s : Span). s.after) c.span_of-behind.ensures.value)),
+      ),
+      refl,
+    )
+
+pub returns-in-Ok-clause-answer : goal.returns-in-Ok-clause-answer
+returns-in-Ok-clause-answer c =
+    let held = c.args.held.now.items in
+    let inside : c.args.place < length (set held c.args.other c.replace-next.new.dest) = simp length-set (omega arith) in
+    let other : c.args.other < length held = omega arith in
+    let read : Read held c.args.place c.args.other c.replace-next.new.dest c.index_mut-first.result.now c.index_mut.result.now =
+    record { apart = c.if-place-other.false; first_in = inside; second_in = other; first_is = c.index_mut-first.ensures.value; second_is = c.index_mut.ensures.value } in
+    let P : RoomySegment → Type 0 = λ s. JoinIs c.index_mut-first.result.now.known s.known (Ok tt) c.absorb.new.self.known in
+    merged held c.remove.new.self.items c.args.place c.args.other c.replace-next.new.dest c.index_mut-first.result.now c.index_mut.result.now c.absorb.new.self read
+    (subst P c.replace-next.ensures.value c.in-Ok.ensures.answer) c.remove.ensures.items
+
+pub returns-in-Err-clause-answer : goal.returns-in-Err-clause-answer
+returns-in-Err-clause-answer c =
+    let held = c.args.held.now.items in
+    let inside : c.args.place < length (set held c.args.other c.replace-next.new.dest) = simp length-set (omega arith) in
+    let other : c.args.other < length held = omega arith in
+    let read : Read held c.args.place c.args.other c.replace-next.new.dest c.index_mut-first.result.now c.index_mut.result.now =
+    record { apart = c.if-place-other.false; first_in = inside; second_in = other; first_is = c.index_mut-first.ensures.value; second_is = c.index_mut.ensures.value } in
+    let P : RoomySegment → Type 0 = λ s. JoinIs c.index_mut-first.result.now.known s.known (Err c.in-Err.fault) c.absorb.new.self.known in
+    let answer = subst P c.replace-next.ensures.value c.in-Err.ensures.answer in
+    refused held (set (set (set held c.args.other c.replace-next.new.dest) c.args.place c.absorb.new.self) c.args.other c.absorb.new.next) c.args.place c.args.other
+    c.replace-next.new.dest c.index_mut-first.result.now c.index_mut.result.now c.absorb.new.self.known c.in-Err.fault c.merge_fault.result read answer
+    (unmerged held c.args.place c.args.other c.replace-next.new.dest c.index_mut-first.result.now c.index_mut.result.now c.absorb.new.self c.absorb.new.next c.in-Err.fault read
+    answer (c.in-Err.ensures.err ∙ ap (λ (s : RoomySegment). s.known) c.replace-next.ensures.value)) c.merge_fault.ensures
+
+pub returns-in-Ok-clause-covers : goal.returns-in-Ok-clause-covers
+returns-in-Ok-clause-covers c =
+    let held = c.args.held.now.items in
+    let inside : c.args.place < length held = omega arith in
+    let other : c.args.other < length held = omega arith in
+    merge_covers c.args.place c.args.other (knowns held) _ (Ok tt)
+    (on_at (knowns held) c.args.place c.index.result.now.known (knowns_get held c.args.place c.index.result.now inside c.index.ensures) (subst IsOnCircle c.span_of-span.ensures.value c.span_of-span.ensures.circle))
+    (on_at (knowns held) c.args.other c.index-2.result.now.known (knowns_get held c.args.other c.index-2.result.now other c.index-2.ensures) (subst IsOnCircle c.span_of-behind.ensures.value c.span_of-behind.ensures.circle))
+    (returns-in-Ok-clause-answer c)
+
+pub returns-in-Err-clause-covers : goal.returns-in-Err-clause-covers
+returns-in-Err-clause-covers c =
+    let held = c.args.held.now.items in
+    let inside : c.args.place < length held = omega arith in
+    let other : c.args.other < length held = omega arith in
+    merge_covers c.args.place c.args.other (knowns held) _ (Err c.merge_fault.result)
+    (on_at (knowns held) c.args.place c.index.result.now.known (knowns_get held c.args.place c.index.result.now inside c.index.ensures) (subst IsOnCircle c.span_of-span.ensures.value c.span_of-span.ensures.circle))
+    (on_at (knowns held) c.args.other c.index-2.result.now.known (knowns_get held c.args.other c.index-2.result.now other c.index-2.ensures) (subst IsOnCircle c.span_of-behind.ensures.value c.span_of-behind.ensures.circle))
+    (returns-in-Err-clause-answer c)

@@ -1,0 +1,117 @@
+-- What a node answers to what comes of handovers, and what it is then.
+use Rattle.std.specs.Prelude.{◌≡◌, ◌≢◌, ◌⊎◌, ℕ, ◌+◌, ◌<◌, ◌≤◌, Bool, is_some, Option, None, Some, List, [], ◌∷◌, ◌++◌, length, Result, Ok, Err}
+use Rattle.std.specs.declared.alloc.AllocError.{AllocError}
+use Rattle.chord_map.specs.declared.pair.Pair.{Pair}
+use Rattle.chord_map.specs.Map.{put_all}
+use Rattle.chord_segment.specs.Marks.{mark_of}
+use Rattle.chord_segment.specs.Segment.{Segment}
+use Rattle.chord_handover.specs.declared.gather.Gather.TheVariants.{More, Unfit, Whole}
+use Rattle.chord_handover.specs.declared.ticket.Ticket.{Ticket}
+use Rattle.chord_handover.specs.Gather.{GatherIs}
+use Rattle.chord_handover.specs.Handover.{Item, Part, ticket_of_part, item_at, without}
+use Rattle.chord_handover.specs.Parcelled.{Parcelled, handed}
+use Rattle.chord_handover.specs.Taken.{Taken, marked, with_noted}
+use Rattle.chord_node.specs.declared.handovers.given.Given.{Given}
+use Rattle.chord_node.specs.declared.handovers.given.Given.TheVariants as given
+use Rattle.chord_node.specs.declared.handovers.given.Back.{Back}
+use Rattle.chord_node.specs.declared.handovers.given.Back.TheVariants as back
+use Rattle.chord_node.specs.declared.handovers.hold.PutFault.{PutFault}
+use Rattle.chord_node.specs.declared.handovers.hold.PutFault.TheVariants as put
+use Rattle.chord_node.specs.declared.message.Message.{Message}
+use Rattle.chord_node.specs.declared.message.Message.TheVariants.{Part as PartMessage, Got as GotMessage, Declined as DeclinedMessage}
+use Rattle.chord_node.specs.declared.phase.Phase.TheVariants.{Gone}
+use Rattle.chord_node.specs.Node.{Node, NodeStep, with_given, with_back}
+use Rattle.chord_node.specs.Rules.{IsClash, IsClear}
+
+-- the pairs of a parcel come into a store, where its span meets no held one and the store has room
+abbrev pub PutIs : Parcelled → List Segment → List Pair → ℕ → Result (Unit {0}) PutFault → List Pair → Type 0
+PutIs parcelled held old limit (Ok done) new =
+    IsClear parcelled.segment.span held × (length old + length parcelled.pairs ≤ limit) × (new ≡ put_all parcelled.pairs old)
+PutIs parcelled held old limit (Err put.Clash) new = IsClash parcelled.segment.span held × (new ≡ old)
+PutIs parcelled held old limit (Err put.Full) new = IsClear parcelled.segment.span held × (limit < length old + length parcelled.pairs) × (new ≡ old)
+PutIs parcelled held old limit (Err put.Memory) new = IsClear parcelled.segment.span held × (length old + length parcelled.pairs ≤ limit) × (new ≡ old)
+
+-- the next handover of a part's sender, which is whole, is taken into the segments, the entries and what was taken
+abbrev pub WholeIs : Part → Parcelled → List Segment → List Pair → ℕ → Taken → Result Given AllocError → List Segment → List Pair → Taken → Type 0
+WholeIs part parcelled held pairs limit taken (Ok given.Got) held' pairs' taken' =
+    IsClear parcelled.segment.span held × (length pairs + length parcelled.pairs ≤ limit)
+    × (held' ≡ held ++ parcelled.segment ∷ []) × (pairs' ≡ put_all parcelled.pairs pairs) × (taken' ≡ marked part.from taken)
+WholeIs part parcelled held pairs limit taken (Ok given.Clash) held' pairs' taken' =
+    IsClash parcelled.segment.span held × (held' ≡ held) × (pairs' ≡ pairs) × (taken' ≡ taken)
+WholeIs part parcelled held pairs limit taken (Ok given.Full) held' pairs' taken' =
+    IsClear parcelled.segment.span held × (limit < length pairs + length parcelled.pairs) × (held' ≡ held) × (pairs' ≡ pairs) × (taken' ≡ taken)
+WholeIs part parcelled held pairs limit taken (Ok answer) held' pairs' taken' = ⊥
+WholeIs part parcelled held pairs limit taken (Err fault) held' pairs' taken' = (held' ≡ held) × (pairs' ≡ pairs) × (taken' ≡ taken)
+
+-- a part of the next handover of its sender is noted, or makes the handover whole
+abbrev pub NextIs : Part → List Segment → List Pair → ℕ → Taken → Result Given AllocError → List Segment → List Pair → Taken → Type 0
+NextIs part held pairs limit taken (Ok given.Part) held' pairs' taken' =
+    GatherIs part taken.noted More × (held' ≡ held) × (pairs' ≡ pairs) × (taken' ≡ with_noted part taken)
+NextIs part held pairs limit taken (Ok given.Clash) held' pairs' taken' =
+    (GatherIs part taken.noted Unfit ⊎ ((parcelled : Parcelled) × GatherIs part taken.noted (Whole parcelled) × IsClash parcelled.segment.span held))
+    × (held' ≡ held) × (pairs' ≡ pairs) × (taken' ≡ taken)
+NextIs part held pairs limit taken (Ok answer) held' pairs' taken' =
+    (parcelled : Parcelled) × GatherIs part taken.noted (Whole parcelled) × WholeIs part parcelled held pairs limit taken (Ok answer) held' pairs' taken'
+NextIs part held pairs limit taken (Err fault) held' pairs' taken' = (held' ≡ held) × (pairs' ≡ pairs) × (taken' ≡ taken)
+
+-- the item leaves the outbox, if it is there
+abbrev pub GotIs : Ticket → Node → Bool → Node → Type 0
+GotIs ticket old found new =
+    (found ≡ is_some (item_at ticket.to ticket.number old.outbox)) × (new ≡ record old { outbox = without ticket.to ticket.number old.outbox })
+
+-- the item is held again, if it is there, its span meets no held one and the store has room
+abbrev pub BackIs : Ticket → Node → Result Back AllocError → Node → Type 0
+BackIs ticket old (Ok back.Unknown) new = (item_at ticket.to ticket.number old.outbox ≡ None) × (new ≡ old)
+BackIs ticket old (Ok back.Held) new =
+    (item : Item) × (item_at ticket.to ticket.number old.outbox ≡ Some item) × IsClear item.segment.span old.held
+    × (length old.entries + length item.pairs ≤ old.limit) × (new ≡ with_back item old)
+BackIs ticket old (Ok back.Clash) new =
+    (item : Item) × (item_at ticket.to ticket.number old.outbox ≡ Some item) × IsClash item.segment.span old.held × (new ≡ old)
+BackIs ticket old (Ok back.Full) new =
+    (item : Item) × (item_at ticket.to ticket.number old.outbox ≡ Some item) × IsClear item.segment.span old.held
+    × (old.limit < length old.entries + length item.pairs) × (new ≡ old)
+BackIs ticket old (Err fault) new =
+    (item : Item) × (item_at ticket.to ticket.number old.outbox ≡ Some item) × IsClear item.segment.span old.held
+    × (length old.entries + length item.pairs ≤ old.limit) × (new ≡ old)
+
+-- what is declined is one step of the node, if memory was not wanting
+abbrev pub BackSteps : Ticket → Node → Result Back AllocError → Node → Type 0
+BackSteps ticket old (Ok answer) new = NodeStep old (Some (DeclinedMessage ticket)) new None None
+BackSteps ticket old (Err fault) new = Unit {0}
+
+-- the part is of the next handover of its sender, and the node is there to take it
+abbrev pub IsNextFor : Node → Part → Type 0
+IsNextFor node part = (part.number ≡ mark_of part.from node.taken + 1) × (node.phase ≢ Gone)
+
+-- the parts noted and this one are whole, and make this parcel
+abbrev pub IsWholeFor : Node → Part → Parcelled → Type 0
+IsWholeFor node part parcelled = IsNextFor node part × GatherIs part node.noted (Whole parcelled)
+
+-- what a node answers to a part, and what it is then
+abbrev pub PartIs : Part → Node → Result Given AllocError → Node → Type 0
+PartIs part old (Ok given.Got) new =
+    ((part.number ≤ mark_of part.from old.taken) × (new ≡ old))
+    ⊎ ((parcelled : Parcelled) × IsWholeFor old part parcelled × IsClear parcelled.segment.span old.held
+    × (length old.entries + length parcelled.pairs ≤ old.limit) × (new ≡ with_given (handed (ticket_of_part part) parcelled) old))
+PartIs part old (Ok given.Declined) new = (mark_of part.from old.taken < part.number) × (old.phase ≡ Gone) × (new ≡ old)
+PartIs part old (Ok given.Early) new = (mark_of part.from old.taken + 1 < part.number) × (old.phase ≢ Gone) × (new ≡ old)
+PartIs part old (Ok given.Clash) new =
+    IsNextFor old part × (GatherIs part old.noted Unfit ⊎ ((parcelled : Parcelled) × GatherIs part old.noted (Whole parcelled) × IsClash parcelled.segment.span old.held))
+    × (new ≡ old)
+PartIs part old (Ok given.Full) new =
+    (parcelled : Parcelled) × IsWholeFor old part parcelled × IsClear parcelled.segment.span old.held
+    × (old.limit < length old.entries + length parcelled.pairs) × (new ≡ old)
+PartIs part old (Ok given.Part) new =
+    IsNextFor old part × GatherIs part old.noted More × (new ≡ record old { noted = (with_noted part (record { last = old.taken; noted = old.noted })).noted })
+PartIs part old (Err fault) new = IsNextFor old part × (new ≡ old)
+
+-- the message that an answer to a part sends
+abbrev pub sent_for : Part → Given → Option Message
+sent_for part given.Got = Some (GotMessage (ticket_of_part part))
+sent_for part given.Declined = Some (DeclinedMessage (ticket_of_part part))
+sent_for part answer = None
+
+-- the answer is one step of the node, if memory was not wanting
+abbrev pub PartSteps : Part → Node → Result Given AllocError → Node → Type 0
+PartSteps part old (Ok answer) new = NodeStep old (Some (PartMessage part)) new (sent_for part answer) None
+PartSteps part old (Err fault) new = Unit {0}

@@ -1,0 +1,133 @@
+//! A call answered by a segment and a store.
+ghost use Rattle.std.specs.Prelude.{◌≡◌, true, IfOk, OnOk};
+ghost use Rattle.chord_ident.specs.Circle.{in_span};
+ghost use Rattle.chord_segment.specs.Segment.{id_of, past_at};
+ghost use Rattle.chord_segment.specs.Segment.Past.{New};
+ghost use Rattle.chord_node.specs.Asked.{AnswersIn, only_if, done_with};
+
+use crate::asks::answered::Answered;
+use crate::asks::apply::{Replies, apply, is_full};
+use chord_caller::{Ask, Told};
+use chord_map::{Reply, Request};
+use chord_segment::{Done, Past, Segment};
+use chord_store::{EntryStore, StoreFault};
+use std::alloc::{AllocError, Global};
+
+/// A copy of the request, where one is wanted.
+fn noted_request(request: &Request, noting: bool) -> Result<Option<Request>, AllocError>
+    ensures { IfOk result (λ noted. noted ≡ only_if noting request.now) }
+{
+    if noting {
+        Ok(Some(request.try_copy()?))
+    } else {
+        Ok(None)
+    }
+}
+
+/// The call with this request and this reply, where there are both.
+fn noted_done(ask: &Ask, request: Option<Request>, reply: Option<Reply>) -> Option<Done>
+    ensures { result ≡ done_with ask.now request reply }
+{
+    match (request, reply) {
+        (Some(request), Some(reply)) => Some(Done {
+            caller: ask.caller,
+            number: ask.number,
+            request,
+            reply,
+        }),
+        _ => None,
+    }
+}
+
+/// What the execution of a call takes memory for, the store apart: room in the segment, and copies of the request.
+fn prepare(
+    segment: &mut Segment,
+    ask: &Ask,
+    noting: bool,
+) -> Result<(Request, Option<Request>), AllocError>
+    ensures same { segment.new.known ≡ segment.old.known }
+    ensures room { OnOk result (segment.new.has_room ≡ true) }
+    ensures copies { IfOk result (λ both. (both.0 ≡ ask.now.request) × (both.1 ≡ only_if noting ask.now.request)) }
+{
+    segment.reserve()?;
+    let request = ask.request.try_copy()?;
+    let noted = noted_request(&ask.request, noting)?;
+    Ok((request, noted))
+}
+
+/// Executes a new call, unless the store has no room. All that can fail comes before the first change.
+fn execute_in<S: EntryStore>(
+    alloc: Global,
+    segment: &mut Segment,
+    store: &mut S,
+    ask: &Ask,
+    noting: bool,
+) -> Result<(Answered, Option<Done>), AllocError>
+    requires key { in_span segment.old.known.span (id_of ask.now.request) ≡ true }
+    requires new { past_at ask.now.caller ask.now.number segment.old.known ≡ New }
+    ensures answers { AnswersIn ask.now noting segment.old.known (S.content store.old) (S.limit store.old) result segment.new.known (S.content store.new) }
+    ensures limit { S.limit store.new ≡ S.limit store.old }
+{
+    let Ok((request, noted)) = prepare(segment, ask, noting) else {
+        return if is_full(store, &ask.request) {
+            Ok((Answered::Full, None))
+        } else {
+            Err(AllocError)
+        };
+    };
+    let replies = match apply(alloc, store, &ask.request, noting) {
+        Ok(replies) => replies,
+        Err(StoreFault::Full) => return Ok((Answered::Full, None)),
+        Err(StoreFault::Memory) => return Err(AllocError),
+    };
+    let Replies {
+        kept,
+        told,
+        noted: noted_reply,
+    } = replies;
+    let done = Done {
+        caller: ask.caller,
+        number: ask.number,
+        request,
+        reply: kept,
+    };
+    match segment.append(done, ask.floor) {
+        Ok(()) => {}
+        Err(_) => unreachable!(),
+    }
+    let note = noted_done(ask, noted, noted_reply);
+    let told = Told {
+        caller: ask.caller,
+        number: ask.number,
+        reply: told,
+    };
+    Ok((Answered::Told(told), note))
+}
+
+/// Answers a call whose key lies in the segment's span, and gives a copy of the call that it executed, if that is
+/// wanted.
+pub(crate) fn answer_in<S: EntryStore>(
+    alloc: Global,
+    segment: &mut Segment,
+    store: &mut S,
+    ask: &Ask,
+    noting: bool,
+) -> Result<(Answered, Option<Done>), AllocError>
+    requires key { in_span segment.old.known.span (id_of ask.now.request) ≡ true }
+    ensures answers { AnswersIn ask.now noting segment.old.known (S.content store.old) (S.limit store.old) result segment.new.known (S.content store.new) }
+    ensures limit { S.limit store.new ≡ S.limit store.old }
+{
+    match segment.find(ask.caller, ask.number) {
+        Past::Seen => Ok((Answered::Dropped, None)),
+        Past::Kept(done) => {
+            let reply = done.reply.try_copy()?;
+            let told = Told {
+                caller: ask.caller,
+                number: ask.number,
+                reply,
+            };
+            Ok((Answered::Told(told), None))
+        }
+        Past::New => execute_in(alloc, segment, store, ask, noting),
+    }
+}

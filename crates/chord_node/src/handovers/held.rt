@@ -1,0 +1,99 @@
+//! Edits of the held segments.
+ghost use Rattle.std.specs.Prelude.{◌≡◌, ◌<◌, ◌^◌, ◌↔◌, ℕ, IsTrue, Any};
+ghost use Rattle.chord_ident.specs.Circle.{Meet};
+ghost use Rattle.chord_segment.specs.Segment.{RoomySegment};
+ghost use Rattle.chord_node.specs.Moves.{CutHeld, MergeHeld, merge_fault_of};
+ghost use Rattle.chord_node.specs.Rules.{IsOnCircle, holds};
+ghost use Rattle.chord_node.specs.View.{knowns};
+
+use crate::fault::{CutAtFault, MergeFault};
+use chord_ident::{Id, Span};
+use chord_segment::Segment;
+use chord_segment::fault::{CutFault, JoinFault};
+use std::alloc::Global;
+use std::mem::replace;
+
+/// The segment's span, whose ends lie on the circle.
+fn span_of(segment: &Segment) -> Span
+    ensures value { result ≡ segment.now.known.span }
+    ensures circle { IsOnCircle result }
+{
+    segment.span()
+}
+
+/// Cuts the segment at the place. The part behind stands behind the part before.
+pub(crate) fn cut_segment(held: &mut Vec<Segment>, place: usize, at: Id) -> Result<(), CutAtFault>
+    ensures answer { CutHeld place at (knowns held.old.items) result (knowns held.new.items) }
+    ensures circle { at.number < 2 ^ 128 }
+    ensures covers { (x : ℕ) → x < 2 ^ 128 → holds x (knowns held.new.items) ≡ holds x (knowns held.old.items) }
+{
+    if held.len() <= place {
+        return Err(CutAtFault::NoSegment);
+    }
+    let span = span_of(&held[place]);
+    if span.cut(at).is_err() {
+        return Err(CutAtFault::NotInside);
+    }
+    if held.reserve(1).is_err() {
+        return Err(CutAtFault::Memory);
+    }
+    let segment = &mut held[place];
+    let Ok(second) = segment.split_off(at) else {
+        return Err(CutAtFault::Memory);
+    };
+    match held.insert(place + 1, second) {
+        Ok(()) => Ok(()),
+        Err(_) => unreachable!(),
+    }
+}
+
+/// Why a merge is refused.
+fn merge_fault(fault: JoinFault) -> MergeFault
+    ensures { result ≡ merge_fault_of fault }
+{
+    match fault {
+        JoinFault::NotAdjacent => MergeFault::NotAdjacent,
+        JoinFault::Overlap => MergeFault::Overlap,
+        JoinFault::Twice => MergeFault::Twice,
+        JoinFault::Memory => MergeFault::Memory,
+    }
+}
+
+/// Joins the segment at the second place behind the one at the first, in the first one's place.
+pub(crate) fn merge_segments(
+    alloc: Global,
+    held: &mut Vec<Segment>,
+    place: usize,
+    other: usize,
+) -> Result<(), MergeFault>
+    ensures answer { MergeHeld place other (knowns held.old.items) result (knowns held.new.items) }
+    ensures covers { (x : ℕ) → x < 2 ^ 128 → holds x (knowns held.new.items) ≡ holds x (knowns held.old.items) }
+{
+    if held.len() <= place || held.len() <= other || place == other {
+        return Err(MergeFault::NoSegment);
+    }
+    let span = span_of(&held[place]);
+    let behind = span_of(&held[other]);
+    if span.upto != behind.after {
+        return Err(MergeFault::NotAdjacent);
+    }
+    let mut next = replace(&mut held[other], Segment::empty(alloc, behind));
+    let first = &mut held[place];
+    match first.absorb(&mut next) {
+        Ok(()) => {
+            held.remove(other);
+            Ok(())
+        }
+        Err(fault) => {
+            held[other] = next;
+            Err(merge_fault(fault))
+        }
+    }
+}
+
+/// Whether the span meets a held one.
+pub(crate) fn meets_any(held: &[Segment], span: Span) -> bool
+    ensures { IsTrue result ↔ Any (λ (segment : RoomySegment). Meet span.after.number span.upto.number segment.known.span.after.number segment.known.span.upto.number) held.now }
+{
+    held.iter().any(|segment| span.meets(segment.span()))
+}

@@ -1,0 +1,65 @@
+//! Parcels that come into a node's store.
+ghost use Rattle.std.specs.Prelude.{◌≡◌, ◌<◌, OnOk};
+ghost use Rattle.std.specs.Vec.{vec_len, vec_capacity};
+ghost use Rattle.chord_handover.specs.Parcelled.{IsParcelled};
+ghost use Rattle.chord_node.specs.Rules.{IsStocked};
+ghost use Rattle.chord_node.specs.Received.{PutIs};
+ghost use Rattle.chord_node.specs.View.{knowns};
+
+use crate::handovers::held::meets_any;
+use chord_handover::Parcelled;
+use chord_segment::Segment;
+use chord_store::{EntryStore, StoreFault};
+
+/// Why a parcel's pairs do not come into the store.
+#[derive(Clone, Copy, Debug, PartialEq, Eq)]
+pub enum PutFault {
+    Clash,
+    Full,
+    Memory,
+}
+
+/// Puts the pairs of a parcel into the store, if its span meets no held one.
+pub(crate) fn put_pairs<S: EntryStore>(
+    held: &[Segment],
+    store: &mut S,
+    parcelled: &Parcelled,
+) -> Result<(), PutFault>
+    requires { IsStocked (knowns held.now) (S.content store.old) }
+    ensures answer { PutIs parcelled.now (knowns held.now) (S.content store.old) (S.limit store.old) result (S.content store.new) }
+    ensures limit { S.limit store.new ≡ S.limit store.old }
+    ensures parcel { IsParcelled parcelled.now }
+{
+    let span = parcelled.segment().span();
+    let pairs = parcelled.pairs();
+    if meets_any(held, span) {
+        return Err(PutFault::Clash);
+    }
+    match store.put_all(&span, pairs) {
+        Ok(()) => Ok(()),
+        Err(StoreFault::Full) => Err(PutFault::Full),
+        Err(StoreFault::Memory) => Err(PutFault::Memory),
+    }
+}
+
+/// The same, and makes room for one more held segment.
+pub(crate) fn make_held<S: EntryStore>(
+    held: &mut Vec<Segment>,
+    store: &mut S,
+    parcelled: &Parcelled,
+) -> Result<(), PutFault>
+    requires { IsStocked (knowns held.old.items) (S.content store.old) }
+    ensures answer { PutIs parcelled.now (knowns held.old.items) (S.content store.old) (S.limit store.old) result (S.content store.new) }
+    ensures limit { S.limit store.new ≡ S.limit store.old }
+    ensures parcel { IsParcelled parcelled.now }
+    ensures held { held.new.items ≡ held.old.items }
+    ensures room { OnOk result (vec_len held.new < vec_capacity held.new) }
+{
+    put_pairs(held, store, parcelled)?;
+    if held.reserve(1).is_err() {
+        let span = parcelled.segment().span();
+        store.take_out(&span);
+        return Err(PutFault::Memory);
+    }
+    Ok(())
+}

@@ -1,0 +1,65 @@
+//! Parts of handovers that come.
+ghost use Rattle.std.specs.Prelude.{◌≡◌, ◌+◌, ◌<◌, ◌^◌};
+ghost use Rattle.chord_segment.specs.Marks.{mark_of};
+ghost use Rattle.chord_node.specs.Rules.{IsStocked};
+ghost use Rattle.chord_node.specs.Received.{WholeIs, NextIs};
+ghost use Rattle.chord_node.specs.View.{knowns};
+
+use crate::handovers::given::Given;
+use crate::handovers::hold::{PutFault, make_held};
+use chord_handover::{Gather, Parcelled, Part, Taken};
+use chord_segment::Segment;
+use chord_store::EntryStore;
+use std::alloc::AllocError;
+
+/// Takes the next handover of a sender, which is whole.
+fn take_whole<S: EntryStore>(
+    held: &mut Vec<Segment>,
+    store: &mut S,
+    taken: &mut Taken,
+    part: &Part,
+    parcelled: Parcelled,
+) -> Result<Given, AllocError>
+    requires stocked { IsStocked (knowns held.old.items) (S.content store.old) }
+    requires next { part.now.number ≡ mark_of part.now.from taken.old.known.last + 1 }
+    requires fits { part.now.number < 2 ^ 64 }
+    ensures answer { WholeIs part.now parcelled (knowns held.old.items) (S.content store.old) (S.limit store.old) taken.old.known result (knowns held.new.items) (S.content store.new) taken.new.known }
+    ensures limit { S.limit store.new ≡ S.limit store.old }
+    ensures stocked { IsStocked (knowns held.new.items) (S.content store.new) }
+{
+    taken.reserve()?;
+    match make_held(held, store, &parcelled) {
+        Ok(()) => {}
+        Err(PutFault::Clash) => return Ok(Given::Clash),
+        Err(PutFault::Full) => return Ok(Given::Full),
+        Err(PutFault::Memory) => return Err(AllocError),
+    }
+    let (segment, _) = parcelled.into_parts();
+    held.push_reserved(segment);
+    taken.mark(part.from);
+    Ok(Given::Got)
+}
+
+/// Notes a part of the next handover of a sender, or takes the handover where it is whole with it.
+pub(crate) fn take_next<S: EntryStore>(
+    held: &mut Vec<Segment>,
+    store: &mut S,
+    taken: &mut Taken,
+    part: &Part,
+) -> Result<Given, AllocError>
+    requires stocked { IsStocked (knowns held.old.items) (S.content store.old) }
+    requires next { part.now.number ≡ mark_of part.now.from taken.old.known.last + 1 }
+    requires fits { part.now.number < 2 ^ 64 }
+    ensures answer { NextIs part.now (knowns held.old.items) (S.content store.old) (S.limit store.old) taken.old.known result (knowns held.new.items) (S.content store.new) taken.new.known }
+    ensures limit { S.limit store.new ≡ S.limit store.old }
+    ensures stocked { IsStocked (knowns held.new.items) (S.content store.new) }
+{
+    match taken.whole_with(part)? {
+        Gather::Unfit => Ok(Given::Clash),
+        Gather::More => {
+            taken.note(part)?;
+            Ok(Given::Part)
+        }
+        Gather::Whole(parcelled) => take_whole(held, store, taken, part, parcelled),
+    }
+}

@@ -1,0 +1,155 @@
+-- A node does a step: the world and its ring are kept.
+use Rattle.std.proofs.Common.{◌≡◌, ◌≢◌, ℕ, ◌≤◌, ◌||◌, Bool, true, false, Option, None, Some, List, [], length, set, refl, sym, ◌∙◌, ap, subst, arith}
+use Rattle.std.specs.Prelude.{slice_get, slice_index_or}
+use Rattle.std.proofs.lemmas.Bool.{true≢false}
+use Rattle.std.proofs.lemmas.List.{length-set}
+use Rattle.std.proofs.lemmas.Option.{slice_get_within}
+use Rattle.chord_links.specs.NodeLinks.{NodeLinks}
+use Rattle.chord_ring.specs.Ring.{links_of, is_member, IsPrincipal}
+use Rattle.chord_ring.specs.Sound.{IsSound}
+use Rattle.chord_ring.specs.Steps.{Ring}
+use Rattle.chord_ring.proofs.Stepping.{Kept}
+use Rattle.chord_segment.specs.declared.done.Done.{Done}
+use Rattle.chord_node.specs.declared.message.Message.{Message}
+use Rattle.chord_node.specs.Node.{Node, NodeStep}
+use Rattle.chord_node.specs.World.{WorldStep, WasSent, put_node, node_at, with_one}
+use Rattle.chord_node.specs.World.WorldStep.{Acts}
+use Rattle.chord_world.specs.Members.{is_gone, links_unless, member_links, members_of, ring_with}
+use Rattle.chord_world.specs.State.{WorldState, NodesFrom, IsKnown, AreKnown, IsWorld, ring_of, is_crashed, KeepsRing}
+use Rattle.chord_world.proofs.Placing.{node_at_place, put_node_place, nodes_set, node_number, calls_pushed}
+use Rattle.chord_world.proofs.RingLemmas.{get_other, ids_same, members_same, members_length, member_past, member_at}
+use Rattle.chord_world.proofs.Keeping.{further}
+
+-- ---- what holds after a step
+
+-- the new world is one, by a step of the old one, and its ring is kept
+pub record After (old new : WorldState) : Type 0 where
+  pub world : IsWorld new
+  pub step : WorldStep old.known new.known
+  pub ring : KeepsRing old new
+
+-- nothing of the ring changed
+pub keeps_same : (view old new : WorldState) → view ≡ old → new.known.nodes ≡ view.known.nodes → new.crashed ≡ view.crashed → KeepsRing old new
+keeps_same view old new same nodes crashed =
+    subst (λ w. KeepsRing w new) same
+    (record {
+      principals = λ node principal still. subst (λ ms. IsPrincipal ms node) (λ i. members_of (sym nodes i) (sym crashed i)) principal;
+      crashed = λ number out. (ap (λ cs. slice_index_or cs number false) crashed ∙ out, ap (λ ns. slice_get ns number) nodes);
+    })
+
+pub keeps_all : (old : WorldState) → KeepsRing old old
+keeps_all old = keeps_same old old old refl refl refl
+
+pub node_there : (place : ℕ) (nodes : List Node) (node : Node) → slice_get nodes place ≡ Some node → nodes ≢ []
+node_there place nodes node here none = let within = slice_get_within nodes place node here in let empty = ap (λ (ns : List Node). length ns) none in omega arith
+
+-- ---- a node that does a step
+
+-- what is sent is a message of one of so many callers, or of a handover between two of so many nodes
+abbrev pub SendsCall : ℕ → ℕ → Option Message → Type 0
+SendsCall nodes count None = Unit {0}
+SendsCall nodes count (Some message) = IsKnown nodes count message
+
+pub calls_with : (nodes count : ℕ) (sent : List Message) (message : Option Message) → AreKnown nodes count sent → SendsCall nodes count message → AreKnown nodes count (with_one sent message)
+calls_with nodes count sent None all here = all
+calls_with nodes count sent (Some message) all here = calls_pushed nodes count sent message all here
+
+-- the world after a node is this one, sent this message to this node, and executed this call
+abbrev pub acted : Node → Option Message → Option ℕ → Option Done → WorldState → WorldState
+acted after sent target done view =
+    record view {
+      known = record view.known { nodes = put_node after view.known.nodes; sent = with_one view.known.sent sent; history = with_one view.known.history done };
+      targets = with_one view.targets target;
+    }
+
+-- the node at the place did a step
+pub record Acting (place : ℕ) (node after : Node) (taken sent : Option Message) (target : Option ℕ) (done : Option Done) (view : WorldState) : Type 0 where
+  pub here : slice_get view.known.nodes place ≡ Some node
+  pub running : is_crashed place view ≡ false
+  pub number : after.number ≡ node.number
+  pub was : WasSent view.known.sent taken
+  pub does : NodeStep node taken after sent done
+  pub call : SendsCall (length view.known.nodes) (length view.known.callers) sent
+  pub paired : length (with_one view.targets target) ≡ length (with_one view.known.sent sent)
+  pub ring : Kept (ring_of view) (ring_with (set view.known.nodes place after) view.crashed)
+
+-- what the ring sees of the node stays
+pub ring_is : (place : ℕ) (node after : Node) (view : WorldState) → IsWorld view → slice_get view.known.nodes place ≡ Some node → after.links.me ≡ node.links.me
+    → member_links (is_crashed place view) after ≡ member_links (is_crashed place view) node → Kept (ring_of view) (ring_with (set view.known.nodes place after) view.crashed)
+ring_is place node after view kept here me links =
+    let ids = ids_same place node after view.known.nodes here me in
+    let members = members_same place node after view.known.nodes view.crashed kept.crashed here links in
+    subst (Kept (ring_of view)) (λ i. record { ids = sym ids i; members = sym members i })
+    (record { sound = kept.ring (node_there place view.known.nodes node here); principals = λ _ principal _. principal })
+
+-- its links stay, and it is gone as it was
+pub ring_stays : (place : ℕ) (node after : Node) (view : WorldState) → IsWorld view → slice_get view.known.nodes place ≡ Some node
+    → is_gone after.phase ≡ is_gone node.phase → after.links ≡ node.links → Kept (ring_of view) (ring_with (set view.known.nodes place after) view.crashed)
+ring_stays place node after view kept here gone links =
+    ring_is place node after view kept here (ap (λ (l : NodeLinks). l.me) links) (λ i. links_unless (is_crashed place view || gone i) (links i))
+
+pub acts : (place : ℕ) (node after : Node) (taken sent : Option Message) (target : Option ℕ) (done : Option Done) (view : WorldState) → IsWorld view
+    → Acting place node after taken sent target done view → After view (acted after sent target done view)
+acts place node after taken sent target done view kept acting =
+    let new = acted after sent target done view in
+    let at = acting.number ∙ node_number 0 place node view.known.nodes kept.nodes acting.here in
+    let put : put_node after view.known.nodes ≡ set view.known.nodes place after = put_node_place 0 place after view.known.nodes kept.nodes at in
+    let there : node_at place view.known.nodes ≡ Some node = node_at_place 0 place place view.known.nodes kept.nodes (omega arith) ∙ acting.here in
+    let count : length (put_node after view.known.nodes) ≡ length view.known.nodes = ap (λ (ns : List Node). length ns) put ∙ length-set view.known.nodes place after in
+    let ring : ring_of new ≡ ring_with (set view.known.nodes place after) view.crashed = ap (λ ns. ring_with ns view.crashed) put in
+    let did : WorldStep view.known new.known = Acts place node after taken sent done there acting.was acting.does in
+    record {
+      world =
+          record {
+            reached = further view.known new.known kept.reached did;
+            nodes = subst (NodesFrom 0) (sym put) (nodes_set 0 place after view.known.nodes kept.nodes at);
+            callers = kept.callers;
+            targets = acting.paired;
+            calls = subst (λ n. AreKnown n (length view.known.callers) (with_one view.known.sent sent)) (sym count)
+                (calls_with (length view.known.nodes) (length view.known.callers) view.known.sent sent kept.calls acting.call);
+            crashed = kept.crashed ∙ sym count;
+            ring = λ _. subst IsSound (sym ring) acting.ring.sound;
+            low = kept.low;
+            high = kept.high;
+          };
+      step = did;
+      ring =
+          record {
+            principals = λ number principal still.
+                subst (λ (r : Ring). IsPrincipal r.members number) (sym ring)
+                (acting.ring.principals number principal (subst (λ (r : Ring). is_member r.members number ≡ true) ring still));
+            crashed = λ number out. (
+              out,
+              ap (λ ns. slice_get ns number) put
+                  ∙ get_other view.known.nodes place number after (λ same. true≢false (sym out ∙ ap (λ n. is_crashed n view) same ∙ acting.running)),
+            );
+          };
+    }
+
+-- over the view of the fields, which is the old value, and in the words of the code
+pub acts_at : (place : ℕ) (node after : Node) (taken sent : Option Message) (target : Option ℕ) (done : Option Done) (view old new : WorldState) → view ≡ old → IsWorld view
+    → Acting place node after taken sent target done view → new ≡ acted after sent target done view → After old new
+acts_at place node after taken sent target done view old new same kept acting is =
+    subst (After old) (sym is) (subst (λ w. After w (acted after sent target done view)) same (acts place node after taken sent target done view kept acting))
+
+-- the nodes of the code
+pub put_is : (place : ℕ) (node after : Node) (nodes : List Node) (view : WorldState) → IsWorld view → slice_get view.known.nodes place ≡ Some node → after.number ≡ node.number
+    → nodes ≡ set view.known.nodes place after → nodes ≡ put_node after view.known.nodes
+put_is place node after nodes view kept here number is =
+    is ∙ sym (put_node_place 0 place after view.known.nodes kept.nodes (number ∙ node_number 0 place node view.known.nodes kept.nodes here))
+
+-- ---- what the code reads of the ring
+
+pub count_is : (count : ℕ) (view old : WorldState) → view ≡ old → IsWorld view → count ≡ length view.known.nodes → count ≡ length (ring_of old).members
+count_is count view old same kept is =
+    is ∙ sym (members_length view.known.nodes view.crashed kept.crashed) ∙ ap (λ (w : WorldState). length (ring_of w).members) same
+
+pub none_past : (number : ℕ) (view old : WorldState) → view ≡ old → IsWorld view → length view.known.nodes ≤ number → None ≡ links_of (ring_of old).members number
+none_past number view old same kept past =
+    subst (λ w. None ≡ links_of (ring_of w).members number) same (sym (member_past number view.known.nodes view.crashed kept.crashed past))
+
+pub links_here : (number : ℕ) (node : Node) (out : Bool) (view old : WorldState) → view ≡ old → IsWorld view → slice_get view.known.nodes number ≡ Some node → is_crashed number view ≡ out
+    → member_links out node ≡ links_of (ring_of old).members number
+links_here number node out view old same kept here is =
+    subst (λ w. member_links out node ≡ links_of (ring_of w).members number) same
+    (ap (λ b. member_links b node) (sym is) ∙ sym (member_at number view.known.nodes view.crashed node kept.crashed here))

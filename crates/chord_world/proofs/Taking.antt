@@ -1,0 +1,204 @@
+-- Parts, and what comes of them, that are delivered.
+use Rattle.std.proofs.Common.{◌≡◌, ℕ, ◌+◌, ◌<◌, inl, inr, Bool, true, false, Option, None, Some, Ok, Err, List, length, refl, sym, ◌∙◌, ap, subst, arith}
+use Rattle.std.specs.Prelude.{slice_get}
+use Rattle.std.specs.declared.alloc.AllocError.{AllocError}
+use Rattle.chord_handover.specs.declared.ticket.Ticket.{Ticket}
+use Rattle.chord_handover.specs.Handover.{Part, ticket_of_part}
+use Rattle.chord_node.specs.declared.handovers.given.Given.{Given}
+use Rattle.chord_node.specs.declared.handovers.given.Given.TheVariants as given
+use Rattle.chord_node.specs.declared.handovers.given.Back.{Back}
+use Rattle.chord_node.specs.declared.handovers.given.Back.TheVariants as back
+use Rattle.chord_node.specs.declared.message.Message.{Message}
+use Rattle.chord_node.specs.declared.message.Message.TheVariants.{Part as PartMessage, Got as GotMessage, Declined as DeclinedMessage}
+use Rattle.chord_node.specs.Node.{Node}
+use Rattle.chord_node.specs.Received.{PartIs, PartSteps, GotIs, BackIs, BackSteps, sent_for}
+use Rattle.chord_node.specs.World.{put_node, with_one, node_at}
+use Rattle.chord_world.specs.declared.outcome.Outcome.{Outcome}
+use Rattle.chord_world.specs.Handing.{DoesAt}
+use Rattle.chord_world.specs.Linking.{with_node}
+use Rattle.chord_world.specs.State.{WorldState, IsWorld, is_crashed}
+use Rattle.chord_world.specs.Delivered.{IsFor, IsForCrashed, TakesMemory, Delivers}
+use Rattle.chord_world.specs.Delivered.TakesMemory.{Part_takes, Declined_takes}
+use Rattle.chord_world.specs.Delivered.Delivers.{Part_to_node, Got_to_node, Declined_to_node}
+use Rattle.chord_world.specs.Taking.{IsNumbered, GotSteps, outcome_of_given, outcome_of_freed, outcome_of_back, confirmation, no_target}
+use Rattle.chord_world.proofs.Acting.{After, SendsCall, acted, put_is}
+use Rattle.chord_world.proofs.Answering.{was_sent}
+use Rattle.chord_world.proofs.Handing.{IsStill, hands, nodes_are}
+use Rattle.chord_world.proofs.Keeping.{with_nodes}
+use Rattle.chord_world.proofs.Placing.{node_number, call_at}
+use Rattle.chord_world.proofs.Pointing.{node_stands, node_within}
+use Rattle.chord_world.proofs.Posting.{length_pushed}
+
+-- ---- what a node takes in leaves it where it is
+
+still_same : (node after : Node) → after ≡ node → IsStill node after
+still_same node after e = subst (IsStill node) (sym e) (record { number = refl; gone = refl; links = refl })
+
+pub still_part : (part : Part) (answer : Given) (node after : Node) → PartIs part node (Ok answer) after → IsStill node after
+still_part part given.Got node after (inl h) = still_same node after h.1
+still_part part given.Got node after (inr h) = subst (IsStill node) (sym h.4) (record { number = refl; gone = refl; links = refl })
+still_part part given.Declined node after h = still_same node after h.2
+still_part part given.Early node after h = still_same node after h.2
+still_part part given.Clash node after h = still_same node after h.2
+still_part part given.Full node after h = still_same node after h.4
+still_part part given.Part node after h = subst (IsStill node) (sym h.2) (record { number = refl; gone = refl; links = refl })
+
+pub still_got : (got : Ticket) (found : Bool) (node after : Node) → GotIs got node found after → IsStill node after
+still_got got found node after h = subst (IsStill node) (sym h.1) (record { number = refl; gone = refl; links = refl })
+
+pub still_back : (declined : Ticket) (answer : Back) (node after : Node) → BackIs declined node (Ok answer) after → IsStill node after
+still_back declined back.Held node after h = subst (IsStill node) (sym h.4) (record { number = refl; gone = refl; links = refl })
+still_back declined back.Unknown node after h = still_same node after h.1
+still_back declined back.Clash node after h = still_same node after h.3
+still_back declined back.Full node after h = still_same node after h.4
+
+-- ---- the node and the place
+
+pub numbered : (place : ℕ) (view : WorldState) → IsWorld view → IsNumbered place view.known.nodes
+numbered place view kept node here = let at = node_number 0 place node view.known.nodes kept.nodes here in omega arith
+
+-- the message at the place is this one
+pub same_part : (view : WorldState) (place : ℕ) (part other : Part) → slice_get view.known.sent place ≡ Some (PartMessage part) → slice_get view.known.sent place ≡ Some (PartMessage other) → part ≡ other
+same_part view place part other e f = let same : Some (PartMessage part) ≡ Some (PartMessage other) = sym e ∙ f in cc
+
+pub part_ends : (view : WorldState) (place : ℕ) (part : Part) → IsWorld view → slice_get view.known.sent place ≡ Some (PartMessage part)
+    → (part.from < length view.known.nodes) × (part.to < length view.known.nodes)
+part_ends view place part kept sent = call_at (length view.known.nodes) (length view.known.callers) view.known.sent place (PartMessage part) kept.calls sent
+
+pub got_ends : (view : WorldState) (place : ℕ) (got : Ticket) → IsWorld view → slice_get view.known.sent place ≡ Some (GotMessage got)
+    → (got.from < length view.known.nodes) × (got.to < length view.known.nodes)
+got_ends view place got kept sent = call_at (length view.known.nodes) (length view.known.callers) view.known.sent place (GotMessage got) kept.calls sent
+
+pub declined_ends : (view : WorldState) (place : ℕ) (declined : Ticket) → IsWorld view → slice_get view.known.sent place ≡ Some (DeclinedMessage declined)
+    → (declined.from < length view.known.nodes) × (declined.to < length view.known.nodes)
+declined_ends view place declined kept sent = call_at (length view.known.nodes) (length view.known.callers) view.known.sent place (DeclinedMessage declined) kept.calls sent
+
+-- the node that it is for crashed
+pub for_out : (place to : ℕ) (view old : WorldState) → view ≡ old → IsWorld view → to < length view.known.nodes → IsFor place view to → is_crashed to old ≡ true → IsForCrashed place old
+for_out place to view old same kept within is_for out =
+    let found = node_within to view old same kept within in
+    record { to = to; node = found.0; is_for = subst (λ w. IsFor place w to) same is_for; here = found.1; crashed = out }
+
+-- ---- a part
+
+confirmed : (part : Part) (answer : Given) → confirmation (ticket_of_part part) answer ≡ sent_for part answer
+confirmed part given.Got = refl
+confirmed part given.Declined = refl
+confirmed part given.Early = refl
+confirmed part given.Clash = refl
+confirmed part given.Full = refl
+confirmed part given.Part = refl
+
+known_reply : (nodes count : ℕ) (part : Part) (answer : Given) → part.from < nodes → part.to < nodes → SendsCall nodes count (sent_for part answer)
+known_reply nodes count part given.Got from to = (from, to)
+known_reply nodes count part given.Declined from to = (from, to)
+known_reply nodes count part given.Early from to = tt
+known_reply nodes count part given.Clash from to = tt
+known_reply nodes count part given.Full from to = tt
+known_reply nodes count part given.Part from to = tt
+
+reply_lengths : (targets : List ℕ) (sent : List Message) (message : Option Message) → length targets ≡ length sent → length (with_one targets (no_target message)) ≡ length (with_one sent message)
+reply_lengths targets sent None e = e
+reply_lengths targets sent (Some message) e = length_pushed targets 0 ∙ ap (λ n. n + 1) e ∙ sym (length_pushed sent message)
+
+-- in the words of the code
+abbrev pub after_part : List Node → List Message → List ℕ → WorldState → WorldState
+after_part nodes sent targets view = record view { known = record view.known { nodes = nodes; sent = sent }; targets = targets }
+
+-- a part that its receiver took in
+pub record TookPart (place to : ℕ) (part : Part) (answer : Given) (view : WorldState) (nodes : List Node) : Type 0 where
+  pub sent : slice_get view.known.sent place ≡ Some (PartMessage part)
+  pub own : part.to ≡ to
+  pub does : DoesAt (PartIs part) (PartSteps part) to view.known.nodes (Ok answer) nodes
+
+pub part_is : (place to : ℕ) (part : Part) (answer : Given) (ticket : Ticket) (view : WorldState) (nodes : List Node) (sent before : List Message) (targets earlier : List ℕ) → IsWorld view
+    → (took : TookPart place to part answer view nodes) → ticket ≡ ticket_of_part part → sent ≡ with_one before (confirmation ticket answer) → before ≡ view.known.sent
+    → targets ≡ with_one earlier (no_target (confirmation ticket answer)) → earlier ≡ view.targets
+    → after_part nodes sent targets view ≡ acted took.does.after (sent_for part answer) (no_target (sent_for part answer)) None view
+part_is place to part answer ticket view nodes sent before targets earlier kept took named s s' t t' =
+    let still = still_part part answer took.does.node took.does.after took.does.is in
+    let message : confirmation ticket answer ≡ sent_for part answer = ap (λ n. confirmation n answer) named ∙ confirmed part answer in
+    let put : nodes ≡ put_node took.does.after view.known.nodes = put_is to took.does.node took.does.after nodes view kept took.does.here still.number took.does.new_is in
+    let messages : sent ≡ with_one view.known.sent (sent_for part answer) = s ∙ ap (λ m. with_one before m) message ∙ ap (λ xs. with_one xs (sent_for part answer)) s' in
+    let goes : targets ≡ with_one view.targets (no_target (sent_for part answer)) = t ∙ ap (λ m. with_one earlier (no_target m)) message ∙ ap (λ xs. with_one xs (no_target (sent_for part answer))) t' in
+    λ i. after_part (put i) (messages i) (goes i) view
+
+pub part_after : (place to : ℕ) (part : Part) (answer : Given) (view old new : WorldState) (nodes : List Node) → view ≡ old → IsWorld view → is_crashed to old ≡ false
+    → (took : TookPart place to part answer view nodes) → new ≡ acted took.does.after (sent_for part answer) (no_target (sent_for part answer)) None view → After old new
+part_after place to part answer view old new nodes same kept running took is =
+    let ends = part_ends view place part kept took.sent in
+    hands to took.does.node took.does.after (Some (PartMessage part)) (sent_for part answer) (no_target (sent_for part answer)) view old new same kept took.does.here running
+    (still_part part answer took.does.node took.does.after took.does.is) (was_sent view.known.sent place (PartMessage part) took.sent) took.does.steps
+    (known_reply (length view.known.nodes) (length view.known.callers) part answer ends.0 ends.1)
+    (reply_lengths view.targets view.known.sent (sent_for part answer) kept.targets) is
+
+pub part_delivers : (place to : ℕ) (part : Part) (answer : Given) (view old new : WorldState) (nodes : List Node) (outcome : Outcome) → view ≡ old → IsWorld view → is_crashed to old ≡ false
+    → (took : TookPart place to part answer view nodes) → new ≡ acted took.does.after (sent_for part answer) (no_target (sent_for part answer)) None view
+    → outcome ≡ outcome_of_given answer (length view.known.sent) → Delivers place old outcome new
+part_delivers place to part answer view old new nodes outcome same kept running took is told =
+    subst (λ w. Delivers place w outcome new) same
+    (subst (λ o. Delivers place view o new) (sym told)
+    (subst (Delivers place view (outcome_of_given answer (length view.known.sent))) (sym is)
+    (Part_to_node part took.does.node took.does.after answer took.sent
+    (ap (λ n. node_at n view.known.nodes) took.own ∙ node_stands to view view took.does.node refl kept took.does.here)
+    (ap (λ n. is_crashed n view) took.own ∙ ap (is_crashed to) same ∙ running) took.does.is)))
+
+-- the receiver was refused memory
+pub part_stays : (part : Part) (fault : AllocError) (node after : Node) → PartIs part node (Err fault) after → after ≡ node
+part_stays part fault node after h = h.1
+
+pub back_stays : (declined : Ticket) (fault : AllocError) (node after : Node) → BackIs declined node (Err fault) after → after ≡ node
+back_stays declined fault node after h = h.4
+
+pub part_takes : (place to : ℕ) (part : Part) (view old : WorldState) → view ≡ old → IsWorld view → slice_get view.known.sent place ≡ Some (PartMessage part)
+    → part.to ≡ to → is_crashed to old ≡ false → TakesMemory place view
+part_takes place to part view old same kept sent own running =
+    let ends = part_ends view place part kept sent in
+    let found = node_within part.to view view refl kept ends.1 in
+    Part_takes part found.0 sent found.1 (ap (λ n. is_crashed n view) own ∙ ap (is_crashed to) same ∙ running)
+
+pub back_takes : (place : ℕ) (declined : Ticket) (fault : AllocError) (view old : WorldState) (node after : Node) → view ≡ old → IsWorld view
+    → slice_get view.known.sent place ≡ Some (DeclinedMessage declined) → slice_get view.known.nodes declined.from ≡ Some node → is_crashed declined.from old ≡ false
+    → BackIs declined node (Err fault) after → TakesMemory place view
+back_takes place declined fault view old node after same kept sent here running (item, there, clear, fits, is) =
+    Declined_takes declined node sent (node_stands declined.from view view node refl kept here) (ap (is_crashed declined.from) same ∙ running) (item, there, clear, fits, refl)
+
+-- ---- what comes of it
+
+pub got_after : (place : ℕ) (got : Ticket) (found : Bool) (view old : WorldState) (nodes : List Node) → view ≡ old → IsWorld view → is_crashed got.from old ≡ false
+    → slice_get view.known.sent place ≡ Some (GotMessage got) → (does : DoesAt (GotIs got) (GotSteps got) got.from view.known.nodes found nodes) → After old (with_nodes nodes view)
+got_after place got found view old nodes same kept running sent does =
+    let still = still_got got found does.node does.after does.is in
+    hands got.from does.node does.after (Some (GotMessage got)) None None view old (with_nodes nodes view) same kept does.here running still
+    (was_sent view.known.sent place (GotMessage got) sent) does.steps tt kept.targets (nodes_are (GotIs got) (GotSteps got) got.from found view nodes kept does still.number)
+
+pub got_delivers : (place : ℕ) (got : Ticket) (found : Bool) (view old : WorldState) (nodes : List Node) (outcome : Outcome) → view ≡ old → IsWorld view → is_crashed got.from old ≡ false
+    → slice_get view.known.sent place ≡ Some (GotMessage got) → (does : DoesAt (GotIs got) (GotSteps got) got.from view.known.nodes found nodes)
+    → outcome ≡ outcome_of_freed found → Delivers place old outcome (with_nodes nodes view)
+got_delivers place got found view old nodes outcome same kept running sent does told =
+    let still = still_got got found does.node does.after does.is in
+    let is : with_nodes nodes view ≡ with_node does.after view = nodes_are (GotIs got) (GotSteps got) got.from found view nodes kept does still.number in
+    subst (λ w. Delivers place w outcome (with_nodes nodes view)) same
+    (subst (λ o. Delivers place view o (with_nodes nodes view)) (sym told)
+    (subst (Delivers place view (outcome_of_freed found)) (sym is)
+    (Got_to_node got does.node does.after found sent (node_stands got.from view view does.node refl kept does.here) (ap (is_crashed got.from) same ∙ running) does.is)))
+
+pub back_after : (place : ℕ) (declined : Ticket) (answer : Back) (view old : WorldState) (nodes : List Node) → view ≡ old → IsWorld view → is_crashed declined.from old ≡ false
+    → slice_get view.known.sent place ≡ Some (DeclinedMessage declined) → (does : DoesAt (BackIs declined) (BackSteps declined) declined.from view.known.nodes (Ok answer) nodes)
+    → After old (with_nodes nodes view)
+back_after place declined answer view old nodes same kept running sent does =
+    let still = still_back declined answer does.node does.after does.is in
+    hands declined.from does.node does.after (Some (DeclinedMessage declined)) None None view old (with_nodes nodes view) same kept does.here running still
+    (was_sent view.known.sent place (DeclinedMessage declined) sent) does.steps tt kept.targets
+    (nodes_are (BackIs declined) (BackSteps declined) declined.from (Ok answer) view nodes kept does still.number)
+
+pub back_delivers : (place : ℕ) (declined : Ticket) (answer : Back) (view old : WorldState) (nodes : List Node) (outcome : Outcome) → view ≡ old → IsWorld view → is_crashed declined.from old ≡ false
+    → slice_get view.known.sent place ≡ Some (DeclinedMessage declined) → (does : DoesAt (BackIs declined) (BackSteps declined) declined.from view.known.nodes (Ok answer) nodes)
+    → outcome ≡ outcome_of_back answer → Delivers place old outcome (with_nodes nodes view)
+back_delivers place declined answer view old nodes outcome same kept running sent does told =
+    let still = still_back declined answer does.node does.after does.is in
+    let is : with_nodes nodes view ≡ with_node does.after view = nodes_are (BackIs declined) (BackSteps declined) declined.from (Ok answer) view nodes kept does still.number in
+    subst (λ w. Delivers place w outcome (with_nodes nodes view)) same
+    (subst (λ o. Delivers place view o (with_nodes nodes view)) (sym told)
+    (subst (Delivers place view (outcome_of_back answer)) (sym is)
+    (Declined_to_node declined does.node does.after answer sent (node_stands declined.from view view does.node refl kept does.here) (ap (is_crashed declined.from) same ∙ running) does.is)))

@@ -1,0 +1,118 @@
+use Rattle.std.proofs.Common.{Ok, Err, length, refl, sym, ◌∙◌, ap, subst, arith}
+use Rattle.chord_node.specs.declared.fault.GiveFault.TheVariants.{Memory}
+use Rattle.chord_node.specs.Moves.{SendSteps, GiveIs}
+use Rattle.chord_world.specs.Handing.{DoesAt}
+use Rattle.chord_world.specs.View.{state_of}
+use Rattle.chord_world.specs.State.{WorldState, IsWorld}
+use Rattle.chord_world.proofs.Acting.{keeps_same}
+use Rattle.chord_world.proofs.Handing.{acts_within, nodes_stay, advances_not, after_giving, giving_is, gives, sends_part, give_missing, give_not, give_refused, give_kept, give_stays, give_refused_at}
+use Rattle.chord_world.proofs.Posting.{got}
+use Rattle.chord_world.proofs.world.World.give.Goals as goal
+
+pub returns-in_err-is_there-clause-answer : goal.returns-in_err-is_there-clause-answer
+returns-in_err-is_there-clause-answer g c =
+    give_missing c.args.node c.args.to c.args.place c.args.self.now c.in_err-is_there.field-0.0 c.from_residual.result c.in_err-is_there.ensures c.from_residual.ensures.1
+
+pub returns-in_err-can_act-clause-answer : goal.returns-in_err-can_act-clause-answer
+returns-in_err-can_act-clause-answer g c =
+    give_not c.args.node c.args.to c.args.place c.args.self.now c.in_err-can_act.field-0.0 c.from_residual-in_err-can_act.result c.in_ok-is_there.ensures c.in_err-can_act.ensures c.from_residual-in_err-can_act.ensures.1
+
+pub index-requires : goal.index-requires
+index-requires g c =
+    let within = acts_within c.args.node _ c.args.self.now c.self.view_is c.self.invariant c.in_ok-can_act.ensures.0 in
+    omega arith
+
+pub returns-in_err-may_give-clause-answer : goal.returns-in_err-may_give-clause-answer
+returns-in_err-may_give-clause-answer g c =
+    let view : WorldState = state_of c.self.inside in
+    let within = acts_within c.args.node view c.args.self.now c.self.view_is c.self.invariant c.in_ok-can_act.ensures.0 in
+    let here = got view.known.nodes c.args.node c.index.result.now within c.index.ensures in
+    give_refused c.args.node c.args.to c.args.place c.index.result.now c.in_err-may_give.field-0.0 view c.args.self.now _ c.from_residual-in_err-may_give.result c.self.view_is c.self.invariant c.in_ok-is_there.ensures c.in_ok-can_act.ensures.1 here
+    c.in_err-may_give.ensures c.from_residual-in_err-may_give.ensures.1 refl
+
+pub returns-in_err-make_room-clause-answer : goal.returns-in_err-make_room-clause-answer
+returns-in_err-make_room-clause-answer g c =
+    let view : WorldState = state_of c.self.inside in
+    let within = acts_within c.args.node view c.args.self.now c.self.view_is c.self.invariant c.in_ok-can_act.ensures.0 in
+    let here = got view.known.nodes c.args.node c.index.result.now within c.index.ensures in
+    give_refused c.args.node c.args.to c.args.place c.index.result.now Memory view c.args.self.now _ c.from_residual-in_err-make_room.result c.self.view_is c.self.invariant c.in_ok-is_there.ensures c.in_ok-can_act.ensures.1 here
+    c.in_ok-may_give.ensures c.from_residual-in_err-make_room.ensures.1
+    ((λ i. after_giving view.known.nodes (c.make_room.ensures.sent i) (c.make_room.ensures.targets i) view) ∙ c.self.view_is)
+
+pub give_in-requires : goal.give_in-requires
+give_in-requires g c =
+    let within = acts_within c.args.node _ c.args.self.now c.self.view_is c.self.invariant c.in_ok-can_act.ensures.0 in
+    omega arith
+
+pub invariant_of-self-in_err-part : goal.invariant_of-self-in_err-part
+invariant_of-self-in_err-part g c =
+    let view : WorldState = state_of c.self.inside in
+    let does : DoesAt (GiveIs c.args.place c.args.to) SendSteps c.args.node view.known.nodes (Err c.in_err-part.field-0.0) c.give_in.new.nodes.items = c.in_err-part.ensures in
+    let stays = give_stays c.args.node c.args.to c.args.place c.in_err-part.field-0.0 view c.give_in.new.nodes.items c.make_room.new.sent.items c.make_room.new.targets.items does c.make_room.ensures.sent c.make_room.ensures.targets in
+    subst IsWorld (sym stays) c.self.invariant
+
+pub invariant_of-self-2 : goal.invariant_of-self-2
+invariant_of-self-2 g c =
+    let view : WorldState = state_of c.self.inside in
+    let does : DoesAt (GiveIs c.args.place c.args.to) SendSteps c.args.node view.known.nodes (Ok c.in_ok-part.part) c.give_in.new.nodes.items = c.in_ok-part.ensures in
+    let is = giving_is c.args.node c.args.to c.args.place c.in_ok-part.part view c.give_in.new.nodes.items c.push_message-message.new.sent.items c.make_room.new.sent.items c.push_message-message.new.targets.items c.make_room.new.targets.items
+    c.self.invariant does c.push_message-message.ensures.sent c.make_room.ensures.sent c.push_message-message.ensures.targets c.make_room.ensures.targets in
+    let there = acts_within c.args.to view c.args.self.now c.self.view_is c.self.invariant c.in_ok-is_there.ensures in
+    let after = gives c.args.node c.args.to c.args.place c.in_ok-part.part view c.args.self.now _ c.give_in.new.nodes.items c.self.view_is c.self.invariant c.in_ok-can_act.ensures.1 there does is in
+    after.world
+
+pub returns-in_err-part-clause-answer : goal.returns-in_err-part-clause-answer
+returns-in_err-part-clause-answer g c =
+    let view : WorldState = state_of c.self.inside in
+    let does : DoesAt (GiveIs c.args.place c.args.to) SendSteps c.args.node view.known.nodes (Err c.in_err-part.field-0.0) c.give_in.new.nodes.items = c.in_err-part.ensures in
+    let stays = give_stays c.args.node c.args.to c.args.place c.in_err-part.field-0.0 view c.give_in.new.nodes.items c.make_room.new.sent.items c.make_room.new.targets.items does c.make_room.ensures.sent c.make_room.ensures.targets in
+    give_refused_at c.args.node c.args.to c.args.place c.in_err-part.field-0.0 view c.args.self.now c.give_in.new.nodes.items c.make_room.new.sent.items c.make_room.new.targets.items c.from_residual-in_err-part.result c.self.view_is c.self.invariant
+    c.in_ok-is_there.ensures c.in_ok-can_act.ensures.1 does c.make_room.ensures.sent c.make_room.ensures.targets c.from_residual-in_err-part.ensures.1
+
+pub returns-in_err-part-clause-step : goal.returns-in_err-part-clause-step
+returns-in_err-part-clause-step g c =
+    let view : WorldState = state_of c.self.inside in
+    let does : DoesAt (GiveIs c.args.place c.args.to) SendSteps c.args.node view.known.nodes (Err c.in_err-part.field-0.0) c.give_in.new.nodes.items = c.in_err-part.ensures in
+    let stays = give_stays c.args.node c.args.to c.args.place c.in_err-part.field-0.0 view c.give_in.new.nodes.items c.make_room.new.sent.items c.make_room.new.targets.items does c.make_room.ensures.sent c.make_room.ensures.targets in
+    advances_not c.args.self.now _ _ c.from_residual-in_err-part.result c.from_residual-in_err-part.ensures.1 (stays ∙ c.self.view_is)
+
+pub returns-in_err-part-clause-ring : goal.returns-in_err-part-clause-ring
+returns-in_err-part-clause-ring g c =
+    let view : WorldState = state_of c.self.inside in
+    let does : DoesAt (GiveIs c.args.place c.args.to) SendSteps c.args.node view.known.nodes (Err c.in_err-part.field-0.0) c.give_in.new.nodes.items = c.in_err-part.ensures in
+    let stays = give_stays c.args.node c.args.to c.args.place c.in_err-part.field-0.0 view c.give_in.new.nodes.items c.make_room.new.sent.items c.make_room.new.targets.items does c.make_room.ensures.sent c.make_room.ensures.targets in
+    keeps_same view c.args.self.now _ c.self.view_is (nodes_stay (GiveIs c.args.place c.args.to) SendSteps c.args.node (Err c.in_err-part.field-0.0) view.known.nodes c.give_in.new.nodes.items does
+    (give_kept c.args.place c.args.to c.in_err-part.field-0.0 does.node does.after does.is)) refl
+
+pub returns-clause-answer : goal.returns-clause-answer
+returns-clause-answer g c =
+    let view : WorldState = state_of c.self.inside in
+    let does : DoesAt (GiveIs c.args.place c.args.to) SendSteps c.args.node view.known.nodes (Ok c.in_ok-part.part) c.give_in.new.nodes.items = c.in_ok-part.ensures in
+    let is = giving_is c.args.node c.args.to c.args.place c.in_ok-part.part view c.give_in.new.nodes.items c.push_message-message.new.sent.items c.make_room.new.sent.items c.push_message-message.new.targets.items c.make_room.new.targets.items
+    c.self.invariant does c.push_message-message.ensures.sent c.make_room.ensures.sent c.push_message-message.ensures.targets c.make_room.ensures.targets in
+    let there = acts_within c.args.to view c.args.self.now c.self.view_is c.self.invariant c.in_ok-is_there.ensures in
+    let after = gives c.args.node c.args.to c.args.place c.in_ok-part.part view c.args.self.now _ c.give_in.new.nodes.items c.self.view_is c.self.invariant c.in_ok-can_act.ensures.1 there does is in (
+      c.in_ok-is_there.ensures,
+      sends_part (GiveIs c.args.place c.args.to) c.args.node c.push_message-message.result does.node does.after c.in_ok-part.part view c.args.self.now _ c.self.view_is c.self.invariant does.here c.in_ok-can_act.ensures.1 does.is
+          (c.push_message-message.ensures.number ∙ ap length c.make_room.ensures.sent) is,
+    )
+
+pub returns-clause-step : goal.returns-clause-step
+returns-clause-step g c =
+    let view : WorldState = state_of c.self.inside in
+    let does : DoesAt (GiveIs c.args.place c.args.to) SendSteps c.args.node view.known.nodes (Ok c.in_ok-part.part) c.give_in.new.nodes.items = c.in_ok-part.ensures in
+    let is = giving_is c.args.node c.args.to c.args.place c.in_ok-part.part view c.give_in.new.nodes.items c.push_message-message.new.sent.items c.make_room.new.sent.items c.push_message-message.new.targets.items c.make_room.new.targets.items
+    c.self.invariant does c.push_message-message.ensures.sent c.make_room.ensures.sent c.push_message-message.ensures.targets c.make_room.ensures.targets in
+    let there = acts_within c.args.to view c.args.self.now c.self.view_is c.self.invariant c.in_ok-is_there.ensures in
+    let after = gives c.args.node c.args.to c.args.place c.in_ok-part.part view c.args.self.now _ c.give_in.new.nodes.items c.self.view_is c.self.invariant c.in_ok-can_act.ensures.1 there does is in
+    after.step
+
+pub returns-clause-ring : goal.returns-clause-ring
+returns-clause-ring g c =
+    let view : WorldState = state_of c.self.inside in
+    let does : DoesAt (GiveIs c.args.place c.args.to) SendSteps c.args.node view.known.nodes (Ok c.in_ok-part.part) c.give_in.new.nodes.items = c.in_ok-part.ensures in
+    let is = giving_is c.args.node c.args.to c.args.place c.in_ok-part.part view c.give_in.new.nodes.items c.push_message-message.new.sent.items c.make_room.new.sent.items c.push_message-message.new.targets.items c.make_room.new.targets.items
+    c.self.invariant does c.push_message-message.ensures.sent c.make_room.ensures.sent c.push_message-message.ensures.targets c.make_room.ensures.targets in
+    let there = acts_within c.args.to view c.args.self.now c.self.view_is c.self.invariant c.in_ok-is_there.ensures in
+    let after = gives c.args.node c.args.to c.args.place c.in_ok-part.part view c.args.self.now _ c.give_in.new.nodes.items c.self.view_is c.self.invariant c.in_ok-can_act.ensures.1 there does is in
+    after.ring

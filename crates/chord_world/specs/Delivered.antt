@@ -1,0 +1,130 @@
+-- What comes of a message that is delivered.
+use Rattle.std.specs.Prelude.{◌≡◌, ◌≢◌, ℕ, Bool, true, false, ◌≤◌, Option, None, Some, alloc_error, Result, Ok, Err, [], length, slice_get}
+use Rattle.chord_caller.specs.declared.ask.Ask.{Ask}
+use Rattle.chord_caller.specs.declared.told.Told.{Told}
+use Rattle.chord_caller.specs.declared.heard.Heard.{Heard}
+use Rattle.chord_caller.specs.declared.heard.Heard.TheVariants.{Fresh as FreshReply, Known as KnownReply}
+use Rattle.chord_caller.specs.Caller.{Note, Caller}
+use Rattle.chord_caller.specs.Answers.{TakeIs}
+use Rattle.chord_node.specs.declared.asks.answered.Answered.{Answered}
+use Rattle.chord_node.specs.declared.asks.answered.Answered.TheVariants as answer
+use Rattle.chord_node.specs.declared.message.Message.TheVariants.{Ask as AskMessage, Told as ToldMessage, Full as FullMessage, Part as PartMessage, Got as GotMessage, Declined as DeclinedMessage, Note as NoteMessage}
+use Rattle.chord_node.specs.declared.handovers.given.Given.{Given}
+use Rattle.chord_node.specs.declared.handovers.given.Back.{Back}
+use Rattle.chord_handover.specs.declared.ticket.Ticket.{Ticket}
+use Rattle.chord_handover.specs.Handover.{Part}
+use Rattle.chord_node.specs.Received.{PartIs, GotIs, BackIs, sent_for}
+use Rattle.chord_node.specs.Node.{Node}
+use Rattle.chord_node.specs.Asked.{AskIs, ask_done, sent_by}
+use Rattle.chord_node.specs.World.{node_at, put_node, caller_at, with_one}
+use Rattle.chord_world.specs.declared.outcome.Outcome.{Outcome}
+use Rattle.chord_world.specs.declared.outcome.Outcome.TheVariants as did
+use Rattle.chord_world.specs.declared.refusal.Refusal.{Refusal}
+use Rattle.chord_world.specs.declared.refusal.Refusal.TheVariants as refused
+use Rattle.chord_world.specs.declared.refusal.PartFault.TheVariants as part
+use Rattle.chord_world.specs.State.{WorldState, with_heard, is_crashed}
+use Rattle.chord_world.specs.Linking.{with_node}
+use Rattle.chord_world.specs.Taking.{outcome_of_given, outcome_of_freed, outcome_of_back, with_reply}
+
+-- what an answer is as an outcome, where this many messages were sent before
+abbrev pub outcome_of : Answered → ℕ → Outcome
+outcome_of (answer.Told told) count = did.Told count
+outcome_of (answer.Forward to passed) count = did.Forwarded count
+outcome_of answer.Dropped count = did.Dropped
+outcome_of answer.Full count = did.Full count
+
+-- the node that an answer goes to, where it is a call; 0 stands for none
+abbrev pub target_of : Answered → Option ℕ
+target_of (answer.Told told) = Some 0
+target_of (answer.Forward to passed) = Some to
+target_of answer.Dropped = None
+target_of answer.Full = Some 0
+
+-- the world after this node answered a call so
+abbrev pub with_answer : Ask → Node → Node → Answered → WorldState → WorldState
+with_answer ask node after answered old =
+    record old {
+      known = record old.known {
+        nodes = put_node after old.known.nodes;
+        sent = with_one old.known.sent (sent_by ask answered);
+        history = with_one old.known.history (ask_done ask node);
+      };
+      targets = with_one old.targets (target_of answered);
+    }
+
+-- what hearing a reply is as an outcome
+abbrev pub outcome_heard : Heard → ℕ → Outcome
+outcome_heard FreshReply caller = did.Fresh caller
+outcome_heard KnownReply caller = did.Known
+
+-- What comes of the message of this number, where it is delivered.
+pub data Delivers (message : ℕ) (old : WorldState) : Outcome → WorldState → Type 0 where
+  -- a call comes to its node
+  To_node : (ask : Ask) (to : ℕ) (node after : Node) (answered : Answered) → slice_get old.known.sent message ≡ Some (AskMessage ask)
+      → slice_get old.targets message ≡ Some to → node_at to old.known.nodes ≡ Some node → is_crashed to old ≡ false → AskIs ask node (Ok answered) after
+      → Delivers message old (outcome_of answered (length old.known.sent)) (with_answer ask node after answered old)
+  -- a reply comes to its caller
+  To_caller : (told : Told) (core after : Caller) (heard : Heard) → slice_get old.known.sent message ≡ Some (ToldMessage told)
+      → caller_at told.caller old.known.callers ≡ Some core → TakeIs told core (Ok heard) after
+      → Delivers message old (outcome_heard heard told.caller) (with_heard after old)
+  -- a part comes to its receiver
+  Part_to_node : (part : Part) (node after : Node) (given : Given) → slice_get old.known.sent message ≡ Some (PartMessage part)
+      → node_at part.to old.known.nodes ≡ Some node → is_crashed part.to old ≡ false → PartIs part node (Ok given) after
+      → Delivers message old (outcome_of_given given (length old.known.sent)) (with_reply after (sent_for part given) old)
+  -- that a handover was taken comes to its sender
+  Got_to_node : (got : Ticket) (node after : Node) (found : Bool) → slice_get old.known.sent message ≡ Some (GotMessage got)
+      → node_at got.from old.known.nodes ≡ Some node → is_crashed got.from old ≡ false → GotIs got node found after
+      → Delivers message old (outcome_of_freed found) (with_node after old)
+  -- so does that it was declined
+  Declined_to_node : (declined : Ticket) (node after : Node) (back : Back) → slice_get old.known.sent message ≡ Some (DeclinedMessage declined)
+      → node_at declined.from old.known.nodes ≡ Some node → is_crashed declined.from old ≡ false → BackIs declined node (Ok back) after
+      → Delivers message old (outcome_of_back back) (with_node after old)
+  -- a caller hears that a store was full
+  Full_to_caller : (caller number : ℕ) (core : Caller) → slice_get old.known.sent message ≡ Some (FullMessage caller number)
+      → caller_at caller old.known.callers ≡ Some core → Delivers message old did.HeardFull old
+
+-- the call of this number is for a node that is not there
+pub record IsAstray (message : ℕ) (old : WorldState) : Type 0 where
+  pub ask : Ask
+  pub to : ℕ
+  pub sent : slice_get old.known.sent message ≡ Some (AskMessage ask)
+  pub target : slice_get old.targets message ≡ Some to
+  pub missing : node_at to old.known.nodes ≡ None
+
+-- the message of this number is for this node
+pub data IsFor (message : ℕ) (old : WorldState) : ℕ → Type 0 where
+  Ask_for : (ask : Ask) (to : ℕ) → slice_get old.known.sent message ≡ Some (AskMessage ask) → slice_get old.targets message ≡ Some to → IsFor message old to
+  Part_for : (part : Part) → slice_get old.known.sent message ≡ Some (PartMessage part) → IsFor message old part.to
+  Got_for : (got : Ticket) → slice_get old.known.sent message ≡ Some (GotMessage got) → IsFor message old got.from
+  Declined_for : (declined : Ticket) → slice_get old.known.sent message ≡ Some (DeclinedMessage declined) → IsFor message old declined.from
+
+-- the message of this number is for a node that crashed
+pub record IsForCrashed (message : ℕ) (old : WorldState) : Type 0 where
+  pub to : ℕ
+  pub node : Node
+  pub is_for : IsFor message old to
+  pub here : node_at to old.known.nodes ≡ Some node
+  pub crashed : is_crashed to old ≡ true
+
+-- the message of this number copies something, or makes something grow, where it is taken in
+pub data TakesMemory (message : ℕ) (old : WorldState) : Type 0 where
+  Ask_takes : (ask : Ask) (to : ℕ) (node : Node) → slice_get old.known.sent message ≡ Some (AskMessage ask) → slice_get old.targets message ≡ Some to
+      → node_at to old.known.nodes ≡ Some node → is_crashed to old ≡ false → TakesMemory message old
+  Told_takes : (told : Told) → slice_get old.known.sent message ≡ Some (ToldMessage told) → TakesMemory message old
+  Part_takes : (part : Part) (node : Node) → slice_get old.known.sent message ≡ Some (PartMessage part) → node_at part.to old.known.nodes ≡ Some node
+      → is_crashed part.to old ≡ false → TakesMemory message old
+  Declined_takes : (declined : Ticket) (node : Node) → slice_get old.known.sent message ≡ Some (DeclinedMessage declined)
+      → node_at declined.from old.known.nodes ≡ Some node → is_crashed declined.from old ≡ false → BackIs declined node (Err alloc_error) node
+      → TakesMemory message old
+
+-- what a World answers where the message of this number is delivered
+abbrev pub DeliverIs : ℕ → WorldState → Result Outcome Refusal → WorldState → Type 0
+DeliverIs message old (Ok outcome) new = Delivers message old outcome new
+DeliverIs message old (Err refused.NotCreated) new = (old.known.nodes ≡ []) × (new ≡ old)
+DeliverIs message old (Err refused.NoSuchNode) new = IsAstray message old × (new ≡ old)
+DeliverIs message old (Err refused.NoSuchMessage) new = (old.known.nodes ≢ []) × (length old.known.sent ≤ message) × (new ≡ old)
+DeliverIs message old (Err (refused.Part part.Crashed)) new = IsForCrashed message old × (new ≡ old)
+DeliverIs message old (Err (refused.Part part.NeedsMeet)) new =
+    ((note : Note) × (slice_get old.known.sent message ≡ Some (NoteMessage note))) × (new ≡ old)
+DeliverIs message old (Err refused.Memory) new = TakesMemory message old × (new ≡ old)
+DeliverIs message old (Err refusal) new = ⊥

@@ -1,0 +1,183 @@
+-- What a World answers where a node cuts, merges, gives, sends a part again, begins to leave or is gone.
+use Rattle.std.specs.Prelude.{◌≡◌, ◌≢◌, ◌⊎◌, ℕ, Bool, true, false, None, Some, Result, Ok, Err, List, [], length, slice_get, slice_set, IsTrue}
+use Rattle.chord_handover.specs.Handover.{Part}
+use Rattle.chord_ring.specs.Ring.{is_member, CanDepart}
+use Rattle.chord_node.specs.declared.fault.CutAtFault.{CutAtFault}
+use Rattle.chord_node.specs.declared.fault.CutAtFault.TheVariants as cut
+use Rattle.chord_node.specs.declared.fault.MergeFault.{MergeFault}
+use Rattle.chord_node.specs.declared.fault.MergeFault.TheVariants as merge
+use Rattle.chord_node.specs.declared.fault.GiveFault.{GiveFault}
+use Rattle.chord_node.specs.declared.fault.GiveFault.TheVariants as give
+use Rattle.chord_node.specs.declared.fault.ResendFault.{ResendFault}
+use Rattle.chord_node.specs.declared.fault.ResendFault.TheVariants as resend
+use Rattle.chord_node.specs.declared.fault.NotStaying.{NotStaying}
+use Rattle.chord_node.specs.declared.fault.RetireFault.{RetireFault}
+use Rattle.chord_node.specs.declared.fault.RetireFault.TheVariants as retire
+use Rattle.chord_node.specs.declared.message.Message.TheVariants.{Part as PartMessage}
+use Rattle.chord_node.specs.Moves.{GiveIs, ResendIs, RetireIs}
+use Rattle.chord_node.specs.Node.{Node}
+use Rattle.chord_node.specs.World.{node_at}
+use Rattle.chord_world.specs.declared.outcome.Outcome.{Outcome}
+use Rattle.chord_world.specs.declared.outcome.Outcome.TheVariants as did
+use Rattle.chord_world.specs.declared.refusal.Refusal.{Refusal}
+use Rattle.chord_world.specs.declared.refusal.Refusal.TheVariants as refused
+use Rattle.chord_world.specs.declared.refusal.PartFault.TheVariants as part
+use Rattle.chord_world.specs.State.{WorldState, ring_of, with_sent, is_crashed}
+use Rattle.chord_world.specs.Linking.{with_node}
+
+-- ---- who acts
+
+-- no node has this number
+pub data IsMissing (number : ℕ) (state : WorldState) : Refusal → Type 0 where
+  Uncreated : state.known.nodes ≡ [] → IsMissing number state refused.NotCreated
+  Missing : state.known.nodes ≢ [] → node_at number state.known.nodes ≡ None → IsMissing number state refused.NoSuchNode
+
+-- a node has it
+pub record HasNode (number : ℕ) (state : WorldState) : Type 0 where
+  pub node : Node
+  pub here : node_at number state.known.nodes ≡ Some node
+
+abbrev pub ThereIs : ℕ → WorldState → Result (Unit {0}) Refusal → Type 0
+ThereIs number state (Ok there) = HasNode number state
+ThereIs number state (Err refusal) = IsMissing number state refusal
+
+-- the node of this number does nothing
+pub data CannotAct (number : ℕ) (state : WorldState) : Refusal → Type 0 where
+  Is_missing : (refusal : Refusal) → IsMissing number state refusal → CannotAct number state refusal
+  Is_crashed : HasNode number state → is_crashed number state ≡ true → CannotAct number state (refused.Part part.Crashed)
+
+-- it is there, and has not crashed
+abbrev pub CanAct : ℕ → WorldState → Type 0
+CanAct number state = HasNode number state × (is_crashed number state ≡ false)
+
+abbrev pub ActIs : ℕ → WorldState → Result (Unit {0}) Refusal → Type 0
+ActIs number state (Ok can) = CanAct number state
+ActIs number state (Err refusal) = CannotAct number state refusal
+
+-- ---- a node that changes
+
+-- what a node answers, and what it is then
+abbrev pub Call : Type 0 → Type 1
+Call A = Node → A → Node → Type 0
+
+-- the node did this, and is another then
+pub record Moved {E : Type 0} (Is : Call (Result (Unit {0}) E)) (number : ℕ) (old new : WorldState) : Type 0 where
+  pub node : Node
+  pub after : Node
+  pub here : node_at number old.known.nodes ≡ Some node
+  pub running : is_crashed number old ≡ false
+  pub is : Is node (Ok tt) after
+  pub new_is : new ≡ with_node after old
+
+-- the node refused it
+pub record RefusedBy {A E : Type 0} (Is : Call (Result A E)) (refusal_of : E → Refusal) (number : ℕ) (old : WorldState) (refusal : Refusal) : Type 0 where
+  pub node : Node
+  pub fault : E
+  pub here : node_at number old.known.nodes ≡ Some node
+  pub running : is_crashed number old ≡ false
+  pub is : Is node (Err fault) node
+  pub told : refusal ≡ refusal_of fault
+
+abbrev pub MoveIs : {E : Type 0} → Call (Result (Unit {0}) E) → (E → Refusal) → ℕ → WorldState → Result Outcome Refusal → WorldState → Type 0
+MoveIs Is refusal_of number old (Ok did.Done) new = Moved Is number old new
+MoveIs Is refusal_of number old (Ok outcome) new = ⊥
+MoveIs Is refusal_of number old (Err refusal) new = (CannotAct number old refusal ⊎ RefusedBy Is refusal_of number old refusal) × (new ≡ old)
+
+-- ---- a node that sends a part
+
+-- the part went out under this number
+pub record SendsPart {E : Type 0} (Is : Call (Result Part E)) (number : ℕ) (old : WorldState) (message : ℕ) (new : WorldState) : Type 0 where
+  pub node : Node
+  pub after : Node
+  pub part : Part
+  pub here : node_at number old.known.nodes ≡ Some node
+  pub running : is_crashed number old ≡ false
+  pub is : Is node (Ok part) after
+  pub numbered : message ≡ length old.known.sent
+  pub new_is : new ≡ with_sent (PartMessage part) 0 (with_node after old)
+
+-- the first part of a segment that is given
+abbrev pub refusal_of_give : GiveFault → Refusal
+refusal_of_give give.NoSegment = refused.Part part.NoSegment
+refusal_of_give give.NumbersSpent = refused.Part part.NumbersSpent
+refusal_of_give give.Memory = refused.Memory
+
+-- the giver or the receiver is not there, or the giver crashed
+abbrev pub CannotGive : ℕ → ℕ → WorldState → Refusal → Type 0
+CannotGive number to old refusal = IsMissing to old refusal ⊎ (HasNode to old × CannotAct number old refusal)
+
+abbrev pub GiveStepIs : ℕ → ℕ → ℕ → WorldState → Result Outcome Refusal → WorldState → Type 0
+GiveStepIs number place to old (Ok (did.Message message)) new = HasNode to old × SendsPart (GiveIs place to) number old message new
+GiveStepIs number place to old (Ok outcome) new = ⊥
+GiveStepIs number place to old (Err refusal) new =
+    (CannotGive number to old refusal ⊎ (HasNode to old × RefusedBy (GiveIs place to) refusal_of_give number old refusal)) × (new ≡ old)
+
+-- a part again
+abbrev pub refusal_of_resend : ResendFault → Refusal
+refusal_of_resend resend.NoPart = refused.Part part.NoPart
+refusal_of_resend resend.Memory = refused.Memory
+
+-- the node stays as it is
+abbrev pub Resends : ℕ → ℕ → ℕ → Call (Result Part ResendFault)
+Resends to number part node result after = ResendIs to number part node result × (after ≡ node)
+
+-- there is no such part, or no receiver that it could be for
+abbrev pub RefusesPart : ℕ → ℕ → ℕ → ℕ → WorldState → Refusal → Type 0
+RefusesPart number to item place old refusal =
+    (CanAct number old × (node_at to old.known.nodes ≡ None) × (refusal ≡ refused.Part part.NoPart))
+    ⊎ (HasNode to old × RefusedBy (Resends to item place) refusal_of_resend number old refusal)
+
+abbrev pub SendPartIs : ℕ → ℕ → ℕ → ℕ → WorldState → Result Outcome Refusal → WorldState → Type 0
+SendPartIs number to item place old (Ok (did.Message message)) new = HasNode to old × SendsPart (Resends to item place) number old message new
+SendPartIs number to item place old (Ok outcome) new = ⊥
+SendPartIs number to item place old (Err refusal) new = (CannotAct number old refusal ⊎ RefusesPart number to item place old refusal) × (new ≡ old)
+
+-- ---- refusals
+
+abbrev pub refusal_of_cut : CutAtFault → Refusal
+refusal_of_cut cut.NoSegment = refused.Part part.NoSegment
+refusal_of_cut cut.NotInside = refused.Part part.NotInside
+refusal_of_cut cut.Memory = refused.Memory
+
+abbrev pub refusal_of_merge : MergeFault → Refusal
+refusal_of_merge merge.NoSegment = refused.Part part.NoSegment
+refusal_of_merge merge.NotAdjacent = refused.Part part.NotAdjacent
+refusal_of_merge merge.Overlap = refused.Part part.Overlap
+refusal_of_merge merge.Twice = refused.Part part.Twice
+refusal_of_merge merge.Memory = refused.Memory
+
+abbrev pub refusal_of_leave : NotStaying → Refusal
+refusal_of_leave fault = refused.Part part.NotStaying
+
+abbrev pub refusal_of_retire : RetireFault → Refusal
+refusal_of_retire retire.NotLeaving = refused.Part part.NotLeaving
+refusal_of_retire retire.NotEmpty = refused.Part part.NotEmpty
+
+-- ---- a node that is gone
+
+-- a member without which the ring would not stand
+abbrev pub IsNeeded : ℕ → WorldState → Type 0
+IsNeeded number old = IsTrue (is_member (ring_of old).members number) × (¬ (CanDepart (ring_of old).members number))
+
+-- whether it is one: else it is no member, or can depart
+abbrev pub NeededIs : ℕ → WorldState → Bool → Type 0
+NeededIs number old true = IsNeeded number old
+NeededIs number old false = (is_member (ring_of old).members number ≡ false) ⊎ CanDepart (ring_of old).members number
+
+abbrev pub RetireStepIs : ℕ → WorldState → Result Outcome Refusal → WorldState → Type 0
+RetireStepIs number old (Ok did.Done) new = CanDepart (ring_of old).members number × Moved RetireIs number old new
+RetireStepIs number old (Ok outcome) new = ⊥
+RetireStepIs number old (Err refused.Unsafe) new = HasNode number old × IsNeeded number old × (new ≡ old)
+RetireStepIs number old (Err refusal) new =
+    (CannotAct number old refusal ⊎ ((¬ IsNeeded number old) × RefusedBy RetireIs refusal_of_retire number old refusal)) × (new ≡ old)
+
+-- ---- how it comes about
+
+-- the node at the place did it, or refused and stayed as it was
+pub record DoesAt {A : Type 0} (Is Steps : Call A) (place : ℕ) (old : List Node) (result : A) (new : List Node) : Type 0 where
+  pub node : Node
+  pub after : Node
+  pub here : slice_get old place ≡ Some node
+  pub is : Is node result after
+  pub steps : Steps node result after
+  pub new_is : new ≡ slice_set old place after

@@ -1,0 +1,26 @@
+-- Who holds an identifier.
+use Rattle.std.specs.Prelude.{◌≡◌, ℕ, Bool, ◌&&◌, nat_lt, Option, None, Some, List, [], ◌∷◌, ◌++◌}
+use Rattle.chord_handover.specs.Handover.{Item}
+use Rattle.chord_ident.specs.Circle.{in_span}
+use Rattle.chord_node.specs.declared.holder.Holder.{Holder}
+use Rattle.chord_node.specs.declared.holder.Holder.TheVariants as holder
+use Rattle.chord_node.specs.Node.{Node}
+use Rattle.chord_node.specs.World.{at_node, holders, last_taken, under_way}
+use Rattle.chord_world.specs.State.{WorldState}
+
+-- whether the item hands x over, and its receiver took less from the node so far
+abbrev pub is_open : ℕ → (ℕ → ℕ → ℕ) → Node → Item → Bool
+is_open x taken node item = in_span item.segment.span x && nat_lt (taken item.to node.number) item.number
+
+-- the node's handover of the item
+abbrev pub way_of : Node → Item → Holder
+way_of node item = holder.UnderWay node.number item.to item.number
+
+-- the node where it holds x, and its handovers of x
+abbrev pub holders_at : ℕ → List Node → Node → List Holder
+holders_at x nodes node = at_node x node ++ under_way x (last_taken nodes) node
+
+-- its one holder, once there is a node
+abbrev pub HolderIs : ℕ → WorldState → Option Holder → Type 0
+HolderIs x state None = state.known.nodes ≡ []
+HolderIs x state (Some holder) = holders x state.known.nodes ≡ holder ∷ []

@@ -1,0 +1,63 @@
+-- How a part, or what comes of it, is taken in by its node.
+use Rattle.std.specs.Prelude.{◌≡◌, ℕ, Bool, true, false, Option, None, Some, List, slice_get}
+use Rattle.chord_handover.specs.declared.ticket.Ticket.{Ticket}
+use Rattle.chord_node.specs.declared.handovers.given.Given.{Given}
+use Rattle.chord_node.specs.declared.handovers.given.Given.TheVariants as given
+use Rattle.chord_node.specs.declared.handovers.given.Back.{Back}
+use Rattle.chord_node.specs.declared.handovers.given.Back.TheVariants as back
+use Rattle.chord_node.specs.declared.message.Message.{Message}
+use Rattle.chord_node.specs.declared.message.Message.TheVariants.{Got as GotMessage, Declined as DeclinedMessage}
+use Rattle.chord_node.specs.Node.{Node, NodeStep}
+use Rattle.chord_node.specs.World.{with_one}
+use Rattle.chord_world.specs.declared.outcome.Outcome.{Outcome}
+use Rattle.chord_world.specs.declared.outcome.Outcome.TheVariants as did
+use Rattle.chord_world.specs.State.{WorldState}
+use Rattle.chord_world.specs.Linking.{with_node}
+
+-- each node stands at its number
+abbrev pub IsNumbered : ℕ → List Node → Type 0
+IsNumbered place nodes = (node : Node) → slice_get nodes place ≡ Some node → node.number ≡ place
+
+-- what an answer to a part is as an outcome, where this many messages were sent before
+abbrev pub outcome_of_given : Given → ℕ → Outcome
+outcome_of_given given.Got count = did.Got count
+outcome_of_given given.Declined count = did.Declined count
+outcome_of_given given.Early count = did.Early
+outcome_of_given given.Clash count = did.Clash
+outcome_of_given given.Full count = did.NoRoom
+outcome_of_given given.Part count = did.Noted
+
+-- what it sends back to the sender
+abbrev pub confirmation : Ticket → Given → Option Message
+confirmation ticket given.Got = Some (GotMessage ticket)
+confirmation ticket given.Declined = Some (DeclinedMessage ticket)
+confirmation ticket answer = None
+
+-- no message of these is a call
+abbrev pub no_target : Option Message → Option ℕ
+no_target None = None
+no_target (Some message) = Some 0
+
+-- what came of a Got
+abbrev pub outcome_of_freed : Bool → Outcome
+outcome_of_freed true = did.Freed
+outcome_of_freed false = did.Unknown
+
+-- what came of a Declined
+abbrev pub outcome_of_back : Back → Outcome
+outcome_of_back back.Held = did.Held
+outcome_of_back back.Unknown = did.Unknown
+outcome_of_back back.Clash = did.Clash
+outcome_of_back back.Full = did.NoRoom
+
+-- the world after a node changed and sent this message
+abbrev pub with_reply : Node → Option Message → WorldState → WorldState
+with_reply after message old =
+    record old {
+      known = record (with_node after old).known { sent = with_one old.known.sent message };
+      targets = with_one old.targets (no_target message);
+    }
+
+-- a Got is one step of its node
+abbrev pub GotSteps : Ticket → Node → Bool → Node → Type 0
+GotSteps ticket old found new = NodeStep old (Some (GotMessage ticket)) new None None

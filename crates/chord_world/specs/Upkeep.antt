@@ -1,0 +1,80 @@
+-- What a World answers to a step of the ring's upkeep, and where a node crashes.
+use Rattle.std.specs.Prelude.{◌≡◌, ◌≢◌, ℕ, true, false, Some, Result, Ok, Err, List, [], slice_get, slice_set, IsTrue}
+use Rattle.std.specs.Option.{option_map}
+use Rattle.chord_links.specs.declared.peer.Peer.{Peer}
+use Rattle.chord_links.specs.NodeLinks.{NodeLinks}
+use Rattle.chord_ring.specs.declared.ring_fault.RingFault.{RingFault}
+use Rattle.chord_ring.specs.declared.ring_step.RingStep.{RingStep}
+use Rattle.chord_ring.specs.declared.ring_step.RingDid.{RingDid}
+use Rattle.chord_ring.specs.declared.ring_step.RingDid.TheVariants as ring
+use Rattle.chord_ring.specs.Ring.{is_member, CanDepart}
+use Rattle.chord_ring.specs.Steps.{Step}
+use Rattle.chord_ring.specs.Refusals.{Refused, Did}
+use Rattle.chord_node.specs.Node.{Node}
+use Rattle.chord_node.specs.World.{node_at}
+use Rattle.chord_world.specs.declared.outcome.Outcome.{Outcome}
+use Rattle.chord_world.specs.declared.outcome.Outcome.TheVariants as did
+use Rattle.chord_world.specs.declared.refusal.Refusal.{Refusal}
+use Rattle.chord_world.specs.declared.refusal.Refusal.TheVariants as refused
+use Rattle.chord_world.specs.Refusals.{refusal_of_ring}
+use Rattle.chord_world.specs.State.{WorldState, ring_of}
+use Rattle.chord_world.specs.Linking.{with_node}
+
+-- ---- links
+
+-- the node of this number has other links, by this step of the ring
+pub record Moves (step : RingStep) (number : ℕ) (old new : WorldState) : Type 0 where
+  pub node : Node
+  pub links : NodeLinks
+  pub here : node_at number old.known.nodes ≡ Some node
+  pub moves : Step (ring_of old) step (ring_of new)
+  pub new_is : new ≡ with_node (record node { links = links }) old
+
+-- the links are of the node at the place: the same node, with as many successors at most
+abbrev pub FitAt : ℕ → NodeLinks → List Node → Type 0
+FitAt place links nodes = (node : Node) → slice_get nodes place ≡ Some node → (links.me ≡ node.links.me) × (links.r ≡ node.links.r)
+
+-- the node at the place has other links
+pub record RelinksAt (place : ℕ) (links : NodeLinks) (old new : List Node) : Type 0 where
+  pub node : Node
+  pub here : slice_get old place ≡ Some node
+  pub new_is : new ≡ slice_set old place (record node { links = links })
+
+-- what a step of the ring did, as an outcome
+abbrev pub outcome_of_ring : RingDid → Outcome
+outcome_of_ring (ring.Joined number) = did.Node number
+outcome_of_ring (ring.Candidate candidate) = did.Candidate (option_map (λ (peer : Peer). peer.no) candidate)
+outcome_of_ring ring.Done = did.Done
+
+-- the step was done, and this came of it
+pub record Upkeeps (step : RingStep) (number : ℕ) (old : WorldState) (outcome : Outcome) (new : WorldState) : Type 0 where
+  pub did : RingDid
+  pub told : outcome ≡ outcome_of_ring did
+  pub is : Did (ring_of old) step did
+  pub moves : Moves step number old new
+
+-- the ring refused it
+pub record RefusesUpkeep (step : RingStep) (old : WorldState) (refusal : Refusal) : Type 0 where
+  pub fault : RingFault
+  pub told : refusal ≡ refusal_of_ring fault
+  pub is : Refused (ring_of old) step fault
+
+abbrev pub UpkeepIs : RingStep → ℕ → WorldState → Result Outcome Refusal → WorldState → Type 0
+UpkeepIs step number old (Ok outcome) new = Upkeeps step number old outcome new
+UpkeepIs step number old (Err refused.NotCreated) new = (old.known.nodes ≡ []) × (new ≡ old)
+UpkeepIs step number old (Err refusal) new = (old.known.nodes ≢ []) × RefusesUpkeep step old refusal × (new ≡ old)
+
+-- ---- a crash
+
+-- the world after this node crashed
+abbrev pub with_crash : ℕ → WorldState → WorldState
+with_crash number old = record old { crashed = slice_set old.crashed number true }
+
+abbrev pub CrashIs : ℕ → WorldState → Result Outcome Refusal → WorldState → Type 0
+CrashIs number old (Ok did.Done) new = CanDepart (ring_of old).members number × (new ≡ with_crash number old)
+CrashIs number old (Ok outcome) new = ⊥
+CrashIs number old (Err refused.NotCreated) new = (old.known.nodes ≡ []) × (new ≡ old)
+CrashIs number old (Err refused.NoSuchNode) new = (old.known.nodes ≢ []) × (is_member (ring_of old).members number ≡ false) × (new ≡ old)
+CrashIs number old (Err refused.Unsafe) new =
+    IsTrue (is_member (ring_of old).members number) × (¬ (CanDepart (ring_of old).members number)) × (new ≡ old)
+CrashIs number old (Err refusal) new = ⊥

@@ -1,0 +1,71 @@
+//! The members of the ring that the nodes make.
+ghost use Rattle.std.specs.Prelude.{◌≡◌, slice_index_or, false, map, IsTrue};
+ghost use Rattle.std.specs.List.{Contains};
+ghost use Rattle.std.specs.Option.{option_copied};
+ghost use Rattle.chord_ring.specs.Ring.{links_of};
+ghost use Rattle.chord_world.specs.Members.{member_links, id_of_node};
+ghost use Rattle.chord_world.specs.State.{ring_of};
+
+use crate::world::World;
+use chord_ident::Id;
+use chord_links::Links;
+use chord_node::{Node, Phase};
+use chord_ring::MemberReader;
+use chord_store::EntryStore;
+
+/// Whether the node of this number crashed, by the flags of the nodes.
+pub(crate) fn is_out(crashed: &[bool], no: u64) -> bool
+    ensures { result ≡ slice_index_or crashed.now no false }
+{
+    match crashed.get(no as usize) {
+        Some(out) => *out,
+        None => false,
+    }
+}
+
+/// The links of a node that has not crashed, where it is a member.
+fn links_of_member<S: EntryStore>(node: &Node<S>) -> Option<&Links>
+    ensures { option_copied result ≡ member_links false node.now }
+{
+    match node.phase() {
+        Phase::Staying | Phase::Leaving => Some(node.links()),
+        Phase::Gone => None,
+    }
+}
+
+/// Whether a node ever had this identifier.
+pub(crate) fn is_used<S: EntryStore>(nodes: &[Node<S>], id: Id) -> bool
+    ensures yes { IsTrue result → Contains (map id_of_node nodes.now) id.number }
+    ensures no { Contains (map id_of_node nodes.now) id.number → IsTrue result }
+{
+    for node in nodes {
+        if node.links().me().id == id {
+            return true;
+        }
+    }
+    false
+}
+
+impl<S: EntryStore> MemberReader for World<S> {
+    ghost ring = { λ state. ring_of state };
+
+    fn member(&self, no: u64) -> Option<&Links> {
+        if no >= self.nodes.len() as u64 || is_out(&self.crashed, no) {
+            return None;
+        }
+        links_of_member(&self.nodes[no as usize])
+    }
+
+    fn count(&self) -> u64 {
+        self.nodes.len() as u64
+    }
+}
+
+impl<S: EntryStore> World<S> {
+    /// The links of the node of this number, where it is a member.
+    pub(crate) fn links_in_ring(&self, no: u64) -> Option<Links>
+        ensures { result ≡ links_of (ring_of self.now).members no }
+    {
+        self.member(no).copied()
+    }
+}

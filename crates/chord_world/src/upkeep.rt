@@ -1,0 +1,93 @@
+//! The ring's upkeep.
+ghost use Rattle.std.specs.Prelude.{◌≡◌, ◌<◌, length};
+ghost use Rattle.chord_ring.specs.declared.ring_step.RingStep.TheVariants as step;
+ghost use Rattle.chord_ring.specs.declared.ring_step.RingDid.TheVariants as ring;
+ghost use Rattle.chord_world.specs.State.{KeepsRing};
+ghost use Rattle.chord_world.specs.Steps.{Advances};
+ghost use Rattle.chord_world.specs.Upkeep.{UpkeepIs, FitAt, RelinksAt, outcome_of_ring};
+
+use crate::outcome::Outcome;
+use crate::refusal::Refusal;
+use crate::world::World;
+use chord_links::{Links, Peer};
+use chord_node::Node;
+use chord_ring::{drop_dead_in, rectify_in, stabilise_in, take_candidate_in};
+use chord_store::EntryStore;
+
+/// The node at the place has other links.
+fn relink_at<S: EntryStore>(nodes: &mut Vec<Node<S>>, place: usize, links: Links)
+    requires place { place < length nodes.old.items }
+    requires fit { FitAt place links nodes.old.items }
+    ensures { RelinksAt place links nodes.old.items nodes.new.items }
+{
+    let node = &mut nodes[place];
+    node.set_links(links);
+}
+
+/// What a member learned of its first entry, as an outcome.
+fn outcome_of_candidate(candidate: Option<Peer>) -> Outcome
+    ensures { result ≡ outcome_of_ring (ring.Candidate candidate) }
+{
+    match candidate {
+        Some(peer) => Outcome::Candidate(Some(peer.no)),
+        None => Outcome::Candidate(None),
+    }
+}
+
+impl<S: EntryStore> World<S> {
+    /// A member copies the list of its first entry.
+    pub(crate) fn stabilise(&mut self, node: u64, head: u64) -> Result<Outcome, Refusal>
+        ensures answer { UpkeepIs (step.Stabilise node head) node self.old result self.new }
+        ensures step { Advances self.old result self.new }
+        ensures ring { KeepsRing self.old self.new }
+    {
+        if self.nodes.is_empty() {
+            return Err(Refusal::NotCreated);
+        }
+        let did = stabilise_in(self, node, head)?;
+        relink_at(&mut self.nodes, node as usize, did.0);
+        Ok(outcome_of_candidate(did.1))
+    }
+
+    /// A member takes a nearer node as its first entry.
+    pub(crate) fn take_candidate(&mut self, node: u64, peer: u64) -> Result<Outcome, Refusal>
+        ensures answer { UpkeepIs (step.Candidate node peer) node self.old result self.new }
+        ensures step { Advances self.old result self.new }
+        ensures ring { KeepsRing self.old self.new }
+    {
+        if self.nodes.is_empty() {
+            return Err(Refusal::NotCreated);
+        }
+        let links = take_candidate_in(self, node, peer)?;
+        relink_at(&mut self.nodes, node as usize, links);
+        Ok(Outcome::Done)
+    }
+
+    /// A member drops its dead first entry.
+    pub(crate) fn drop_dead(&mut self, node: u64) -> Result<Outcome, Refusal>
+        ensures answer { UpkeepIs (step.DropDead node) node self.old result self.new }
+        ensures step { Advances self.old result self.new }
+        ensures ring { KeepsRing self.old self.new }
+    {
+        if self.nodes.is_empty() {
+            return Err(Refusal::NotCreated);
+        }
+        let links = drop_dead_in(self, node)?;
+        relink_at(&mut self.nodes, node as usize, links);
+        Ok(Outcome::Done)
+    }
+
+    /// A member hears of a member that may be its predecessor.
+    pub(crate) fn rectify(&mut self, node: u64, notifier: u64) -> Result<Outcome, Refusal>
+        ensures answer { UpkeepIs (step.Rectify node notifier) node self.old result self.new }
+        ensures step { Advances self.old result self.new }
+        ensures ring { KeepsRing self.old self.new }
+    {
+        if self.nodes.is_empty() {
+            return Err(Refusal::NotCreated);
+        }
+        let did = rectify_in(self, node, notifier)?;
+        relink_at(&mut self.nodes, node as usize, did.0);
+        Ok(Outcome::Done)
+    }
+}
