@@ -1,6 +1,6 @@
 //! Segments.
-ghost use Rattle.std.specs.Prelude.{◌≡◌, ◌+◌, ◌<◌, ◌≤◌, ◌↔◌, true, IsTrue, IsOk, IfOk, IfErr, OnOk, OnErr};
-ghost use Rattle.chord_ident.specs.Circle.{in_span};
+ghost use Rattle.std.specs.Prelude.{◌≡◌, ◌+◌, ◌^◌, ◌<◌, ◌≤◌, ◌↔◌, true, IsTrue, IsOk, IfOk, IfErr, OnOk, OnErr};
+ghost use Rattle.chord_ident.specs.Circle.{Splits, in_span};
 ghost use Rattle.chord_segment.specs.Marks.{mark_of};
 ghost use Rattle.chord_segment.specs.Segment.{id_of, empty_segment, past_at, append};
 ghost use Rattle.chord_segment.specs.Segment.Past.{New};
@@ -51,9 +51,10 @@ impl Segment {
 
     /// Its interval.
     pub fn span(&self) -> Span
-        ensures { result ≡ self.now.known.span }
+        ensures value { result ≡ self.now.known.span }
+        ensures circle { (result.after.number < 2 ^ 128) × (result.upto.number < 2 ^ 128) }
     {
-        self.span
+        Span::new(self.span.after, self.span.upto)
     }
 
     /// The caller's floor, 0 where there is none.
@@ -142,7 +143,8 @@ impl Segment {
 
     /// Cuts it: this one keeps the part before the place, and the part behind it is answered.
     pub fn split_off(&mut self, at: Id) -> Result<Segment, CutFault>
-        ensures { CutIs at self.old.known result self.new.known }
+        ensures answer { CutIs at self.old.known result self.new.known }
+        ensures split { OnOk result (Splits self.old.known.span.after.number at.number self.old.known.span.upto.number) }
     {
         let Ok((first, second)) = self.span.cut(at) else {
             return Err(CutFault::NotInside);
@@ -175,10 +177,12 @@ impl Segment {
         }
     }
 
-    /// Joins the next segment behind this one. Then nothing is kept in `next`.
+    /// Joins the next segment behind this one, and leaves it empty.
     pub fn absorb(&mut self, next: &mut Segment) -> Result<(), JoinFault>
         ensures answer { JoinIs self.old.known next.old.known result self.new.known }
         ensures err { OnErr result (next.new.known ≡ next.old.known) }
+        ensures left { OnOk result (next.new.known ≡ empty_segment next.old.known.span) }
+        ensures split { OnOk result (Splits self.old.known.span.after.number self.old.known.span.upto.number next.old.known.span.upto.number) }
     {
         let at = self.span.upto;
         if at != next.span.after {
@@ -201,6 +205,7 @@ impl Segment {
             Err(_) => unreachable!(),
         }
         raise_marks(&mut self.floors, &next.floors);
+        next.floors.clear();
         keep_above(&mut self.kept, &self.floors);
         self.span = whole;
         Ok(())

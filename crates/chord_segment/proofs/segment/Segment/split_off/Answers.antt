@@ -35,7 +35,7 @@ invariant_of-result c = subst IsSegment (sym (second c)) (part_of-rules (span_be
 pub invariant_of-self : goal.invariant_of-self
 invariant_of-self c = subst IsSegment (sym (first c)) (part_of-rules (span_before c.args.at c.self.inside.span) (old_of c) c.self.invariant)
 
-pub returns : goal.returns
-returns c =
+pub returns-clause-answer : goal.returns-clause-answer
+returns-clause-answer c =
     let cut : cuts c.self.inside.span c.args.at ≡ true = search rules in
     (subst (λ (s : SegmentOf). cuts s.span c.args.at ≡ true) (known c) cut, first c ∙ ap (before c.args.at) (known c), second c ∙ ap (behind c.args.at) (known c))
