@@ -1,6 +1,6 @@
 -- What the parts of a handover make together.
 use Rattle.std.proofs.Common.{◌≡◌, ℕ, zero, suc, ◌+◌, ◌-◌, ◌*◌, ◌<◌, ◌≤◌, Bool, true, false, cond, not, ◌&&◌, eqb, leb, Option, Some, None, List, [], ◌∷◌, ◌++◌, length, take, drop, get_or, Bor, is_some, append-nil, inl, inr, ⊎_elim, refl, sym, ◌∙◌, ap, ap₂, subst, arith, All, length-append, filter, find}
-use Rattle.std.specs.Prelude.{Any}
+use Rattle.std.specs.Prelude.{Any, Result, Ok, Err, OnErr}
 use Rattle.std.specs.List.{list_any}
 use Rattle.std.specs.Option.{option_or, option_copied}
 use Rattle.std.proofs.lemmas.Bool.{true≢false, and_parts, and_from, or_cases, cond-true, cond-false}
@@ -274,3 +274,8 @@ pub one_further : {A : Type 0} (P : A → Type 0) (xs : List A) (i : ℕ) (x : A
 one_further P xs i x within is before here y there =
     ⊎_elim (λ old. before y old) (λ same. subst P (is ∙ same) here)
     (has_pushed (take i xs) (get_or xs i x) y (subst (λ ys. Has ys y) (take_more xs i x within) there))
+
+-- what holds, holds where a call failed
+pub on_err : {A E : Type 0} (result : Result A E) (P : Type 0) → P → OnErr result P
+on_err (Ok x) P h = tt
+on_err (Err e) P h = h

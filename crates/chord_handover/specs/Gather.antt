@@ -31,6 +31,10 @@ Make ticket of parts (Whole parcelled) = IsWhole parts (handed ticket parcelled)
 abbrev pub GatherIs : Part → List Part → Gather → Type 0
 GatherIs part noted gather = Make (ticket_of_part part) part.of (gathered part noted) gather
 
+-- all places have their parts, which tell the same number: they make a parcel, or are unfit
+abbrev pub AreComplete : Part → List Part → Type 0
+AreComplete part noted = AreOf part.of (gathered part noted) × AreAllThere part.of (gathered part noted)
+
 -- the part of a place
 abbrev pub part_in : ℕ → List Part → Option Part
 part_in place parts = find (λ (part : Part). part.part == place) parts

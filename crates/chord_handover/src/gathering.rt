@@ -1,8 +1,8 @@
 //! Parts of a handover, put together.
-ghost use Rattle.std.specs.Prelude.{◌≡◌, ◌↔◌, ◌&&◌, ◌==◌, ◌++◌, not, All, IsTrue, IfOk, OnOk, List, length, filter, find, Some};
+ghost use Rattle.std.specs.Prelude.{◌≡◌, ◌↔◌, ◌&&◌, ◌==◌, ◌++◌, not, All, IsTrue, IfOk, OnOk, OnErr, List, length, filter, find, Some};
 ghost use Rattle.std.specs.List.{list_any};
 ghost use Rattle.std.specs.Option.{option_copied};
-ghost use Rattle.chord_handover.specs.Gather.{AreOf, AreAllThere, GatherIs, part_in, segment_of, pairs_upto};
+ghost use Rattle.chord_handover.specs.Gather.{AreOf, AreAllThere, AreComplete, GatherIs, part_in, segment_of, pairs_upto};
 ghost use Rattle.chord_handover.specs.Handover.{Part as PartOf, part_at, gathered, ticket_of_part};
 ghost use Rattle.chord_handover.specs.Known.{known_of};
 ghost use Rattle.chord_handover.specs.Parcelled.{handed};
@@ -18,7 +18,8 @@ use std::alloc::{AllocError, Global};
 
 /// What the noted parts of a part's handover make with that part.
 pub fn gather(alloc: Global, noted: &[Part], part: &Part) -> Result<Gather, AllocError>
-    ensures { IfOk result (λ gather. GatherIs part.now noted.now gather) }
+    ensures made { IfOk result (λ gather. GatherIs part.now noted.now gather) }
+    ensures complete { OnErr result (AreComplete part.now noted.now) }
 {
     if has_other_count(noted, part) {
         return Ok(Gather::Unfit);

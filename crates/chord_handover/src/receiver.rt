@@ -1,7 +1,7 @@
 //! Handovers that are taken whole.
-ghost use Rattle.std.specs.Prelude.{◌≡◌, ◌+◌, ◌<◌, ◌^◌, [], true, IfOk, OnOk, OnErr};
+ghost use Rattle.std.specs.Prelude.{◌≡◌, ◌+◌, ◌<◌, ◌^◌, [], true, false, IfOk, OnOk, OnErr};
 ghost use Rattle.chord_segment.specs.Marks.{mark_of};
-ghost use Rattle.chord_handover.specs.Gather.{GatherIs};
+ghost use Rattle.chord_handover.specs.Gather.{GatherIs, AreComplete};
 ghost use Rattle.chord_handover.specs.Taken.{nothing_taken, JudgeIs, marked, is_noted, with_noted};
 
 use crate::gather::Gather;
@@ -92,7 +92,8 @@ impl Taken {
     /// What the noted parts of a sender's next handover make with this one. Nothing is noted by it.
     pub fn whole_with(&self, part: &Part) -> Result<Gather, AllocError>
         requires { part.now.number ≡ mark_of part.now.from self.now.known.last + 1 }
-        ensures { IfOk result (λ gather. GatherIs part.now self.now.known.noted gather) }
+        ensures made { IfOk result (λ gather. GatherIs part.now self.now.known.noted gather) }
+        ensures complete { OnErr result (AreComplete part.now self.now.known.noted) }
     {
         let made = gather(*self.noted.allocator(), &self.noted, part)?;
         Ok(made)
@@ -103,6 +104,7 @@ impl Taken {
         requires { part.now.number ≡ mark_of part.now.from self.old.known.last + 1 }
         ensures ok { OnOk result (self.new.known ≡ with_noted part.now self.old.known) }
         ensures err { OnErr result (self.new.known ≡ self.old.known) }
+        ensures fresh { OnErr result (is_noted part.now self.old.known.noted ≡ false) }
     {
         if has_part(&self.noted, part) {
             return Ok(());

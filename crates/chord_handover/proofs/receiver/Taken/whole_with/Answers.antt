@@ -1,11 +1,19 @@
 use Rattle.std.proofs.Common.{List, ap, ◌∙◌, subst}
-use Rattle.chord_handover.specs.Gather.{GatherIs}
+use Rattle.chord_handover.specs.Gather.{GatherIs, AreComplete}
 use Rattle.chord_handover.specs.Handover.{Part}
 use Rattle.chord_handover.specs.Taken.{RoomyTaken}
+use Rattle.chord_handover.proofs.GatherRules.{on_err}
 use Rattle.chord_handover.proofs.receiver.Taken.whole_with.Goals as goal
 
-pub returns : goal.returns
-returns c =
+pub returns-clause-made : goal.returns-clause-made
+returns-clause-made c =
     subst (λ (noted : List Part). GatherIs c.args.part.now noted c.in_ok-made.made)
     (c.deref.ensures.value ∙ ap (λ (taken : RoomyTaken). taken.known.noted) c.self.view_is)
-    c.in_ok-made.ensures
+    c.in_ok-made.ensures.made
+
+pub returns-in_err-made-clause-complete : goal.returns-in_err-made-clause-complete
+returns-in_err-made-clause-complete c =
+    on_err c.from_residual.result (AreComplete c.args.part.now c.args.self.now.known.noted)
+    (subst (λ (noted : List Part). AreComplete c.args.part.now noted)
+    (c.deref.ensures.value ∙ ap (λ (taken : RoomyTaken). taken.known.noted) c.self.view_is)
+    c.in_err-made.ensures.complete)
