@@ -1,8 +1,8 @@
 -- Each step of a ring keeps it sound and keeps its principals.
-use Rattle.std.proofs.Common.{◌≡◌, ℕ, ◌+◌, ◌<◌, ◌≤◌, inl, inr, Bool, true, false, List, [], ◌∷◌, ◌++◌, length, drop, Some, arith, refl, ap, sym, subst, ◌∙◌, length-take}
+use Rattle.std.proofs.Common.{◌≡◌, ℕ, ◌+◌, ◌<◌, ◌≤◌, inl, inr, true, false, List, [], ◌∷◌, ◌++◌, length, drop, Some, arith, refl, ap, sym, subst, ◌∙◌, length-take}
 use Rattle.std.specs.Prelude.{is_some, IsSome, slice_get}
 use Rattle.std.specs.List.{AllByRecursion, Contains}
-use Rattle.std.proofs.lemmas.Bool.{false_from_ne_true, cond_both, true≢false}
+use Rattle.std.proofs.lemmas.Bool.{false_from_ne_true, cond_both}
 use Rattle.std.proofs.lemmas.Option.{same_Some}
 use Rattle.std.proofs.lemmas.List.{length-set, length_push}
 use Rattle.chord_ident.specs.Circle.{walk, IsBetween}
@@ -15,7 +15,7 @@ use Rattle.chord_links.proofs.Skipping.{Skips-behind_successor, Skips-joined, Sk
 use Rattle.chord_ring.specs.declared.ring_step.RingStep.{RingStep}
 use Rattle.chord_ring.specs.declared.ring_step.RingStep.TheVariants.{Join, Stabilise, Candidate, DropDead, Rectify}
 use Rattle.chord_ring.specs.Ring.{Members, links_of, is_member, first_live, KeepsPrincipals}
-use Rattle.chord_ring.specs.Steps.{Ring, Joins, Stabilises, TakesCandidate, DropsDead, Rectifies, Step, joined, behind, without_head, with_links, gives_way, is_live, rectified}
+use Rattle.chord_ring.specs.Steps.{Ring, Joins, Stabilises, TakesCandidate, DropsDead, Rectifies, Step, joined, behind, without_head, with_links, gives_way, is_live}
 use Rattle.chord_ring.proofs.Lookups.{Updates, Updates-set, Updates-push, member_within}
 use Rattle.chord_ring.specs.Sound.{IsKnown, IdsSound, LinksSound, IsSound}
 use Rattle.chord_ring.proofs.Peers.{each_take, each_rising_front, OnCircle-known, first_and_rest, live_first, Rises-past_less, slice_get-push_old, slice_get-push_new, IdsSound-push}
@@ -242,71 +242,14 @@ Kept-step old new (Candidate node peer) sound step = Kept-takes_candidate old no
 Kept-step old new (DropDead node) sound step = Kept-drops_dead old node new sound step
 Kept-step old new (Rectify node notifier) sound step = Kept-rectifies old node notifier new sound step
 
--- links stored behind those of the first entry are a step, which keeps the ring sound and its principals
-pub stored_stabilised : (old now : Ring) (node head : ℕ) (links theirs after : NodeLinks) → IsSound old → old ≡ now → Some links ≡ links_of now.members node
-    → Some theirs ≡ links_of now.members head → first_entry links ≡ theirs.me → after ≡ behind links theirs
-    → Stabilises now node head (with_links old node after) × IsSound (with_links old node after) × KeepsPrincipals now.members (with_links old node after).members
-stored_stabilised old now node head links theirs after sound same is_its is_live is_first stored =
-    let step : Stabilises now node head (with_links old node after) =
-    record {
-      links = links;
-      theirs = theirs;
-      is_its = sym is_its;
-      is_live = sym is_live;
-      is_first = is_first;
-      result = ap (λ (r : Ring). with_links r node after) same ∙ ap (with_links now node) stored;
-    } in
-    let kept = Kept-stabilises now node head (with_links old node after) (subst IsSound same sound) step in
-    (step, kept.sound, kept.principals)
-
-pub stored_candidate : (old now : Ring) (node peer : ℕ) (links theirs after : NodeLinks) → IsSound old → old ≡ now → Some links ≡ links_of now.members node
-    → Some theirs ≡ links_of now.members peer → IsBetween links.me.id.number theirs.me.id.number (first_entry links).id.number → after ≡ behind links theirs
-    → TakesCandidate now node peer (with_links old node after) × IsSound (with_links old node after) × KeepsPrincipals now.members (with_links old node after).members
-stored_candidate old now node peer links theirs after sound same is_its is_live is_between stored =
-    let step : TakesCandidate now node peer (with_links old node after) =
-    record {
-      links = links;
-      theirs = theirs;
-      is_its = sym is_its;
-      is_live = sym is_live;
-      is_between = is_between;
-      result = ap (λ (r : Ring). with_links r node after) same ∙ ap (with_links now node) stored;
-    } in
-    let kept = Kept-takes_candidate now node peer (with_links old node after) (subst IsSound same sound) step in
-    (step, kept.sound, kept.principals)
-
-pub stored_without_head : (old now : Ring) (node : ℕ) (links after : NodeLinks) (live : Bool) → IsSound old → old ≡ now → Some links ≡ links_of now.members node
-    → live ≡ is_member now.members (first_entry links).no → live ≡ false → after ≡ without_head links
-    → DropsDead now node (with_links old node after) × IsSound (with_links old node after) × KeepsPrincipals now.members (with_links old node after).members
-stored_without_head old now node links after live sound same is_its asked dead stored =
-    let step : DropsDead now node (with_links old node after) =
-    record {
-      links = links;
-      is_its = sym is_its;
-      is_dead = λ alive. true≢false (sym alive ∙ sym asked ∙ dead);
-      result = ap (λ (r : Ring). with_links r node after) same ∙ ap (with_links now node) stored;
-    } in
-    let kept = Kept-drops_dead now node (with_links old node after) (subst IsSound same sound) step in
-    (step, kept.sound, kept.principals)
-
-pub stored_rectified : (old now : Ring) (node notifier : ℕ) (links theirs after : NodeLinks) (live did : Bool) → IsSound old → old ≡ now
-    → Some links ≡ links_of now.members node → Some theirs ≡ links_of now.members notifier → live ≡ is_live now.members links.predecessor
-    → did ≡ gives_way links.me theirs.me live links.predecessor → after ≡ rectified links theirs.me did
-    → Rectifies now node notifier (with_links old node after) × IsSound (with_links old node after) × KeepsPrincipals now.members (with_links old node after).members
-stored_rectified old now node notifier links theirs after live did sound same is_its is_theirs asked answered stored =
-    let step : Rectifies now node notifier (with_links old node after) =
-    record {
-      links = links;
-      theirs = theirs;
-      is_its = sym is_its;
-      is_theirs = sym is_theirs;
-      result =
-          ap (λ (r : Ring). with_links r node after) same
-          ∙ ap (with_links now node)
-          (stored ∙ ap (rectified links theirs.me) (answered ∙ ap (λ (l : Bool). gives_way links.me theirs.me l links.predecessor) asked));
-    } in
-    let kept = Kept-rectifies now node notifier (with_links old node after) (subst IsSound same sound) step in
-    (step, kept.sound, kept.principals)
+-- storing what a step makes of a member's links keeps the ring sound and its principals
+pub stored : (old now : Ring) (node : ℕ) (after : NodeLinks) → IsSound old → old ≡ now → (step : RingStep) × Step now step (with_links now node after)
+    → IsSound (with_links old node after) × KeepsPrincipals now.members (with_links old node after).members
+stored old now node after sound same (step, done) =
+    let kept = Kept-step now (with_links now node after) step (subst IsSound same sound) done in (
+      subst (λ (ring : Ring). IsSound (with_links ring node after)) (sym same) kept.sound,
+      subst (λ (ring : Ring). KeepsPrincipals now.members (with_links ring node after).members) (sym same) kept.principals,
+    )
 
 pub stored_joined : (old now new : Ring) (id pred number : ℕ) (links after : NodeLinks) → IsSound old → old ≡ now → Some links ≡ links_of now.members pred
     → id < circle → ¬ (Contains old.ids id) → IsBetween links.me.id.number id (first_entry links).id.number → number ≡ length old.ids

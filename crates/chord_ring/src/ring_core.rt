@@ -2,15 +2,16 @@
 ghost use Rattle.std.specs.Prelude.{◌≡◌, ◌<◌, ◌≤◌, ◌↔◌, length, IsTrue, IfOk, IfErr, OnOk, OnErr, None, Some, map, ◌≢◌};
 ghost use Rattle.std.specs.List.{Contains};
 ghost use Rattle.chord_ring.specs.Ring.{links_of, is_member, IsSettled, CanDepart, KeepsPrincipals, IsOneRing};
-ghost use Rattle.chord_ring.specs.Steps.{founded, without, Stabilises, TakesCandidate, DropsDead, Rectifies, Joins, Step, is_live};
-ghost use Rattle.chord_ring.specs.Refusals.{StabiliseRefused, CandidateRefused, DropRefused, RectifyRefused, JoinRefused, Refused, IsCandidate, GaveWay, Did};
+ghost use Rattle.chord_ring.specs.Steps.{founded, without, with_links, Joins, Step};
+ghost use Rattle.chord_ring.specs.declared.ring_step.RingStep.{RingStep};
+ghost use Rattle.chord_ring.specs.Refusals.{AreOwn, JoinRefused, Refused, Did};
 
-use crate::departing::can_depart_among;
+use crate::departing::can_depart_in;
+use crate::members::MemberReader;
 use crate::ring_fault::RingFault;
 use crate::ring_step::{RingDid, RingStep};
-use crate::steps::{
-    CandidateFault, StabiliseFault, drop_dead, join_behind, rectify, stabilise, take_candidate,
-};
+use crate::steps::join_behind;
+use crate::upkeep::{drop_dead_in, rectify_in, stabilise_in, take_candidate_in};
 use chord_ident::Id;
 use chord_links::{Links, Peer};
 use std::alloc::{AllocError, Global};
@@ -61,27 +62,14 @@ impl RingCore {
     pub fn can_depart(&self, no: u64) -> bool
         ensures { IsTrue result ↔ CanDepart self.now.ring.members no }
     {
-        can_depart_among(&self.members, no)
-    }
-
-    /// Whether the peer, if there is one, is live.
-    fn is_live(&self, peer: Option<Peer>) -> bool
-        ensures { result ≡ is_live self.now.ring.members peer }
-    {
-        match peer {
-            Some(peer) => self.is_member(peer.no),
-            None => false,
-        }
+        can_depart_in(self, no)
     }
 
     /// The links of a member.
     pub fn links(&self, no: u64) -> Option<Links>
         ensures { result ≡ links_of self.now.ring.members no }
     {
-        match self.members.get(no as usize) {
-            Some(Some(links)) => Some(*links),
-            _ => None,
-        }
+        self.member(no).copied()
     }
 
     /// A ring of one node, whose list has itself alone.
@@ -107,83 +95,14 @@ impl RingCore {
         self.members[no as usize] = None;
     }
 
-    /// A member copies the list of its first entry.
-    fn stabilise(&mut self, no: u64, head: u64) -> Result<Option<Peer>, RingFault>
-        ensures done { OnOk result (Stabilises self.old.ring no head self.new.ring) }
-        ensures candidate { IfOk result (λ candidate. IsCandidate self.old.ring no head candidate) }
-        ensures fault { IfErr result (λ fault. StabiliseRefused self.old.ring no head fault) }
-        ensures kept { OnErr result (self.new.ring ≡ self.old.ring) }
+    /// Stores what a step makes of a member's links.
+    fn store(&mut self, no: u64, links: Links)
+        requires own { AreOwn self.old.ring no links }
+        requires step { (step : RingStep) × Step self.old.ring step (with_links self.old.ring no links) }
+        ensures stored { self.new.ring ≡ with_links self.old.ring no links }
         ensures principals { KeepsPrincipals self.old.ring.members self.new.ring.members }
     {
-        let Some(mut links) = self.links(no) else {
-            return Err(RingFault::NoSuchNode);
-        };
-        if head as usize >= self.members.len() {
-            return Err(RingFault::NoSuchNode);
-        }
-        let Some(theirs) = self.links(head) else {
-            return Err(RingFault::Stabilise(StabiliseFault::HeadDead));
-        };
-        let candidate = stabilise(&mut links, &theirs, true).map_err(RingFault::Stabilise)?;
         self.members[no as usize] = Some(links);
-        Ok(candidate)
-    }
-
-    /// A member takes a nearer live node as its first entry.
-    fn take_candidate(&mut self, no: u64, peer: u64) -> Result<(), RingFault>
-        ensures done { OnOk result (TakesCandidate self.old.ring no peer self.new.ring) }
-        ensures fault { IfErr result (λ fault. CandidateRefused self.old.ring no peer fault) }
-        ensures kept { OnErr result (self.new.ring ≡ self.old.ring) }
-        ensures principals { KeepsPrincipals self.old.ring.members self.new.ring.members }
-    {
-        let Some(mut links) = self.links(no) else {
-            return Err(RingFault::NoSuchNode);
-        };
-        if peer as usize >= self.members.len() {
-            return Err(RingFault::NoSuchNode);
-        }
-        let Some(theirs) = self.links(peer) else {
-            return Err(RingFault::Candidate(CandidateFault::Dead));
-        };
-        take_candidate(&mut links, &theirs, true).map_err(RingFault::Candidate)?;
-        self.members[no as usize] = Some(links);
-        Ok(())
-    }
-
-    /// A member drops its first entry, which is dead.
-    fn drop_dead(&mut self, no: u64) -> Result<(), RingFault>
-        ensures done { OnOk result (DropsDead self.old.ring no self.new.ring) }
-        ensures fault { IfErr result (λ fault. DropRefused self.old.ring no fault) }
-        ensures kept { OnErr result (self.new.ring ≡ self.old.ring) }
-        ensures principals { KeepsPrincipals self.old.ring.members self.new.ring.members }
-    {
-        let Some(mut links) = self.links(no) else {
-            return Err(RingFault::NoSuchNode);
-        };
-        let live = self.is_member(links.first().no);
-        drop_dead(&mut links, live).map_err(RingFault::Drop)?;
-        self.members[no as usize] = Some(links);
-        Ok(())
-    }
-
-    /// A member hears of a member that may be its predecessor; answers whether it is now.
-    fn rectify(&mut self, no: u64, notifier: u64) -> Result<bool, RingFault>
-        ensures done { OnOk result (Rectifies self.old.ring no notifier self.new.ring) }
-        ensures answer { IfOk result (λ did. GaveWay self.old.ring no notifier did) }
-        ensures fault { IfErr result (λ fault. RectifyRefused self.old.ring no notifier fault) }
-        ensures kept { OnErr result (self.new.ring ≡ self.old.ring) }
-        ensures principals { KeepsPrincipals self.old.ring.members self.new.ring.members }
-    {
-        let Some(mut links) = self.links(no) else {
-            return Err(RingFault::NoSuchNode);
-        };
-        let Some(theirs) = self.links(notifier) else {
-            return Err(RingFault::NoSuchNode);
-        };
-        let live = self.is_live(links.predecessor());
-        let did = rectify(&mut links, theirs.me(), live);
-        self.members[no as usize] = Some(links);
-        Ok(did)
     }
 
     /// Makes room for one more node.
@@ -225,6 +144,7 @@ impl RingCore {
 
     /// One step of the ring.
     pub fn step(&mut self, step: RingStep) -> Result<RingDid, RingFault>
+        ensures room { IsTrue self.old.has_room → IfErr result (λ fault. fault ≢ RingFault.Memory) }
         ensures done { OnOk result (Step self.old.ring step self.new.ring) }
         ensures did { IfOk result (λ did. Did self.old.ring step did) }
         ensures fault { IfErr result (λ fault. Refused self.old.ring step fault) }
@@ -233,20 +153,42 @@ impl RingCore {
     {
         match step {
             RingStep::Join(id, behind) => Ok(RingDid::Joined(self.join(id, behind)?)),
-            RingStep::Stabilise(no, head) => Ok(RingDid::Candidate(self.stabilise(no, head)?)),
+            RingStep::Stabilise(no, head) => {
+                let did = stabilise_in(self, no, head)?;
+                self.store(no, did.0);
+                Ok(RingDid::Candidate(did.1))
+            }
             RingStep::Candidate(no, peer) => {
-                self.take_candidate(no, peer)?;
+                let links = take_candidate_in(self, no, peer)?;
+                self.store(no, links);
                 Ok(RingDid::Done)
             }
             RingStep::DropDead(no) => {
-                self.drop_dead(no)?;
+                let links = drop_dead_in(self, no)?;
+                self.store(no, links);
                 Ok(RingDid::Done)
             }
             RingStep::Rectify(no, notifier) => {
-                let _did = self.rectify(no, notifier)?;
+                let did = rectify_in(self, no, notifier)?;
+                self.store(no, did.0);
                 Ok(RingDid::Done)
             }
         }
+    }
+}
+
+impl MemberReader for RingCore {
+    ghost ring = { λ core. core.ring };
+
+    fn member(&self, no: u64) -> Option<&Links> {
+        match self.members.get(no as usize) {
+            Some(Some(links)) => Some(links),
+            _ => None,
+        }
+    }
+
+    fn count(&self) -> u64 {
+        self.members.len() as u64
     }
 }
 

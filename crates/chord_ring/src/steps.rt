@@ -2,7 +2,7 @@
 ghost use Rattle.std.specs.Prelude.{◌≡◌, ◌<◌, ◌↔◌, length, IsTrue, IsOk, IfOk, IfErr, OnOk, OnErr, true, false};
 ghost use Rattle.chord_ident.specs.Circle.{IsBetween};
 ghost use Rattle.chord_links.specs.NodeLinks.{first_entry};
-ghost use Rattle.chord_ring.specs.Steps.{is_between, joined, behind, without_head, candidate_of, gives_way, rectified};
+ghost use Rattle.chord_ring.specs.Steps.{joined, behind, without_head, candidate_of, gives_way, rectified};
 
 use chord_ident::{Id, between};
 use chord_links::{Links, Peer, SuccList};
@@ -40,13 +40,6 @@ pub enum DropFault {
     Empty,
 }
 
-/// Whether an identifier lies between two others, going clockwise.
-fn lies_between(after: Id, x: Id, upto: Id) -> bool
-    ensures { result ≡ is_between after x upto }
-{
-    between(after, x, upto)
-}
-
 /// The links of a new node behind its predecessor.
 pub fn join_behind(new: Peer, pred: &Links) -> Result<Links, NotBetween>
     ensures variant { IsOk result ↔
@@ -73,14 +66,16 @@ pub fn stabilise(me: &mut Links, head: &Links, live: bool) -> Result<Option<Peer
     if !live {
         return Err(StabiliseFault::HeadDead);
     }
-    if me.first() != head.me() {
+    let own = me.me();
+    let first = head.me();
+    if me.first() != first {
         return Err(StabiliseFault::NotHead);
     }
     let candidate = match head.predecessor() {
-        Some(peer) if lies_between(me.me().id, peer.id, head.me().id) => Some(peer),
+        Some(peer) if between(own.id, peer.id, first.id) => Some(peer),
         _ => None,
     };
-    let list = SuccList::behind_successor(me.me(), me.r(), head.me(), head.list());
+    let list = SuccList::behind_successor(own, me.r(), first, head.list());
     me.set_list(list);
     Ok(candidate)
 }
@@ -129,8 +124,7 @@ pub fn rectify(me: &mut Links, notifier: Peer, predecessor_live: bool) -> bool
 {
     let gives = match me.predecessor() {
         None => true,
-        Some(predecessor) => !predecessor_live
-            || lies_between(predecessor.id, notifier.id, me.me().id),
+        Some(predecessor) => !predecessor_live || between(predecessor.id, notifier.id, me.me().id),
     };
     if gives {
         me.set_predecessor(Some(notifier));
