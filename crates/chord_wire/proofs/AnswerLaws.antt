@@ -332,7 +332,7 @@ next_takes bytes x fits e =
     let a = bind_ok (body_at 11 4098014 bytes) answer_of_body (Some x) e in
     after_body bytes a.0 x fits a.1 a.2
 
-next_again : (a : Answer) (rest : List ℕ) → IsAnswer a → next_answer (frame (answer_body a) ++ rest) ≡ Ok (Some (a, rest))
+pub next_again : (a : Answer) (rest : List ℕ) → IsAnswer a → next_answer (frame (answer_body a) ++ rest) ≡ Ok (Some (a, rest))
 unfolding next_answer
 next_again a rest fits =
     let len = length_answer a fits in

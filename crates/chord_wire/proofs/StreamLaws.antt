@@ -1,47 +1,60 @@
--- A stream spells one list of requests.
-use Rattle.std.proofs.Common.{◌≡◌, ℕ, List, [], ◌∷◌, ◌++◌, Some, Ok, sym, ap, ap₂, refl, ◌∙◌, append_assoc, length, arith}
-use Rattle.std.specs.List.{flat_map}
+-- A stream spells one list of requests, or one of answers.
+use Rattle.std.proofs.Common.{◌≡◌, ℕ, List, [], ◌∷◌, ◌++◌, Some, Ok, Option, Result, sym, ap, ap₂, refl, ◌∙◌, append_assoc, length, arith}
+use Rattle.std.specs.List.{flat_map, AllByRecursion}
 use Rattle.std.proofs.lemmas.List.Concat.{flat_map-cons}
-use Rattle.chord_wire.specs.declared.request.WireRequest.{WireRequest}
-use Rattle.chord_wire.specs.Spelling.{IsWireRequest}
-use Rattle.chord_wire.specs.Reading.{next_request}
-use Rattle.chord_wire.specs.Streams.{request_frame, Spells, HasNoNext}
-use Rattle.chord_wire.proofs.RequestLaws.{next_again, some_is}
+use Rattle.std.proofs.lemmas.List.{append-nil}
+use Rattle.chord_wire.specs.declared.fault.WireFault.{WireFault}
 
--- the first of some requests is next
-pub first_is_next : (r : WireRequest) (requests : List WireRequest) (rest : List ℕ) → IsWireRequest r → next_request (flat_map request_frame (r ∷ requests) ++ rest) ≡ Ok (Some (r, flat_map request_frame requests ++ rest))
-first_is_next r requests rest fits =
-    ap (λ (bytes : List ℕ). next_request (bytes ++ rest)) (flat_map-cons request_frame r requests)
-    ∙ ap next_request (append_assoc (request_frame r) (flat_map request_frame requests) rest)
-    ∙ next_again r (flat_map request_frame requests ++ rest) fits
+-- what has a frame is read from the front of the bytes
+module _ {X : Type 0} (Fits : X → Type 0) (text : X → List ℕ) (next : List ℕ → Result (Option (X × List ℕ)) WireFault)
+    (again : (x : X) (rest : List ℕ) → Fits x → next (text x ++ rest) ≡ Ok (Some (x, rest))) where
+  abbrev found : X × List ℕ → Result (Option (X × List ℕ)) WireFault
+  found x = Ok (Some x)
 
-abbrev Same : List WireRequest → List WireRequest → List ℕ → List ℕ → Type 0
-Same rs ss rest rest' = (rs ≡ ss) × (rest ≡ rest')
+  same_found : (x y : X × List ℕ) → found x ≡ found y → x ≡ y
+  same_found x y e = cc
 
--- both begin with one request
-same_first : (r s : WireRequest) (rs ss : List WireRequest) (bytes rest rest' : List ℕ) → Spells bytes (r ∷ rs) rest → Spells bytes (s ∷ ss) rest' → (r ≡ s) × (flat_map request_frame rs ++ rest ≡ flat_map request_frame ss ++ rest')
-same_first r s rs ss bytes rest rest' p q =
-    let one = ap next_request p.parts ∙ first_is_next r rs rest p.each.0 in
-    let other = ap next_request q.parts ∙ first_is_next s ss rest' q.each.0 in
-    let same = some_is (r, flat_map request_frame rs ++ rest) (s, flat_map request_frame ss ++ rest') (sym one ∙ other) in
-    (ap (λ (x : WireRequest × List ℕ). x.0) same, ap (λ (x : WireRequest × List ℕ). x.1) same)
+  -- the first of some is next
+  first_is_next : (x : X) (xs : List X) (rest : List ℕ) → Fits x → next (flat_map text (x ∷ xs) ++ rest) ≡ Ok (Some (x, flat_map text xs ++ rest))
+  first_is_next x xs rest fits =
+      ap (λ (bytes : List ℕ). next (bytes ++ rest)) (flat_map-cons text x xs)
+      ∙ ap next (append_assoc (text x) (flat_map text xs) rest)
+      ∙ again x (flat_map text xs ++ rest) fits
 
-pub one_reading : (rs ss : List WireRequest) (bytes rest rest' : List ℕ) → Spells bytes rs rest → HasNoNext rest → Spells bytes ss rest' → HasNoNext rest' → Same rs ss rest rest'
-one_reading [] [] bytes rest rest' p pn q qn = (refl, sym p.parts ∙ q.parts)
-one_reading [] (s ∷ ss) bytes rest rest' p pn q qn =
-    absurd (pn s (flat_map request_frame ss ++ rest') (ap next_request (sym p.parts ∙ q.parts) ∙ first_is_next s ss rest' q.each.0))
-one_reading (r ∷ rs) [] bytes rest rest' p pn q qn =
-    absurd (qn r (flat_map request_frame rs ++ rest) (ap next_request (sym q.parts ∙ p.parts) ∙ first_is_next r rs rest p.each.0))
-one_reading (r ∷ rs) (s ∷ ss) bytes rest rest' p pn q qn =
-    let first = same_first r s rs ss bytes rest rest' p q in
-    let more = one_reading rs ss (flat_map request_frame rs ++ rest) rest rest' (record { each = p.each.1; parts = refl }) pn (record { each = q.each.1; parts = first.1 }) qn in
-    (ap₂ (λ (x : WireRequest) (xs : List WireRequest). x ∷ xs) first.0 more.0, more.1)
+  abbrev pub Said : List ℕ → List X → List ℕ → Type 0
+  Said bytes xs rest = AllByRecursion Fits xs × (bytes ≡ flat_map text xs ++ rest)
 
-pub same_count : (rs ss : List WireRequest) (bytes rest rest' : List ℕ) → Spells bytes rs rest → Spells bytes ss rest' → length rs ≡ length ss → Same rs ss rest rest'
-same_count [] [] bytes rest rest' p q e = (refl, sym p.parts ∙ q.parts)
-same_count [] (s ∷ ss) bytes rest rest' p q e = absurd (omega (arith, e))
-same_count (r ∷ rs) [] bytes rest rest' p q e = absurd (omega (arith, e))
-same_count (r ∷ rs) (s ∷ ss) bytes rest rest' p q e =
-    let first = same_first r s rs ss bytes rest rest' p q in
-    let more = same_count rs ss (flat_map request_frame rs ++ rest) rest rest' (record { each = p.each.1; parts = refl }) (record { each = q.each.1; parts = first.1 }) (omega (arith, e)) in
-    (ap₂ (λ (x : WireRequest) (xs : List WireRequest). x ∷ xs) first.0 more.0, more.1)
+  abbrev pub IsLast : List ℕ → Type 0
+  IsLast rest = (x : X) (behind : List ℕ) → next rest ≡ Ok (Some (x, behind)) → ⊥
+
+  -- both begin with one
+  same_first : (x y : X) (xs ys : List X) (bytes rest rest' : List ℕ) → Said bytes (x ∷ xs) rest → Said bytes (y ∷ ys) rest' → (x ≡ y) × (flat_map text xs ++ rest ≡ flat_map text ys ++ rest')
+  same_first x y xs ys bytes rest rest' p q =
+      let one = ap next p.1 ∙ first_is_next x xs rest p.0.0 in
+      let other = ap next q.1 ∙ first_is_next y ys rest' q.0.0 in
+      let same = same_found (x, flat_map text xs ++ rest) (y, flat_map text ys ++ rest') (sym one ∙ other) in
+      (ap (λ (z : X × List ℕ). z.0) same, ap (λ (z : X × List ℕ). z.1) same)
+
+  pub one : (xs ys : List X) (bytes rest rest' : List ℕ) → Said bytes xs rest → IsLast rest → Said bytes ys rest' → IsLast rest' → (xs ≡ ys) × (rest ≡ rest')
+  one [] [] bytes rest rest' p pn q qn = (refl, sym p.1 ∙ q.1)
+  one [] (y ∷ ys) bytes rest rest' p pn q qn = absurd (pn y (flat_map text ys ++ rest') (ap next (sym p.1 ∙ q.1) ∙ first_is_next y ys rest' q.0.0))
+  one (x ∷ xs) [] bytes rest rest' p pn q qn = absurd (qn x (flat_map text xs ++ rest) (ap next (sym q.1 ∙ p.1) ∙ first_is_next x xs rest p.0.0))
+  one (x ∷ xs) (y ∷ ys) bytes rest rest' p pn q qn =
+      let first = same_first x y xs ys bytes rest rest' p q in
+      let more = one xs ys (flat_map text xs ++ rest) rest rest' (p.0.1, refl) pn (q.0.1, first.1) qn in
+      (ap₂ (λ (z : X) (zs : List X). z ∷ zs) first.0 more.0, more.1)
+
+  pub counted : (xs ys : List X) (bytes rest rest' : List ℕ) → Said bytes xs rest → Said bytes ys rest' → length xs ≡ length ys → (xs ≡ ys) × (rest ≡ rest')
+  counted [] [] bytes rest rest' p q e = (refl, sym p.1 ∙ q.1)
+  counted [] (y ∷ ys) bytes rest rest' p q e = absurd (omega (arith, e))
+  counted (x ∷ xs) [] bytes rest rest' p q e = absurd (omega (arith, e))
+  counted (x ∷ xs) (y ∷ ys) bytes rest rest' p q e =
+      let first = same_first x y xs ys bytes rest rest' p q in
+      let more = counted xs ys (flat_map text xs ++ rest) rest rest' (p.0.1, refl) (q.0.1, first.1) (omega (arith, e)) in
+      (ap₂ (λ (z : X) (zs : List X). z ∷ zs) first.0 more.0, more.1)
+
+  -- no frame begins another
+  pub alone : (x y : X) (more : List ℕ) → Fits x → Fits y → text x ++ more ≡ text y → (x ≡ y) × (more ≡ [])
+  alone x y more x_fits y_fits e =
+      let same = same_found (x, more) (y, []) (sym (again x more x_fits) ∙ ap next (e ∙ sym (append-nil (text y))) ∙ again y [] y_fits) in
+      (ap (λ (z : X × List ℕ). z.0) same, ap (λ (z : X × List ℕ). z.1) same)

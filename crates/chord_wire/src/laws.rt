@@ -1,10 +1,12 @@
 //! What is true of all streams, with no code.
-ghost use Rattle.std.specs.Prelude.{◌≡◌, ◌≤◌, ◌++◌, List, ℕ, length};
+ghost use Rattle.std.specs.Prelude.{◌≡◌, ◌≤◌, ◌++◌, List, [], ℕ, length};
 ghost use Rattle.chord_wire.specs.declared.request.WireRequest.{WireRequest};
 ghost use Rattle.chord_wire.specs.Reading.{IsDecided, with_more, next_request};
 ghost use Rattle.chord_wire.specs.ReadingReplies.{next_answer};
-ghost use Rattle.chord_wire.specs.Streams.{Spells, HasNoNext};
-ghost use Rattle.chord_wire.specs.Replies.{AreValues};
+ghost use Rattle.chord_wire.specs.declared.answer.Answer.{Answer};
+ghost use Rattle.chord_wire.specs.Spelling.{IsWireRequest};
+ghost use Rattle.chord_wire.specs.Streams.{Spells, SpellsAnswers, HasNoNext, HasNoNextAnswer, request_frame, answer_frame};
+ghost use Rattle.chord_wire.specs.Replies.{AreValues, IsAnswer};
 ghost use Rattle.chord_map.specs.declared.pair.Pair.{Pair};
 ghost use Rattle.chord_map.specs.Map.{values_at};
 ghost use Rattle.chord_map.specs.Pairs.{IsRising};
@@ -17,10 +19,18 @@ pub fn cuts_do_not_matter()
     ensures answers { (bytes more : List ℕ) → IsDecided (next_answer bytes) → next_answer (bytes ++ more) ≡ with_more more (next_answer bytes) }
 {}
 
-/// A stream spells one list of requests: up to where none is next, and up to any count.
+/// A stream spells one list of requests, or of answers: up to where none is next, and up to any count.
 pub fn one_reading()
     ensures ended { (bytes : List ℕ) (rs ss : List WireRequest) (rest rest' : List ℕ) → Spells bytes rs rest → HasNoNext rest → Spells bytes ss rest' → HasNoNext rest' → (rs ≡ ss) × (rest ≡ rest') }
     ensures same_count { (bytes : List ℕ) (rs ss : List WireRequest) (rest rest' : List ℕ) → Spells bytes rs rest → Spells bytes ss rest' → length rs ≡ length ss → (rs ≡ ss) × (rest ≡ rest') }
+    ensures answers_ended { (bytes : List ℕ) (xs ys : List Answer) (rest rest' : List ℕ) → SpellsAnswers bytes xs rest → HasNoNextAnswer rest → SpellsAnswers bytes ys rest' → HasNoNextAnswer rest' → (xs ≡ ys) × (rest ≡ rest') }
+    ensures answers_same_count { (bytes : List ℕ) (xs ys : List Answer) (rest rest' : List ℕ) → SpellsAnswers bytes xs rest → SpellsAnswers bytes ys rest' → length xs ≡ length ys → (xs ≡ ys) × (rest ≡ rest') }
+{}
+
+/// No frame begins another, nor is it the frame of another request or answer.
+pub fn no_frame_begins_another()
+    ensures requests { (r s : WireRequest) (more : List ℕ) → IsWireRequest r → IsWireRequest s → request_frame r ++ more ≡ request_frame s → (r ≡ s) × (more ≡ []) }
+    ensures answers { (x y : Answer) (more : List ℕ) → IsAnswer x → IsAnswer y → answer_frame x ++ more ≡ answer_frame y → (x ≡ y) × (more ≡ []) }
 {}
 
 /// The values that a map of sets has under a key, at most 1,000 of at most 4,096 bytes, have a frame.

@@ -1,7 +1,9 @@
 //! Worked frames.
 
+mod growths;
+
 use crate::{
-    Answer, Answers, FaultCode, Frames, WireFault, WireRequest, is_writable, write_fault,
+    Answer, Answers, FaultCode, Frames, WireFault, WireRequest, is_writable, laws, write_fault,
     write_reply, write_request, write_request_2,
 };
 use chord_map::{Bytes, Reply, Request, Values};
@@ -286,6 +288,7 @@ fn faults_are_read_back(rt: HostRuntime) -> Result<(), Fail> {
                 assert_eq!(rt; known, told);
                 assert_eq!(rt; known.to_number(), code);
                 assert_eq!(rt; number, 1);
+                assert_ne!(rt; known, FaultCode::Memory);
                 assert_eq!(rt; write_fault(alloc, 1, known)?.as_slice(), bytes.as_slice());
             }
             (None, Err(fault)) => {
@@ -311,4 +314,12 @@ fn the_longest_request_is_read_back(rt: HostRuntime) -> Result<(), Fail> {
     assert_eq!(rt; wire.number, 17);
     assert_eq!(rt; wire.floor, 1);
     Ok(())
+}
+
+#[test]
+fn laws_are_called() {
+    laws::cuts_do_not_matter();
+    laws::one_reading();
+    laws::no_frame_begins_another();
+    laws::values_of_a_map_have_a_frame();
 }

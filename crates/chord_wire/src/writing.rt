@@ -1,5 +1,5 @@
 //! Writing frames, each into one buffer of its length.
-ghost use Rattle.std.specs.Prelude.{◌≡◌, ◌<◌, ◌^◌, IfOk};
+ghost use Rattle.std.specs.Prelude.{◌≡◌, ◌≢◌, ◌<◌, ◌^◌, IfOk};
 ghost use Rattle.std.specs.Int.{w32, to_be_bytes};
 ghost use Rattle.chord_map.specs.Checked.{IsRequest};
 ghost use Rattle.chord_wire.specs.Spelling.{IsWireRequest, frame, request_body, version_1, version_2};
@@ -70,8 +70,9 @@ pub fn write_reply(alloc: Global, number: u64, reply: &Reply) -> Result<Vec<u8>,
     Ok(out)
 }
 
-/// The frame of a fault.
+/// The frame of a fault. No reader takes one that says out of memory.
 pub fn write_fault(alloc: Global, number: u64, code: FaultCode) -> Result<Vec<u8>, AllocError>
+    requires { code ≢ FaultCode.Memory }
     ensures { IfOk result (λ out. out.items ≡ frame (fault_body number code)) }
 {
     let mut out = begin(alloc, HEAD_BYTES + 1)?;
