@@ -1,11 +1,14 @@
 //! What holds of every world that some steps lead to. These functions do nothing: their contracts are the theorem.
-ghost use Rattle.std.specs.Prelude.{◌≡◌, ◌≢◌, ℕ, ◌+◌, ◌^◌, ◌<◌, Some, [], Contains};
+ghost use Rattle.std.specs.Prelude.{◌≡◌, ◌≢◌, ℕ, ◌+◌, ◌^◌, ◌<◌, Some, [], Contains, Ok};
 ghost use Rattle.chord_caller.specs.Caller.{Caller};
 ghost use Rattle.chord_handover.specs.declared.ticket.Ticket.{Ticket};
 ghost use Rattle.chord_handover.specs.Handover.{Handover, Part, IsWhole, gathered, Item, item_at};
 ghost use Rattle.chord_node.specs.Headline.{MeetsNone, AllApart, Headline, KeepNoneTwice, SeenFirst};
 ghost use Rattle.chord_node.specs.declared.message.Message.TheVariants.{Part as PartMessage, Declined as DeclinedMessage};
+ghost use Rattle.chord_node.specs.declared.given.Back.TheVariants as back;
+ghost use Rattle.chord_node.specs.declared.given.Given.TheVariants as given;
 ghost use Rattle.chord_node.specs.Node.{Node};
+ghost use Rattle.chord_node.specs.Taken.{PartIs, BackIs};
 ghost use Rattle.chord_node.specs.World.{World, Run, Reached, HasOneHolder, node_at};
 ghost use Rattle.chord_node.specs.declared.phase.Phase.TheVariants.{Gone};
 ghost use Rattle.chord_segment.specs.Marks.{mark_of};
@@ -25,6 +28,16 @@ pub fn no_clash()
         → Contains world.sent (DeclinedMessage ticket) → node_at ticket.from world.nodes ≡ Some node
         → item_at ticket.to ticket.number node.outbox ≡ Some item → MeetsNone item.segment.span node.held }
     ensures held { (world : World) (number : ℕ) (node : Node) → ∥ Reached world ∥₁ → node_at number world.nodes ≡ Some node → AllApart node.held }
+{}
+
+/// Each part that was sent fits where it comes next, and no handover meets what is held where it comes or comes back: a
+/// delivery is never answered Clash.
+pub fn no_delivery_clashes()
+    ensures taken { (world : World) (part : Part) (node new : Node) → ∥ Reached world ∥₁ → Contains world.sent (PartMessage part)
+        → node_at part.to world.nodes ≡ Some node → ¬ PartIs part node (Ok given.Clash) new }
+    ensures taken_back { (world : World) (ticket : Ticket) (node new : Node) → ∥ Reached world ∥₁
+        → Contains world.sent (DeclinedMessage ticket) → node_at ticket.from world.nodes ≡ Some node
+        → ¬ BackIs ticket node (Ok back.Clash) new }
 {}
 
 /// In every world that some steps lead to, the executed calls form one history of one map, each call at most once,
