@@ -9,6 +9,7 @@ ghost use Rattle.chord_node.specs.declared.given.Back.TheVariants as back;
 ghost use Rattle.chord_node.specs.declared.given.Given.TheVariants as given;
 ghost use Rattle.chord_node.specs.Node.{Node};
 ghost use Rattle.chord_node.specs.Taken.{PartIs, BackIs};
+ghost use Rattle.chord_node.specs.Uses.{Rule, rules_of};
 ghost use Rattle.chord_node.specs.World.{World, Run, Reached, HasOneHolder, node_at};
 ghost use Rattle.chord_node.specs.declared.phase.Phase.TheVariants.{Gone};
 ghost use Rattle.chord_segment.specs.Marks.{mark_of};
@@ -55,6 +56,11 @@ pub fn none_twice()
 /// Some steps execute a call whose reply its caller takes.
 pub fn some_run()
     ensures { (world : World) × Reached world × (world.history ≢ []) × ((caller : Caller) × Contains world.callers caller × (caller.mine ≢ [])) }
+{}
+
+/// Some steps use every rule: one handover is taken, another is declined and taken back, and a node is gone.
+pub fn every_rule()
+    ensures { (world : World) × (run : Reached world) × ((rule : Rule) → Contains (rules_of run) rule) }
 {}
 
 /// What a caller knew at some time stands in the history before each call that it submitted later.
