@@ -16,11 +16,11 @@ use Rattle.chord_node.proofs.Events.{sender_of}
 use Rattle.chord_node.proofs.Kept.{sound_reached, gone_test}
 use Rattle.chord_node.proofs.NodeLemmas.{node_number}
 use Rattle.chord_node.proofs.Stocked.{no_clash, parcel, parcelled_at, stocks_reached}
-use Rattle.chord_node.specs.declared.given.Given.TheVariants as given
-use Rattle.chord_node.specs.declared.given.Back.TheVariants as back
+use Rattle.chord_node.specs.declared.handovers.given.Given.TheVariants as given
+use Rattle.chord_node.specs.declared.handovers.given.Back.TheVariants as back
 use Rattle.chord_node.specs.declared.message.Message.TheVariants.{Part as PartMessage, Declined as DeclinedMessage}
 use Rattle.chord_node.specs.Node.{Node}
-use Rattle.chord_node.specs.Taken.{IsNextFor, PartIs, BackIs}
+use Rattle.chord_node.specs.Received.{IsNextFor, PartIs, BackIs}
 use Rattle.chord_node.specs.World.{World, Reached, node_at, taken_by}
 use Rattle.chord_node.specs.Rules.{IsClash}
 use Rattle.chord_segment.proofs.MarkLemmas.{eqb_is}

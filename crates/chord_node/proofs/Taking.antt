@@ -5,6 +5,8 @@ use Rattle.std.proofs.lemmas.Option.{same_Some}
 use Rattle.std.specs.declared.alloc.AllocError.{AllocError}
 use Rattle.chord_handover.proofs.OutboxLemmas.{item_at_is}
 use Rattle.chord_handover.specs.declared.ticket.Ticket.{Ticket}
+use Rattle.chord_handover.specs.declared.gather.Gather.TheVariants.{Whole}
+use Rattle.chord_handover.specs.Gather.{GatherIs}
 use Rattle.chord_handover.specs.Handover.{Item, Part, item_at, without, ticket_of_part}
 use Rattle.chord_handover.specs.Outbox.{parcel_of}
 use Rattle.chord_handover.specs.Parcelled.{Parcelled, IsParcelled, handed}
@@ -20,7 +22,7 @@ use Rattle.chord_node.specs.declared.message.Message.TheVariants.{Part as PartMe
 use Rattle.chord_node.specs.Node.{Node, NodeStep}
 use Rattle.chord_node.specs.Node.NodeStep.{Got_again, Declines, Notes, Takes, Waits, Takes_back, Keeps}
 use Rattle.chord_node.specs.Rules.{IsClear, IsStocked}
-use Rattle.chord_node.specs.Received.{BackIs, BackSteps, NextIs, PartIs, PartSteps, sent_for}
+use Rattle.chord_node.specs.Received.{BackIs, BackSteps, NextIs, WholeIs, PartIs, PartSteps, sent_for}
 use Rattle.chord_node.specs.declared.phase.Phase.TheVariants.{Gone}
 use Rattle.chord_segment.specs.declared.mark.Mark.{Mark}
 use Rattle.chord_segment.specs.Marks.{mark_of, raise}
@@ -111,14 +113,26 @@ next_is part view (Ok given.Full) held pairs limit taken next there same (parcel
     (parcelled, ((next, there), gather), whole.0, whole.1, same_fields view held _ pairs _ limit taken (taken_of view) whole.2 whole.3 same whole.4)
 next_is part view (Ok given.Part) held pairs limit taken next there same (gather, held_is, pairs_is, taken_is) =
     ((next, there), gather, same_fields view held _ pairs _ limit taken _ held_is pairs_is same (taken_is ∙ noted_last part (taken_of view) (is_noted part view.noted)))
-next_is part view (Err fault) held pairs limit taken next there same (held_is, pairs_is, taken_is) =
-    ((next, there), same_fields view held _ pairs _ limit taken (taken_of view) held_is pairs_is same taken_is)
+next_is part view (Err fault) held pairs limit taken next there same (takes, held_is, pairs_is, taken_is) =
+    ((next, there), takes, same_fields view held _ pairs _ limit taken (taken_of view) held_is pairs_is same taken_is)
 
 pub part_is : (part : Part) (view old : Node) → view ≡ old → (result : Result Given AllocError) (held : List Segment) (pairs : List Pair) (limit : ℕ) (taken : Taken)
     → part.number ≡ mark_of part.from view.taken + 1 → view.phase ≢ Gone → limit ≡ view.limit
     → NextIs part view.held view.entries view.limit (taken_of view) result held pairs taken → PartIs part old result (next_node view held pairs limit taken)
 part_is part view old e result held pairs limit taken next there same h =
     subst (λ (node : Node). PartIs part node result (next_node view held pairs limit taken)) e (next_is part view result held pairs limit taken next there same h)
+
+-- a parcel that was taken, or was not
+pub taken_next : (part : Part) (parcelled : Parcelled) (held : List Segment) (pairs : List Pair) (limit : ℕ) (taken : Taken) (result : Result Given AllocError)
+    (held' : List Segment) (pairs' : List Pair) (taken' : Taken) → GatherIs part taken.noted (Whole parcelled)
+    → WholeIs part parcelled held pairs limit taken result held' pairs' taken' → NextIs part held pairs limit taken result held' pairs' taken'
+taken_next part parcelled held pairs limit taken (Ok given.Got) held' pairs' taken' whole h = (parcelled, whole, h)
+taken_next part parcelled held pairs limit taken (Ok given.Full) held' pairs' taken' whole h = (parcelled, whole, h)
+taken_next part parcelled held pairs limit taken (Ok given.Clash) held' pairs' taken' whole h = (inr (parcelled, whole, h.0), h.1, h.2, h.3)
+taken_next part parcelled held pairs limit taken (Ok given.Declined) held' pairs' taken' whole h = absurd h
+taken_next part parcelled held pairs limit taken (Ok given.Early) held' pairs' taken' whole h = absurd h
+taken_next part parcelled held pairs limit taken (Ok given.Part) held' pairs' taken' whole h = absurd h
+taken_next part parcelled held pairs limit taken (Err fault) held' pairs' taken' whole h = (inr (inr (parcelled, whole)), h.0, h.1, h.2)
 
 -- ---- the item that is taken back
 

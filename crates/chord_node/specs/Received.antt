@@ -1,5 +1,5 @@
 -- What a node answers to what comes of handovers, and what it is then.
-use Rattle.std.specs.Prelude.{◌≡◌, ◌≢◌, ◌⊎◌, ℕ, ◌+◌, ◌<◌, ◌≤◌, Bool, is_some, Option, None, Some, List, [], ◌∷◌, ◌++◌, length, Result, Ok, Err}
+use Rattle.std.specs.Prelude.{◌≡◌, ◌≢◌, ◌⊎◌, ℕ, ◌+◌, ◌<◌, ◌≤◌, Bool, false, is_some, Option, None, Some, List, [], ◌∷◌, ◌++◌, length, Result, Ok, Err}
 use Rattle.std.specs.declared.alloc.AllocError.{AllocError}
 use Rattle.chord_map.specs.declared.pair.Pair.{Pair}
 use Rattle.chord_map.specs.Map.{put_all}
@@ -7,10 +7,10 @@ use Rattle.chord_segment.specs.Marks.{mark_of}
 use Rattle.chord_segment.specs.Segment.{Segment}
 use Rattle.chord_handover.specs.declared.gather.Gather.TheVariants.{More, Unfit, Whole}
 use Rattle.chord_handover.specs.declared.ticket.Ticket.{Ticket}
-use Rattle.chord_handover.specs.Gather.{GatherIs}
+use Rattle.chord_handover.specs.Gather.{GatherIs, AreComplete}
 use Rattle.chord_handover.specs.Handover.{Item, Part, ticket_of_part, item_at, without}
 use Rattle.chord_handover.specs.Parcelled.{Parcelled, handed}
-use Rattle.chord_handover.specs.Taken.{Taken, marked, with_noted}
+use Rattle.chord_handover.specs.Taken.{Taken, marked, is_noted, with_noted}
 use Rattle.chord_node.specs.declared.handovers.given.Given.{Given}
 use Rattle.chord_node.specs.declared.handovers.given.Given.TheVariants as given
 use Rattle.chord_node.specs.declared.handovers.given.Back.{Back}
@@ -43,6 +43,11 @@ WholeIs part parcelled held pairs limit taken (Ok given.Full) held' pairs' taken
 WholeIs part parcelled held pairs limit taken (Ok answer) held' pairs' taken' = ⊥
 WholeIs part parcelled held pairs limit taken (Err fault) held' pairs' taken' = (held' ≡ held) × (pairs' ≡ pairs) × (taken' ≡ taken)
 
+-- a part takes memory where it is noted for the first time, where all parts are there, and where a parcel is taken
+abbrev pub PartTakesMemory : Part → List Part → Type 0
+PartTakesMemory part noted =
+    (GatherIs part noted More × (is_noted part noted ≡ false)) ⊎ AreComplete part noted ⊎ ((parcelled : Parcelled) × GatherIs part noted (Whole parcelled))
+
 -- a part of the next handover of its sender is noted, or makes the handover whole
 abbrev pub NextIs : Part → List Segment → List Pair → ℕ → Taken → Result Given AllocError → List Segment → List Pair → Taken → Type 0
 NextIs part held pairs limit taken (Ok given.Part) held' pairs' taken' =
@@ -52,7 +57,7 @@ NextIs part held pairs limit taken (Ok given.Clash) held' pairs' taken' =
     × (held' ≡ held) × (pairs' ≡ pairs) × (taken' ≡ taken)
 NextIs part held pairs limit taken (Ok answer) held' pairs' taken' =
     (parcelled : Parcelled) × GatherIs part taken.noted (Whole parcelled) × WholeIs part parcelled held pairs limit taken (Ok answer) held' pairs' taken'
-NextIs part held pairs limit taken (Err fault) held' pairs' taken' = (held' ≡ held) × (pairs' ≡ pairs) × (taken' ≡ taken)
+NextIs part held pairs limit taken (Err fault) held' pairs' taken' = PartTakesMemory part taken.noted × (held' ≡ held) × (pairs' ≡ pairs) × (taken' ≡ taken)
 
 -- the item leaves the outbox, if it is there
 abbrev pub GotIs : Ticket → Node → Bool → Node → Type 0
@@ -74,7 +79,7 @@ BackIs ticket old (Err fault) new =
     (item : Item) × (item_at ticket.to ticket.number old.outbox ≡ Some item) × IsClear item.segment.span old.held
     × (length old.entries + length item.pairs ≤ old.limit) × (new ≡ old)
 
--- what is declined is one step of the node, if memory was not wanting
+-- what is declined is one step of the node, unless it was out of memory
 abbrev pub BackSteps : Ticket → Node → Result Back AllocError → Node → Type 0
 BackSteps ticket old (Ok answer) new = NodeStep old (Some (DeclinedMessage ticket)) new None None
 BackSteps ticket old (Err fault) new = Unit {0}
@@ -103,7 +108,7 @@ PartIs part old (Ok given.Full) new =
     × (old.limit < length old.entries + length parcelled.pairs) × (new ≡ old)
 PartIs part old (Ok given.Part) new =
     IsNextFor old part × GatherIs part old.noted More × (new ≡ record old { noted = (with_noted part (record { last = old.taken; noted = old.noted })).noted })
-PartIs part old (Err fault) new = IsNextFor old part × (new ≡ old)
+PartIs part old (Err fault) new = IsNextFor old part × PartTakesMemory part old.noted × (new ≡ old)
 
 -- the message that an answer to a part sends
 abbrev pub sent_for : Part → Given → Option Message
@@ -111,7 +116,7 @@ sent_for part given.Got = Some (GotMessage (ticket_of_part part))
 sent_for part given.Declined = Some (DeclinedMessage (ticket_of_part part))
 sent_for part answer = None
 
--- the answer is one step of the node, if memory was not wanting
+-- the answer is one step of the node, unless it was out of memory
 abbrev pub PartSteps : Part → Node → Result Given AllocError → Node → Type 0
 PartSteps part old (Ok answer) new = NodeStep old (Some (PartMessage part)) new (sent_for part answer) None
 PartSteps part old (Err fault) new = Unit {0}

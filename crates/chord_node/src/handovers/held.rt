@@ -3,7 +3,7 @@ ghost use Rattle.std.specs.Prelude.{◌≡◌, ◌<◌, ◌^◌, ◌↔◌, ℕ,
 ghost use Rattle.chord_ident.specs.Circle.{Meet};
 ghost use Rattle.chord_segment.specs.Segment.{RoomySegment};
 ghost use Rattle.chord_node.specs.Moves.{CutHeld, MergeHeld, merge_fault_of};
-ghost use Rattle.chord_node.specs.Rules.{IsOnCircle, holds};
+ghost use Rattle.chord_node.specs.Rules.{holds};
 ghost use Rattle.chord_node.specs.View.{knowns};
 
 use crate::fault::{CutAtFault, MergeFault};
@@ -12,14 +12,6 @@ use chord_segment::Segment;
 use chord_segment::fault::{CutFault, JoinFault};
 use std::alloc::Global;
 use std::mem::replace;
-
-/// The segment's span, whose ends lie on the circle.
-fn span_of(segment: &Segment) -> Span
-    ensures value { result ≡ segment.now.known.span }
-    ensures circle { IsOnCircle result }
-{
-    segment.span()
-}
 
 /// Cuts the segment at the place. The part behind stands behind the part before.
 pub(crate) fn cut_segment(held: &mut Vec<Segment>, place: usize, at: Id) -> Result<(), CutAtFault>
@@ -30,7 +22,7 @@ pub(crate) fn cut_segment(held: &mut Vec<Segment>, place: usize, at: Id) -> Resu
     if held.len() <= place {
         return Err(CutAtFault::NoSegment);
     }
-    let span = span_of(&held[place]);
+    let span = held[place].span();
     if span.cut(at).is_err() {
         return Err(CutAtFault::NotInside);
     }
@@ -72,8 +64,8 @@ pub(crate) fn merge_segments(
     if held.len() <= place || held.len() <= other || place == other {
         return Err(MergeFault::NoSegment);
     }
-    let span = span_of(&held[place]);
-    let behind = span_of(&held[other]);
+    let span = held[place].span();
+    let behind = held[other].span();
     if span.upto != behind.after {
         return Err(MergeFault::NotAdjacent);
     }

@@ -54,12 +54,13 @@ pub(crate) fn take_next<S: EntryStore>(
     ensures limit { S.limit store.new ≡ S.limit store.old }
     ensures stocked { IsStocked (knowns held.new.items) (S.content store.new) }
 {
-    match taken.whole_with(part)? {
-        Gather::Unfit => Ok(Given::Clash),
-        Gather::More => {
-            taken.note(part)?;
-            Ok(Given::Part)
-        }
-        Gather::Whole(parcelled) => take_whole(held, store, taken, part, parcelled),
+    match taken.whole_with(part) {
+        Ok(Gather::Unfit) => Ok(Given::Clash),
+        Ok(Gather::More) => match taken.note(part) {
+            Ok(()) => Ok(Given::Part),
+            Err(fault) => Err(fault),
+        },
+        Ok(Gather::Whole(parcelled)) => take_whole(held, store, taken, part, parcelled),
+        Err(fault) => Err(fault),
     }
 }

@@ -21,7 +21,7 @@ returns-in_default-clause-answer c =
       c.index.result.now.known,
       knowns_get held c.args.place c.index.result.now inside c.index.ensures,
       cut,
-      put_same c.reserve.new.self.items c.args.place c.index_mut-segment.result.now c.split_off.new.self inside' (c.in_default.ensures.1 ∙ ap (λ (s : RoomySegment). s.known) c.index_mut-segment.ensures.value) ∙ ap knowns r,
+      put_same c.reserve.new.self.items c.args.place c.index_mut-segment.result.now c.split_off.new.self inside' (c.in_default.ensures.answer.1 ∙ ap (λ (s : RoomySegment). s.known) c.index_mut-segment.ensures.value) ∙ ap knowns r,
     )
 
 pub returns-clause-answer : goal.returns-clause-answer
@@ -34,7 +34,7 @@ returns-clause-answer c =
       c.index.result.now.known,
       knowns_get held c.args.place c.index.result.now inside c.index.ensures,
       cut,
-      cut_knowns c.reserve.new.self.items c.insert.new.self.items c.args.place c.index_mut-segment.result.now c.split_off.new.self c.in-Ok.second c.args.at c.in-Ok-insert.ensures.items c.in-Ok.ensures.1 c.in-Ok.ensures.2
+      cut_knowns c.reserve.new.self.items c.insert.new.self.items c.args.place c.index_mut-segment.result.now c.split_off.new.self c.in-Ok.second c.args.at c.in-Ok-insert.ensures.items c.in-Ok.ensures.answer.1 c.in-Ok.ensures.answer.2
           ∙ ap (λ (s : Segment). cut_held c.args.place s c.args.at (knowns c.reserve.new.self.items)) (sym same)
           ∙ ap (λ (hs : List RoomySegment). cut_held c.args.place c.index.result.now.known c.args.at (knowns hs)) r,
     )
@@ -45,7 +45,7 @@ returns-in_default-clause-covers c =
     let inside : c.args.place < length held = omega arith in
     let circle : c.args.at.number < 2 ^ 128 = search rules in
     cut_covers c.args.place c.args.at (knowns held) _ (Err Memory)
-    (on_at (knowns held) c.args.place c.index.result.now.known (knowns_get held c.args.place c.index.result.now inside c.index.ensures) (subst IsOnCircle c.span_of-span.ensures.value c.span_of-span.ensures.circle))
+    (on_at (knowns held) c.args.place c.index.result.now.known (knowns_get held c.args.place c.index.result.now inside c.index.ensures) (subst IsOnCircle c.span-span.ensures.value c.span-span.ensures.circle))
     circle (returns-in_default-clause-answer c)
 
 pub returns-clause-covers : goal.returns-clause-covers
@@ -54,5 +54,5 @@ returns-clause-covers c =
     let inside : c.args.place < length held = omega arith in
     let circle : c.args.at.number < 2 ^ 128 = search rules in
     cut_covers c.args.place c.args.at (knowns held) _ (Ok tt)
-    (on_at (knowns held) c.args.place c.index.result.now.known (knowns_get held c.args.place c.index.result.now inside c.index.ensures) (subst IsOnCircle c.span_of-span.ensures.value c.span_of-span.ensures.circle))
+    (on_at (knowns held) c.args.place c.index.result.now.known (knowns_get held c.args.place c.index.result.now inside c.index.ensures) (subst IsOnCircle c.span-span.ensures.value c.span-span.ensures.circle))
     circle (returns-clause-answer c)

@@ -15,14 +15,14 @@ returns-then-ne-clause-answer c =
     let held = c.args.held.now.items in
     let inside : c.args.place < length held = omega arith in
     let other : c.args.other < length held = omega arith in
-    let apart : c.span_of-span.result.upto ≢ c.span_of-behind.result.after = search rules in (
+    let apart : c.span-span.result.upto ≢ c.span-behind.result.after = search rules in (
       (
         c.index.result.now.known,
         c.index-2.result.now.known,
         knowns_get held c.args.place c.index.result.now inside c.index.ensures,
         knowns_get held c.args.other c.index-2.result.now other c.index-2.ensures,
         c.if-place-other.false,
-        λ e. apart (ap (λ (s : Span). s.upto) c.span_of-span.ensures.value ∙ e ∙ sym (ap (λ (s : Span). s.after) c.span_of-behind.ensures.value)),
+        λ e. apart (ap (λ (s : Span). s.upto) c.span-span.ensures.value ∙ e ∙ sym (ap (λ (s : Span). s.after) c.span-behind.ensures.value)),
       ),
       refl,
     )
@@ -58,8 +58,8 @@ returns-in-Ok-clause-covers c =
     let inside : c.args.place < length held = omega arith in
     let other : c.args.other < length held = omega arith in
     merge_covers c.args.place c.args.other (knowns held) _ (Ok tt)
-    (on_at (knowns held) c.args.place c.index.result.now.known (knowns_get held c.args.place c.index.result.now inside c.index.ensures) (subst IsOnCircle c.span_of-span.ensures.value c.span_of-span.ensures.circle))
-    (on_at (knowns held) c.args.other c.index-2.result.now.known (knowns_get held c.args.other c.index-2.result.now other c.index-2.ensures) (subst IsOnCircle c.span_of-behind.ensures.value c.span_of-behind.ensures.circle))
+    (on_at (knowns held) c.args.place c.index.result.now.known (knowns_get held c.args.place c.index.result.now inside c.index.ensures) (subst IsOnCircle c.span-span.ensures.value c.span-span.ensures.circle))
+    (on_at (knowns held) c.args.other c.index-2.result.now.known (knowns_get held c.args.other c.index-2.result.now other c.index-2.ensures) (subst IsOnCircle c.span-behind.ensures.value c.span-behind.ensures.circle))
     (returns-in-Ok-clause-answer c)
 
 pub returns-in-Err-clause-covers : goal.returns-in-Err-clause-covers
@@ -68,6 +68,6 @@ returns-in-Err-clause-covers c =
     let inside : c.args.place < length held = omega arith in
     let other : c.args.other < length held = omega arith in
     merge_covers c.args.place c.args.other (knowns held) _ (Err c.merge_fault.result)
-    (on_at (knowns held) c.args.place c.index.result.now.known (knowns_get held c.args.place c.index.result.now inside c.index.ensures) (subst IsOnCircle c.span_of-span.ensures.value c.span_of-span.ensures.circle))
-    (on_at (knowns held) c.args.other c.index-2.result.now.known (knowns_get held c.args.other c.index-2.result.now other c.index-2.ensures) (subst IsOnCircle c.span_of-behind.ensures.value c.span_of-behind.ensures.circle))
+    (on_at (knowns held) c.args.place c.index.result.now.known (knowns_get held c.args.place c.index.result.now inside c.index.ensures) (subst IsOnCircle c.span-span.ensures.value c.span-span.ensures.circle))
+    (on_at (knowns held) c.args.other c.index-2.result.now.known (knowns_get held c.args.other c.index-2.result.now other c.index-2.ensures) (subst IsOnCircle c.span-behind.ensures.value c.span-behind.ensures.circle))
     (returns-in-Err-clause-answer c)

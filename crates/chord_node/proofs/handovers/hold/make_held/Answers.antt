@@ -12,7 +12,7 @@ returns-then-is_err-clause-answer g c =
     let parcelled = c.args.parcelled.now in
     let put = c.in_ok-put_pairs.ensures.answer in
     let clear = subst (λ (held : List Segment). IsClear parcelled.segment.span held) (ap knowns c.deref.ensures.value) put.0 in
-    let at = c.span-span.ensures ∙ ap (λ (segment : Segment). segment.span) c.segment.ensures in (
+    let at = c.span-span.ensures.value ∙ ap (λ (segment : Segment). segment.span) c.segment.ensures in (
       clear,
       put.1,
       c.take_out.ensures.change ∙ ap (λ (span : Span). pairs_outside span (g.S.EntryStore.content c.put_pairs.new.store)) at

@@ -11,7 +11,7 @@ use Rattle.chord_node.proofs.handovers.hold.put_pairs.Goals as goal
 
 pub returns-then-meets_any-clause-answer : goal.returns-then-meets_any-clause-answer
 returns-then-meets_any-clause-answer g c =
-    let at = c.span-span.ensures ∙ ap (λ (segment : Segment). segment.span) c.segment.ensures in
+    let at = c.span-span.ensures.value ∙ ap (λ (segment : Segment). segment.span) c.segment.ensures in
     (subst (λ (span : Span). IsClash span (knowns c.args.held.now)) at (clash_is c.span-span.result c.args.held.now (c.meets_any.ensures.0 c.if-meets_any.true)), refl)
 
 pub put_all-requires-clause-vacant : goal.put_all-requires-clause-vacant
@@ -21,21 +21,21 @@ put_all-requires-clause-vacant g c =
 
 pub put_all-requires-clause-within : goal.put_all-requires-clause-within
 put_all-requires-clause-within g c =
-    let at = c.span-span.ensures ∙ ap (λ (segment : Segment). segment.span) c.segment.ensures in
+    let at = c.span-span.ensures.value ∙ ap (λ (segment : Segment). segment.span) c.segment.ensures in
     let parcelled = c.args.parcelled.now in
     rw (at, c.pairs-pairs.ensures.value) (all_inside parcelled.segment.span parcelled.pairs (parcel_inside parcelled c.pairs-pairs.ensures.rules))
 
 pub returns-in-Ok-clause-answer : goal.returns-in-Ok-clause-answer
 returns-in-Ok-clause-answer g c =
-    put_ok c.args.parcelled.now c.span-span.result c.pairs-pairs.result.now (knowns c.args.held.now) _ _ _ (c.span-span.ensures ∙ ap (λ (segment : Segment). segment.span) c.segment.ensures) c.pairs-pairs.ensures.value
+    put_ok c.args.parcelled.now c.span-span.result c.pairs-pairs.result.now (knowns c.args.held.now) _ _ _ (c.span-span.ensures.value ∙ ap (λ (segment : Segment). segment.span) c.segment.ensures) c.pairs-pairs.ensures.value
     (clear_is c.span-span.result c.args.held.now (λ any. not_both c.meets_any.result (c.meets_any.ensures.1 any) c.if-meets_any.false)) c.in-Ok.ensures.answer
 
 pub returns-in-Err-Full-clause-answer : goal.returns-in-Err-Full-clause-answer
 returns-in-Err-Full-clause-answer g c =
-    put_full c.args.parcelled.now c.span-span.result c.pairs-pairs.result.now (knowns c.args.held.now) _ _ _ (c.span-span.ensures ∙ ap (λ (segment : Segment). segment.span) c.segment.ensures) c.pairs-pairs.ensures.value
+    put_full c.args.parcelled.now c.span-span.result c.pairs-pairs.result.now (knowns c.args.held.now) _ _ _ (c.span-span.ensures.value ∙ ap (λ (segment : Segment). segment.span) c.segment.ensures) c.pairs-pairs.ensures.value
     (clear_is c.span-span.result c.args.held.now (λ any. not_both c.meets_any.result (c.meets_any.ensures.1 any) c.if-meets_any.false)) (rw c.in-Err-Full.field-0-is at c.in-Err-Full.ensures.answer)
 
 pub returns-in-Err-Memory-clause-answer : goal.returns-in-Err-Memory-clause-answer
 returns-in-Err-Memory-clause-answer g c =
-    put_memory c.args.parcelled.now c.span-span.result c.pairs-pairs.result.now (knowns c.args.held.now) _ _ _ (c.span-span.ensures ∙ ap (λ (segment : Segment). segment.span) c.segment.ensures) c.pairs-pairs.ensures.value
+    put_memory c.args.parcelled.now c.span-span.result c.pairs-pairs.result.now (knowns c.args.held.now) _ _ _ (c.span-span.ensures.value ∙ ap (λ (segment : Segment). segment.span) c.segment.ensures) c.pairs-pairs.ensures.value
     (clear_is c.span-span.result c.args.held.now (λ any. not_both c.meets_any.result (c.meets_any.ensures.1 any) c.if-meets_any.false)) (rw c.in-Err-Memory.field-0-is at c.in-Err-Memory.ensures.answer)

@@ -15,5 +15,5 @@ pub returns : goal.returns
 returns g c =
     let items = c.self.inside.outbox.known.items in
     kept_is items c.args.i c.in_ok-to.to c.in_ok-to.number c.in_ok-parcelled.parcelled.now c.span.result c.nth.ensures.rules.apart c.in_ok-to.ensures.value c.in_ok-parcelled.ensures
-    (c.span.ensures ∙ ap (λ (segment : Segment). segment.span) c.segment.ensures)
+    (c.span.ensures.value ∙ ap (λ (segment : Segment). segment.span) c.segment.ensures)
     ∙ ap (λ (node : Node). kept_as (slice_get node.outbox c.args.i)) c.self.view_is
