@@ -92,7 +92,7 @@ node_found x nodes node (Some segment) e there =
     let hit = found (λ (s : Segment). in_span s.span x) node.held segment (sym e) in
     let at = place_of node.held segment hit.1 in
     contains_has _ _ (has_left _ (under_way x (last_taken nodes) node) _
-        (one_passes (λ (s : Segment). in_span s.span x) (λ (s : Segment). holder.Node node.number) node.held at.0 segment at.1 hit.0))
+    (one_passes (λ (s : Segment). in_span s.span x) (λ (s : Segment). holder.Node node.number) node.held at.0 segment at.1 hit.0))
 
 not_held : (x : ℕ) (node : Node) (o : Option Segment) → o ≡ segment_with x node.held → is_some o ≡ false → at_node x node ≡ []
 unfolding segment_with

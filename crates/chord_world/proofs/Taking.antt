@@ -1,6 +1,7 @@
 -- Parts, and what comes of them, that are delivered.
-use Rattle.std.proofs.Common.{◌≡◌, ℕ, ◌+◌, ◌<◌, inl, inr, Bool, true, false, Option, None, Some, Ok, Err, List, length, refl, sym, ◌∙◌, ap, subst, arith}
-use Rattle.std.specs.Prelude.{slice_get}
+use Rattle.std.proofs.Common.{◌≡◌, ◌≢◌, ℕ, ◌+◌, ◌<◌, inl, inr, Bool, true, false, Option, None, Some, Ok, Err, List, length, get_or, refl, sym, ◌∙◌, ap, subst, arith}
+use Rattle.std.proofs.lemmas.Option.{slice_get_within}
+use Rattle.std.specs.Prelude.{slice_get, Contains}
 use Rattle.std.specs.declared.alloc.AllocError.{AllocError}
 use Rattle.chord_handover.specs.declared.ticket.Ticket.{Ticket}
 use Rattle.chord_handover.specs.Handover.{Part, ticket_of_part}
@@ -12,7 +13,7 @@ use Rattle.chord_node.specs.declared.message.Message.{Message}
 use Rattle.chord_node.specs.declared.message.Message.TheVariants.{Part as PartMessage, Got as GotMessage, Declined as DeclinedMessage}
 use Rattle.chord_node.specs.Node.{Node}
 use Rattle.chord_node.specs.Received.{PartIs, PartSteps, GotIs, BackIs, BackSteps, sent_for}
-use Rattle.chord_node.specs.World.{put_node, with_one, node_at}
+use Rattle.chord_node.specs.World.{World, Reached, put_node, with_one, node_at}
 use Rattle.chord_world.specs.declared.outcome.Outcome.{Outcome}
 use Rattle.chord_world.specs.Handing.{DoesAt}
 use Rattle.chord_world.specs.Linking.{with_node}
@@ -22,7 +23,7 @@ use Rattle.chord_world.specs.Delivered.TakesMemory.{Part_takes, Declined_takes}
 use Rattle.chord_world.specs.Delivered.Delivers.{Part_to_node, Got_to_node, Declined_to_node}
 use Rattle.chord_world.specs.Taking.{IsNumbered, GotSteps, outcome_of_given, outcome_of_freed, outcome_of_back, confirmation, no_target}
 use Rattle.chord_world.proofs.Acting.{After, SendsCall, acted, put_is}
-use Rattle.chord_world.proofs.Answering.{was_sent}
+use Rattle.chord_world.proofs.Answering.{was_sent, read, sent_here}
 use Rattle.chord_world.proofs.Handing.{IsStill, hands, nodes_are}
 use Rattle.chord_world.proofs.Keeping.{with_nodes}
 use Rattle.chord_world.proofs.Placing.{node_number, call_at}
@@ -134,18 +135,57 @@ part_after place to part answer view old new nodes same kept running took is =
 
 pub part_delivers : (place to : ℕ) (part : Part) (answer : Given) (view old new : WorldState) (nodes : List Node) (outcome : Outcome) → view ≡ old → IsWorld view → is_crashed to old ≡ false
     → (took : TookPart place to part answer view nodes) → new ≡ acted took.does.after (sent_for part answer) (no_target (sent_for part answer)) None view
-    → outcome ≡ outcome_of_given answer (length view.known.sent) → Delivers place old outcome new
+    → outcome_of_given answer (length view.known.sent) ≡ Some outcome → Delivers place old outcome new
 part_delivers place to part answer view old new nodes outcome same kept running took is told =
     subst (λ w. Delivers place w outcome new) same
-    (subst (λ o. Delivers place view o new) (sym told)
-    (subst (Delivers place view (outcome_of_given answer (length view.known.sent))) (sym is)
-    (Part_to_node part took.does.node took.does.after answer took.sent
+    (subst (Delivers place view outcome) (sym is)
+    (Part_to_node part took.does.node took.does.after answer outcome took.sent
     (ap (λ n. node_at n view.known.nodes) took.own ∙ node_stands to view view took.does.node refl kept took.does.here)
-    (ap (λ n. is_crashed n view) took.own ∙ ap (is_crashed to) same ∙ running) took.does.is)))
+    (ap (λ n. is_crashed n view) took.own ∙ ap (is_crashed to) same ∙ running) took.does.is told))
+
+-- the part that came, by what was read at its place
+pub record Came (place to : ℕ) (part : Part) (view : WorldState) : Type 0 where
+  pub sent : slice_get view.known.sent place ≡ Some (PartMessage part)
+  pub own : part.to ≡ to
+
+pub came : (place to : ℕ) (view old : WorldState) (asked part : Part) (items : List Message) (read_as : Message) → view ≡ old → slice_get old.known.sent place ≡ Some (PartMessage asked)
+    → asked.to ≡ to → items ≡ view.known.sent → read_as ≡ get_or items place read_as → read_as ≡ PartMessage part → Came place to part view
+came place to view old asked part items read_as same here own is_sent is_read is_part =
+    let asked_here = sent_here view old place (PartMessage asked) same here in
+    let within = slice_get_within view.known.sent place (PartMessage asked) asked_here in
+    let room = ap length is_sent in
+    let sent = read items view.known.sent place read_as is_sent (omega arith) is_read ∙ ap (λ m. Some m) is_part in
+    record { sent = sent; own = ap (λ (p : Part). p.to) (same_part view place part asked sent asked_here) ∙ own }
+
+-- no answer to a part that was sent is a clash
+pub part_fits : (place to : ℕ) (part : Part) (answer : Given) (view : WorldState) (nodes : List Node) → IsWorld view → Came place to part view
+    → DoesAt (PartIs part) (PartSteps part) to view.known.nodes (Ok answer) nodes
+    → ((world : World) (part : Part) (node new : Node) → ∥ Reached world ∥₁ → Contains world.sent (PartMessage part)
+    → node_at part.to world.nodes ≡ Some node → ¬ PartIs part node (Ok given.Clash) new) → answer ≢ given.Clash
+part_fits place to part answer view nodes kept it does law clash =
+    law view.known part does.node does.after kept.reached (was_sent view.known.sent place (PartMessage part) it.sent)
+    (ap (λ n. node_at n view.known.nodes) it.own ∙ node_stands to view view does.node refl kept does.here)
+    (subst (λ a. PartIs part does.node (Ok a) does.after) clash does.is)
+
+pub back_fits : (place : ℕ) (declined : Ticket) (answer : Back) (view : WorldState) (nodes : List Node) → IsWorld view → slice_get view.known.sent place ≡ Some (DeclinedMessage declined)
+    → DoesAt (BackIs declined) (BackSteps declined) declined.from view.known.nodes (Ok answer) nodes
+    → ((world : World) (ticket : Ticket) (node new : Node) → ∥ Reached world ∥₁ → Contains world.sent (DeclinedMessage ticket)
+    → node_at ticket.from world.nodes ≡ Some node → ¬ BackIs ticket node (Ok back.Clash) new) → answer ≢ back.Clash
+back_fits place declined answer view nodes kept sent does law clash =
+    law view.known declined does.node does.after kept.reached (was_sent view.known.sent place (DeclinedMessage declined) sent)
+    (node_stands declined.from view view does.node refl kept does.here)
+    (subst (λ a. BackIs declined does.node (Ok a) does.after) clash does.is)
+
+-- the place of the part's receiver
+pub receiver_place : (place to : ℕ) (view old : WorldState) (asked : Part) → view ≡ old → IsWorld view → slice_get old.known.sent place ≡ Some (PartMessage asked) → asked.to ≡ to
+    → to < length view.known.nodes
+receiver_place place to view old asked same kept here own =
+    let ends = part_ends view place asked kept (sent_here view old place (PartMessage asked) same here) in
+    subst (λ n. n < length view.known.nodes) own ends.1
 
 -- the receiver was refused memory
 pub part_stays : (part : Part) (fault : AllocError) (node after : Node) → PartIs part node (Err fault) after → after ≡ node
-part_stays part fault node after h = h.1
+part_stays part fault node after h = h.2
 
 pub back_stays : (declined : Ticket) (fault : AllocError) (node after : Node) → BackIs declined node (Err fault) after → after ≡ node
 back_stays declined fault node after h = h.4
@@ -194,11 +234,10 @@ back_after place declined answer view old nodes same kept running sent does =
 
 pub back_delivers : (place : ℕ) (declined : Ticket) (answer : Back) (view old : WorldState) (nodes : List Node) (outcome : Outcome) → view ≡ old → IsWorld view → is_crashed declined.from old ≡ false
     → slice_get view.known.sent place ≡ Some (DeclinedMessage declined) → (does : DoesAt (BackIs declined) (BackSteps declined) declined.from view.known.nodes (Ok answer) nodes)
-    → outcome ≡ outcome_of_back answer → Delivers place old outcome (with_nodes nodes view)
+    → outcome_of_back answer ≡ Some outcome → Delivers place old outcome (with_nodes nodes view)
 back_delivers place declined answer view old nodes outcome same kept running sent does told =
     let still = still_back declined answer does.node does.after does.is in
     let is : with_nodes nodes view ≡ with_node does.after view = nodes_are (BackIs declined) (BackSteps declined) declined.from (Ok answer) view nodes kept does still.number in
     subst (λ w. Delivers place w outcome (with_nodes nodes view)) same
-    (subst (λ o. Delivers place view o (with_nodes nodes view)) (sym told)
-    (subst (Delivers place view (outcome_of_back answer)) (sym is)
-    (Declined_to_node declined does.node does.after answer sent (node_stands declined.from view view does.node refl kept does.here) (ap (is_crashed declined.from) same ∙ running) does.is)))
+    (subst (Delivers place view outcome) (sym is)
+    (Declined_to_node declined does.node does.after answer outcome sent (node_stands declined.from view view does.node refl kept does.here) (ap (is_crashed declined.from) same ∙ running) does.is told))

@@ -68,17 +68,17 @@ pub data Delivers (message : ℕ) (old : WorldState) : Outcome → WorldState �
       → caller_at told.caller old.known.callers ≡ Some core → TakeIs told core (Ok heard) after
       → Delivers message old (outcome_heard heard told.caller) (with_heard after old)
   -- a part comes to its receiver
-  Part_to_node : (part : Part) (node after : Node) (given : Given) → slice_get old.known.sent message ≡ Some (PartMessage part)
+  Part_to_node : (part : Part) (node after : Node) (given : Given) (outcome : Outcome) → slice_get old.known.sent message ≡ Some (PartMessage part)
       → node_at part.to old.known.nodes ≡ Some node → is_crashed part.to old ≡ false → PartIs part node (Ok given) after
-      → Delivers message old (outcome_of_given given (length old.known.sent)) (with_reply after (sent_for part given) old)
+      → outcome_of_given given (length old.known.sent) ≡ Some outcome → Delivers message old outcome (with_reply after (sent_for part given) old)
   -- that a handover was taken comes to its sender
   Got_to_node : (got : Ticket) (node after : Node) (found : Bool) → slice_get old.known.sent message ≡ Some (GotMessage got)
       → node_at got.from old.known.nodes ≡ Some node → is_crashed got.from old ≡ false → GotIs got node found after
       → Delivers message old (outcome_of_freed found) (with_node after old)
   -- so does that it was declined
-  Declined_to_node : (declined : Ticket) (node after : Node) (back : Back) → slice_get old.known.sent message ≡ Some (DeclinedMessage declined)
+  Declined_to_node : (declined : Ticket) (node after : Node) (back : Back) (outcome : Outcome) → slice_get old.known.sent message ≡ Some (DeclinedMessage declined)
       → node_at declined.from old.known.nodes ≡ Some node → is_crashed declined.from old ≡ false → BackIs declined node (Ok back) after
-      → Delivers message old (outcome_of_back back) (with_node after old)
+      → outcome_of_back back ≡ Some outcome → Delivers message old outcome (with_node after old)
   -- a caller hears that a store was full
   Full_to_caller : (caller number : ℕ) (core : Caller) → slice_get old.known.sent message ≡ Some (FullMessage caller number)
       → caller_at caller old.known.callers ≡ Some core → Delivers message old did.HeardFull old

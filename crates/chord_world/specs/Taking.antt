@@ -18,14 +18,14 @@ use Rattle.chord_world.specs.Linking.{with_node}
 abbrev pub IsNumbered : ℕ → List Node → Type 0
 IsNumbered place nodes = (node : Node) → slice_get nodes place ≡ Some node → node.number ≡ place
 
--- what an answer to a part is as an outcome, where this many messages were sent before
-abbrev pub outcome_of_given : Given → ℕ → Outcome
-outcome_of_given given.Got count = did.Got count
-outcome_of_given given.Declined count = did.Declined count
-outcome_of_given given.Early count = did.Early
-outcome_of_given given.Clash count = did.Clash
-outcome_of_given given.Full count = did.NoRoom
-outcome_of_given given.Part count = did.Noted
+-- what an answer to a part is as an outcome, where this many messages were sent before; a clash is none, for it never comes
+abbrev pub outcome_of_given : Given → ℕ → Option Outcome
+outcome_of_given given.Got count = Some (did.Got count)
+outcome_of_given given.Declined count = Some (did.Declined count)
+outcome_of_given given.Early count = Some did.Early
+outcome_of_given given.Full count = Some did.NoRoom
+outcome_of_given given.Part count = Some did.Noted
+outcome_of_given given.Clash count = None
 
 -- what it sends back to the sender
 abbrev pub confirmation : Ticket → Given → Option Message
@@ -43,12 +43,12 @@ abbrev pub outcome_of_freed : Bool → Outcome
 outcome_of_freed true = did.Freed
 outcome_of_freed false = did.Unknown
 
--- what came of a Declined
-abbrev pub outcome_of_back : Back → Outcome
-outcome_of_back back.Held = did.Held
-outcome_of_back back.Unknown = did.Unknown
-outcome_of_back back.Clash = did.Clash
-outcome_of_back back.Full = did.NoRoom
+-- what came of a Declined; a clash never does
+abbrev pub outcome_of_back : Back → Option Outcome
+outcome_of_back back.Held = Some did.Held
+outcome_of_back back.Unknown = Some did.Unknown
+outcome_of_back back.Full = Some did.NoRoom
+outcome_of_back back.Clash = None
 
 -- the world after a node changed and sent this message
 abbrev pub with_reply : Node → Option Message → WorldState → WorldState

@@ -29,8 +29,6 @@ pub enum Outcome {
     Declined(u64),
     /// A part came that is not of the next handover of its sender.
     Early,
-    /// The span of a handover meets a held one, or its parts make none.
-    Clash,
     /// A store has no room for the pairs of a handover.
     NoRoom,
     /// A part was noted, and others are wanted.

@@ -3,6 +3,8 @@ ghost use Rattle.std.specs.Prelude.{◌≡◌, ◌≢◌, ◌<◌, Some, [], len
 ghost use Rattle.std.specs.Vec.{vec_len, vec_capacity};
 ghost use Rattle.chord_handover.specs.declared.ticket.Ticket.{Ticket as TicketOf};
 ghost use Rattle.chord_handover.specs.Handover.{Part as PartOf};
+ghost use Rattle.chord_node.specs.declared.handovers.given.Given.TheVariants.{Clash};
+ghost use Rattle.chord_node.specs.declared.handovers.given.Back.TheVariants.{Clash as BackClash};
 ghost use Rattle.chord_node.specs.declared.message.Message.TheVariants.{Part as PartMessage, Got as GotMessage, Declined as DeclinedMessage};
 ghost use Rattle.chord_node.specs.Received.{PartIs, PartSteps, GotIs, BackIs, BackSteps};
 ghost use Rattle.chord_node.specs.World.{with_one};
@@ -66,11 +68,12 @@ fn take_back_in<S: EntryStore>(
 
 /// Sends what the answer to a part of this handover sends.
 fn confirm(sent: &mut Vec<Message>, targets: &mut Vec<u64>, ticket: Ticket, given: Given) -> Outcome
+    requires fits { given ≢ Clash }
     requires sent { vec_len sent.old < vec_capacity sent.old }
     requires targets { vec_len targets.old < vec_capacity targets.old }
     ensures sent { sent.new.items ≡ with_one sent.old.items (confirmation ticket given) }
     ensures targets { targets.new.items ≡ with_one targets.old.items (no_target (confirmation ticket given)) }
-    ensures outcome { result ≡ outcome_of_given given (length sent.old.items) }
+    ensures outcome { outcome_of_given given (length sent.old.items) ≡ Some result }
 {
     match given {
         Given::Got => Outcome::Got(push_message(sent, targets, Message::Got(ticket), 0)),
@@ -78,7 +81,7 @@ fn confirm(sent: &mut Vec<Message>, targets: &mut Vec<u64>, ticket: Ticket, give
             Outcome::Declined(push_message(sent, targets, Message::Declined(ticket), 0))
         }
         Given::Early => Outcome::Early,
-        Given::Clash => Outcome::Clash,
+        Given::Clash => unreachable!(),
         Given::Full => Outcome::NoRoom,
         Given::Part => Outcome::Noted,
     }
@@ -97,12 +100,13 @@ fn outcome_of_got(freed: bool) -> Outcome
 
 /// What came of a Declined, as an outcome.
 fn outcome_of_declined(back: Back) -> Outcome
-    ensures { result ≡ outcome_of_back back }
+    requires { back ≢ BackClash }
+    ensures { outcome_of_back back ≡ Some result }
 {
     match back {
         Back::Held => Outcome::Held,
         Back::Unknown => Outcome::Unknown,
-        Back::Clash => Outcome::Clash,
+        Back::Clash => unreachable!(),
         Back::Full => Outcome::NoRoom,
     }
 }
@@ -126,6 +130,7 @@ impl<S: EntryStore> World<S> {
             unreachable!()
         };
         let ticket = Ticket::of(part);
+        chord_node::laws::no_delivery_clashes();
         let Ok(given) = take_in(&mut self.nodes, to as usize, part) else {
             return Err(Refusal::Memory);
         };
@@ -162,6 +167,7 @@ impl<S: EntryStore> World<S> {
         if is_out(&self.crashed, declined.from) {
             return Err(Refusal::Part(PartFault::Crashed));
         }
+        chord_node::laws::no_delivery_clashes();
         let Ok(back) = take_back_in(&mut self.nodes, declined.from as usize, &declined) else {
             return Err(Refusal::Memory);
         };

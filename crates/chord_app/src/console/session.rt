@@ -46,7 +46,6 @@ fn write_outcome<S: EntryStore, W: Write>(
         Outcome::Got(number) => writeln!(writer, "got {number}"),
         Outcome::Declined(number) => writeln!(writer, "declined {number}"),
         Outcome::Early => writeln!(writer, "early"),
-        Outcome::Clash => writeln!(writer, "clash"),
         Outcome::NoRoom => writeln!(writer, "full"),
         Outcome::Noted => writeln!(writer, "part"),
         Outcome::Freed => writeln!(writer, "freed"),

@@ -9,7 +9,7 @@ use Rattle.chord_world.proofs.Answering.{sent_here, stays}
 use Rattle.chord_world.proofs.Handing.{nodes_stay}
 use Rattle.chord_world.proofs.Keeping.{with_nodes}
 use Rattle.chord_world.proofs.RingLemmas.{flag_old}
-use Rattle.chord_world.proofs.Taking.{numbered, declined_ends, for_out, back_stays, back_takes, back_after, back_delivers}
+use Rattle.chord_world.proofs.Taking.{numbered, declined_ends, for_out, back_stays, back_takes, back_fits, back_after, back_delivers}
 use Rattle.chord_world.proofs.world.World.deliver_declined.Goals as goal
 
 pub returns-then-is_out-clause-answer : goal.returns-then-is_out-clause-answer
@@ -34,8 +34,6 @@ take_back_in-requires-clause-numbered g c =
 pub invariant_of-self : goal.invariant_of-self
 invariant_of-self g c =
     let view : WorldState = state_of c.self.inside in
-    let sent = sent_here view c.args.self.now c.args.place _ c.self.view_is c.requires.declined in
-    let ends = declined_ends view c.args.place c.args.declined c.self.invariant sent in
     let does : DoesAt (BackIs c.args.declined) (BackSteps c.args.declined) c.args.declined.from view.known.nodes (Err _) c.take_back_in.new.nodes.items = c.in_default.ensures in
     let same = nodes_stay (BackIs c.args.declined) (BackSteps c.args.declined) c.args.declined.from (Err _) view.known.nodes c.take_back_in.new.nodes.items does (back_stays c.args.declined _ does.node does.after does.is) in
     subst (λ ns. IsWorld (with_nodes ns view)) (sym same) c.self.invariant
@@ -44,7 +42,6 @@ pub returns-in_default-clause-answer : goal.returns-in_default-clause-answer
 returns-in_default-clause-answer g c =
     let view : WorldState = state_of c.self.inside in
     let sent = sent_here view c.args.self.now c.args.place _ c.self.view_is c.requires.declined in
-    let ends = declined_ends view c.args.place c.args.declined c.self.invariant sent in
     let does : DoesAt (BackIs c.args.declined) (BackSteps c.args.declined) c.args.declined.from view.known.nodes (Err _) c.take_back_in.new.nodes.items = c.in_default.ensures in
     let same = nodes_stay (BackIs c.args.declined) (BackSteps c.args.declined) c.args.declined.from (Err _) view.known.nodes c.take_back_in.new.nodes.items does (back_stays c.args.declined _ does.node does.after does.is) in
     let running = flag_old c.args.declined.from view c.args.self.now _ _ c.self.view_is c.deref.ensures.value c.is_out.ensures c.if-is_out.false in
@@ -54,8 +51,6 @@ returns-in_default-clause-answer g c =
 pub returns-in_default-clause-step : goal.returns-in_default-clause-step
 returns-in_default-clause-step g c =
     let view : WorldState = state_of c.self.inside in
-    let sent = sent_here view c.args.self.now c.args.place _ c.self.view_is c.requires.declined in
-    let ends = declined_ends view c.args.place c.args.declined c.self.invariant sent in
     let does : DoesAt (BackIs c.args.declined) (BackSteps c.args.declined) c.args.declined.from view.known.nodes (Err _) c.take_back_in.new.nodes.items = c.in_default.ensures in
     let same = nodes_stay (BackIs c.args.declined) (BackSteps c.args.declined) c.args.declined.from (Err _) view.known.nodes c.take_back_in.new.nodes.items does (back_stays c.args.declined _ does.node does.after does.is) in
     ap (λ ns. with_nodes ns view) same ∙ c.self.view_is
@@ -63,8 +58,6 @@ returns-in_default-clause-step g c =
 pub returns-in_default-clause-ring : goal.returns-in_default-clause-ring
 returns-in_default-clause-ring g c =
     let view : WorldState = state_of c.self.inside in
-    let sent = sent_here view c.args.self.now c.args.place _ c.self.view_is c.requires.declined in
-    let ends = declined_ends view c.args.place c.args.declined c.self.invariant sent in
     let does : DoesAt (BackIs c.args.declined) (BackSteps c.args.declined) c.args.declined.from view.known.nodes (Err _) c.take_back_in.new.nodes.items = c.in_default.ensures in
     let same = nodes_stay (BackIs c.args.declined) (BackSteps c.args.declined) c.args.declined.from (Err _) view.known.nodes c.take_back_in.new.nodes.items does (back_stays c.args.declined _ does.node does.after does.is) in
     keeps_same view c.args.self.now _ c.self.view_is same refl
@@ -73,7 +66,6 @@ pub invariant_of-self-2 : goal.invariant_of-self-2
 invariant_of-self-2 g c =
     let view : WorldState = state_of c.self.inside in
     let sent = sent_here view c.args.self.now c.args.place _ c.self.view_is c.requires.declined in
-    let ends = declined_ends view c.args.place c.args.declined c.self.invariant sent in
     let running = flag_old c.args.declined.from view c.args.self.now _ _ c.self.view_is c.deref.ensures.value c.is_out.ensures c.if-is_out.false in
     let does : DoesAt (BackIs c.args.declined) (BackSteps c.args.declined) c.args.declined.from view.known.nodes (Ok c.in-Ok.back) c.take_back_in.new.nodes.items = c.in-Ok.ensures in
     (back_after c.args.place c.args.declined c.in-Ok.back view c.args.self.now c.take_back_in.new.nodes.items c.self.view_is c.self.invariant running sent does).world
@@ -82,7 +74,6 @@ pub returns-clause-answer : goal.returns-clause-answer
 returns-clause-answer g c =
     let view : WorldState = state_of c.self.inside in
     let sent = sent_here view c.args.self.now c.args.place _ c.self.view_is c.requires.declined in
-    let ends = declined_ends view c.args.place c.args.declined c.self.invariant sent in
     let running = flag_old c.args.declined.from view c.args.self.now _ _ c.self.view_is c.deref.ensures.value c.is_out.ensures c.if-is_out.false in
     let does : DoesAt (BackIs c.args.declined) (BackSteps c.args.declined) c.args.declined.from view.known.nodes (Ok c.in-Ok.back) c.take_back_in.new.nodes.items = c.in-Ok.ensures in
     back_delivers c.args.place c.args.declined c.in-Ok.back view c.args.self.now c.take_back_in.new.nodes.items c.outcome_of_declined.result c.self.view_is c.self.invariant running sent does c.outcome_of_declined.ensures
@@ -91,7 +82,6 @@ pub returns-clause-step : goal.returns-clause-step
 returns-clause-step g c =
     let view : WorldState = state_of c.self.inside in
     let sent = sent_here view c.args.self.now c.args.place _ c.self.view_is c.requires.declined in
-    let ends = declined_ends view c.args.place c.args.declined c.self.invariant sent in
     let running = flag_old c.args.declined.from view c.args.self.now _ _ c.self.view_is c.deref.ensures.value c.is_out.ensures c.if-is_out.false in
     let does : DoesAt (BackIs c.args.declined) (BackSteps c.args.declined) c.args.declined.from view.known.nodes (Ok c.in-Ok.back) c.take_back_in.new.nodes.items = c.in-Ok.ensures in
     (back_after c.args.place c.args.declined c.in-Ok.back view c.args.self.now c.take_back_in.new.nodes.items c.self.view_is c.self.invariant running sent does).step
@@ -100,7 +90,13 @@ pub returns-clause-ring : goal.returns-clause-ring
 returns-clause-ring g c =
     let view : WorldState = state_of c.self.inside in
     let sent = sent_here view c.args.self.now c.args.place _ c.self.view_is c.requires.declined in
-    let ends = declined_ends view c.args.place c.args.declined c.self.invariant sent in
     let running = flag_old c.args.declined.from view c.args.self.now _ _ c.self.view_is c.deref.ensures.value c.is_out.ensures c.if-is_out.false in
     let does : DoesAt (BackIs c.args.declined) (BackSteps c.args.declined) c.args.declined.from view.known.nodes (Ok c.in-Ok.back) c.take_back_in.new.nodes.items = c.in-Ok.ensures in
     (back_after c.args.place c.args.declined c.in-Ok.back view c.args.self.now c.take_back_in.new.nodes.items c.self.view_is c.self.invariant running sent does).ring
+
+pub outcome_of_declined-requires : goal.outcome_of_declined-requires
+outcome_of_declined-requires g c =
+    let view : WorldState = state_of c.self.inside in
+    let sent = sent_here view c.args.self.now c.args.place _ c.self.view_is c.requires.declined in
+    let does : DoesAt (BackIs c.args.declined) (BackSteps c.args.declined) c.args.declined.from view.known.nodes (Ok c.in-Ok.back) c.take_back_in.new.nodes.items = c.in-Ok.ensures in
+    back_fits c.args.place c.args.declined c.in-Ok.back view c.take_back_in.new.nodes.items c.self.invariant sent does c.no_delivery_clashes.ensures.taken_back

@@ -30,7 +30,6 @@ pub invariant_of-self : goal.invariant_of-self
 invariant_of-self g c =
     let view : WorldState = state_of c.self.inside in
     let sent = sent_here view c.args.self.now c.args.place _ c.self.view_is c.requires.got in
-    let ends = got_ends view c.args.place c.args.got c.self.invariant sent in
     let running = flag_old c.args.got.from view c.args.self.now _ _ c.self.view_is c.deref.ensures.value c.is_out.ensures c.if-is_out.false in
     (got_after c.args.place c.args.got c.free_in-freed.result view c.args.self.now c.free_in-freed.new.nodes.items c.self.view_is c.self.invariant running sent c.free_in-freed.ensures).world
 
@@ -38,7 +37,6 @@ pub returns-clause-answer : goal.returns-clause-answer
 returns-clause-answer g c =
     let view : WorldState = state_of c.self.inside in
     let sent = sent_here view c.args.self.now c.args.place _ c.self.view_is c.requires.got in
-    let ends = got_ends view c.args.place c.args.got c.self.invariant sent in
     let running = flag_old c.args.got.from view c.args.self.now _ _ c.self.view_is c.deref.ensures.value c.is_out.ensures c.if-is_out.false in
     got_delivers c.args.place c.args.got c.free_in-freed.result view c.args.self.now c.free_in-freed.new.nodes.items c.outcome_of_got.result c.self.view_is c.self.invariant running sent c.free_in-freed.ensures c.outcome_of_got.ensures
 
@@ -46,7 +44,6 @@ pub returns-clause-step : goal.returns-clause-step
 returns-clause-step g c =
     let view : WorldState = state_of c.self.inside in
     let sent = sent_here view c.args.self.now c.args.place _ c.self.view_is c.requires.got in
-    let ends = got_ends view c.args.place c.args.got c.self.invariant sent in
     let running = flag_old c.args.got.from view c.args.self.now _ _ c.self.view_is c.deref.ensures.value c.is_out.ensures c.if-is_out.false in
     (got_after c.args.place c.args.got c.free_in-freed.result view c.args.self.now c.free_in-freed.new.nodes.items c.self.view_is c.self.invariant running sent c.free_in-freed.ensures).step
 
@@ -54,6 +51,5 @@ pub returns-clause-ring : goal.returns-clause-ring
 returns-clause-ring g c =
     let view : WorldState = state_of c.self.inside in
     let sent = sent_here view c.args.self.now c.args.place _ c.self.view_is c.requires.got in
-    let ends = got_ends view c.args.place c.args.got c.self.invariant sent in
     let running = flag_old c.args.got.from view c.args.self.now _ _ c.self.view_is c.deref.ensures.value c.is_out.ensures c.if-is_out.false in
     (got_after c.args.place c.args.got c.free_in-freed.result view c.args.self.now c.free_in-freed.new.nodes.items c.self.view_is c.self.invariant running sent c.free_in-freed.ensures).ring

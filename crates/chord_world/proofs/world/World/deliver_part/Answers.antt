@@ -1,8 +1,7 @@
-use Rattle.std.proofs.Common.{◌≡◌, Some, Ok, Err, List, length, refl, sym, ◌∙◌, ap, subst, arith}
+use Rattle.std.proofs.Common.{Ok, Err, List, length, refl, sym, ◌∙◌, ap, subst, arith}
 use Rattle.std.proofs.lemmas.Option.{slice_get_within}
 use Rattle.chord_node.specs.declared.message.Message.{Message}
 use Rattle.chord_node.specs.Received.{PartIs, PartSteps}
-use Rattle.chord_handover.specs.Handover.{Part}
 use Rattle.chord_world.specs.Handing.{DoesAt}
 use Rattle.chord_world.specs.View.{state_of}
 use Rattle.chord_world.specs.State.{WorldState, IsWorld}
@@ -10,217 +9,147 @@ use Rattle.chord_world.specs.Delivered.{IsFor}
 use Rattle.chord_world.specs.Delivered.IsFor.{Part_for}
 use Rattle.chord_world.specs.Taking.{outcome_of_given}
 use Rattle.chord_world.proofs.Acting.{keeps_same}
-use Rattle.chord_world.proofs.Answering.{read, read_is, sent_here, stays, same_fields}
+use Rattle.chord_world.proofs.Answering.{read_is, sent_here, stays, same_fields}
 use Rattle.chord_world.proofs.Handing.{nodes_stay}
 use Rattle.chord_world.proofs.RingLemmas.{flag_old}
-use Rattle.chord_world.proofs.Taking.{TookPart, numbered, same_part, part_ends, for_out, part_is, part_after, part_delivers, part_stays, part_takes}
+use Rattle.chord_world.proofs.Taking.{TookPart, Came, came, numbered, receiver_place, for_out, part_fits, part_is, part_after, part_delivers, part_stays, part_takes}
 use Rattle.chord_world.proofs.world.World.deliver_part.Goals as goal
 
 pub returns-then-is_out-clause-answer : goal.returns-then-is_out-clause-answer
 returns-then-is_out-clause-answer g c =
     let view : WorldState = state_of c.self.inside in
-    let part0 = c.requires.part.0 in
-    let sent0 = sent_here view c.args.self.now c.args.place _ c.self.view_is c.requires.part.1 in
-    let ends = part_ends view c.args.place part0 c.self.invariant sent0 in
-    let own = c.requires.part.2 in
-    let within = ends.1 in
-    (for_out c.args.place c.args.to view c.args.self.now c.self.view_is c.self.invariant (omega arith) (subst (IsFor c.args.place view) own (Part_for part0 sent0)) (flag_old c.args.to view c.args.self.now _ _ c.self.view_is c.deref.ensures.value c.is_out.ensures c.if-is_out.true), refl)
+    let asked = sent_here view c.args.self.now c.args.place _ c.self.view_is c.requires.part.1 in
+    let within = receiver_place c.args.place c.args.to view c.args.self.now _ c.self.view_is c.self.invariant c.requires.part.1 c.requires.part.2 in
+    let out = flag_old c.args.to view c.args.self.now _ _ c.self.view_is c.deref.ensures.value c.is_out.ensures c.if-is_out.true in
+    (for_out c.args.place c.args.to view c.args.self.now c.self.view_is c.self.invariant within (subst (IsFor c.args.place view) c.requires.part.2 (Part_for c.requires.part.0 asked)) out, refl)
 
 pub returns-then-is_err-clause-answer : goal.returns-then-is_err-clause-answer
 returns-then-is_err-clause-answer g c =
     let view : WorldState = state_of c.self.inside in
-    let sent0 = sent_here view c.args.self.now c.args.place _ c.self.view_is c.requires.part.1 in
     let running = flag_old c.args.to view c.args.self.now _ _ c.self.view_is c.deref.ensures.value c.is_out.ensures c.if-is_out.false in
+    let asked = sent_here view c.args.self.now c.args.place _ c.self.view_is c.requires.part.1 in
     stays view c.args.self.now _ c.args.place c.self.view_is
-    (part_takes c.args.place c.args.to c.requires.part.0 view c.args.self.now c.self.view_is c.self.invariant sent0 c.requires.part.2 running)
+    (part_takes c.args.place c.args.to c.requires.part.0 view c.args.self.now c.self.view_is c.self.invariant asked c.requires.part.2 running)
     (same_fields view view.known.nodes c.make_room.new.sent.items view.known.history c.make_room.new.targets.items refl c.make_room.ensures.sent refl c.make_room.ensures.targets)
 
 pub index-requires : goal.index-requires
 index-requires g c =
     let view : WorldState = state_of c.self.inside in
-    let part0 = c.requires.part.0 in
-    let sent0 = sent_here view c.args.self.now c.args.place _ c.self.view_is c.requires.part.1 in
-    let ends = part_ends view c.args.place part0 c.self.invariant sent0 in
-    let own = c.requires.part.2 in
-    let within = slice_get_within view.known.sent c.args.place _ sent0 in
+    let within = slice_get_within view.known.sent c.args.place _ (sent_here view c.args.self.now c.args.place _ c.self.view_is c.requires.part.1) in
     let same = ap length c.make_room.ensures.sent in
     omega arith
 
 pub unreachable-requires : goal.unreachable-requires
 unreachable-requires g c =
     let view : WorldState = state_of c.self.inside in
-    let part0 = c.requires.part.0 in
-    let sent0 = sent_here view c.args.self.now c.args.place _ c.self.view_is c.requires.part.1 in
-    let ends = part_ends view c.args.place part0 c.self.invariant sent0 in
-    let own = c.requires.part.2 in
-    let within = slice_get_within view.known.sent c.args.place _ sent0 in
+    let asked = sent_here view c.args.self.now c.args.place _ c.self.view_is c.requires.part.1 in
+    let within = slice_get_within view.known.sent c.args.place _ asked in
     let same = ap length c.make_room.ensures.sent in
-    c.in_default.not-Part part0 (read_is c.make_room.new.sent.items view.known.sent c.args.place c.index.result.now _ c.make_room.ensures.sent (omega arith) c.index.ensures sent0)
+    c.in_default.not-Part c.requires.part.0 (read_is c.make_room.new.sent.items view.known.sent c.args.place c.index.result.now _ c.make_room.ensures.sent (omega arith) c.index.ensures asked)
 
 pub take_in-requires-clause-place : goal.take_in-requires-clause-place
 take_in-requires-clause-place g c =
     let view : WorldState = state_of c.self.inside in
-    let part0 = c.requires.part.0 in
-    let sent0 = sent_here view c.args.self.now c.args.place _ c.self.view_is c.requires.part.1 in
-    let ends = part_ends view c.args.place part0 c.self.invariant sent0 in
-    let own = c.requires.part.2 in
-    let within = ends.1 in
-    omega arith
+    receiver_place c.args.place c.args.to view c.args.self.now _ c.self.view_is c.self.invariant c.requires.part.1 c.requires.part.2
 
 pub take_in-requires-clause-numbered : goal.take_in-requires-clause-numbered
 take_in-requires-clause-numbered g c =
-    let view : WorldState = state_of c.self.inside in
-    numbered c.args.to view c.self.invariant
+    numbered c.args.to (state_of c.self.inside) c.self.invariant
 
 pub take_in-requires-clause-to : goal.take_in-requires-clause-to
 take_in-requires-clause-to g c =
     let view : WorldState = state_of c.self.inside in
-    let part0 = c.requires.part.0 in
-    let sent0 = sent_here view c.args.self.now c.args.place _ c.self.view_is c.requires.part.1 in
-    let ends = part_ends view c.args.place part0 c.self.invariant sent0 in
-    let own = c.requires.part.2 in
-    let within = slice_get_within view.known.sent c.args.place _ sent0 in
-    let room = ap length c.make_room.ensures.sent in
-    let sent = read c.make_room.new.sent.items view.known.sent c.args.place c.index.result.now c.make_room.ensures.sent (omega arith) c.index.ensures ∙ ap (λ m. Some m) c.in-Part.is in
-    let is_its : c.in-Part.part.to ≡ c.args.to = ap (λ (p : Part). p.to) (same_part view c.args.place c.in-Part.part part0 sent sent0) ∙ own in
-    is_its
+    let it : Came c.args.place c.args.to c.in-Part.part view = came c.args.place c.args.to view c.args.self.now c.requires.part.0 c.in-Part.part c.make_room.new.sent.items c.index.result.now
+    c.self.view_is c.requires.part.1 c.requires.part.2 c.make_room.ensures.sent c.index.ensures c.in-Part.is in
+    it.own
 
 pub invariant_of-self-in_default-take_in : goal.invariant_of-self-in_default-take_in
 invariant_of-self-in_default-take_in g c =
     let view : WorldState = state_of c.self.inside in
-    let part0 = c.requires.part.0 in
-    let sent0 = sent_here view c.args.self.now c.args.place _ c.self.view_is c.requires.part.1 in
-    let ends = part_ends view c.args.place part0 c.self.invariant sent0 in
-    let own = c.requires.part.2 in
-    let within = slice_get_within view.known.sent c.args.place _ sent0 in
-    let room = ap length c.make_room.ensures.sent in
-    let sent = read c.make_room.new.sent.items view.known.sent c.args.place c.index.result.now c.make_room.ensures.sent (omega arith) c.index.ensures ∙ ap (λ m. Some m) c.in-Part.is in
-    let is_its : c.in-Part.part.to ≡ c.args.to = ap (λ (p : Part). p.to) (same_part view c.args.place c.in-Part.part part0 sent sent0) ∙ own in
     let does : DoesAt (PartIs c.in-Part.part) (PartSteps c.in-Part.part) c.args.to view.known.nodes (Err _) c.take_in.new.nodes.items = c.in_default-take_in.ensures in
     let same = nodes_stay (PartIs c.in-Part.part) (PartSteps c.in-Part.part) c.args.to (Err _) view.known.nodes c.take_in.new.nodes.items does (part_stays c.in-Part.part _ does.node does.after does.is) in
-    subst IsWorld (sym (same_fields view c.take_in.new.nodes.items c.make_room.new.sent.items view.known.history c.make_room.new.targets.items same c.make_room.ensures.sent refl c.make_room.ensures.targets)) c.self.invariant
+    let all = same_fields view c.take_in.new.nodes.items c.make_room.new.sent.items view.known.history c.make_room.new.targets.items same c.make_room.ensures.sent refl c.make_room.ensures.targets in
+    subst IsWorld (sym all) c.self.invariant
 
 pub returns-in_default-take_in-clause-answer : goal.returns-in_default-take_in-clause-answer
 returns-in_default-take_in-clause-answer g c =
     let view : WorldState = state_of c.self.inside in
-    let part0 = c.requires.part.0 in
-    let sent0 = sent_here view c.args.self.now c.args.place _ c.self.view_is c.requires.part.1 in
-    let ends = part_ends view c.args.place part0 c.self.invariant sent0 in
-    let own = c.requires.part.2 in
-    let within = slice_get_within view.known.sent c.args.place _ sent0 in
-    let room = ap length c.make_room.ensures.sent in
-    let sent = read c.make_room.new.sent.items view.known.sent c.args.place c.index.result.now c.make_room.ensures.sent (omega arith) c.index.ensures ∙ ap (λ m. Some m) c.in-Part.is in
-    let is_its : c.in-Part.part.to ≡ c.args.to = ap (λ (p : Part). p.to) (same_part view c.args.place c.in-Part.part part0 sent sent0) ∙ own in
+    let running = flag_old c.args.to view c.args.self.now _ _ c.self.view_is c.deref.ensures.value c.is_out.ensures c.if-is_out.false in
+    let it : Came c.args.place c.args.to c.in-Part.part view = came c.args.place c.args.to view c.args.self.now c.requires.part.0 c.in-Part.part c.make_room.new.sent.items c.index.result.now
+    c.self.view_is c.requires.part.1 c.requires.part.2 c.make_room.ensures.sent c.index.ensures c.in-Part.is in
     let does : DoesAt (PartIs c.in-Part.part) (PartSteps c.in-Part.part) c.args.to view.known.nodes (Err _) c.take_in.new.nodes.items = c.in_default-take_in.ensures in
     let same = nodes_stay (PartIs c.in-Part.part) (PartSteps c.in-Part.part) c.args.to (Err _) view.known.nodes c.take_in.new.nodes.items does (part_stays c.in-Part.part _ does.node does.after does.is) in
-    let running = flag_old c.args.to view c.args.self.now _ _ c.self.view_is c.deref.ensures.value c.is_out.ensures c.if-is_out.false in
-    stays view c.args.self.now _ c.args.place c.self.view_is
-    (part_takes c.args.place c.args.to part0 view c.args.self.now c.self.view_is c.self.invariant sent0 own running)
-    (same_fields view c.take_in.new.nodes.items c.make_room.new.sent.items view.known.history c.make_room.new.targets.items same c.make_room.ensures.sent refl c.make_room.ensures.targets)
+    let all = same_fields view c.take_in.new.nodes.items c.make_room.new.sent.items view.known.history c.make_room.new.targets.items same c.make_room.ensures.sent refl c.make_room.ensures.targets in
+    stays view c.args.self.now _ c.args.place c.self.view_is (part_takes c.args.place c.args.to c.in-Part.part view c.args.self.now c.self.view_is c.self.invariant it.sent it.own running) all
 
 pub returns-in_default-take_in-clause-step : goal.returns-in_default-take_in-clause-step
 returns-in_default-take_in-clause-step g c =
     let view : WorldState = state_of c.self.inside in
-    let part0 = c.requires.part.0 in
-    let sent0 = sent_here view c.args.self.now c.args.place _ c.self.view_is c.requires.part.1 in
-    let ends = part_ends view c.args.place part0 c.self.invariant sent0 in
-    let own = c.requires.part.2 in
-    let within = slice_get_within view.known.sent c.args.place _ sent0 in
-    let room = ap length c.make_room.ensures.sent in
-    let sent = read c.make_room.new.sent.items view.known.sent c.args.place c.index.result.now c.make_room.ensures.sent (omega arith) c.index.ensures ∙ ap (λ m. Some m) c.in-Part.is in
-    let is_its : c.in-Part.part.to ≡ c.args.to = ap (λ (p : Part). p.to) (same_part view c.args.place c.in-Part.part part0 sent sent0) ∙ own in
     let does : DoesAt (PartIs c.in-Part.part) (PartSteps c.in-Part.part) c.args.to view.known.nodes (Err _) c.take_in.new.nodes.items = c.in_default-take_in.ensures in
     let same = nodes_stay (PartIs c.in-Part.part) (PartSteps c.in-Part.part) c.args.to (Err _) view.known.nodes c.take_in.new.nodes.items does (part_stays c.in-Part.part _ does.node does.after does.is) in
-    same_fields view c.take_in.new.nodes.items c.make_room.new.sent.items view.known.history c.make_room.new.targets.items same c.make_room.ensures.sent refl c.make_room.ensures.targets ∙ c.self.view_is
+    let all = same_fields view c.take_in.new.nodes.items c.make_room.new.sent.items view.known.history c.make_room.new.targets.items same c.make_room.ensures.sent refl c.make_room.ensures.targets in
+    all ∙ c.self.view_is
 
 pub returns-in_default-take_in-clause-ring : goal.returns-in_default-take_in-clause-ring
 returns-in_default-take_in-clause-ring g c =
     let view : WorldState = state_of c.self.inside in
-    let part0 = c.requires.part.0 in
-    let sent0 = sent_here view c.args.self.now c.args.place _ c.self.view_is c.requires.part.1 in
-    let ends = part_ends view c.args.place part0 c.self.invariant sent0 in
-    let own = c.requires.part.2 in
-    let within = slice_get_within view.known.sent c.args.place _ sent0 in
-    let room = ap length c.make_room.ensures.sent in
-    let sent = read c.make_room.new.sent.items view.known.sent c.args.place c.index.result.now c.make_room.ensures.sent (omega arith) c.index.ensures ∙ ap (λ m. Some m) c.in-Part.is in
-    let is_its : c.in-Part.part.to ≡ c.args.to = ap (λ (p : Part). p.to) (same_part view c.args.place c.in-Part.part part0 sent sent0) ∙ own in
     let does : DoesAt (PartIs c.in-Part.part) (PartSteps c.in-Part.part) c.args.to view.known.nodes (Err _) c.take_in.new.nodes.items = c.in_default-take_in.ensures in
     let same = nodes_stay (PartIs c.in-Part.part) (PartSteps c.in-Part.part) c.args.to (Err _) view.known.nodes c.take_in.new.nodes.items does (part_stays c.in-Part.part _ does.node does.after does.is) in
     keeps_same view c.args.self.now _ c.self.view_is same refl
 
+pub confirm-requires-clause-fits : goal.confirm-requires-clause-fits
+confirm-requires-clause-fits g c =
+    let view : WorldState = state_of c.self.inside in
+    let it : Came c.args.place c.args.to c.in-Part.part view = came c.args.place c.args.to view c.args.self.now c.requires.part.0 c.in-Part.part c.make_room.new.sent.items c.index.result.now
+    c.self.view_is c.requires.part.1 c.requires.part.2 c.make_room.ensures.sent c.index.ensures c.in-Part.is in
+    let does : DoesAt (PartIs c.in-Part.part) (PartSteps c.in-Part.part) c.args.to view.known.nodes (Ok c.in-Ok.given) c.take_in.new.nodes.items = c.in-Ok.ensures in
+    part_fits c.args.place c.args.to c.in-Part.part c.in-Ok.given view c.take_in.new.nodes.items c.self.invariant it does c.no_delivery_clashes.ensures.taken
+
 pub invariant_of-self-2 : goal.invariant_of-self-2
 invariant_of-self-2 g c =
     let view : WorldState = state_of c.self.inside in
-    let part0 = c.requires.part.0 in
-    let sent0 = sent_here view c.args.self.now c.args.place _ c.self.view_is c.requires.part.1 in
-    let ends = part_ends view c.args.place part0 c.self.invariant sent0 in
-    let own = c.requires.part.2 in
-    let within = slice_get_within view.known.sent c.args.place _ sent0 in
-    let room = ap length c.make_room.ensures.sent in
-    let sent = read c.make_room.new.sent.items view.known.sent c.args.place c.index.result.now c.make_room.ensures.sent (omega arith) c.index.ensures ∙ ap (λ m. Some m) c.in-Part.is in
-    let is_its : c.in-Part.part.to ≡ c.args.to = ap (λ (p : Part). p.to) (same_part view c.args.place c.in-Part.part part0 sent sent0) ∙ own in
+    let running = flag_old c.args.to view c.args.self.now _ _ c.self.view_is c.deref.ensures.value c.is_out.ensures c.if-is_out.false in
+    let it : Came c.args.place c.args.to c.in-Part.part view = came c.args.place c.args.to view c.args.self.now c.requires.part.0 c.in-Part.part c.make_room.new.sent.items c.index.result.now
+    c.self.view_is c.requires.part.1 c.requires.part.2 c.make_room.ensures.sent c.index.ensures c.in-Part.is in
     let does : DoesAt (PartIs c.in-Part.part) (PartSteps c.in-Part.part) c.args.to view.known.nodes (Ok c.in-Ok.given) c.take_in.new.nodes.items = c.in-Ok.ensures in
-    let took : TookPart c.args.place c.args.to c.in-Part.part c.in-Ok.given view c.take_in.new.nodes.items = record { sent = sent; own = is_its; does = does } in
+    let took : TookPart c.args.place c.args.to c.in-Part.part c.in-Ok.given view c.take_in.new.nodes.items = record { sent = it.sent; own = it.own; does = does } in
     let is = part_is c.args.place c.args.to c.in-Part.part c.in-Ok.given c.of-ticket.result view c.take_in.new.nodes.items c.confirm.new.sent.items c.make_room.new.sent.items c.confirm.new.targets.items c.make_room.new.targets.items
     c.self.invariant took c.of-ticket.ensures c.confirm.ensures.sent c.make_room.ensures.sent c.confirm.ensures.targets c.make_room.ensures.targets in
-    let running = flag_old c.args.to view c.args.self.now _ _ c.self.view_is c.deref.ensures.value c.is_out.ensures c.if-is_out.false in
-    let after = part_after c.args.place c.args.to c.in-Part.part c.in-Ok.given view c.args.self.now _ c.take_in.new.nodes.items c.self.view_is c.self.invariant running took is in
-    after.world
+    (part_after c.args.place c.args.to c.in-Part.part c.in-Ok.given view c.args.self.now _ c.take_in.new.nodes.items c.self.view_is c.self.invariant running took is).world
 
 pub returns-clause-answer : goal.returns-clause-answer
 returns-clause-answer g c =
     let view : WorldState = state_of c.self.inside in
-    let part0 = c.requires.part.0 in
-    let sent0 = sent_here view c.args.self.now c.args.place _ c.self.view_is c.requires.part.1 in
-    let ends = part_ends view c.args.place part0 c.self.invariant sent0 in
-    let own = c.requires.part.2 in
-    let within = slice_get_within view.known.sent c.args.place _ sent0 in
-    let room = ap length c.make_room.ensures.sent in
-    let sent = read c.make_room.new.sent.items view.known.sent c.args.place c.index.result.now c.make_room.ensures.sent (omega arith) c.index.ensures ∙ ap (λ m. Some m) c.in-Part.is in
-    let is_its : c.in-Part.part.to ≡ c.args.to = ap (λ (p : Part). p.to) (same_part view c.args.place c.in-Part.part part0 sent sent0) ∙ own in
+    let running = flag_old c.args.to view c.args.self.now _ _ c.self.view_is c.deref.ensures.value c.is_out.ensures c.if-is_out.false in
+    let it : Came c.args.place c.args.to c.in-Part.part view = came c.args.place c.args.to view c.args.self.now c.requires.part.0 c.in-Part.part c.make_room.new.sent.items c.index.result.now
+    c.self.view_is c.requires.part.1 c.requires.part.2 c.make_room.ensures.sent c.index.ensures c.in-Part.is in
     let does : DoesAt (PartIs c.in-Part.part) (PartSteps c.in-Part.part) c.args.to view.known.nodes (Ok c.in-Ok.given) c.take_in.new.nodes.items = c.in-Ok.ensures in
-    let took : TookPart c.args.place c.args.to c.in-Part.part c.in-Ok.given view c.take_in.new.nodes.items = record { sent = sent; own = is_its; does = does } in
+    let took : TookPart c.args.place c.args.to c.in-Part.part c.in-Ok.given view c.take_in.new.nodes.items = record { sent = it.sent; own = it.own; does = does } in
     let is = part_is c.args.place c.args.to c.in-Part.part c.in-Ok.given c.of-ticket.result view c.take_in.new.nodes.items c.confirm.new.sent.items c.make_room.new.sent.items c.confirm.new.targets.items c.make_room.new.targets.items
     c.self.invariant took c.of-ticket.ensures c.confirm.ensures.sent c.make_room.ensures.sent c.confirm.ensures.targets c.make_room.ensures.targets in
-    let running = flag_old c.args.to view c.args.self.now _ _ c.self.view_is c.deref.ensures.value c.is_out.ensures c.if-is_out.false in
-    let after = part_after c.args.place c.args.to c.in-Part.part c.in-Ok.given view c.args.self.now _ c.take_in.new.nodes.items c.self.view_is c.self.invariant running took is in
     part_delivers c.args.place c.args.to c.in-Part.part c.in-Ok.given view c.args.self.now _ c.take_in.new.nodes.items c.confirm.result c.self.view_is c.self.invariant running took is
-    (c.confirm.ensures.outcome ∙ ap (λ (xs : List Message). outcome_of_given c.in-Ok.given (length xs)) c.make_room.ensures.sent)
+    (ap (λ (xs : List Message). outcome_of_given c.in-Ok.given (length xs)) (sym c.make_room.ensures.sent) ∙ c.confirm.ensures.outcome)
 
 pub returns-clause-step : goal.returns-clause-step
 returns-clause-step g c =
     let view : WorldState = state_of c.self.inside in
-    let part0 = c.requires.part.0 in
-    let sent0 = sent_here view c.args.self.now c.args.place _ c.self.view_is c.requires.part.1 in
-    let ends = part_ends view c.args.place part0 c.self.invariant sent0 in
-    let own = c.requires.part.2 in
-    let within = slice_get_within view.known.sent c.args.place _ sent0 in
-    let room = ap length c.make_room.ensures.sent in
-    let sent = read c.make_room.new.sent.items view.known.sent c.args.place c.index.result.now c.make_room.ensures.sent (omega arith) c.index.ensures ∙ ap (λ m. Some m) c.in-Part.is in
-    let is_its : c.in-Part.part.to ≡ c.args.to = ap (λ (p : Part). p.to) (same_part view c.args.place c.in-Part.part part0 sent sent0) ∙ own in
+    let running = flag_old c.args.to view c.args.self.now _ _ c.self.view_is c.deref.ensures.value c.is_out.ensures c.if-is_out.false in
+    let it : Came c.args.place c.args.to c.in-Part.part view = came c.args.place c.args.to view c.args.self.now c.requires.part.0 c.in-Part.part c.make_room.new.sent.items c.index.result.now
+    c.self.view_is c.requires.part.1 c.requires.part.2 c.make_room.ensures.sent c.index.ensures c.in-Part.is in
     let does : DoesAt (PartIs c.in-Part.part) (PartSteps c.in-Part.part) c.args.to view.known.nodes (Ok c.in-Ok.given) c.take_in.new.nodes.items = c.in-Ok.ensures in
-    let took : TookPart c.args.place c.args.to c.in-Part.part c.in-Ok.given view c.take_in.new.nodes.items = record { sent = sent; own = is_its; does = does } in
+    let took : TookPart c.args.place c.args.to c.in-Part.part c.in-Ok.given view c.take_in.new.nodes.items = record { sent = it.sent; own = it.own; does = does } in
     let is = part_is c.args.place c.args.to c.in-Part.part c.in-Ok.given c.of-ticket.result view c.take_in.new.nodes.items c.confirm.new.sent.items c.make_room.new.sent.items c.confirm.new.targets.items c.make_room.new.targets.items
     c.self.invariant took c.of-ticket.ensures c.confirm.ensures.sent c.make_room.ensures.sent c.confirm.ensures.targets c.make_room.ensures.targets in
-    let running = flag_old c.args.to view c.args.self.now _ _ c.self.view_is c.deref.ensures.value c.is_out.ensures c.if-is_out.false in
-    let after = part_after c.args.place c.args.to c.in-Part.part c.in-Ok.given view c.args.self.now _ c.take_in.new.nodes.items c.self.view_is c.self.invariant running took is in
-    after.step
+    (part_after c.args.place c.args.to c.in-Part.part c.in-Ok.given view c.args.self.now _ c.take_in.new.nodes.items c.self.view_is c.self.invariant running took is).step
 
 pub returns-clause-ring : goal.returns-clause-ring
 returns-clause-ring g c =
     let view : WorldState = state_of c.self.inside in
-    let part0 = c.requires.part.0 in
-    let sent0 = sent_here view c.args.self.now c.args.place _ c.self.view_is c.requires.part.1 in
-    let ends = part_ends view c.args.place part0 c.self.invariant sent0 in
-    let own = c.requires.part.2 in
-    let within = slice_get_within view.known.sent c.args.place _ sent0 in
-    let room = ap length c.make_room.ensures.sent in
-    let sent = read c.make_room.new.sent.items view.known.sent c.args.place c.index.result.now c.make_room.ensures.sent (omega arith) c.index.ensures ∙ ap (λ m. Some m) c.in-Part.is in
-    let is_its : c.in-Part.part.to ≡ c.args.to = ap (λ (p : Part). p.to) (same_part view c.args.place c.in-Part.part part0 sent sent0) ∙ own in
+    let running = flag_old c.args.to view c.args.self.now _ _ c.self.view_is c.deref.ensures.value c.is_out.ensures c.if-is_out.false in
+    let it : Came c.args.place c.args.to c.in-Part.part view = came c.args.place c.args.to view c.args.self.now c.requires.part.0 c.in-Part.part c.make_room.new.sent.items c.index.result.now
+    c.self.view_is c.requires.part.1 c.requires.part.2 c.make_room.ensures.sent c.index.ensures c.in-Part.is in
     let does : DoesAt (PartIs c.in-Part.part) (PartSteps c.in-Part.part) c.args.to view.known.nodes (Ok c.in-Ok.given) c.take_in.new.nodes.items = c.in-Ok.ensures in
-    let took : TookPart c.args.place c.args.to c.in-Part.part c.in-Ok.given view c.take_in.new.nodes.items = record { sent = sent; own = is_its; does = does } in
+    let took : TookPart c.args.place c.args.to c.in-Part.part c.in-Ok.given view c.take_in.new.nodes.items = record { sent = it.sent; own = it.own; does = does } in
     let is = part_is c.args.place c.args.to c.in-Part.part c.in-Ok.given c.of-ticket.result view c.take_in.new.nodes.items c.confirm.new.sent.items c.make_room.new.sent.items c.confirm.new.targets.items c.make_room.new.targets.items
     c.self.invariant took c.of-ticket.ensures c.confirm.ensures.sent c.make_room.ensures.sent c.confirm.ensures.targets c.make_room.ensures.targets in
-    let running = flag_old c.args.to view c.args.self.now _ _ c.self.view_is c.deref.ensures.value c.is_out.ensures c.if-is_out.false in
-    let after = part_after c.args.place c.args.to c.in-Part.part c.in-Ok.given view c.args.self.now _ c.take_in.new.nodes.items c.self.view_is c.self.invariant running took is in
-    after.ring
+    (part_after c.args.place c.args.to c.in-Part.part c.in-Ok.given view c.args.self.now _ c.take_in.new.nodes.items c.self.view_is c.self.invariant running took is).ring

@@ -65,7 +65,6 @@ pub returns-in_err-part-clause-answer : goal.returns-in_err-part-clause-answer
 returns-in_err-part-clause-answer g c =
     let view : WorldState = state_of c.self.inside in
     let does : DoesAt (GiveIs c.args.place c.args.to) SendSteps c.args.node view.known.nodes (Err c.in_err-part.field-0.0) c.give_in.new.nodes.items = c.in_err-part.ensures in
-    let stays = give_stays c.args.node c.args.to c.args.place c.in_err-part.field-0.0 view c.give_in.new.nodes.items c.make_room.new.sent.items c.make_room.new.targets.items does c.make_room.ensures.sent c.make_room.ensures.targets in
     give_refused_at c.args.node c.args.to c.args.place c.in_err-part.field-0.0 view c.args.self.now c.give_in.new.nodes.items c.make_room.new.sent.items c.make_room.new.targets.items c.from_residual-in_err-part.result c.self.view_is c.self.invariant
     c.in_ok-is_there.ensures c.in_ok-can_act.ensures.1 does c.make_room.ensures.sent c.make_room.ensures.targets c.from_residual-in_err-part.ensures.1
 
@@ -80,7 +79,6 @@ pub returns-in_err-part-clause-ring : goal.returns-in_err-part-clause-ring
 returns-in_err-part-clause-ring g c =
     let view : WorldState = state_of c.self.inside in
     let does : DoesAt (GiveIs c.args.place c.args.to) SendSteps c.args.node view.known.nodes (Err c.in_err-part.field-0.0) c.give_in.new.nodes.items = c.in_err-part.ensures in
-    let stays = give_stays c.args.node c.args.to c.args.place c.in_err-part.field-0.0 view c.give_in.new.nodes.items c.make_room.new.sent.items c.make_room.new.targets.items does c.make_room.ensures.sent c.make_room.ensures.targets in
     keeps_same view c.args.self.now _ c.self.view_is (nodes_stay (GiveIs c.args.place c.args.to) SendSteps c.args.node (Err c.in_err-part.field-0.0) view.known.nodes c.give_in.new.nodes.items does
     (give_kept c.args.place c.args.to c.in_err-part.field-0.0 does.node does.after does.is)) refl
 

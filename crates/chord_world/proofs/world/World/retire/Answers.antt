@@ -28,7 +28,6 @@ retire_in-requires g c =
 pub invariant_of-self : goal.invariant_of-self
 invariant_of-self g c =
     let view : WorldState = state_of c.self.inside in
-    let needed : NeededIs c.args.node c.args.self.now false = subst (NeededIs c.args.node c.args.self.now) c.if-is_needed.false c.is_needed.ensures in
     let fault = c.in_err-retire_in.field-0.0 in
     let does : DoesAt RetireIs MoveSteps c.args.node view.known.nodes (Err fault) c.retire_in.new.nodes.items = c.in_err-retire_in.ensures in
     let same = nodes_stay RetireIs MoveSteps c.args.node (Err fault) view.known.nodes c.retire_in.new.nodes.items does (kept_retire fault does.node does.after does.is) in
@@ -40,14 +39,12 @@ returns-in_err-retire_in-clause-answer g c =
     let needed : NeededIs c.args.node c.args.self.now false = subst (NeededIs c.args.node c.args.self.now) c.if-is_needed.false c.is_needed.ensures in
     let fault = c.in_err-retire_in.field-0.0 in
     let does : DoesAt RetireIs MoveSteps c.args.node view.known.nodes (Err fault) c.retire_in.new.nodes.items = c.in_err-retire_in.ensures in
-    let same = nodes_stay RetireIs MoveSteps c.args.node (Err fault) view.known.nodes c.retire_in.new.nodes.items does (kept_retire fault does.node does.after does.is) in
     retire_refused c.args.node fault view c.args.self.now c.retire_in.new.nodes.items c.from_residual-in_err-retire_in.result c.self.view_is c.self.invariant c.in_ok-can_act.ensures.1
     (unneeded c.args.node c.args.self.now needed) does c.from_residual-in_err-retire_in.ensures.1
 
 pub returns-in_err-retire_in-clause-step : goal.returns-in_err-retire_in-clause-step
 returns-in_err-retire_in-clause-step g c =
     let view : WorldState = state_of c.self.inside in
-    let needed : NeededIs c.args.node c.args.self.now false = subst (NeededIs c.args.node c.args.self.now) c.if-is_needed.false c.is_needed.ensures in
     let fault = c.in_err-retire_in.field-0.0 in
     let does : DoesAt RetireIs MoveSteps c.args.node view.known.nodes (Err fault) c.retire_in.new.nodes.items = c.in_err-retire_in.ensures in
     let same = nodes_stay RetireIs MoveSteps c.args.node (Err fault) view.known.nodes c.retire_in.new.nodes.items does (kept_retire fault does.node does.after does.is) in
@@ -56,7 +53,6 @@ returns-in_err-retire_in-clause-step g c =
 pub returns-in_err-retire_in-clause-ring : goal.returns-in_err-retire_in-clause-ring
 returns-in_err-retire_in-clause-ring g c =
     let view : WorldState = state_of c.self.inside in
-    let needed : NeededIs c.args.node c.args.self.now false = subst (NeededIs c.args.node c.args.self.now) c.if-is_needed.false c.is_needed.ensures in
     let fault = c.in_err-retire_in.field-0.0 in
     let does : DoesAt RetireIs MoveSteps c.args.node view.known.nodes (Err fault) c.retire_in.new.nodes.items = c.in_err-retire_in.ensures in
     let same = nodes_stay RetireIs MoveSteps c.args.node (Err fault) view.known.nodes c.retire_in.new.nodes.items does (kept_retire fault does.node does.after does.is) in

@@ -51,7 +51,6 @@ invariant_of-self-2 g c =
     let within = acts_within c.args.node view c.args.self.now c.self.view_is c.self.invariant c.in_ok-can_act.ensures.0 in
     let here = got view.known.nodes c.args.node c.index.result.now within c.index.ensures in
     let there : c.args.to < length view.known.nodes = omega arith in
-    let has = has_node c.args.to view c.args.self.now c.self.view_is c.self.invariant there in
     let is = sent_now (PartMessage c.in_ok-part.part) 0 view c.in_ok-message.message c.send.new.sent.items c.send.new.targets.items c.in_ok-message.ensures
     ∙ sym (ap (with_sent (PartMessage c.in_ok-part.part) 0) (same_node c.args.node c.index.result.now view c.self.invariant here)) in
     let after = resends c.args.node c.args.to c.args.number c.args.part c.index.result.now c.in_ok-part.part view c.args.self.now _ c.self.view_is c.self.invariant here c.in_ok-can_act.ensures.1 there
@@ -80,7 +79,6 @@ returns-clause-step g c =
     let within = acts_within c.args.node view c.args.self.now c.self.view_is c.self.invariant c.in_ok-can_act.ensures.0 in
     let here = got view.known.nodes c.args.node c.index.result.now within c.index.ensures in
     let there : c.args.to < length view.known.nodes = omega arith in
-    let has = has_node c.args.to view c.args.self.now c.self.view_is c.self.invariant there in
     let is = sent_now (PartMessage c.in_ok-part.part) 0 view c.in_ok-message.message c.send.new.sent.items c.send.new.targets.items c.in_ok-message.ensures
     ∙ sym (ap (with_sent (PartMessage c.in_ok-part.part) 0) (same_node c.args.node c.index.result.now view c.self.invariant here)) in
     let after = resends c.args.node c.args.to c.args.number c.args.part c.index.result.now c.in_ok-part.part view c.args.self.now _ c.self.view_is c.self.invariant here c.in_ok-can_act.ensures.1 there
@@ -93,7 +91,6 @@ returns-clause-ring g c =
     let within = acts_within c.args.node view c.args.self.now c.self.view_is c.self.invariant c.in_ok-can_act.ensures.0 in
     let here = got view.known.nodes c.args.node c.index.result.now within c.index.ensures in
     let there : c.args.to < length view.known.nodes = omega arith in
-    let has = has_node c.args.to view c.args.self.now c.self.view_is c.self.invariant there in
     let is = sent_now (PartMessage c.in_ok-part.part) 0 view c.in_ok-message.message c.send.new.sent.items c.send.new.targets.items c.in_ok-message.ensures
     ∙ sym (ap (with_sent (PartMessage c.in_ok-part.part) 0) (same_node c.args.node c.index.result.now view c.self.invariant here)) in
     let after = resends c.args.node c.args.to c.args.number c.args.part c.index.result.now c.in_ok-part.part view c.args.self.now _ c.self.view_is c.self.invariant here c.in_ok-can_act.ensures.1 there
