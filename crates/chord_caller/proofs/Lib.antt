@@ -5,3 +5,4 @@ pub mod Submitting
 pub mod Taking
 pub mod Views
 pub mod Steps
+pub mod Naming

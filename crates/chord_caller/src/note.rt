@@ -1,11 +1,12 @@
 //! What a caller shows to others.
-ghost use Rattle.std.specs.Prelude.{◌≡◌, ◌++◌, is_some, IfOk};
+ghost use Rattle.std.specs.Prelude.{◌≡◌, ◌++◌, ◌&&◌, ℕ, not, is_some, IfOk};
 ghost use Rattle.chord_segment.specs.History.{done_at};
+ghost use Rattle.chord_caller.specs.Names.{has_name};
 ghost use Rattle.chord_caller.specs.Unknown.{not_in};
 
 use chord_segment::Done;
-use chord_segment::done::find_done;
 use std::alloc::{AllocError, Global};
+use std::collections::BTreeSet;
 use std::marker::Model;
 
 /// What a caller knows: the calls that it took, then those that it was told of.
@@ -23,12 +24,24 @@ impl Model for Note {
     ghost view = { λ note. record { caller = note.caller; done = note.done.items } };
 }
 
-/// Whether a call stands in one of the lists.
-#[tactic(auto, using(crate::proofs::Places::either_is))]
-pub fn stands_in_either(first: &[Done], second: &[Done], caller: u64, number: u64) -> bool
-    ensures { result ≡ is_some (done_at caller number (first.now ++ second.now)) }
+/// The names of the calls: who made each, and its number.
+fn names_of(alloc: Global, dones: &[Done]) -> Result<BTreeSet<(u64, u64)>, AllocError>
+    ensures { IfOk result (λ names. (caller number : ℕ) → has_name caller number names ≡ is_some (done_at caller number dones.now)) }
 {
-    find_done(first, caller, number).is_some() || find_done(second, caller, number).is_some()
+    let mut names = BTreeSet::new(alloc);
+    for done in dones {
+        names.insert((done.caller, done.number))?;
+    }
+    Ok(names)
+}
+
+/// Strikes out the names of the calls.
+fn strike_out(names: &mut BTreeSet<(u64, u64)>, dones: &[Done])
+    ensures { (caller number : ℕ) → has_name caller number names.new ≡ (has_name caller number names.old && not (is_some (done_at caller number dones.now))) }
+{
+    for done in dones {
+        names.remove(&(done.caller, done.number));
+    }
 }
 
 /// Copies of the calls that stand in neither list.
@@ -40,12 +53,14 @@ pub fn copy_unknown(
 ) -> Result<Vec<Done>, AllocError>
     ensures { IfOk result (λ news. news.items ≡ not_in (mine.now ++ told.now) dones.now) }
 {
+    let mut unknown = names_of(alloc, dones)?;
+    strike_out(&mut unknown, mine);
+    strike_out(&mut unknown, told);
     let mut news = Vec::new(alloc);
     for done in dones {
-        if stands_in_either(mine, told, done.caller, done.number) {
-            continue;
+        if unknown.contains(&(done.caller, done.number)) {
+            news.push(done.try_copy()?)?;
         }
-        news.push(done.try_copy()?)?;
     }
     Ok(news)
 }

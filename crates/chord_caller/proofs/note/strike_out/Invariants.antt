@@ -1,0 +1,7 @@
+use Rattle.std.proofs.Common.{◌≡◌, ◌&&◌, ℕ, not, is_some, take}
+use Rattle.chord_segment.specs.History.{done_at}
+use Rattle.chord_caller.specs.Names.{has_name}
+use Rattle.chord_caller.proofs.note.strike_out.Given as goal
+
+abbrev pub invariant-loop-done : goal.invariant-loop-done
+invariant-loop-done l = (caller number : ℕ) → has_name caller number l.names ≡ (has_name caller number l.initial.names && not (is_some (done_at caller number (take l.done-index l.dones))))
