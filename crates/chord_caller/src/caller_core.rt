@@ -118,15 +118,8 @@ impl CallerCore {
         ensures answer { SubmitIs request self.old result self.new }
         ensures step { IfOk result (λ ask. CallerStep self.old None self.new (Some (AskLetter ask))) }
     {
-        if let Err(fault) = request.check() {
-            return Err(SubmitFault::Bad(fault));
-        }
-        let last = self.submitted.len() as u64;
-        if last - self.floor >= self.window {
-            return Err(SubmitFault::WindowFull);
-        }
-        if last == u64::MAX {
-            return Err(SubmitFault::NumbersSpent);
+        if let Some(fault) = self.refusal(&request) {
+            return Err(fault);
         }
         let copy = request.try_copy()?;
         self.submitted.reserve(1)?;
@@ -138,7 +131,7 @@ impl CallerCore {
         self.submitted.push_reserved(submitted);
         Ok(Ask {
             caller: self.number,
-            number: last + 1,
+            number: self.submitted.len() as u64,
             floor: self.floor,
             request: copy,
             hops: 255,
