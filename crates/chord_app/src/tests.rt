@@ -11,6 +11,8 @@ use std::alloc::{AllocError, Global};
 use std::fmt::Write;
 use std::test::Fail;
 
+mod worlds;
+
 /// Runs the script over these stores.
 fn runs<S: EntryStore>(
     alloc: Global,

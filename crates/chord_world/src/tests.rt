@@ -13,8 +13,10 @@ use chord_store::ListStore;
 use std::alloc::{AllocError, Global};
 use std::test::Fail;
 
+mod disturbed;
 mod growths;
 mod rings;
+mod scripts;
 
 /// A caller inserts x under abc, and the call is delivered twice.
 fn script(alloc: Global) -> Result<Vec<Step>, AllocError> {
