@@ -4,3 +4,4 @@ pub mod StepLaws
 pub mod Serving
 pub mod BatchLaws
 pub mod FittingReplies
+pub mod BytesRead

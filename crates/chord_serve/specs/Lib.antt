@@ -6,3 +6,4 @@ pub mod Writes
 pub mod Steps
 pub mod Served
 pub mod Calls
+pub mod BytesRead

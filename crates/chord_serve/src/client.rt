@@ -1,10 +1,11 @@
 //! One call of a server.
-ghost use Rattle.std.specs.Prelude.{◌≡◌, ◌≢◌, Ok, Err, None};
+ghost use Rattle.std.specs.Prelude.{◌≡◌, ◌≢◌, ◌*◌, Ok, Err, None};
 ghost use Rattle.std.specs.Io.KnownBytes.{IsAtEnd};
 ghost use Rattle.chord_map.specs.declared.request.Request.{Request};
 ghost use Rattle.chord_map.specs.Checked.{IsRequest};
 ghost use Rattle.chord_wire.specs.Spelling.{IsWireRequest, frame, request_body, version_1, version_2};
 ghost use Rattle.chord_wire.specs.ReadingReplies.{next_answer};
+ghost use Rattle.chord_serve.specs.BytesRead.{ReadsBetween};
 ghost use Rattle.chord_serve.specs.Calls.{ReadsAnswer, ReadsMore, GetsAnswer, IsCalled};
 
 use crate::stop::Stop;
@@ -29,6 +30,7 @@ pub enum CallFault {
 fn look(answers: &mut Answers) -> Result<Option<Answer>, CallFault>
     ensures reads { ReadsAnswer result answers.old answers.new }
     ensures not_ended { result ≢ Err CallFault.Ended }
+    ensures not_spent { result ≢ Err CallFault.TurnsSpent }
 {
     match answers.next() {
         Ok(answer) => Ok(answer),
@@ -47,6 +49,9 @@ fn read_more<R: Read>(reader: &mut R, answers: &mut Answers) -> Result<Option<An
     requires { next_answer answers.old ≡ Ok None }
     ensures reads { ReadsMore result answers.old (R.remaining reader.old) (R.remaining reader.new) answers.new }
     ensures end { result ≡ Err CallFault.Ended → IsAtEnd (R.remaining reader.new) }
+    ensures bytes { ReadsBetween 0 4096 (R.remaining reader.old) (R.remaining reader.new) }
+    ensures not_spent { result ≢ Err CallFault.TurnsSpent }
+    ensures progress { result ≡ Ok None → ReadsBetween 1 4096 (R.remaining reader.old) (R.remaining reader.new) }
 {
     let mut buffer = [0u8; 4096];
     let count = match reader.read(&mut buffer) {
@@ -70,6 +75,8 @@ fn await_answer<R: Read>(
 ) -> Result<Answer, CallFault>
     ensures gets { GetsAnswer result answers.old (R.remaining reader.old) (R.remaining reader.new) answers.new }
     ensures end { result ≡ Err CallFault.Ended → IsAtEnd (R.remaining reader.new) }
+    ensures bytes { ReadsBetween 0 (4096 * turns) (R.remaining reader.old) (R.remaining reader.new) }
+    ensures spent { result ≡ Err CallFault.TurnsSpent → ReadsBetween turns (4096 * turns) (R.remaining reader.old) (R.remaining reader.new) }
 {
     if let Some(answer) = look(answers)? {
         return Ok(answer);
@@ -92,6 +99,8 @@ fn exchange<R: Read, W: Write>(
 ) -> Result<Answer, CallFault>
     ensures called { IsCalled result frame.now answers.old (R.remaining reader.old) (R.remaining reader.new) (W.contents writer.old) (W.contents writer.new) answers.new }
     ensures end { result ≡ Err CallFault.Ended → IsAtEnd (R.remaining reader.new) }
+    ensures bytes { ReadsBetween 0 (4096 * turns) (R.remaining reader.old) (R.remaining reader.new) }
+    ensures spent { result ≡ Err CallFault.TurnsSpent → ReadsBetween turns (4096 * turns) (R.remaining reader.old) (R.remaining reader.new) }
 {
     match write_bytes(writer, frame) {
         Ok(()) => await_answer(reader, answers, turns),
@@ -100,7 +109,7 @@ fn exchange<R: Read, W: Write>(
     }
 }
 
-/// Writes a version 1 request, and gives the first answer.
+/// Writes a version 1 request, and gives the first answer. It reads at most that many times.
 pub fn call<R: Read, W: Write>(
     alloc: Global,
     reader: &mut R,
@@ -113,6 +122,8 @@ pub fn call<R: Read, W: Write>(
     requires { IsRequest request.now }
     ensures called { IsCalled result (frame (request_body (version_1 number request.now))) answers.old (R.remaining reader.old) (R.remaining reader.new) (W.contents writer.old) (W.contents writer.new) answers.new }
     ensures end { result ≡ Err CallFault.Ended → IsAtEnd (R.remaining reader.new) }
+    ensures bytes { ReadsBetween 0 (4096 * turns) (R.remaining reader.old) (R.remaining reader.new) }
+    ensures spent { result ≡ Err CallFault.TurnsSpent → ReadsBetween turns (4096 * turns) (R.remaining reader.old) (R.remaining reader.new) }
 {
     match write_request(alloc, number, request) {
         Ok(frame) => exchange(reader, writer, answers, &frame, turns),
@@ -120,7 +131,7 @@ pub fn call<R: Read, W: Write>(
     }
 }
 
-/// Writes a version 2 request, and gives the first answer.
+/// Writes a version 2 request, and gives the first answer. It reads at most that many times.
 pub fn call_2<R: Read, W: Write>(
     alloc: Global,
     reader: &mut R,
@@ -134,6 +145,8 @@ pub fn call_2<R: Read, W: Write>(
     requires { IsWireRequest (version_2 number floor request.now) }
     ensures called { IsCalled result (frame (request_body (version_2 number floor request.now))) answers.old (R.remaining reader.old) (R.remaining reader.new) (W.contents writer.old) (W.contents writer.new) answers.new }
     ensures end { result ≡ Err CallFault.Ended → IsAtEnd (R.remaining reader.new) }
+    ensures bytes { ReadsBetween 0 (4096 * turns) (R.remaining reader.old) (R.remaining reader.new) }
+    ensures spent { result ≡ Err CallFault.TurnsSpent → ReadsBetween turns (4096 * turns) (R.remaining reader.old) (R.remaining reader.new) }
 {
     match write_request_2(alloc, number, floor, request) {
         Ok(frame) => exchange(reader, writer, answers, &frame, turns),

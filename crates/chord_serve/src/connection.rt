@@ -1,6 +1,7 @@
 //! One connection: all requests that are whole are dealt with.
-ghost use Rattle.std.specs.Prelude.{◌≡◌, ◌<◌, [], None, Ok, true, length, IfErr};
+ghost use Rattle.std.specs.Prelude.{◌≡◌, ◌≢◌, ◌<◌, [], None, Ok, Err, true, length, IfErr, OnOk};
 ghost use Rattle.chord_wire.specs.Reading.{next_request};
+ghost use Rattle.chord_serve.specs.BytesRead.{ReadsBetween};
 ghost use Rattle.chord_serve.specs.Session.{start};
 ghost use Rattle.chord_serve.specs.Served.{end_of, is_other, IsStop, EndsInput, DealsWithNext, DealsWithBatch, TakesTurn, WritesFault};
 
@@ -34,6 +35,7 @@ fn end_of(stop: Stop) -> Served
 
 // Writes the fault, which ends the session.
 fn refuse<W: Write>(alloc: Global, writer: &mut W, fault: WireFault) -> Served
+    requires { fault.code ≢ FaultCode.Memory }
     ensures written { WritesFault result fault (W.contents writer.old) (W.contents writer.new) }
     ensures stop { IsStop result }
 {
@@ -130,6 +132,9 @@ impl Connection {
     ) -> Result<(), Served>
         requires { next_request self.old.frames ≡ Ok None }
         ensures end { IfErr result (λ end. EndsInput end (R.remaining reader.new)) }
+        ensures bytes { ReadsBetween 0 4096 (R.remaining reader.old) (R.remaining reader.new) }
+        ensures not_spent { result ≢ Err Served.TurnsSpent }
+        ensures progress { OnOk result (ReadsBetween 1 4096 (R.remaining reader.old) (R.remaining reader.new)) }
         ensures turn { TakesTurn A.answers result self.old asker.old (R.remaining reader.old) (R.remaining reader.new) (W.contents writer.old) (W.contents writer.new) self.new asker.new }
     {
         let mut buffer = [0u8; 4096];

@@ -1,16 +1,30 @@
 //! What is true of all sessions, with no code.
-ghost use Rattle.std.specs.Prelude.{◌≡◌, List, []};
+ghost use Rattle.std.specs.Prelude.{◌≡◌, ℕ, List, [], Option, None};
 ghost use Rattle.std.specs.List.{AllByRecursion};
 ghost use Rattle.chord_wire.specs.declared.request.WireRequest.{WireRequest};
 ghost use Rattle.chord_wire.specs.Spelling.{IsWireRequest};
+ghost use Rattle.chord_wire.specs.Streams.{HasNoNext};
 ghost use Rattle.chord_serve.specs.declared.asker.Asked.{Asked};
 ghost use Rattle.chord_serve.specs.Session.{start};
+ghost use Rattle.chord_serve.specs.State.{State};
+ghost use Rattle.chord_serve.specs.Served.{Dealt};
 ghost use Rattle.chord_serve.specs.Output.{questions, answered_requests, AreAnswers, IsPaired};
 
 use crate::asker::Asker;
+use chord_wire::laws::one_reading;
 
 /// Each reply of a session is of the kind of the request that it answers, also one that came of a retry.
 pub fn replies_are_of_their_kind<A: Asker>()
     ensures { (a b : A) (requests : List WireRequest) (given : List Asked) → A.asked a ≡ [] → AllByRecursion IsWireRequest requests
         → AreAnswers A.answers a (questions start requests given) given b → AllByRecursion IsPaired (answered_requests start requests given) }
 {}
+
+/// What a session writes for all whole requests of its input depends on that input and on the answers alone, however
+/// the input was cut.
+pub fn one_output<A: Asker>()
+    ensures { (a b after after' : A) (input output output' rest rest' : List ℕ) (v v' : Option ℕ) (s s' : State)
+        → (one : Dealt A.answers None start a input output rest v s after) → (other : Dealt A.answers None start b input output' rest' v' s' after')
+        → HasNoNext rest → HasNoNext rest' → one.given ≡ other.given → output ≡ output' }
+{
+    one_reading();
+}

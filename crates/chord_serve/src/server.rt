@@ -1,6 +1,7 @@
 //! The server's loop.
-ghost use Rattle.std.specs.Prelude.{◌≡◌, List, ℕ, None};
+ghost use Rattle.std.specs.Prelude.{◌≡◌, ◌*◌, List, ℕ, None};
 ghost use Rattle.std.specs.Io.KnownBytes.{Appends, Consumes};
+ghost use Rattle.chord_serve.specs.BytesRead.{ReadsBetween};
 ghost use Rattle.chord_serve.specs.Session.{start};
 ghost use Rattle.chord_serve.specs.Served.{IsServed, EndsInput};
 
@@ -20,6 +21,9 @@ pub fn serve<R: Read, W: Write, A: Asker>(
     turns: u64,
 ) -> Served
     ensures end { EndsInput result (R.remaining reader.new) }
+    // Each read takes 4,096 bytes at most, and one at least where the input goes on.
+    ensures bytes { ReadsBetween 0 (4096 * turns) (R.remaining reader.old) (R.remaining reader.new) }
+    ensures spent { result ≡ Served.TurnsSpent → ReadsBetween turns (4096 * turns) (R.remaining reader.old) (R.remaining reader.new) }
     ensures served { (input : List ℕ) × (output : List ℕ) × Consumes (R.remaining reader.old) (R.remaining reader.new) input
         × IsServed A.answers result None start asker.old input output asker.new
         × Appends (W.contents writer.old) (W.contents writer.new) output }

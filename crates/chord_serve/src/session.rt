@@ -70,6 +70,7 @@ impl Session {
         requires { IsWireRequest wire.now }
         ensures call { result ≡ move_of self.old wire.now }
         ensures state { self.new ≡ accepted self.old wire.now }
+        ensures code { result ≢ Move.Refuse FaultCode.Memory }
         ensures above { result ≢ Move.Refuse FaultCode.BadNumber → self.new.floor < wire.now.number }
         ensures next { result ≡ Move.Ask → wire.now.number ≡ last self.new + 1 }
         ensures asked { result ≡ Move.Retry → wire.now.number ≤ last self.new }

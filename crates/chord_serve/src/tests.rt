@@ -2,4 +2,5 @@
 
 mod askers;
 mod devices;
+mod growths;
 mod sessions;

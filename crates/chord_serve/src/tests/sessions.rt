@@ -7,12 +7,12 @@ use std::alloc::{AllocError, Global};
 use std::test::Fail;
 
 // Insert x under a, number 1.
-const INSERT: [u8; 19] = [
+pub const INSERT: [u8; 19] = [
     0, 0, 0, 0x0f, 1, 1, 0, 0, 0, 0, 0, 0, 0, 1, 1, 0x61, 0, 1, 0x78,
 ];
 
 // The same in version 2, with floor 0.
-const INSERT_2: [u8; 27] = [
+pub const INSERT_2: [u8; 27] = [
     0, 0, 0, 0x17, 2, 1, 0, 0, 0, 0, 0, 0, 0, 1, 0, 0, 0, 0, 0, 0, 0, 0, 1, 0x61, 0, 1, 0x78,
 ];
 
@@ -24,7 +24,7 @@ const REMOVE: [u8; 19] = [
     0, 0, 0, 0x0f, 1, 3, 0, 0, 0, 0, 0, 0, 0, 3, 1, 0x61, 0, 1, 0x78,
 ];
 
-const ADDED: [u8; 15] = [0, 0, 0, 0x0b, 1, 0x81, 0, 0, 0, 0, 0, 0, 0, 1, 1];
+pub const ADDED: [u8; 15] = [0, 0, 0, 0x0b, 1, 0x81, 0, 0, 0, 0, 0, 0, 0, 1, 1];
 
 // The one value x, number 2.
 const ONE_VALUE: [u8; 21] = [
@@ -46,7 +46,7 @@ fn joined(alloc: Global, parts: &[&[u8]]) -> Result<Vec<u8>, AllocError> {
 }
 
 /// The three frames and their answers.
-fn three(alloc: Global) -> Result<(Vec<u8>, Vec<u8>), AllocError> {
+pub fn three(alloc: Global) -> Result<(Vec<u8>, Vec<u8>), AllocError> {
     let input = joined(alloc, &[&INSERT, &RETRIEVE, &REMOVE])?;
     let output = joined(alloc, &[&ADDED, &ONE_VALUE, &REMOVED])?;
     Ok((input, output))
@@ -297,12 +297,13 @@ fn a_writer_fails_at_each_call(rt: HostRuntime) -> Result<(), Fail> {
 fn turns_and_pieces(rt: HostRuntime) -> Result<(), Fail> {
     let alloc = rt.alloc();
     let (input, output) = three(alloc)?;
-    for (step, turns, end, answered) in [
-        (30, 1, Served::TurnsSpent, 15),
-        (54, 1, Served::TurnsSpent, 51),
-        (54, 2, Served::Ended, 51),
-        (1, 60, Served::Ended, 51),
-        (54, 0, Served::TurnsSpent, 0),
+    for (step, turns, end, answered, reads) in [
+        (30, 1, Served::TurnsSpent, 15, 1),
+        (54, 1, Served::TurnsSpent, 51, 1),
+        (54, 2, Served::Ended, 51, 2),
+        (1, 60, Served::Ended, 51, 55),
+        (1, 40, Served::TurnsSpent, 36, 40),
+        (54, 0, Served::TurnsSpent, 0, 0),
     ] {
         let mut reader = Limited {
             inner: input.as_slice(),
@@ -313,18 +314,19 @@ fn turns_and_pieces(rt: HostRuntime) -> Result<(), Fail> {
         let mut asker = MapAsker::new(alloc);
         let served = serve(alloc, &mut reader, &mut written, &mut asker, turns);
         assert_eq!(rt; served, end, "at {step}");
+        assert_eq!(rt; 100u64.saturating_sub(reader.calls), reads);
         assert_eq!(rt; written.as_slice(), output.get(..answered).unwrap_or(&[]));
     }
     Ok(())
 }
 
-fn insert(alloc: Global) -> Result<Request, AllocError> {
+pub fn insert(alloc: Global) -> Result<Request, AllocError> {
     let key = Bytes::from_slice(alloc, b"a")?;
     let value = Bytes::from_slice(alloc, b"x")?;
     Ok(Request::Insert { key, value })
 }
 
-fn is_added(answer: &Answer) -> bool {
+pub fn is_added(answer: &Answer) -> bool {
     matches!(
         answer,
         Answer::Reply {
@@ -370,39 +372,31 @@ fn one_call_over_memory(rt: HostRuntime) -> Result<(), Fail> {
     Ok(())
 }
 
-#[test]
-fn calls_without_an_answer(rt: HostRuntime) -> Result<(), Fail> {
-    let alloc = rt.alloc();
-    let mut wrong = ADDED;
-    wrong[4] = 2;
-    for (input, step, calls, room, turns, why) in [
-        ([].as_slice(), 7, 9, 3, 9, CallFault::Ended),
-        (ADDED.as_slice(), 7, 1, 3, 9, CallFault::Read),
-        (ADDED.as_slice(), 7, 9, 2, 9, CallFault::Write),
-        (ADDED.as_slice(), 7, 9, 3, 2, CallFault::TurnsSpent),
-        (
-            wrong.as_slice(),
-            7,
-            9,
-            3,
-            9,
-            CallFault::Malformed(FaultCode::BadVersion),
-        ),
-    ] {
-        let request = insert(alloc)?;
-        assert!(rt; request.check().is_ok());
-        let mut reader = Limited {
-            inner: input,
-            step,
-            calls,
-        };
-        let mut writer = Limited {
-            inner: Vec::new(alloc),
-            step,
-            calls: room,
-        };
-        let mut answers = Answers::new(alloc);
-        let answer = call(
+/// Why a call gives no answer, and how many reads it made. Each read and each write takes 7 bytes at most.
+fn fault_of(
+    alloc: Global,
+    version: u8,
+    input: &[u8],
+    (reads, writes): (u64, u64),
+    turns: u64,
+) -> Result<(Option<CallFault>, u64), Fail> {
+    let request = insert(alloc)?;
+    if request.check().is_err() {
+        return Err("not a request".into());
+    }
+    let mut reader = Limited {
+        inner: input,
+        step: 7,
+        calls: reads,
+    };
+    let mut writer = Limited {
+        inner: Vec::new(alloc),
+        step: 7,
+        calls: writes,
+    };
+    let mut answers = Answers::new(alloc);
+    let answer = if version == 1 {
+        call(
             alloc,
             &mut reader,
             &mut writer,
@@ -410,8 +404,47 @@ fn calls_without_an_answer(rt: HostRuntime) -> Result<(), Fail> {
             1,
             &request,
             turns,
-        );
-        assert_eq!(rt; answer.err().ok_or("an answer")?, why);
+        )
+    } else {
+        call_2(
+            alloc,
+            &mut reader,
+            &mut writer,
+            &mut answers,
+            1,
+            0,
+            &request,
+            turns,
+        )
+    };
+    Ok((answer.err(), reads.saturating_sub(reader.calls)))
+}
+
+#[test]
+fn calls_without_an_answer(rt: HostRuntime) -> Result<(), Fail> {
+    let alloc = rt.alloc();
+    let mut wrong = ADDED;
+    wrong[4] = 2;
+    let bad_version = CallFault::Malformed(FaultCode::BadVersion);
+    // A request takes three writes in version 1 and four in version 2, and an answer three reads.
+    for (version, writes) in [(1, 3), (2, 4)] {
+        for (input, devices, turns, why, made) in [
+            ([].as_slice(), (9, writes), 9, CallFault::Ended, 1),
+            (ADDED.as_slice(), (1, writes), 9, CallFault::Read, 1),
+            (ADDED.as_slice(), (0, writes), 9, CallFault::Read, 0),
+            (ADDED.as_slice(), (9, writes - 1), 9, CallFault::Write, 0),
+            (ADDED.as_slice(), (9, 0), 9, CallFault::Write, 0),
+            (ADDED.as_slice(), (9, writes), 2, CallFault::TurnsSpent, 2),
+            (ADDED.as_slice(), (9, writes), 0, CallFault::TurnsSpent, 0),
+            (wrong.as_slice(), (9, writes), 9, bad_version, 3),
+        ] {
+            let (fault, reads) = fault_of(alloc, version, input, devices, turns)?;
+            assert_eq!(rt; fault, Some(why));
+            assert_eq!(rt; reads, made);
+        }
+        let (fault, reads) = fault_of(alloc, version, &ADDED, (9, writes), 3)?;
+        assert_eq!(rt; fault, None);
+        assert_eq!(rt; reads, 3);
     }
     Ok(())
 }

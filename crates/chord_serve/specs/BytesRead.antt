@@ -1,0 +1,8 @@
+-- How many bytes were read. Source: our own.
+use Rattle.std.specs.Prelude.{ℕ, ◌+◌, ◌≤◌, List, length, Option, Some, None}
+
+-- of the bytes known to be left, so many at least and so many at most were read
+abbrev pub ReadsBetween : ℕ → ℕ → Option (List ℕ) → Option (List ℕ) → Type 0
+ReadsBetween least most None after = Unit {0}
+ReadsBetween least most (Some left) None = ⊥
+ReadsBetween least most (Some left) (Some after) = (length after + least ≤ length left) × (length left ≤ length after + most)

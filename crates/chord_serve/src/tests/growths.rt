@@ -1,0 +1,93 @@
+//! Each growth refused in turn: what was written is whole frames, and a call made again is answered.
+// With ample memory nothing is refused.
+
+use super::askers::MapAsker;
+use super::sessions::{ADDED, INSERT, INSERT_2, insert, is_added, three};
+use crate::{CallFault, Served, call, call_2, serve};
+use chord_map::Request;
+use chord_wire::{Answer, Answers};
+use std::alloc::{AllocError, Global};
+use std::process::Abort;
+use std::test::Fail;
+
+/// A writer with room, so that it is not the one that is refused.
+fn roomy(alloc: Global) -> Result<Vec<u8>, AllocError> {
+    match Vec::with_capacity(alloc, 64) {
+        Ok(room) => Ok(room),
+        Err(_) => Vec::with_capacity(alloc, 64),
+    }
+}
+
+fn request(alloc: Global) -> Result<Request, AllocError> {
+    match insert(alloc) {
+        Ok(request) => Ok(request),
+        Err(_) => insert(alloc),
+    }
+}
+
+#[test]
+fn a_session_writes_whole_frames(rt: HostRuntime) -> Result<(), Fail> {
+    let alloc = rt.alloc();
+    let (input, output) = match three(alloc) {
+        Ok(whole) => whole,
+        Err(_) => three(alloc)?,
+    };
+    let mut written = roomy(alloc)?;
+    let mut asker = MapAsker::new(alloc);
+    let served = serve(alloc, &mut input.as_slice(), &mut written, &mut asker, 10);
+    if served == Served::Ended {
+        assert_eq!(rt; written.as_slice(), output.as_slice());
+    } else {
+        assert_eq!(rt; served, Served::Memory);
+        assert!(rt; matches!(written.len(), 0 | 15 | 36));
+        assert_eq!(rt; Some(written.as_slice()), output.get(..written.len()));
+    }
+    Ok(())
+}
+
+/// A call that wants memory wrote its whole frame or nothing.
+fn is_refused(rt: &impl Abort, fault: CallFault, written: &[u8], frame: &[u8]) {
+    assert_eq!(rt; fault, CallFault::Memory);
+    assert!(rt; written.is_empty() || written == frame);
+}
+
+fn calls(
+    alloc: Global,
+    version: u8,
+    written: &mut Vec<u8>,
+    answers: &mut Answers,
+    request: &Request,
+) -> Result<Answer, CallFault> {
+    let mut reader = ADDED.as_slice();
+    if request.check().is_err() {
+        return Err(CallFault::Ended);
+    }
+    if version == 1 {
+        call(alloc, &mut reader, written, answers, 1, request, 10)
+    } else {
+        call_2(alloc, &mut reader, written, answers, 1, 0, request, 10)
+    }
+}
+
+#[test]
+fn a_call_made_again_is_answered(rt: HostRuntime) -> Result<(), Fail> {
+    let alloc = rt.alloc();
+    let request = request(alloc)?;
+    for (version, frame) in [(1, INSERT.as_slice()), (2, INSERT_2.as_slice())] {
+        let mut written = roomy(alloc)?;
+        let mut answers = Answers::new(alloc);
+        let answer = match calls(alloc, version, &mut written, &mut answers, &request) {
+            Ok(answer) => answer,
+            Err(fault) => {
+                is_refused(&rt, fault, &written, frame);
+                written.clear();
+                calls(alloc, version, &mut written, &mut answers, &request)
+                    .ok()
+                    .ok_or("no answer")?
+            }
+        };
+        assert!(rt; is_added(&answer));
+        assert_eq!(rt; written.as_slice(), frame);
+    }
+    Ok(())
+}
