@@ -1,5 +1,5 @@
 -- What a tree of sets has, before and after a change at one key.
-use Rattle.std.proofs.Common.{◌≡◌, ℕ, ◌+◌, length, length-append, arith, Bool, true, false, cond, not, ◌||◌, ◌&&◌, List, [], ◌∷◌, ◌++◌, map, Option, None, Some, Ordering, Less, IsSome, refl, sym, ap, ◌∙◌, subst, inl, inr, ⊎_elim, nat_cmp, is_eq, bytes_eq, append_assoc}
+use Rattle.std.proofs.Common.{◌≡◌, ◌≤◌, ℕ, ◌+◌, length, length-append, arith, Bool, true, false, cond, not, ◌||◌, ◌&&◌, List, [], ◌∷◌, ◌++◌, map, Option, None, Some, Ordering, Less, IsSome, refl, sym, ap, ◌∙◌, subst, inl, inr, ⊎_elim, nat_cmp, is_eq, bytes_eq, append_assoc}
 use Rattle.std.specs.Ordering.{eq_by_cmp, ordering_then}
 use Rattle.std.specs.Cmp.{eq_by_cmp_equiv}
 use Rattle.std.specs.Cmp.Lexicographic.{slice_cmp, nat_list_cmp_total}
@@ -24,6 +24,7 @@ use Rattle.chord_ident.specs.declared.span.Span.{Span}
 use Rattle.chord_ident.specs.Circle.{in_span, key_id}
 use Rattle.chord_store.specs.Inside.{pairs_inside}
 use Rattle.chord_store.specs.ValueSet.{has_value, Gains, Loses}
+use Rattle.chord_store.specs.Store.{HasFew}
 use Rattle.chord_store.specs.Tree.{ByteVec, vec_cmp, has_bytes, pairs_under, pairs_of_sets, set_has, set_values}
 
 -- whether two byte strings are the same, by their order
@@ -184,7 +185,7 @@ values-tree es rises key o held =
 
 -- the pairs under a key pass together
 
-filter-append : (p : Pair → Bool) (xs ys : List Pair) → filter p (xs ++ ys) ≡ filter p xs ++ filter p ys
+pub filter-append : (p : Pair → Bool) (xs ys : List Pair) → filter p (xs ++ ys) ≡ filter p xs ++ filter p ys
 filter-append p [] ys = refl
 filter-append p (x ∷ xs) ys = elim (p x) as (λ b. cond b (x ∷ filter p (xs ++ ys)) (filter p (xs ++ ys)) ≡ cond b (x ∷ filter p xs) (filter p xs) ++ filter p ys) [
   | true ↦ ap (λ l. x ∷ l) (filter-append p xs ys)
@@ -249,13 +250,13 @@ module _ (m n : Sets) (m_rises : IsStrictlySortedBy vec_cmp (keys_of m.entries))
       (λ v. gains.each v ∙ ap (λ o. bytes_eq v value || set_has v o) (sym held))
 
   -- a set of one value comes under a new key
-  pub tree-open : (key' : ByteVec) (none : ValueSet) → key'.items ≡ key → none.values ≡ [] → lookup (has_bytes key) m.entries ≡ None
-      → tree.UpdatesBy vec_cmp (λ k. slice_cmp nat_cmp key'.items k.items) m n (Some set) → Gains value none.values set.values
+  pub tree-open : (key' : ByteVec) → key'.items ≡ key → set.values ≡ value ∷ [] → lookup (has_bytes key) m.entries ≡ None
+      → tree.UpdatesBy vec_cmp (λ k. slice_cmp nat_cmp key'.items k.items) m n (Some set)
       → pairs_of_sets n.entries ≡ insert_pair (pair_of key value) (pairs_of_sets m.entries)
-  tree-open key' none same no_values absent updates gains =
+  tree-open key' same one absent updates =
       tree-insert m.entries n.entries m_rises n_rises key value (Some set)
       (λ other. map_after key'.items m n (Some set) updates other ∙ ap (λ (k : List ℕ). cond (same_bytes k other) (Some set) (lookup (has_bytes other) m.entries)) same)
-      (λ v. gains.each v ∙ ap (λ vs. bytes_eq v value || has_value v vs) no_values ∙ ap (λ o. bytes_eq v value || set_has v o) (sym absent))
+      (λ v. ap (has_value v) one ∙ ap (λ o. bytes_eq v value || set_has v o) (sym absent))
 
   -- a set with the values that it had
   pub tree-stay : (old : ValueSet) → set.values ≡ old.values → lookup (has_bytes key) m.entries ≡ Some old → tree.WritesThrough vec_cmp (λ k. slice_cmp nat_cmp key k.items) m set n
@@ -288,13 +289,25 @@ inside_first span es rest e copies copies' whole is made before =
     ∙ ap (λ (ps : List Pair). copies ++ ps) (sym (filter-append (λ (q : Pair). in_span span (key_id q.key)) (pairs_under e.0.items e.1.values) (pairs_of_sets rest)))
     ∙ ap (λ (xs : List (ByteVec × ValueSet)). copies ++ pairs_inside span (pairs_of_sets xs)) (sym is) ∙ before
 
-has_none : (v : List ℕ) (vs : List (List ℕ)) → length vs ≡ 0 → has_value v vs ≡ false
-has_none v [] e = refl
-has_none v (x ∷ vs) e = absurd (omega arith)
+-- a set of one value goes with its pair
+pub tree-close : (m n : Sets) → IsStrictlySortedBy vec_cmp (keys_of m.entries) → IsStrictlySortedBy vec_cmp (keys_of n.entries) → (key value : List ℕ) → tree.UpdatesBy vec_cmp (λ k. slice_cmp nat_cmp key k.items) m n None
+    → set_values (lookup (has_bytes key) m.entries) ≡ value ∷ [] → pairs_of_sets n.entries ≡ remove_pair (pair_of key value) (pairs_of_sets m.entries)
+tree-close m n m_rises n_rises key value updates one =
+    tree-remove m.entries n.entries m_rises n_rises key value None (map_after key m n None updates)
+    (λ v.
+    elim (bytes_eq v value) as (λ b. false ≡ (not b && (b || false))) [ true ↦ refl | false ↦ refl ]
+    ∙ ap (λ (vs : List (List ℕ)). not (bytes_eq v value) && has_value v vs) (sym one)
+    ∙ ap (λ b. not (bytes_eq v value) && b) (sym (set_has-values v (lookup (has_bytes key) m.entries))))
 
--- a set without values goes, and no pair with it
-pub tree-emptied : (m n : Sets) → IsStrictlySortedBy vec_cmp (keys_of m.entries) → IsStrictlySortedBy vec_cmp (keys_of n.entries) → (key : List ℕ) → tree.UpdatesBy vec_cmp (λ k. slice_cmp nat_cmp key k.items) m n None
-    → length (set_values (lookup (has_bytes key) m.entries)) ≡ 0 → pairs_of_sets n.entries ≡ pairs_of_sets m.entries
-tree-emptied m n m_rises n_rises key updates emptied =
-    tree-same m.entries n.entries m_rises n_rises key None (map_after key m n None updates)
-    (λ v. sym (set_has-values v (lookup (has_bytes key) m.entries) ∙ has_none v (set_values (lookup (has_bytes key) m.entries)) emptied))
+-- a set of one value has that value's pair
+pub has-only : (es : List (ByteVec × ValueSet)) → IsStrictlySortedBy vec_cmp (keys_of es) → (key value : List ℕ) → set_values (lookup (has_bytes key) es) ≡ value ∷ [] → has_pair (pair_of key value) (pairs_of_sets es) ≡ true
+has-only es rises key value one =
+    has-tree es rises (pair_of key value) ∙ set_has-values value (lookup (has_bytes key) es) ∙ ap (has_value value) one ∙ ap (λ b. b || false) (bytes_itself value value refl)
+
+few-set : (o : Option ValueSet) → length (set_values o) ≤ 1000
+few-set None = omega arith
+few-set (Some set) = set.few
+
+-- no key of a tree has more values than a set takes
+pub few-tree : (es : List (ByteVec × ValueSet)) → IsStrictlySortedBy vec_cmp (keys_of es) → HasFew (pairs_of_sets es)
+few-tree es rises key = rw (values-tree es rises key (lookup (has_bytes key) es) refl) (few-set (lookup (has_bytes key) es))

@@ -1,5 +1,5 @@
 -- Byte strings in order.
-use Rattle.std.proofs.Common.{◌≡◌, ℕ, Bool, List, Result, IfOk, IfErr, Equal, length, not, nat_cmp, is_eq, sym, ap, ◌∙◌, bytes_eq, refl, true, false, ◌&&◌}
+use Rattle.std.proofs.Common.{◌≡◌, ◌≢◌, ◌<◌, ◌≤◌, ◌+◌, zero, suc, [], ◌∷◌, Ok, Err, OnOk, OnErr, arith, ℕ, Bool, List, Result, IfOk, IfErr, Equal, length, not, nat_cmp, is_eq, sym, ap, ◌∙◌, bytes_eq, refl, true, false, ◌&&◌}
 use Rattle.std.specs.Cmp.Lexicographic.{slice_cmp}
 use Rattle.std.specs.List.{filter, insert as insert_at, remove as remove_at}
 use Rattle.std.specs.List.Sorted.{IsStrictlySortedBy, IsSearchInRange, IsBinarySearchResult}
@@ -54,3 +54,15 @@ without e other xs none false is = refl
 -- a value that is not there is no loss
 pub loses_nothing : (xs : List (List ℕ)) (e : List ℕ) → has_value e xs ≡ false → Loses e xs xs
 loses_nothing xs e none = record { each = λ other. without e other xs none (bytes_eq other e) refl }
+
+-- a list that has the value and is not that value alone has another one
+pub others_at : (xs : List (List ℕ)) (e : List ℕ) (place : ℕ) → IsAt xs e place → xs ≢ e ∷ [] → 1 < length xs
+others_at [] e place at more = absurd (let lt = at.in_range in omega arith)
+others_at (x ∷ []) e zero at more = absurd (more (ap (λ (y : List ℕ). y ∷ []) (at.is_element x)))
+others_at (x ∷ []) e (suc place) at more = absurd (let lt = at.in_range in omega arith)
+others_at (x ∷ (y ∷ ys)) e place at more = omega arith
+
+-- a list with one more, or as it was
+pub one_more : {T E : Type 0} (r : Result T E) (xs ys zs : List (List ℕ)) → OnOk r (ys ≡ zs) → OnErr r (ys ≡ xs) → length zs ≡ length xs + 1 → 0 < length xs → length xs < 1000 → (0 < length ys) × (length ys ≤ 1000)
+one_more (Ok v) xs ys zs made same longer some few = let e = ap length made in (omega (arith, e, longer), omega (arith, e, longer))
+one_more (Err v) xs ys zs made same longer some few = let e = ap length same in (omega (arith, e), omega (arith, e))

@@ -1,11 +1,11 @@
 -- What a store answers to an insert and to a put of many pairs, and what it has then.
-use Rattle.std.specs.Prelude.{◌≡◌, ◌+◌, ◌<◌, ◌≤◌, ℕ, List, take, length, Result, Ok, Err}
+use Rattle.std.specs.Prelude.{◌≡◌, ◌+◌, ◌<◌, ◌≤◌, ℕ, List, length, Result, Ok, Err}
 use Rattle.chord_map.specs.declared.pair.Pair.{Pair}
 use Rattle.chord_map.specs.declared.reply.Reply.{Reply}
 use Rattle.chord_map.specs.declared.reply.Reply.TheVariants as reply
 use Rattle.chord_map.specs.declared.request.Request.{Request}
 use Rattle.chord_map.specs.declared.request.Request.TheVariants.{Insert}
-use Rattle.chord_map.specs.Map.{reply_to, pairs_after, put_all}
+use Rattle.chord_map.specs.Map.{reply_to, pairs_after, put_all, values_at}
 use Rattle.chord_store.specs.declared.outcome.Inserted.{Inserted}
 use Rattle.chord_store.specs.declared.outcome.Inserted.TheVariants.{Added, Present, SetFull}
 use Rattle.chord_store.specs.declared.outcome.StoreFault.{StoreFault}
@@ -37,6 +37,6 @@ PutAllIs more pairs limit (Ok done) pairs' = (length pairs + length more ≤ lim
 PutAllIs more pairs limit (Err Full) pairs' = (limit < length pairs + length more) × (pairs' ≡ pairs)
 PutAllIs more pairs limit (Err Memory) pairs' = (length pairs + length more ≤ limit) × (pairs' ≡ pairs)
 
--- some of the pairs, from the first on, were put in
-abbrev pub IsPutUpTo : List Pair → List Pair → List Pair → Type 0
-IsPutUpTo more pairs pairs' = (count : ℕ) × (pairs' ≡ put_all (take count more) pairs)
+-- at most 1,000 values stand under each key
+abbrev pub HasFew : List Pair → Type 0
+HasFew pairs = (key : List ℕ) → length (values_at key pairs) ≤ 1000

@@ -2,7 +2,7 @@
 ghost use Rattle.std.specs.Prelude.{◌≡◌, []};
 ghost use Rattle.chord_store.specs.Capped.{Capped};
 
-use crate::lists::{copy_span, insert_within, put_all_within, take_out};
+use crate::lists::{copy_span, insert_within, put_all_within, take_out, values_under};
 use crate::outcome::{Inserted, StoreFault};
 use crate::store::EntryStore;
 use chord_ident::Span;
@@ -10,7 +10,8 @@ use chord_map::{Pair, PairList, Values};
 use std::alloc::{AllocError, Global};
 use std::marker::Model;
 
-/// A store over a list that takes so many pairs and no more.
+/// A store over a list that takes so many pairs and no more. It finds a place and the pairs of a key by halving; a
+/// change moves what lies behind it.
 #[derive(Debug, Drop)]
 pub struct CappedStore {
     pairs: PairList,
@@ -18,9 +19,14 @@ pub struct CappedStore {
 }
 
 impl Model for CappedStore {
+    ghost use Rattle.chord_store.specs.Capped.{Capped};
+    ghost use Rattle.chord_store.specs.Store.{HasFew};
+
     ghost Value = { Capped };
 
     ghost view = { λ store. record { pairs = store.pairs; limit = store.limit } };
+
+    ghost invariant = { λ store. HasFew store.pairs };
 }
 
 impl CappedStore {
@@ -53,11 +59,11 @@ impl EntryStore for CappedStore {
     }
 
     fn count(&self) -> u64 {
-        self.pairs.len() as u64
+        self.pairs.as_slice().len() as u64
     }
 
     fn values(&self, alloc: Global, key: &[u8]) -> Result<Values, AllocError> {
-        self.pairs.values(alloc, key)
+        values_under(alloc, self.pairs.as_slice(), key)
     }
 
     fn copy_span(&self, alloc: Global, span: &Span) -> Result<Vec<Pair>, AllocError> {

@@ -2,24 +2,29 @@
 ghost use Rattle.std.specs.Prelude.{◌≡◌, ◌-◌, ◌^◌, List, []};
 ghost use Rattle.chord_map.specs.declared.pair.Pair.{Pair};
 
-use crate::lists::{copy_span, insert_within, put_all_within, take_out};
+use crate::capped_store::CappedStore;
 use crate::outcome::{Inserted, StoreFault};
 use crate::store::EntryStore;
 use chord_ident::Span;
-use chord_map::{Pair, PairList, Values};
+use chord_map::{Pair, Values};
 use std::alloc::{AllocError, Global};
 use std::marker::Model;
 
 /// The plain store: slow, and with no limit of its own.
 #[derive(Debug, Drop)]
 pub struct ListStore {
-    pairs: PairList,
+    list: CappedStore,
 }
 
 impl Model for ListStore {
+    ghost use Rattle.std.specs.Prelude.{◌≡◌, ◌-◌, ◌^◌, List};
+    ghost use Rattle.chord_map.specs.declared.pair.Pair.{Pair};
+
     ghost Value = { List Pair };
 
-    ghost view = { λ store. store.pairs };
+    ghost view = { λ store. store.list.pairs };
+
+    ghost invariant = { λ store. store.list.limit ≡ 2 ^ 64 - 1 };
 }
 
 impl ListStore {
@@ -27,7 +32,7 @@ impl ListStore {
         ensures { result ≡ [] }
     {
         ListStore {
-            pairs: PairList::new(alloc),
+            list: CappedStore::new(alloc, u64::MAX),
         }
     }
 }
@@ -38,30 +43,30 @@ impl EntryStore for ListStore {
     ghost limit = { λ _. 2 ^ 64 - 1 };
 
     fn insert(&mut self, key: &[u8], value: &[u8]) -> Result<Inserted, StoreFault> {
-        insert_within(&mut self.pairs, u64::MAX, key, value)
+        self.list.insert(key, value)
     }
 
     fn remove(&mut self, key: &[u8], value: &[u8]) -> bool {
-        self.pairs.remove(key, value)
+        self.list.remove(key, value)
     }
 
     fn take_out(&mut self, span: &Span) {
-        take_out(&mut self.pairs, span);
+        self.list.take_out(span);
     }
 
     fn count(&self) -> u64 {
-        self.pairs.len() as u64
+        self.list.count()
     }
 
     fn values(&self, alloc: Global, key: &[u8]) -> Result<Values, AllocError> {
-        self.pairs.values(alloc, key)
+        self.list.values(alloc, key)
     }
 
     fn copy_span(&self, alloc: Global, span: &Span) -> Result<Vec<Pair>, AllocError> {
-        copy_span(alloc, self.pairs.as_slice(), span)
+        self.list.copy_span(alloc, span)
     }
 
     fn put_all(&mut self, span: &Span, pairs: &[Pair]) -> Result<(), StoreFault> {
-        put_all_within(&mut self.pairs, u64::MAX, span, pairs)
+        self.list.put_all(span, pairs)
     }
 }

@@ -1,15 +1,56 @@
 //! What the stores over a list of pairs do.
-ghost use Rattle.std.specs.Prelude.{◌≡◌, ℕ, [], List, length, IfOk};
-ghost use Rattle.chord_map.specs.declared.pair.Pair.{Pair};
+ghost use Rattle.std.specs.Prelude.{◌≡◌, [], bytes_eq, filter, length, IfOk};
+ghost use Rattle.std.specs.Ordering.{is_le, is_lt, nat_cmp};
+ghost use Rattle.std.specs.Cmp.Lexicographic.{slice_cmp};
+ghost use Rattle.chord_map.specs.Map.{values_at};
+ghost use Rattle.chord_map.specs.Pairs.{IsRising};
 ghost use Rattle.chord_ident.specs.Circle.{in_span, key_id};
 ghost use Rattle.chord_store.specs.Inside.{pairs_inside, pairs_outside};
-ghost use Rattle.chord_store.specs.Store.{InsertIs, PutAllIs};
+ghost use Rattle.chord_store.specs.Store.{HasFew, InsertIs, PutAllIs};
 
 use crate::outcome::{Inserted, StoreFault};
 use chord_ident::{Id, Span};
 use chord_map::limits::SET_VALUES;
-use chord_map::{Pair, PairList};
+use chord_map::{Pair, PairList, Values};
 use std::alloc::{AllocError, Global};
+
+/// The pairs of a key, which stand one behind another in a rising list: both ends are found by halving.
+fn run_of<'a>(pairs: &'a [Pair], key: &[u8]) -> &'a [Pair]
+    requires { IsRising pairs.now }
+    ensures { result.now ≡ filter (λ pair. bytes_eq pair.key key.now) pairs.now }
+{
+    let start = pairs.partition_point(
+        |pair: &Pair| -> bool
+            ensures { result ≡ is_lt (slice_cmp nat_cmp pair.now.key key.entry.now) }
+        { pair.key.as_slice().cmp(&key).is_lt() },
+    );
+    let end = pairs.partition_point(
+        |pair: &Pair| -> bool
+            ensures { result ≡ is_le (slice_cmp nat_cmp pair.now.key key.entry.now) }
+        { pair.key.as_slice().cmp(&key).is_le() },
+    );
+    &pairs[start..][..end - start]
+}
+
+/// How many values stand under a key of a rising list.
+fn count_under(pairs: &[Pair], key: &[u8]) -> usize
+    requires { IsRising pairs.now }
+    ensures { result ≡ length (values_at key.now pairs.now) }
+{
+    run_of(pairs, key).len()
+}
+
+/// Copies of the values under a key of a rising list, in byte order.
+pub fn values_under(alloc: Global, pairs: &[Pair], key: &[u8]) -> Result<Values, AllocError>
+    requires { IsRising pairs.now }
+    ensures { IfOk result (λ values. values ≡ values_at key.now pairs.now) }
+{
+    let mut values = Values::new(alloc);
+    for pair in run_of(pairs, key) {
+        values.push(pair.value.try_copy()?)?;
+    }
+    Ok(values)
+}
 
 /// Puts the value under the key of a list with at most `limit` pairs.
 pub fn insert_within(
@@ -18,12 +59,14 @@ pub fn insert_within(
     key: &[u8],
     value: &[u8],
 ) -> Result<Inserted, StoreFault>
-    ensures { InsertIs (record { key = key.now; value = value.now }) pairs.old limit result pairs.new }
+    requires few { HasFew pairs.old }
+    ensures answer { InsertIs (record { key = key.now; value = value.now }) pairs.old limit result pairs.new }
+    ensures few { HasFew pairs.new }
 {
     if pairs.contains(key, value) {
         return Ok(Inserted::Present);
     }
-    if pairs.count_under(key) >= SET_VALUES {
+    if count_under(pairs.as_slice(), key) >= SET_VALUES {
         return Ok(Inserted::SetFull);
     }
     if limit <= pairs.len() as u64 {
@@ -44,7 +87,8 @@ pub fn is_inside(span: &Span, pair: &Pair) -> bool
 
 /// Drops the pairs whose keys lie in the span.
 pub fn take_out(pairs: &mut PairList, span: &Span)
-    ensures { pairs.new ≡ pairs_outside span.now pairs.old }
+    ensures change { pairs.new ≡ pairs_outside span.now pairs.old }
+    ensures few { HasFew pairs.old → HasFew pairs.new }
 {
     pairs.retain(|pair| !is_inside(span, pair));
 }
@@ -73,7 +117,10 @@ pub fn put_all_within(
 ) -> Result<(), StoreFault>
     requires vacant { pairs_inside span.now list.old ≡ [] }
     requires within { pairs_inside span.now pairs.now ≡ pairs.now }
-    ensures { PutAllIs pairs.now list.old limit result list.new }
+    requires few_there { HasFew list.old }
+    requires few { HasFew pairs.now }
+    ensures answer { PutAllIs pairs.now list.old limit result list.new }
+    ensures few { HasFew list.new }
 {
     let count = list.len() as u64;
     if limit < count || limit - count < pairs.len() as u64 {

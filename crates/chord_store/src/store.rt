@@ -4,14 +4,14 @@ ghost use Rattle.chord_map.specs.declared.pair.Pair.{Pair};
 ghost use Rattle.chord_map.specs.Map.{has_pair, remove_pair, values_at};
 ghost use Rattle.chord_map.specs.Pairs.{IsRising};
 ghost use Rattle.chord_store.specs.Inside.{pairs_inside, pairs_outside};
-ghost use Rattle.chord_store.specs.Store.{InsertIs, PutAllIs};
+ghost use Rattle.chord_store.specs.Store.{HasFew, InsertIs, PutAllIs};
 
 use crate::outcome::{Inserted, StoreFault};
 use chord_ident::Span;
 use chord_map::{Pair, Values};
 use std::alloc::{AllocError, Global};
 
-/// A map of sets, as the rising list of its pairs, with a limit on how many they are.
+/// A map of sets of at most 1,000 values, as the rising list of its pairs, with a limit on how many they are.
 pub trait EntryStore: Drop {
     ghost content: { Self → List Pair };
 
@@ -36,7 +36,9 @@ pub trait EntryStore: Drop {
 
     /// How many pairs it has.
     fn count(&self) -> u64
-        ensures { result ≡ length (content self.now) };
+        ensures count { result ≡ length (content self.now) }
+        ensures rising { IsRising (content self.now) }
+        ensures few { HasFew (content self.now) };
 
     /// The values under the key, in byte order.
     fn values(&self, alloc: Global, key: &[u8]) -> Result<Values, AllocError>

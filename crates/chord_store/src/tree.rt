@@ -1,13 +1,13 @@
 //! The pairs of a map as a tree of sets.
-ghost use Rattle.std.specs.Prelude.{◌≡◌, ◌+◌, ◌<◌, ◌≤◌, ◌^◌, ◌-◌, ◌++◌, ◌∷◌, List, [], true, false, length, IsTrue, IfOk, OnOk, OnErr};
+ghost use Rattle.std.specs.Prelude.{◌≡◌, ◌≢◌, ◌↔◌, ◌+◌, ◌<◌, ◌≤◌, ◌^◌, ◌-◌, ◌++◌, ◌∷◌, List, [], true, false, length, IsTrue, IfOk, OnOk, OnErr};
 ghost use Rattle.std.specs.BTreeMap.{keys};
 ghost use Rattle.std.specs.Map.{lookup};
 ghost use Rattle.std.specs.List.Sorted.{IsStrictlySortedBy};
 ghost use Rattle.chord_map.specs.declared.pair.Pair.{Pair};
-ghost use Rattle.chord_map.specs.Map.{has_pair, insert_pair, remove_pair, values_at, put_all};
+ghost use Rattle.chord_map.specs.Map.{has_pair, insert_pair, remove_pair, values_at};
 ghost use Rattle.chord_map.specs.Pairs.{IsRising};
 ghost use Rattle.chord_store.specs.Inside.{pairs_inside, pairs_outside};
-ghost use Rattle.chord_store.specs.Store.{IsPutUpTo};
+ghost use Rattle.chord_store.specs.Store.{HasFew};
 ghost use Rattle.chord_store.specs.Tree.{has_bytes, pairs_of_sets, pairs_under, set_values, vec_cmp};
 
 use crate::value_set::ValueSet;
@@ -51,7 +51,9 @@ impl Tree {
     }
 
     pub fn len(&self) -> u64
-        ensures { result ≡ length self.now }
+        ensures count { result ≡ length self.now }
+        ensures rising { IsRising self.now }
+        ensures few { HasFew self.now }
     {
         self.count
     }
@@ -90,6 +92,7 @@ impl Tree {
     pub fn insert(&mut self, key: &[u8], value: &[u8]) -> Result<(), AllocError>
         requires new { has_pair (record { key = key.now; value = value.now }) self.old ≡ false }
         requires room { length self.old < 2 ^ 64 - 1 }
+        requires few { length (values_at key.now self.old) < 1000 }
         ensures ok { OnOk result (self.new ≡ insert_pair (record { key = key.now; value = value.now }) self.old) }
         ensures err { OnErr result (self.new ≡ self.old) }
     {
@@ -98,21 +101,10 @@ impl Tree {
         Ok(())
     }
 
-    /// Puts the pairs in. Where memory is wanting it has those up to the one that was refused.
-    pub fn put_all(&mut self, pairs: &[Pair]) -> Result<(), AllocError>
-        requires { length self.old + length pairs.now < 2 ^ 64 }
-        ensures ok { OnOk result (self.new ≡ put_all pairs.now self.old) }
-        ensures err { OnErr result (IsPutUpTo pairs.now self.old self.new) }
-    {
-        for pair in pairs {
-            self.put(pair)?;
-        }
-        Ok(())
-    }
-
-    // Puts the pair in, unless it is there.
-    fn put(&mut self, pair: &Pair) -> Result<(), AllocError>
-        requires { length self.old < 2 ^ 64 - 1 }
+    /// Puts the pair in, unless it is there.
+    pub fn put(&mut self, pair: &Pair) -> Result<(), AllocError>
+        requires room { length self.old < 2 ^ 64 - 1 }
+        requires few { length (values_at pair.now.key self.old) < 1000 }
         ensures ok { OnOk result (self.new ≡ insert_pair pair.now self.old) }
         ensures err { OnErr result (self.new ≡ self.old) }
     {
@@ -131,7 +123,6 @@ impl Tree {
         ensures change { self.new ≡ remove_pair (record { key = key.now; value = value.now }) self.old }
     {
         if drop_value(&mut self.sets, key, value) {
-            drop_emptied(&mut self.sets, key);
             self.count -= 1;
             true
         } else {
@@ -164,6 +155,7 @@ fn add(
 ) -> Result<(), AllocError>
     requires ordered { IsStrictlySortedBy vec_cmp (keys sets.old) }
     requires new { has_pair (record { key = key.now; value = value.now }) (pairs_of_sets sets.old.entries) ≡ false }
+    requires few { length (values_at key.now (pairs_of_sets sets.old.entries)) < 1000 }
     ensures ordered { IsStrictlySortedBy vec_cmp (keys sets.new) }
     ensures ok { OnOk result (pairs_of_sets sets.new.entries ≡ insert_pair (record { key = key.now; value = value.now }) (pairs_of_sets sets.old.entries)) }
     ensures err { OnErr result (pairs_of_sets sets.new.entries ≡ pairs_of_sets sets.old.entries) }
@@ -174,8 +166,7 @@ fn add(
             Ok(())
         }
         None => {
-            let mut set = ValueSet::new(alloc);
-            set.insert(alloc, value)?;
+            let set = ValueSet::one(alloc, value)?;
             let key = Vec::from_slice(alloc, key)?;
             sets.insert(key, set)?;
             Ok(())
@@ -183,36 +174,40 @@ fn add(
     }
 }
 
-// Takes the value out of the set under the key.
+// Takes the value out of the set under the key. A set whose only value it is goes with it.
 fn drop_value(sets: &mut BTreeMap<Vec<u8>, ValueSet>, key: &[u8], value: &[u8]) -> bool
+    requires { IsStrictlySortedBy vec_cmp (keys sets.old) }
+    ensures ordered { IsStrictlySortedBy vec_cmp (keys sets.new) }
+    ensures was_there { result ≡ has_pair (record { key = key.now; value = value.now }) (pairs_of_sets sets.old.entries) }
+    ensures change { pairs_of_sets sets.new.entries ≡ remove_pair (record { key = key.now; value = value.now }) (pairs_of_sets sets.old.entries) }
+{
+    if is_only(sets, key, value) {
+        sets.remove(key);
+        return true;
+    }
+    drop_among(sets, key, value)
+}
+
+// Whether the set under the key has this value alone.
+fn is_only(sets: &BTreeMap<Vec<u8>, ValueSet>, key: &[u8], value: &[u8]) -> bool
+    ensures { IsTrue result ↔ (set_values (lookup (has_bytes key.now) sets.now.entries) ≡ value.now ∷ []) }
+{
+    match sets.get(key) {
+        Some(set) => set.is_only(value),
+        None => false,
+    }
+}
+
+// Takes the value out of the set under the key, where it is not the only one.
+fn drop_among(sets: &mut BTreeMap<Vec<u8>, ValueSet>, key: &[u8], value: &[u8]) -> bool
     requires ordered { IsStrictlySortedBy vec_cmp (keys sets.old) }
+    requires others { set_values (lookup (has_bytes key.now) sets.old.entries) ≢ value.now ∷ [] }
     ensures ordered { IsStrictlySortedBy vec_cmp (keys sets.new) }
     ensures was_there { result ≡ has_pair (record { key = key.now; value = value.now }) (pairs_of_sets sets.old.entries) }
     ensures change { pairs_of_sets sets.new.entries ≡ remove_pair (record { key = key.now; value = value.now }) (pairs_of_sets sets.old.entries) }
 {
     match sets.get_mut(key) {
         Some(set) => set.remove(value),
-        None => false,
-    }
-}
-
-// Frees the set under the key, where no value is left in it.
-fn drop_emptied(sets: &mut BTreeMap<Vec<u8>, ValueSet>, key: &[u8])
-    requires { IsStrictlySortedBy vec_cmp (keys sets.old) }
-    ensures ordered { IsStrictlySortedBy vec_cmp (keys sets.new) }
-    ensures same { pairs_of_sets sets.new.entries ≡ pairs_of_sets sets.old.entries }
-{
-    if is_emptied(sets, key) {
-        sets.remove(key);
-    }
-}
-
-// Whether no value is left in the set under the key.
-fn is_emptied(sets: &BTreeMap<Vec<u8>, ValueSet>, key: &[u8]) -> bool
-    ensures { IsTrue result → length (set_values (lookup (has_bytes key.now) sets.now.entries)) ≡ 0 }
-{
-    match sets.get(key) {
-        Some(set) => set.is_empty(),
         None => false,
     }
 }

@@ -2,7 +2,7 @@
 ghost use Rattle.std.specs.Prelude.{◌≡◌, ◌-◌, ◌^◌, List, []};
 ghost use Rattle.chord_map.specs.declared.pair.Pair.{Pair};
 ghost use Rattle.chord_store.specs.Inside.{pairs_inside};
-ghost use Rattle.chord_store.specs.Store.{InsertIs, PutAllIs};
+ghost use Rattle.chord_store.specs.Store.{HasFew, InsertIs, PutAllIs};
 
 use crate::outcome::{Inserted, StoreFault};
 use crate::store::EntryStore;
@@ -96,16 +96,20 @@ fn insert_new(tree: &mut Tree, key: &[u8], value: &[u8]) -> Result<Inserted, Sto
 fn put_all_new(tree: &mut Tree, span: &Span, pairs: &[Pair]) -> Result<(), StoreFault>
     requires vacant { pairs_inside span.now tree.old ≡ [] }
     requires within { pairs_inside span.now pairs.now ≡ pairs.now }
+    requires few { HasFew pairs.now }
     ensures { PutAllIs pairs.now tree.old (2 ^ 64 - 1) result tree.new }
 {
     if LIMIT - tree.len() < pairs.len() as u64 {
         return Err(StoreFault::Full);
     }
-    match tree.put_all(pairs) {
-        Ok(()) => Ok(()),
-        Err(_) => {
-            tree.take_out(span);
-            Err(StoreFault::Memory)
+    for pair in pairs {
+        match tree.put(pair) {
+            Ok(()) => {}
+            Err(_) => {
+                tree.take_out(span);
+                return Err(StoreFault::Memory);
+            }
         }
     }
+    Ok(())
 }

@@ -1,5 +1,5 @@
 //! The values under one key.
-ghost use Rattle.std.specs.Prelude.{◌≡◌, ◌↔◌, IsTrue, ◌+◌, ◌<◌, ◌^◌, [], false, length, IfOk, IfErr, OnOk, OnErr};
+ghost use Rattle.std.specs.Prelude.{◌≡◌, ◌≢◌, ◌↔◌, IsTrue, ◌<◌, ◌≤◌, ◌∷◌, [], false, length, IfOk, IfErr, OnOk, OnErr};
 ghost use Rattle.std.specs.Ordering.{nat_cmp};
 ghost use Rattle.std.specs.Cmp.Lexicographic.{slice_cmp};
 ghost use Rattle.std.specs.List.Sorted.{IsStrictlySortedBy, IsStrictlySortedBy-prop};
@@ -10,11 +10,13 @@ use chord_map::{Bytes, Values};
 use std::alloc::{AllocError, Global};
 use std::cmp::Ordering;
 
-/// A set of values in byte order. It has at most 1,000, so a change moves few.
+/// A set of values in byte order. It has one at least, and at most 1,000, so a change moves few.
 #[derive(Debug, Drop)]
 pub struct ValueSet {
     pub values: Values,
     ghost rises: { IsStrictlySortedBy (slice_cmp nat_cmp) values } by { IsStrictlySortedBy-prop (slice_cmp nat_cmp) values },
+    ghost some: { 0 < length values },
+    ghost few: { length values ≤ 1000 },
 }
 
 // Where the value is, or where it would go.
@@ -31,12 +33,13 @@ fn place_of(values: &[Bytes], value: &[u8]) -> Result<usize, usize>
 }
 
 impl ValueSet {
-    pub fn new(alloc: Global) -> ValueSet
-        ensures { result.values ≡ [] }
+    /// A set of one value.
+    pub fn one(alloc: Global, value: &[u8]) -> Result<ValueSet, AllocError>
+        ensures { IfOk result (λ set. set.values ≡ value.now ∷ []) }
     {
-        ValueSet {
-            values: Values::new(alloc),
-        }
+        let mut values = Values::new(alloc);
+        values.push(Bytes::from_slice(alloc, value)?)?;
+        Ok(ValueSet { values })
     }
 
     pub fn len(&self) -> usize
@@ -45,11 +48,14 @@ impl ValueSet {
         self.values.as_slice().len()
     }
 
-    /// Whether it has no value.
-    pub fn is_empty(&self) -> bool
-        ensures { IsTrue result ↔ (length self.now.values ≡ 0) }
+    /// Whether the value is the only one.
+    pub fn is_only(&self, value: &[u8]) -> bool
+        ensures { IsTrue result ↔ (self.now.values ≡ value.now ∷ []) }
     {
-        self.len() == 0
+        match self.values.as_slice() {
+            [one] => one.as_slice() == value,
+            _ => false,
+        }
     }
 
     pub fn contains(&self, value: &[u8]) -> bool
@@ -60,7 +66,8 @@ impl ValueSet {
 
     /// Adds the value, which is not there.
     pub fn insert(&mut self, alloc: Global, value: &[u8]) -> Result<(), AllocError>
-        requires { has_value value.now self.old.values ≡ false }
+        requires new { has_value value.now self.old.values ≡ false }
+        requires room { length self.old.values < 1000 }
         ensures ok { OnOk result (Gains value.now self.old.values self.new.values) }
         ensures err { OnErr result (self.new.values ≡ self.old.values) }
     {
@@ -74,8 +81,9 @@ impl ValueSet {
         }
     }
 
-    /// Takes the value out, and says whether it was there.
+    /// Takes the value out, which is not the only one, and says whether it was there.
     pub fn remove(&mut self, value: &[u8]) -> bool
+        requires { self.old.values ≢ value.now ∷ [] }
         ensures was_there { result ≡ has_value value.now self.old.values }
         ensures change { Loses value.now self.old.values self.new.values }
     {

@@ -1,28 +1,14 @@
-use Rattle.std.proofs.Common.{sym, ap, ◌∙◌}
-use Rattle.std.specs.Option.{option_copied_mut}
-use Rattle.chord_map.specs.declared.pair.Pair.{Pair}
-use Rattle.chord_map.proofs.Placed.{remove_absent}
-use Rattle.chord_store.specs.Tree.{set_has, pairs_of_sets}
-use Rattle.chord_store.proofs.Sets.{Sets, tree-leave, has-tree}
+use Rattle.std.proofs.Common.{sym, ◌∙◌}
+use Rattle.std.proofs.lemmas.Bool.{true≢false}
+use Rattle.chord_store.proofs.Sets.{has-only, tree-close}
 use Rattle.chord_store.proofs.tree.drop_value.Goals as goal
 
-pub returns-in-Some-clause-was_there : goal.returns-in-Some-clause-was_there
-returns-in-Some-clause-was_there c =
-    let q : Pair = record { key = c.args.key.now; value = c.args.value.now } in
-    c.remove.ensures.was_there ∙ ap (set_has c.args.value.now) (sym (sym c.get_mut.ensures.value ∙ ap option_copied_mut c.in-Some.is)) ∙ sym (has-tree _ c.requires.ordered q)
+pub returns-then-is_only-clause-was_there : goal.returns-then-is_only-clause-was_there
+returns-then-is_only-clause-was_there c = sym (has-only c.args.sets.now.entries c.requires c.args.key.now c.args.value.now (c.is_only.ensures.0 c.if-is_only.true))
 
-pub returns-in-Some-clause-change : goal.returns-in-Some-clause-change
-returns-in-Some-clause-change c =
-    let written = c.get_mut.follows.holds c.remove.new.self in
-    tree-leave c.args.sets.now (c.get_mut.follows.lender c.remove.new.self) c.requires.ordered written.4 c.args.key.now c.args.value.now c.remove.new.self _ (sym c.get_mut.ensures.value ∙ ap option_copied_mut c.in-Some.is) written c.remove.ensures.change
+pub returns-then-is_only-clause-change : goal.returns-then-is_only-clause-change
+returns-then-is_only-clause-change c =
+    tree-close c.args.sets.now c.remove.new.self c.requires c.remove.ensures.ordered c.args.key.now c.args.value.now c.remove.ensures.updates (c.is_only.ensures.0 c.if-is_only.true)
 
-pub returns-in-None-clause-was_there : goal.returns-in-None-clause-was_there
-returns-in-None-clause-was_there c =
-    let q : Pair = record { key = c.args.key.now; value = c.args.value.now } in
-    ap (set_has c.args.value.now) (sym (sym c.get_mut.ensures.value ∙ ap option_copied_mut c.in-None.is)) ∙ sym (has-tree _ c.requires.ordered q)
-
-pub returns-in-None-clause-change : goal.returns-in-None-clause-change
-returns-in-None-clause-change c =
-    let q : Pair = record { key = c.args.key.now; value = c.args.value.now } in
-    ap (λ (m : Sets). pairs_of_sets m.entries) c.get_mut.follows.holds-at-none
-    ∙ sym (remove_absent q (pairs_of_sets c.args.sets.now.entries) (has-tree _ c.requires.ordered q ∙ ap (set_has c.args.value.now) (sym c.get_mut.ensures.value ∙ ap option_copied_mut c.in-None.is)))
+pub drop_among-requires-clause-others : goal.drop_among-requires-clause-others
+drop_among-requires-clause-others c = λ e. true≢false (sym (c.is_only.ensures.1 e) ∙ c.if-is_only.false)

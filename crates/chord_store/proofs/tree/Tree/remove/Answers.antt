@@ -20,8 +20,7 @@ invariant_of-self c =
     let es = c.self.inside.sets.entries in
     let less = length-remove_there q (pairs_of_sets es) (rising_from_rises pair_cmp (pairs_of_sets es) (rises-tree es c.self.invariant.0)) (sym c.drop_value.ensures.was_there ∙ c.if-drop_value.true) in
     let left = ap (λ (ps : List Pair). length ps) c.drop_value.ensures.change in
-    let same = ap (λ (ps : List Pair). length ps) c.drop_emptied.ensures.same in
-    (c.drop_emptied.ensures.ordered, omega (arith, c.self.invariant.1, less, left, same))
+    (c.drop_value.ensures.ordered, omega (arith, c.self.invariant.1, less, left))
 
 pub invariant_of-self-else-drop_value : goal.invariant_of-self-else-drop_value
 invariant_of-self-else-drop_value c =

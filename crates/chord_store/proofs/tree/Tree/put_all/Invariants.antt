@@ -1,6 +1,0 @@
-use Rattle.std.proofs.Common.{◌≡◌, take}
-use Rattle.chord_map.specs.Map.{put_all}
-use Rattle.chord_store.proofs.tree.Tree.put_all.Given as goal
-
-abbrev pub invariant-loop-pair : goal.invariant-loop-pair
-invariant-loop-pair l = l.self ≡ put_all (take l.pair-index l.pairs) l.initial.self
