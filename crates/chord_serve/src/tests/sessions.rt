@@ -1,6 +1,6 @@
 use super::askers::{FullAtFirst, MapAsker};
 use super::devices::Limited;
-use crate::{Asker, CallFault, Served, call, call_2, serve};
+use crate::{Asker, CallFault, Served, call, call_2, laws, serve};
 use chord_map::{Bytes, Reply, Request};
 use chord_wire::{Answer, Answers, FaultCode};
 use std::alloc::{AllocError, Global};
@@ -447,4 +447,10 @@ fn calls_without_an_answer(rt: HostRuntime) -> Result<(), Fail> {
         assert_eq!(rt; reads, 3);
     }
     Ok(())
+}
+
+#[test]
+fn laws_are_called() {
+    laws::replies_are_of_their_kind::<MapAsker>();
+    laws::one_output::<MapAsker>();
 }
