@@ -19,9 +19,9 @@ use Rattle.chord_node.specs.World.WorldStep.{Calls}
 use Rattle.chord_world.specs.declared.outcome.Outcome.{Outcome}
 use Rattle.chord_world.specs.declared.refusal.Refusal.{Refusal}
 use Rattle.chord_world.specs.declared.refusal.Refusal.TheVariants as refused
-use Rattle.chord_world.specs.declared.refusal.PartFault.TheVariants as part
 use Rattle.chord_world.specs.State.{WorldState, CallersFrom, IsKnown, AreKnown, IsWorld, IsThere, with_heard, with_sent}
-use Rattle.chord_world.specs.Calling.{CallerIs, WantedIs, IsIdle, IsWaiting, AsksAgain, AgainIs, SendsAgain, ResendStepIs, note_of, SendsNote, with_note, MeetsNote, MeetIs, SentIs, Met, MeetsAt}
+use Rattle.chord_world.specs.Calling.CannotAskAgain.{Is_idle, No_memory}
+use Rattle.chord_world.specs.Calling.{CallerIs, WantedIs, IsIdle, IsWaiting, AsksAgain, CannotAskAgain, AgainIs, SendsAgain, ResendStepIs, note_of, SendsNote, with_note, MeetsNote, MeetIs, SentIs, Met, MeetsAt}
 use Rattle.chord_world.specs.Calling.IsIdle.{Not_pending}
 use Rattle.chord_world.proofs.Placing.{caller_at_place, put_caller_place, callers_set, caller_number, calls_pushed}
 use Rattle.chord_world.proofs.Keeping.{further}
@@ -136,42 +136,10 @@ caller_in caller view old core same kept here = slice_get_within view.known.call
 pub there_now : (caller via : ℕ) (view old : WorldState) (core found : Caller) → view ≡ old → IsWorld view → IsThere caller via old core → slice_get view.known.callers caller ≡ Some found → IsThere caller via old found
 there_now caller via view old core found same kept there here = (there.0, caller_stands caller view old found same kept here)
 
-again_because : (caller via : ℕ) (named : Option ℕ) (old : WorldState) (core : Caller) (refusal : Refusal) → IsThere caller via old core → AgainIs named core (Err refusal)
+again_because : (caller via : ℕ) (named : Option ℕ) (old : WorldState) (core : Caller) (refusal : Refusal) → IsThere caller via old core → CannotAskAgain named core refusal
     → ResendStepIs caller via named old (Err refusal) old
-again_because caller via named old core refused.AlreadyCreated there why = absurd why
-again_because caller via named old core refused.NotCreated there why = absurd why
-again_because caller via named old core refused.NoSuchNode there why = absurd why
-again_because caller via named old core refused.NoSuchCaller there why = absurd why
-again_because caller via named old core refused.NoSuchMessage there why = absurd why
-again_because caller via named old core refused.IdTaken there why = absurd why
-again_because caller via named old core refused.NoStore there why = absurd why
-again_because caller via named old core refused.Unsafe there why = absurd why
-again_because caller via named old core (refused.Part part.Crashed) there why = absurd why
-again_because caller via named old core (refused.Part part.NotBetween) there why = absurd why
-again_because caller via named old core (refused.Part part.HeadDead) there why = absurd why
-again_because caller via named old core (refused.Part part.NotHead) there why = absurd why
-again_because caller via named old core (refused.Part part.Dead) there why = absurd why
-again_because caller via named old core (refused.Part part.NotCloser) there why = absurd why
-again_because caller via named old core (refused.Part part.HeadLive) there why = absurd why
-again_because caller via named old core (refused.Part part.Empty) there why = absurd why
-again_because caller via named old core (refused.Part part.BadWindow) there why = absurd why
-again_because caller via named old core (refused.Part (part.Request fault)) there why = absurd why
-again_because caller via named old core (refused.Part part.WindowFull) there why = absurd why
-again_because caller via named old core (refused.Part part.NumbersSpent) there why = absurd why
-again_because caller via named old core (refused.Part part.Idle) there why = ((core, there, why), refl)
-again_because caller via named old core (refused.Part part.NoSegment) there why = absurd why
-again_because caller via named old core (refused.Part part.NotInside) there why = absurd why
-again_because caller via named old core (refused.Part part.NotAdjacent) there why = absurd why
-again_because caller via named old core (refused.Part part.Overlap) there why = absurd why
-again_because caller via named old core (refused.Part part.Twice) there why = absurd why
-again_because caller via named old core (refused.Part part.NoPart) there why = absurd why
-again_because caller via named old core (refused.Part part.NotStaying) there why = absurd why
-again_because caller via named old core (refused.Part part.NotLeaving) there why = absurd why
-again_because caller via named old core (refused.Part part.NotEmpty) there why = absurd why
-again_because caller via named old core (refused.Part part.BadFinger) there why = absurd why
-again_because caller via named old core (refused.Part part.NotNote) there why = absurd why
-again_because caller via named old core (refused.Part part.NeedsMeet) there why = absurd why
-again_because caller via named old core refused.Memory there why = ((core, there, why), refl)
+again_because caller via named old core refusal there (Is_idle idle) = ((core, there, idle), refl)
+again_because caller via named old core refusal there (No_memory waiting) = ((core, there, waiting), refl)
 
 -- a request that does not go out again
 pub again_refused : (caller via : ℕ) (named : Option ℕ) (old : WorldState) (core : Caller) (refusal : Refusal) (result : Result Outcome Refusal) → IsThere caller via old core

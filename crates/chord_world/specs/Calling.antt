@@ -53,11 +53,14 @@ pub record AsksAgain (named : Option ℕ) (core : Caller) (ask : Ask) : Type 0 w
   pub wanted : WantedIs named core (Some number)
   pub resends : ResendIs number core (Ok ask)
 
+-- why it does not
+pub data CannotAskAgain (named : Option ℕ) (core : Caller) : Refusal → Type 0 where
+  Is_idle : IsIdle named core → CannotAskAgain named core (refused.Part part.Idle)
+  No_memory : IsWaiting named core → CannotAskAgain named core refused.Memory
+
 abbrev pub AgainIs : Option ℕ → Caller → Result Ask Refusal → Type 0
 AgainIs named core (Ok ask) = AsksAgain named core ask
-AgainIs named core (Err (refused.Part part.Idle)) = IsIdle named core
-AgainIs named core (Err refused.Memory) = IsWaiting named core
-AgainIs named core (Err refusal) = ⊥
+AgainIs named core (Err refusal) = CannotAskAgain named core refusal
 
 -- the request went out under this number
 pub record SendsAgain (caller via : ℕ) (named : Option ℕ) (old : WorldState) (message : ℕ) (new : WorldState) : Type 0 where
@@ -121,7 +124,7 @@ MeetIs caller message old (Err refusal) new = CallerIs caller old (Err refusal) 
 
 -- ---- how it comes about
 
--- one more message, or memory was wanting and nothing changed
+-- one more message, or was out of memory, and nothing changed
 abbrev pub SentIs : Message → ℕ → List Message → List ℕ → Result ℕ AllocError → List Message → List ℕ → Type 0
 SentIs message to sent targets (Ok number) sent' targets' = (number ≡ length sent) × (sent' ≡ sent ++ message ∷ []) × (targets' ≡ targets ++ to ∷ [])
 SentIs message to sent targets (Err refused) sent' targets' = (sent' ≡ sent) × (targets' ≡ targets)
@@ -132,7 +135,7 @@ pub record Met (place : ℕ) (note : Note) (old new : List Caller) : Type 0 wher
   pub here : slice_get old place ≡ Some core
   pub new_is : new ≡ slice_set old place (with_note note core)
 
--- it did, or memory was wanting and nothing changed
+-- it did, or was out of memory, and nothing changed
 abbrev pub MeetsAt : ℕ → Note → List Caller → Result (Unit {0}) AllocError → List Caller → Type 0
 MeetsAt place note old (Ok met) new = Met place note old new
 MeetsAt place note old (Err refused) new = new ≡ old

@@ -22,7 +22,7 @@ pub record Answers (place : ℕ) (ask : Ask) (old : List Node) (answered : Answe
   pub answers : AskNotes ask true node (Ok (answered, did)) after
   pub new_is : new ≡ slice_set old place after
 
--- it did, or memory was wanting and nothing changed
+-- it did, or was out of memory, and nothing changed
 abbrev pub AnswersAt : ℕ → Ask → List Node → Result (Answered × Option Done) AllocError → List Node → Type 0
 AnswersAt place ask old (Ok both) new = Answers place ask old both.0 both.1 new
 AnswersAt place ask old (Err refused) new = new ≡ old
@@ -35,7 +35,7 @@ pub record Hears (place : ℕ) (told : Told) (old : List Caller) (heard : Heard)
   pub hears : TakeIs told core (Ok heard) after
   pub new_is : new ≡ slice_set old place after
 
--- it did, or memory was wanting and nothing changed
+-- it did, or was out of memory, and nothing changed
 abbrev pub HearsAt : ℕ → Told → List Caller → Result Heard AllocError → List Caller → Type 0
 HearsAt place told old (Ok heard) new = Hears place told old heard new
 HearsAt place told old (Err refused) new = new ≡ old

@@ -10,12 +10,12 @@ use Rattle.chord_world.specs.declared.refusal.Refusal.{Refusal}
 use Rattle.chord_world.specs.State.{WorldState}
 use Rattle.chord_world.specs.Steps.{RefusesCall, SubmitStepIs}
 
--- only memory can be wanting for the call, or the refusal is due
+-- the call can be refused memory alone, or the refusal is due
 abbrev pub MaySubmit : ℕ → ℕ → Request → WorldState → Result (Unit {0}) Refusal → Type 0
 MaySubmit caller via request state (Ok may) = RefusesCall caller via request state Memory
 MaySubmit caller via request state (Err refusal) = SubmitStepIs caller via request state (Err refusal) state
 
--- the caller at the place may submit the request, want of memory apart
+-- the caller at the place may submit the request, memory apart
 pub record CanSubmit (place : ℕ) (request : Request) (callers : List Caller) : Type 0 where
   pub core : Caller
   pub here : slice_get callers place ≡ Some core
@@ -29,7 +29,7 @@ pub record Submitted (place : ℕ) (request : Request) (old : List Caller) (ask 
   pub submits : SubmitIs request core (Ok ask) after
   pub new_is : new ≡ slice_set old place after
 
--- it did, or memory was wanting and nothing changed
+-- it did, or was out of memory, and nothing changed
 abbrev pub SubmitsAt : ℕ → Request → List Caller → Result Ask AllocError → List Caller → Type 0
 SubmitsAt place request old (Ok ask) new = Submitted place request old ask new
 SubmitsAt place request old (Err refused) new = new ≡ old

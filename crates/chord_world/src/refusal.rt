@@ -93,7 +93,7 @@ pub enum PartFault {
 }
 
 impl Refusal {
-    /// Its number in the order in which refusals are checked: 9 for those of parts, 10 for want of memory.
+    /// Its number in the order in which refusals are checked: 9 for those of parts, 10 for being out of memory.
     pub fn number(self) -> u8
         ensures { result ≡ number_of self }
     {

@@ -26,7 +26,7 @@ pub(crate) fn make_room(sent: &mut Vec<Message>, targets: &mut Vec<u64>) -> Resu
     Ok(())
 }
 
-/// Submits a copy of the request by the caller at the place, which may submit it but for want of memory.
+/// Submits a copy of the request by the caller at the place, which may submit it, memory apart.
 fn submit_at(
     callers: &mut Vec<CallerCore>,
     place: usize,
@@ -45,7 +45,7 @@ fn submit_at(
 }
 
 impl<S: EntryStore> World<S> {
-    /// Whether the caller may submit the request at the node, want of memory apart.
+    /// Whether the caller may submit the request at the node, memory apart.
     fn may_submit(&self, caller: u64, via: u64, request: &Request) -> Result<(), Refusal>
         ensures { MaySubmit caller via request.now self.now result }
     {

@@ -21,7 +21,7 @@ fn alone<S: EntryStore>(alloc: Global, store: S) -> Result<Vec<S>, AllocError>
     Ok(stores)
 }
 
-/// Does the step, and again where memory was wanting.
+/// Does the step, and again where it was out of memory.
 fn at_last<S: EntryStore>(
     world: &mut World<S>,
     stores: &mut Vec<S>,
