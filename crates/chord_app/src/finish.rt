@@ -36,7 +36,7 @@ impl Finish {
     ghost use Rattle.std.specs.Prelude.{◌≡◌};
     ghost use Rattle.chord_app.specs.Ends.{status_of};
 
-    /// The exit status: 0 done, 1 a fault of input or output, 2 a fault of the command line, 3 want of memory.
+    /// The exit status: 0 done, 1 a fault of input or output, 2 a fault of the command line, 3 out of memory.
     pub fn status(self) -> u8
         ensures { result ≡ status_of self }
     {

@@ -8,16 +8,19 @@ mod stores;
 
 use chord_store::{CappedStore, EntryStore, ListStore, NotedStore, TreeStore};
 use clap::error::ErrorKind;
-use command_line::{commands, names_stores};
+use command_line::{commands, names_stores, no_stores};
 use console::session::world;
 use finish::Finish;
-use std::env;
 use std::process::ExitCode;
 use std::sync::{Arc, OnceLock};
+use std::{env, io};
 use stores::empty_ones;
 
 /// The text of a command line fault goes to standard error, and help to standard output.
 fn told<R: Print + Eprint>(rt: &R, error: &clap::Error) -> Result<Finish, Finish> {
+    if error.kind() == ErrorKind::OutOfMemory {
+        return Err(Finish::OutOfMemory);
+    }
     error.print(rt)?;
     if error.use_stderr() {
         Ok(Finish::BadCommandLine)
@@ -29,7 +32,14 @@ fn told<R: Print + Eprint>(rt: &R, error: &clap::Error) -> Result<Finish, Finish
 /// Reads the command line and does the command.
 fn start(rt: &HostRuntime) -> Result<Finish, Finish> {
     let alloc = rt.alloc();
-    let words: Vec<String> = env::args(rt)?.collect(alloc)?;
+    let words: Vec<String> = match env::args(rt) {
+        Ok(words) => words.collect(alloc)?,
+        Err(error) if error.kind() == io::ErrorKind::OutOfMemory => return Err(Finish::OutOfMemory),
+        Err(_) => {
+            eprintln!(rt; "error: an argument is no text")?;
+            return Ok(Finish::BadCommandLine);
+        }
+    };
     let matches = match commands(alloc)?.try_get_matches_from(words.as_slice()) {
         Ok(matches) => matches,
         Err(error) => return told(rt, &error),
@@ -41,11 +51,7 @@ fn start(rt: &HostRuntime) -> Result<Finish, Finish> {
         None => command_line::DEFAULT_STORES,
     };
     if !names_stores(word) {
-        let error = commands(alloc)?.error(
-            ErrorKind::InvalidValue,
-            "WORD has 1 to 64 of the letters t, l, n and c",
-        )?;
-        return told(rt, &error);
+        return told(rt, &no_stores(alloc, word)?);
     }
     let mut stores: Vec<Box<dyn EntryStore + Send>> = Vec::new(alloc);
     for letter in word.bytes() {
@@ -69,9 +75,11 @@ fn main(rt: HostRuntime) -> ExitCode {
         Ok(finish) => finish,
         Err(finish) => finish,
     };
-    if let Finish::Fault(fault) = finish {
-        let _ = eprintln!(rt; "{fault}");
-    }
+    let _ = match finish {
+        Finish::Fault(fault) => eprintln!(rt; "{fault}"),
+        Finish::OutOfMemory => eprintln!(rt; "out of memory"),
+        _ => Ok(()),
+    };
     ExitCode::from(finish.status())
 }
 

@@ -2,7 +2,7 @@
 ghost use Rattle.std.specs.Prelude.{◌≡◌, [], IfOk};
 ghost use Rattle.std.specs.List.{All};
 
-use crate::command_line::{commands, names_stores};
+use crate::command_line::{commands, names_stores, no_stores};
 use crate::console::session::world;
 use crate::finish::{Fault, Finish};
 use crate::stores::add_store;
@@ -505,6 +505,24 @@ fn a_command_is_wanted(rt: HostRuntime) -> Result<(), Fail> {
     Ok(())
 }
 
+/// What is written where the stores are no word of the option, and for the version.
+#[test]
+fn faults_of_words_and_the_version(rt: HostRuntime) -> Result<(), Fail> {
+    let error = no_stores(rt.alloc(), "x")?;
+    assert_eq!(rt; error.exit_code(), 2);
+    let text = error.to_string(rt.alloc())?;
+    let wanted =
+        "error: invalid value 'x' for '--stores <WORD>': 1 to 64 of the letters t, l, n and c\n\nUsage: chord world [OPTIONS]\n\nFor more information, try '--help'.\n";
+    assert_eq!(rt; text.as_str(), wanted);
+    let words = ["chord", "--version"];
+    let Err(version) = commands(rt.alloc())?.try_get_matches_from(words.as_slice()) else {
+        return Err(Fail::from("no version"));
+    };
+    assert_eq!(rt; version.exit_code(), 0);
+    assert_eq!(rt; version.to_string(rt.alloc())?.as_str(), "chord 0.1.0\n");
+    Ok(())
+}
+
 #[test]
 fn words_for_stores(rt: HostRuntime) {
     for word in ["t", "tltltltl", "lnct"] {
@@ -544,7 +562,7 @@ fn one_pair(alloc: Global) -> Result<Vec<CappedStore>, AllocError>
     Ok(stores)
 }
 
-/// Where memory is wanting the session ends, and the line of that step is not written.
+/// Out of memory the session ends, and the line of that step is not written.
 #[test]
 fn a_refused_growth_ends_the_session(rt: HostRuntime) -> Result<(), Fail> {
     let alloc = rt.alloc();

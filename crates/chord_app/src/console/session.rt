@@ -6,8 +6,8 @@ use crate::console::line::Line;
 use crate::console::reply::{Shown, name_of};
 use crate::console::words::LineFault;
 use crate::finish::{Fault, Finish};
-use chord_store::EntryStore;
 use chord_node::Holder;
+use chord_store::EntryStore;
 use chord_world::{Outcome, Refusal, Step, World};
 use std::alloc::Global;
 use std::io::{self, BufWriter, Read, Write};
@@ -101,7 +101,7 @@ fn write_list<S: EntryStore, W: Write>(
     writeln!(writer)
 }
 
-/// Writes a refusal, but for want of memory, which ends the session.
+/// Writes a refusal, but for being out of memory, which ends the session.
 fn write_refusal<W: Write>(refusal: Refusal, writer: &mut W) -> Result<(), Finish> {
     if refusal == Refusal::Memory {
         return Err(Finish::OutOfMemory);

@@ -451,7 +451,12 @@ fn moving_key(rt: HostRuntime) -> Result<(), Fail> {
 /// The confirmation of a handover is lost, and its receiver leaves before the part comes again.
 #[test]
 fn lost_confirmation(rt: HostRuntime) -> Result<(), Fail> {
-    let ran = over_two(rt.alloc(), u64::MAX, LOST_CONFIRMATION, LOST_CONFIRMATION_WRITES)?;
+    let ran = over_two(
+        rt.alloc(),
+        u64::MAX,
+        LOST_CONFIRMATION,
+        LOST_CONFIRMATION_WRITES,
+    )?;
     assert_eq!(rt; ran, (Finish::Done, true));
     Ok(())
 }
@@ -459,7 +464,12 @@ fn lost_confirmation(rt: HostRuntime) -> Result<(), Fail> {
 /// A node that is gone declines what it did not take, and the giver holds it again.
 #[test]
 fn declined_handover(rt: HostRuntime) -> Result<(), Fail> {
-    let ran = over_two(rt.alloc(), u64::MAX, DECLINED_HANDOVER, DECLINED_HANDOVER_WRITES)?;
+    let ran = over_two(
+        rt.alloc(),
+        u64::MAX,
+        DECLINED_HANDOVER,
+        DECLINED_HANDOVER_WRITES,
+    )?;
     assert_eq!(rt; ran, (Finish::Done, true));
     Ok(())
 }
@@ -467,7 +477,12 @@ fn declined_handover(rt: HostRuntime) -> Result<(), Fail> {
 /// The second handover of a sender comes before the first.
 #[test]
 fn handovers_out_of_order(rt: HostRuntime) -> Result<(), Fail> {
-    let ran = over_two(rt.alloc(), u64::MAX, HANDOVERS_OUT_OF_ORDER, HANDOVERS_OUT_OF_ORDER_WRITES)?;
+    let ran = over_two(
+        rt.alloc(),
+        u64::MAX,
+        HANDOVERS_OUT_OF_ORDER,
+        HANDOVERS_OUT_OF_ORDER_WRITES,
+    )?;
     assert_eq!(rt; ran, (Finish::Done, true));
     Ok(())
 }
@@ -475,7 +490,12 @@ fn handovers_out_of_order(rt: HostRuntime) -> Result<(), Fail> {
 /// A call comes to a node that gave its key away.
 #[test]
 fn insert_after_a_handover(rt: HostRuntime) -> Result<(), Fail> {
-    let ran = over_two(rt.alloc(), u64::MAX, INSERT_AFTER_A_HANDOVER, INSERT_AFTER_A_HANDOVER_WRITES)?;
+    let ran = over_two(
+        rt.alloc(),
+        u64::MAX,
+        INSERT_AFTER_A_HANDOVER,
+        INSERT_AFTER_A_HANDOVER_WRITES,
+    )?;
     assert_eq!(rt; ran, (Finish::Done, true));
     Ok(())
 }
@@ -483,7 +503,12 @@ fn insert_after_a_handover(rt: HostRuntime) -> Result<(), Fail> {
 /// The new holder answers a repeated call again, and does not execute it.
 #[test]
 fn repeats_after_a_handover(rt: HostRuntime) -> Result<(), Fail> {
-    let ran = over_two(rt.alloc(), u64::MAX, REPEATS_AFTER_A_HANDOVER, REPEATS_AFTER_A_HANDOVER_WRITES)?;
+    let ran = over_two(
+        rt.alloc(),
+        u64::MAX,
+        REPEATS_AFTER_A_HANDOVER,
+        REPEATS_AFTER_A_HANDOVER_WRITES,
+    )?;
     assert_eq!(rt; ran, (Finish::Done, true));
     Ok(())
 }
@@ -491,9 +516,19 @@ fn repeats_after_a_handover(rt: HostRuntime) -> Result<(), Fail> {
 /// After a cut both parts know what their callers have seen.
 #[test]
 fn floors_after_a_cut(rt: HostRuntime) -> Result<(), Fail> {
-    let ran = over_two(rt.alloc(), u64::MAX, FLOORS_AFTER_A_CUT, FLOORS_AFTER_A_CUT_WRITES)?;
+    let ran = over_two(
+        rt.alloc(),
+        u64::MAX,
+        FLOORS_AFTER_A_CUT,
+        FLOORS_AFTER_A_CUT_WRITES,
+    )?;
     assert_eq!(rt; ran, (Finish::Done, true));
-    let ran = over_two(rt.alloc(), u64::MAX, FLOORS_AFTER_ANOTHER_CUT, FLOORS_AFTER_A_CUT_WRITES)?;
+    let ran = over_two(
+        rt.alloc(),
+        u64::MAX,
+        FLOORS_AFTER_ANOTHER_CUT,
+        FLOORS_AFTER_A_CUT_WRITES,
+    )?;
     assert_eq!(rt; ran, (Finish::Done, true));
     Ok(())
 }
@@ -509,7 +544,12 @@ fn crashed_holder(rt: HostRuntime) -> Result<(), Fail> {
 /// A receiver with a full store takes a handover once there is room.
 #[test]
 fn receiver_with_a_full_store(rt: HostRuntime) -> Result<(), Fail> {
-    let ran = over_two(rt.alloc(), 1, RECEIVER_WITH_A_FULL_STORE, RECEIVER_WITH_A_FULL_STORE_WRITES)?;
+    let ran = over_two(
+        rt.alloc(),
+        1,
+        RECEIVER_WITH_A_FULL_STORE,
+        RECEIVER_WITH_A_FULL_STORE_WRITES,
+    )?;
     assert_eq!(rt; ran, (Finish::Done, true));
     Ok(())
 }
