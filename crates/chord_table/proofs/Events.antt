@@ -1,0 +1,123 @@
+-- Which views an event, or an actor more, leaves true.
+use Rattle.std.proofs.Common.{◌≡◌, ℕ, List, [], ◌∷◌, ◌++◌, map, set, Option, Some, None, refl, sym, ap, ◌∙◌, Contains, All}
+use Rattle.std.proofs.lemmas.List.{map-append}
+use Rattle.std.proofs.lemmas.List.Elements.{All-contains, All-weaker}
+use mathlib.Core.Option.{some}
+use lib.ListN.{get_elem?}
+use Rattle.chord_caller.specs.Caller.{Caller}
+use Rattle.chord_node.specs.declared.message.Message.{Message}
+use Rattle.chord_node.specs.Node.{Node}
+use Rattle.chord_node.specs.World.{World, WorldStep, WasSent}
+use Rattle.chord_segment.specs.declared.done.Done.{Done}
+use Rattle.chord_table.proofs.Numbers.{one_actor}
+use Rattle.chord_table.proofs.Showing.{IsHeir, shows_changed}
+use Rattle.chord_table.proofs.Worlds.{IsNew, event_steps, there_after, others_after, nodes_after, callers_after, sent_after, others_entered}
+use Rattle.chord_table.specs.Actors.{AreOne, Event, after, entered}
+use Rattle.chord_table.specs.Seen.{Actor, OfNode, OfCaller, View, Admitted, Shown, Sent, Spent}
+use Rattle.chord_table.specs.Views.{IsTrueOf, HaveOneOwner, Shows}
+
+-- ---- one actor
+
+one_left : (old new other : Actor) → AreOne old new → AreOne new other → AreOne old other
+one_left (OfNode old) (OfNode new) (OfNode other) same one = same ∙ one
+one_left (OfCaller old) (OfCaller new) (OfCaller other) same one = same ∙ one
+one_left (OfNode old) (OfCaller new) other same one = absurd same
+one_left (OfCaller old) (OfNode new) other same one = absurd same
+one_left (OfNode old) (OfNode new) (OfCaller other) same one = absurd one
+one_left (OfCaller old) (OfCaller new) (OfNode other) same one = absurd one
+
+one_right : (old new other : Actor) → AreOne old new → AreOne other new → AreOne other old
+one_right (OfNode old) (OfNode new) (OfNode other) same one = one ∙ sym same
+one_right (OfCaller old) (OfCaller new) (OfCaller other) same one = one ∙ sym same
+one_right (OfNode old) (OfCaller new) other same one = absurd same
+one_right (OfCaller old) (OfNode new) other same one = absurd same
+one_right (OfNode old) (OfNode new) (OfCaller other) same one = absurd one
+one_right (OfCaller old) (OfCaller new) (OfNode other) same one = absurd one
+
+one_itself : (actor : Actor) → AreOne actor actor
+one_itself (OfNode node) = refl
+one_itself (OfCaller caller) = refl
+
+pub shown_heir : (old new : Actor) (messages more : List Message) → AreOne old new → IsHeir (Shown old messages) (Shown new more)
+shown_heir old new messages more same = record { left = λ u. left u; right = λ u. right u; itself = one_itself old }
+  where
+    left : (u : View) → HaveOneOwner (Shown new more) u → HaveOneOwner (Shown old messages) u
+    left (Admitted _ _) h = h
+    left (Shown other _) h = one_left old new other same h
+    left (Sent _) h = h
+    left Spent h = h
+
+    right : (u : View) → HaveOneOwner u (Shown new more) → HaveOneOwner u (Shown old messages)
+    right (Admitted _ _) h = h
+    right (Shown other _) h = one_right old new other same h
+    right (Sent _) h = h
+    right Spent h = h
+
+pub admitted_heir : (nodes callers more_nodes more_callers : List ℕ) → IsHeir (Admitted nodes callers) (Admitted more_nodes more_callers)
+admitted_heir nodes callers more_nodes more_callers = record { left = λ u. left u; right = λ u. right u; itself = tt }
+  where
+    left : (u : View) → HaveOneOwner (Admitted more_nodes more_callers) u → HaveOneOwner (Admitted nodes callers) u
+    left (Admitted _ _) h = h
+    left (Shown _ _) h = h
+    left (Sent _) h = h
+    left Spent h = h
+
+    right : (u : View) → HaveOneOwner u (Admitted more_nodes more_callers) → HaveOneOwner u (Admitted nodes callers)
+    right (Admitted _ _) h = h
+    right (Shown _ _) h = h
+    right (Sent _) h = h
+    right Spent h = h
+
+-- ---- an event
+
+all_sent_after : (world : World) (new : Actor) (sent : Option Message) (call : Option Done) (messages : List Message)
+    → All (Contains world.sent) messages → All (Contains (after world new sent call).sent) messages
+all_sent_after world new sent call messages all =
+    All-weaker (Contains world.sent) (Contains (after world new sent call).sent) (λ m. sent_after world new sent call m) messages all
+
+-- what is true before an event is true afterwards, but for the views of its actor
+true_after : (world : World) (old new : Actor) (messages : List Message) (sent : Option Message) (call : Option Done) → AreOne old new
+    → (u : View) → (HaveOneOwner u (Shown old messages) → ⊥) → IsTrueOf world u → IsTrueOf (after world new sent call) u
+true_after world old new messages sent call same (Admitted nodes callers) apart (n, c) = (nodes_after world new sent call ∙ n, callers_after world new sent call ∙ c)
+true_after world old new messages sent call same (Shown other more) apart (there, all) =
+    (others_after world new other sent call (λ one. apart (one_right old new other same one)) there, all_sent_after world new sent call more all)
+true_after world old new messages sent call same (Sent message) apart was = sent_after world new sent call message was
+true_after world old new messages sent call same Spent apart h = tt
+
+known_was_sent : (world : World) (messages : List Message) (taken : Option Message) → All (Contains world.sent) messages → WasSent messages taken → WasSent world.sent taken
+known_was_sent world messages None all known = known
+known_was_sent world messages (Some message) all known = All-contains (Contains world.sent) messages message all known
+
+-- an event of the actor that a seat shows is a step of the world, and the seats show the world after it
+pub event_shown : (world : World) (views : List View) (id : ℕ) (old new : Actor) (messages : List Message) (taken sent : Option Message) (call : Option Done)
+    → Shows world views → get_elem? views id ≡ some (Shown old messages) → WasSent messages taken → Event old taken new sent call
+    → WorldStep world (after world new sent call) × Shows (after world new sent call) (set views id (Shown new messages))
+event_shown world views id old new messages taken sent call shows at known event =
+    let mine = shows.agrees id (Shown old messages) at in
+    let same = one_actor old new taken sent call event in (
+      event_steps world old new taken sent call mine.0 (known_was_sent world messages taken mine.1 known) event,
+      shows_changed world (after world new sent call) views id (Shown old messages) (Shown new messages) shows at (shown_heir old new messages messages same)
+          (there_after world old new sent call same mine.0, all_sent_after world new sent call messages mine.1)
+          (λ seat u apart e. true_after world old new messages sent call same u (λ one. apart (shows.apart seat id u (Shown old messages) e at one)) (shows.agrees seat u e)),
+    )
+
+-- ---- an actor more
+
+-- what is true before an actor enters is true afterwards, but for the registrar's view
+pub true_entered : (world : World) (new : Actor) (nodes callers : List ℕ) → IsNew world new
+    → (u : View) → (HaveOneOwner u (Admitted nodes callers) → ⊥) → IsTrueOf world u → IsTrueOf (entered world new) u
+true_entered world new nodes callers none (Admitted _ _) apart h = absurd (apart tt)
+true_entered world (OfNode new) nodes callers none (Shown other messages) apart (there, all) = (others_entered world (OfNode new) other none there, all)
+true_entered world (OfCaller new) nodes callers none (Shown other messages) apart (there, all) = (others_entered world (OfCaller new) other none there, all)
+true_entered world (OfNode new) nodes callers none (Sent message) apart was = was
+true_entered world (OfCaller new) nodes callers none (Sent message) apart was = was
+true_entered world new nodes callers none Spent apart h = tt
+
+-- the registrar's view with the number of the new actor is true
+pub register_entered : (world : World) (nodes : List ℕ) (node : Node) → map (λ (n : Node). n.number) world.nodes ≡ nodes
+    → map (λ (n : Node). n.number) (world.nodes ++ node ∷ []) ≡ nodes ++ node.number ∷ []
+register_entered world nodes node is = map-append (λ (n : Node). n.number) world.nodes (node ∷ []) ∙ ap (λ ns. ns ++ node.number ∷ []) is
+
+pub callers_entered : (world : World) (callers : List ℕ) (caller : Caller) → map (λ (c : Caller). c.number) world.callers ≡ callers
+    → map (λ (c : Caller). c.number) (world.callers ++ caller ∷ []) ≡ callers ++ caller.number ∷ []
+callers_entered world callers caller is = map-append (λ (c : Caller). c.number) world.callers (caller ∷ []) ∙ ap (λ ns. ns ++ caller.number ∷ []) is

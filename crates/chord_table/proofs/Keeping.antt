@@ -1,0 +1,175 @@
+-- Each move of the table keeps its rule.
+use Rattle.std.proofs.Common.{◌≡◌, ◌≢◌, ℕ, ◌<◌, arith, List, [], ◌∷◌, ◌++◌, set, zero, suc, Option, Some, refl, sym, subst, ⊎_elim, Contains}
+use Rattle.std.proofs.lemmas.List.Elements.{All-push, All-nil, Contains-push}
+use mathlib.Core.Option.{some, some-ne-none, some-injective}
+use lib.ListN.{get_elem?}
+use Rattle.atomic_table.specs.Table.{Me, keeps, opening, Allows, Splits, Joins}
+use Rattle.atomic_table.proofs.Lists.{at_set, set_again}
+use Rattle.chord_node.specs.declared.message.Message.{Message}
+use Rattle.chord_node.specs.World.{World, empty_world}
+use Rattle.chord_node.specs.World.Run.{Stays, Goes_on}
+use Rattle.chord_table.proofs.Events.{shown_heir, admitted_heir, event_shown, true_entered, register_entered, callers_entered}
+use Rattle.chord_table.proofs.Showing.{IsHeir, shows_changed, shows_added}
+use Rattle.chord_table.proofs.Worlds.{IsNew, new_apart, there_entered, may_enter}
+use Rattle.chord_table.specs.Actors.{IsThere, AreOne, after, entered}
+use Rattle.chord_table.specs.Seen.{Actor, OfNode, OfCaller, View, Admitted, Shown, Sent, Spent}
+use Rattle.chord_table.specs.Views.{IsTrueOf, HaveOneOwner, Shows, IsKept, IsTrueOfSome, Sight, view_of, Register, changed, admitting, told, MayBecome, MayEnter}
+
+-- where there is a word, the table has some
+pub some_words : {word words : ℕ} → word < words → 0 < words
+some_words at = omega arith
+
+-- the registrar's seat alone shows the empty world
+pub begins : (words : List ℕ) → IsKept (opening words [] (Admitted [] []))
+begins words = (empty_world, Stays, record { agrees = agrees; apart = apart })
+  where
+    agrees : (seat : ℕ) (v : View) → get_elem? (Admitted [] [] ∷ []) seat ≡ some v → IsTrueOf empty_world v
+    agrees zero v e = subst (IsTrueOf empty_world) (some-injective (Admitted [] []) v e) (refl, refl)
+    agrees (suc seat) v e = absurd (some-ne-none v (sym e))
+
+    apart : (seat other : ℕ) (v u : View) → get_elem? (Admitted [] [] ∷ []) seat ≡ some v → get_elem? (Admitted [] [] ∷ []) other ≡ some u → HaveOneOwner v u → seat ≡ other
+    apart zero zero v u e f one = refl
+    apart zero (suc other) v u e f one = absurd (some-ne-none u (sym f))
+    apart (suc seat) other v u e f one = absurd (some-ne-none v (sym e))
+
+nobodys : (message : Message) (u : View) → HaveOneOwner u (Sent message) → ⊥
+nobodys message (Admitted _ _) h = h
+nobodys message (Shown _ _) h = h
+nobodys message (Sent _) h = h
+nobodys message Spent h = h
+
+spent_has_none : (u : View) → HaveOneOwner u Spent → ⊥
+spent_has_none (Admitted _ _) h = h
+spent_has_none (Shown _ _) h = h
+spent_has_none (Sent _) h = h
+spent_has_none Spent h = h
+
+-- an event that sends nothing, or whose message is lost, at any word
+pub local_as : (slots id word : ℕ) (me : Me ℕ View) (s : Sight) (new : Actor) (f : ℕ → ℕ) → me ≡ (view_of s, []) → (sent : Option Message) × MayBecome s.actor s.messages new sent
+    → Allows IsKept slots id me word f (λ found m. m ≡ (changed new me.0, me.1))
+local_as slots id word me s new f is (sent, (taken, call, known, event)) =
+    subst (λ (m : Me ℕ View). Allows IsKept slots id m word f (λ found w. w ≡ (changed new m.0, m.1))) (sym is) allowed
+  where
+    allowed : Allows IsKept slots id (view_of s, []) word f (λ found w. w ≡ (Shown new s.messages, []))
+    allowed t (world, reached, shows) len at fits =
+        let next = event_shown world t.views id s.actor new s.messages taken sent call shows at known event in
+        (Shown new s.messages, keeps, tt, (after world new sent call, Goes_on reached next.0, next.1), refl)
+
+-- an event whose message goes out with a new seat
+pub send_as : (id : ℕ) (me : Me ℕ View) (s : Sight) (new : Actor) (message : Message) → me ≡ (view_of s, []) → MayBecome s.actor s.messages new (Some message)
+    → Splits IsKept id me.0 (changed new me.0) (Sent message)
+send_as id me s new message is (taken, call, known, event) =
+    subst (λ (m : Me ℕ View). Splits IsKept id m.0 (changed new m.0) (Sent message)) (sym is) allowed
+  where
+    was_sent : (world : World) (actor : Actor) → Contains (after world actor (Some message) call).sent message
+    was_sent world (OfNode node) = Contains-push world.sent message
+    was_sent world (OfCaller caller) = Contains-push world.sent message
+
+    allowed : Splits IsKept id (view_of s) (Shown new s.messages) (Sent message)
+    allowed t (world, reached, shows) at =
+        let next = event_shown world t.views id s.actor new s.messages taken (Some message) call shows at known event in (
+          after world new (Some message) call,
+          Goes_on reached next.0,
+          shows_added (after world new (Some message) call) (set t.views id (Shown new s.messages)) (Sent message) next.1 (was_sent world new) (λ seat u e. (nobodys message u, λ h. h)),
+        )
+
+-- a new actor, with a new seat
+pub admit_as : (id : ℕ) (new : Actor) (me : Me ℕ View) (register : Register) → me ≡ (Admitted register.nodes register.callers, []) → MayEnter register new
+    → Splits IsKept id me.0 (admitting new me.0) (Shown new [])
+admit_as id new me register is may =
+    subst (λ (m : Me ℕ View). Splits IsKept id m.0 (admitting new m.0) (Shown new [])) (sym is) allowed
+  where
+    old_view : View
+    old_view = Admitted register.nodes register.callers
+
+    listed : (world : World) (actor : Actor) → IsTrueOf world old_view → IsTrueOf (entered world actor) (admitting actor old_view)
+    listed world (OfNode node) (nodes, callers) = (register_entered world register.nodes node nodes, callers)
+    listed world (OfCaller caller) (nodes, callers) = (nodes, callers_entered world register.callers caller callers)
+
+    not_there : (world : World) → IsNew world new → (u : View) → IsTrueOf world u → (HaveOneOwner u (Shown new []) → ⊥) × (HaveOneOwner (Shown new []) u → ⊥)
+    not_there world none (Admitted _ _) h = ((λ x. x), (λ x. x))
+    not_there world none (Shown other _) h = (new_apart world new other none h.0, (λ one. new_apart world new other none h.0 (turned new other one)))
+      where
+        turned : (a b : Actor) → AreOne a b → AreOne b a
+        turned (OfNode a) (OfNode b) one = sym one
+        turned (OfCaller a) (OfCaller b) one = sym one
+        turned (OfNode a) (OfCaller b) one = one
+        turned (OfCaller a) (OfNode b) one = one
+    not_there world none (Sent _) h = ((λ x. x), (λ x. x))
+    not_there world none Spent h = ((λ x. x), (λ x. x))
+
+    no_actors : (actor : Actor) → (HaveOneOwner (admitting actor old_view) (Shown new []) → ⊥) × (HaveOneOwner (Shown new []) (admitting actor old_view) → ⊥)
+    no_actors (OfNode node) = ((λ h. h), (λ h. h))
+    no_actors (OfCaller caller) = ((λ h. h), (λ h. h))
+
+    alone : (views : List View) (world : World) → IsNew world new → Shows world views → (seat : ℕ) (u : View) → get_elem? (set views id (admitting new old_view)) seat ≡ some u
+        → (HaveOneOwner u (Shown new []) → ⊥) × (HaveOneOwner (Shown new []) u → ⊥)
+    alone views world none shows seat u e = ⊎_elim
+        (λ (x : (seat ≡ id) × (admitting new old_view ≡ u)). subst (λ (v : View). (HaveOneOwner v (Shown new []) → ⊥) × (HaveOneOwner (Shown new []) v → ⊥)) x.1 (no_actors new))
+        (λ (x : (seat ≢ id) × (get_elem? views seat ≡ some u)). not_there world none u (shows.agrees seat u x.1))
+        (at_set views id seat (admitting new old_view) u e)
+
+    heir : (actor : Actor) → IsHeir old_view (admitting actor old_view)
+    heir (OfNode node) = admitted_heir register.nodes register.callers (register.nodes ++ node.number ∷ []) register.callers
+    heir (OfCaller caller) = admitted_heir register.nodes register.callers register.nodes (register.callers ++ caller.number ∷ [])
+
+    no_message : (world : World) (actor : Actor) → IsThere (entered world actor) actor → IsTrueOf (entered world actor) (Shown actor [])
+    no_message world actor there = (there, All-nil (Contains (entered world actor).sent))
+
+    allowed : Splits IsKept id old_view (admitting new old_view) (Shown new [])
+    allowed s (world, reached, shows) at =
+        let next : World = entered world new in
+        let true = shows.agrees id old_view at in
+        let (none, step) = may_enter world register new true may in
+        let all = shows_changed world next s.views id old_view (admitting new old_view) shows at (heir new) (listed world new true)
+        (λ seat u apart e. true_entered world new register.nodes register.callers none u (λ one. apart (shows.apart seat id u old_view e at one)) (shows.agrees seat u e)) in
+        (next, Goes_on reached step, shows_added next (set s.views id (admitting new old_view)) (Shown new []) all (no_message world new (there_entered world new none)) (alone s.views world none shows))
+
+spends : (other : ℕ) (message : Message) (w : World) (views : List View) → Shows w views → Shows w (set views other Spent)
+spends other message w views shows = record {
+  agrees = λ seat u e. ⊎_elim
+      (λ (x : (seat ≡ other) × (Spent ≡ u)). subst (IsTrueOf w) x.1 tt)
+      (λ (x : (seat ≢ other) × (get_elem? views seat ≡ some u)). shows.agrees seat u x.1)
+      (at_set views other seat Spent u e);
+  apart = λ seat next u t e f one. ⊎_elim
+      (λ (x : (seat ≡ other) × (Spent ≡ u)). absurd (subst (λ (v : View). HaveOneOwner v t → ⊥) x.1 (λ h. h) one))
+      (λ (x : (seat ≢ other) × (get_elem? views seat ≡ some u)). ⊎_elim
+      (λ (y : (next ≡ other) × (Spent ≡ t)). absurd (subst (λ (v : View). HaveOneOwner u v → ⊥) y.1 (spent_has_none u) one))
+      (λ (y : (next ≢ other) × (get_elem? views next ≡ some t)). shows.apart seat next u t x.1 y.1 one)
+      (at_set views other next Spent t f))
+      (at_set views other seat Spent u e);
+}
+
+-- a message that was sent, beside the actor's state
+pub receive_as : (id other : ℕ) (me you : Me ℕ View) (s : Sight) (message : Message) → me ≡ (view_of s, []) → you ≡ (Sent message, [])
+    → Joins IsKept id me.0 other you.0 (told me.0 you.0) Spent
+receive_as id other me you s message is came =
+    subst (λ (m : Me ℕ View). Joins IsKept id m.0 other you.0 (told m.0 you.0) Spent) (sym is)
+    (subst (λ (y : Me ℕ View). Joins IsKept id (view_of s) other y.0 (told (view_of s) y.0) Spent) (sym came) allowed)
+  where
+    itself : (actor : Actor) → AreOne actor actor
+    itself (OfNode node) = refl
+    itself (OfCaller caller) = refl
+
+    allowed : Joins IsKept id (view_of s) other (Sent message) (Shown s.actor (s.messages ++ message ∷ [])) Spent
+    allowed t (w, reached, shows) at apart there =
+        let both : View = Shown s.actor (s.messages ++ message ∷ []) in
+        let mine = shows.agrees id (view_of s) at in
+        let was_sent : IsTrueOf w (Sent message) = ⊎_elim
+        (λ (x : (other ≡ id) × (both ≡ Sent message)). absurd (apart x.0))
+        (λ (x : (other ≢ id) × (get_elem? t.views other ≡ some (Sent message))). shows.agrees other (Sent message) x.1)
+        (at_set t.views id other both (Sent message) there) in
+        let first = shows_changed w w t.views id (view_of s) both shows at (shown_heir s.actor s.actor s.messages (s.messages ++ message ∷ []) (itself s.actor))
+        (mine.0, All-push (Contains w.sent) s.messages message mine.1 was_sent)
+        (λ seat u _ e. shows.agrees seat u e) in
+        (w, reached, spends other message w (set t.views id both) first)
+
+-- a look at any word
+pub look_at : (slots id word : ℕ) (me : Me ℕ View) (v : View) (f : ℕ → ℕ) → me ≡ (v, [])
+    → Allows IsKept slots id me word f (λ found m. (m ≡ me) × IsTrueOfSome me.0)
+look_at slots id word me v f is =
+    subst (λ (m : Me ℕ View). Allows IsKept slots id m word f (λ found w. (w ≡ m) × IsTrueOfSome m.0)) (sym is) allowed
+  where
+    allowed : Allows IsKept slots id (v, []) word f (λ found w. (w ≡ (v, [])) × IsTrueOfSome v)
+    allowed s (w, reached, shows) len at fits =
+        (v, keeps, tt, (w, reached, subst (Shows w) (sym (set_again s.views id v at)) shows), (refl, (w, reached, shows.agrees id v at)))

@@ -1,0 +1,8 @@
+pub mod Looking
+pub mod Numbers
+pub mod Worlds
+pub mod Showing
+pub mod Events
+pub mod Keeping
+pub mod Becoming
+pub mod Telling

@@ -1,0 +1,46 @@
+-- Nodes and callers alike, as actors of a world.
+use Rattle.std.specs.Prelude.{◌≡◌, ℕ, Option, None, Some, List, [], ◌∷◌, ◌++◌, map}
+use Rattle.chord_caller.specs.Caller.{Caller, CallerStep, Letter}
+use Rattle.chord_node.specs.declared.message.Message.{Message}
+use Rattle.chord_node.specs.Letters.{letter_sent}
+use Rattle.chord_node.specs.Node.{Node, NodeStep}
+use Rattle.chord_node.specs.World.{World, node_at, put_node, caller_at, put_caller, with_one}
+use Rattle.chord_segment.specs.declared.done.Done.{Done}
+use Rattle.chord_table.specs.Seen.{Actor, OfNode, OfCaller}
+
+-- the actor is there, in this state
+abbrev pub IsThere : World → Actor → Type 0
+IsThere world (OfNode node) = node_at node.number world.nodes ≡ Some node
+IsThere world (OfCaller caller) = caller_at caller.number world.callers ≡ Some caller
+
+-- both are states of one actor
+abbrev pub AreOne : Actor → Actor → Type 0
+AreOne (OfNode node) (OfNode other) = node.number ≡ other.number
+AreOne (OfCaller caller) (OfCaller other) = caller.number ≡ other.number
+AreOne _ _ = ⊥
+
+-- from one state, with a message taken in, to another state, with a message sent and a call executed
+pub data Event : Actor → Option Message → Actor → Option Message → Option Done → Type 0 where
+  Acts : {old new : Node} {taken sent : Option Message} {done : Option Done} → NodeStep old taken new sent done → Event (OfNode old) taken (OfNode new) sent done
+  Calls : {old new : Caller} {taken sent : Option Letter} → CallerStep old taken new sent
+      → Event (OfCaller old) (letter_sent taken) (OfCaller new) (letter_sent sent) None
+
+-- the world with this actor in the place of its older state, where that message was sent and that call executed
+abbrev pub after : World → Actor → Option Message → Option Done → World
+after world (OfNode node) sent done =
+    record world { nodes = put_node node world.nodes; sent = with_one world.sent sent; history = with_one world.history done }
+after world (OfCaller caller) sent done =
+    record world { callers = put_caller caller world.callers; sent = with_one world.sent sent; history = with_one world.history done }
+
+-- the world with one actor more
+abbrev pub entered : World → Actor → World
+entered world (OfNode node) = record world { nodes = world.nodes ++ node ∷ [] }
+entered world (OfCaller caller) = record world { callers = world.callers ++ caller ∷ [] }
+
+-- the numbers of the nodes
+abbrev pub node_numbers : World → List ℕ
+node_numbers world = map (λ (node : Node). node.number) world.nodes
+
+-- the numbers of the callers
+abbrev pub caller_numbers : World → List ℕ
+caller_numbers world = map (λ (caller : Caller). caller.number) world.callers

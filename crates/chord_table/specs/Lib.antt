@@ -1,0 +1,4 @@
+pub mod Seen
+pub mod Actors
+pub mod Views
+pub mod Shown

@@ -1,0 +1,20 @@
+-- What a seat may show.
+use Rattle.std.specs.Prelude.{ℕ, List}
+use Rattle.chord_caller.specs.Caller.{Caller}
+use Rattle.chord_node.specs.declared.message.Message.{Message}
+use Rattle.chord_node.specs.Node.{Node}
+
+-- the state of an actor, which is a node or a caller
+pub data Actor : Type 0 where
+  OfNode : Node → Actor
+  OfCaller : Caller → Actor
+
+pub data View : Type 0 where
+  -- the numbers of the nodes and of the callers, in the order admitted
+  Admitted : (nodes callers : List ℕ) → View
+  -- an actor, and messages that were sent
+  Shown : Actor → List Message → View
+  -- one message that was sent
+  Sent : Message → View
+  -- nothing
+  Spent : View

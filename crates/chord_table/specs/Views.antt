@@ -1,0 +1,157 @@
+-- What the seats of one table show of the world.
+use Rattle.std.specs.Prelude.{◌≡◌, ◌≢◌, ℕ, ◌^◌, ◌<◌, ◌≤◌, ◌⊎◌, Option, List, [], ◌∷◌, ◌++◌, All, Contains}
+use mathlib.Core.Option.{some}
+use lib.ListN.{get_elem?}
+use Rattle.atomic_table.specs.Table.{State}
+pub use Rattle.atomic_table.specs.Seated.{TableId, table_id_coded}
+use Rattle.chord_caller.specs.Answers.{new_caller}
+use Rattle.chord_caller.specs.Caller.{Caller, CallerStep, Letter}
+use Rattle.chord_links.specs.NodeLinks.{NodeLinks, alone}
+use Rattle.chord_node.specs.declared.message.Message.{Message}
+use Rattle.chord_node.specs.declared.message.Message.TheVariants.{Full}
+use Rattle.chord_node.specs.Letters.{letter_sent}
+use Rattle.chord_node.specs.Node.{Node, NodeStep, founder, newborn}
+use Rattle.chord_node.specs.World.{World, Reached, WasSent}
+use Rattle.chord_segment.specs.declared.done.Done.{Done}
+use Rattle.chord_table.specs.Actors.{IsThere, AreOne, Event, node_numbers, caller_numbers}
+use Rattle.chord_table.specs.Seen.{Actor, OfNode, OfCaller, View, Admitted, Shown, Sent, Spent}
+
+-- which table it is, and how many of its words are for nodes and for callers
+pub record Name : Type 0 where
+  pub table : TableId
+  pub slots : ℕ
+  pub callers : ℕ
+
+-- the name of no table
+abbrev pub no_name : Name
+no_name = record { table = record { words = 0; slots = 0; views_name = 0; atom = 0; block = 0; offset = 0; slot_names = [] }; slots = 0; callers = 0 }
+
+-- what a view says is true of this world
+abbrev pub IsTrueOf : World → View → Type 0
+IsTrueOf world (Admitted nodes callers) = (node_numbers world ≡ nodes) × (caller_numbers world ≡ callers)
+IsTrueOf world (Shown actor messages) = IsThere world actor × All (Contains world.sent) messages
+IsTrueOf world (Sent message) = Contains world.sent message
+IsTrueOf world Spent = Unit {0}
+
+-- both are the registrar's, or both are views of one actor
+abbrev pub HaveOneOwner : View → View → Type 0
+HaveOneOwner (Admitted nodes callers) (Admitted others more) = Unit {0}
+HaveOneOwner (Shown actor messages) (Shown other more) = AreOne actor other
+HaveOneOwner _ _ = ⊥
+
+-- the views of all seats are true of this world, and no actor has two seats
+pub record Shows (world : World) (views : List View) : Type 0 where
+  pub agrees : (seat : ℕ) (view : View) → get_elem? views seat ≡ some view → IsTrueOf world view
+  pub apart : (seat other : ℕ) (view more : View) → get_elem? views seat ≡ some view → get_elem? views other ≡ some more → HaveOneOwner view more → seat ≡ other
+
+-- the rule of the table: its seats show a world that some list of steps leads to
+abbrev pub IsKept : State ℕ View → Type 0
+IsKept state = (world : World) × Reached world × Shows world state.views
+
+-- what the view says is true of some world that some list of steps leads to
+abbrev pub IsTrueOfSome : View → Type 0
+IsTrueOfSome view = (world : World) × Reached world × IsTrueOf world view
+
+-- the view with this actor in the place of its older state
+abbrev pub changed : Actor → View → View
+changed new (Shown actor messages) = Shown new messages
+changed new view = view
+
+-- the registrar's view with one number more
+abbrev pub admitting : Actor → View → View
+admitting (OfNode node) (Admitted nodes callers) = Admitted (nodes ++ node.number ∷ []) callers
+admitting (OfCaller caller) (Admitted nodes callers) = Admitted nodes (callers ++ caller.number ∷ [])
+admitting actor view = view
+
+-- the view with one message more
+abbrev pub told : View → View → View
+told (Shown actor messages) (Sent message) = Shown actor (messages ++ message ∷ [])
+told view other = view
+
+-- what an actor's seat shows
+pub record Sight : Type 0 where
+  pub actor : Actor
+  pub messages : List Message
+
+abbrev pub view_of : Sight → View
+view_of sight = Shown sight.actor sight.messages
+
+abbrev pub no_node : Node
+no_node = newborn (alone (record { no = 0; id = record { number = 0 } }) 2) 0
+
+abbrev pub no_caller : Caller
+no_caller = new_caller 0 1
+
+abbrev pub no_message : Message
+no_message = Full 0 0
+
+abbrev pub sight_of : View → Sight
+sight_of (Shown actor messages) = record { actor = actor; messages = messages }
+sight_of _ = record { actor = OfNode no_node; messages = [] }
+
+-- what the registrar's seat shows
+pub record Register : Type 0 where
+  pub nodes : List ℕ
+  pub callers : List ℕ
+
+abbrev pub register_of : View → Register
+register_of (Admitted nodes callers) = record { nodes = nodes; callers = callers }
+register_of _ = record { nodes = []; callers = [] }
+
+abbrev pub view_of_register : Register → View
+view_of_register register = Admitted register.nodes register.callers
+
+-- the register with one number more
+abbrev pub with_number : Actor → Register → Register
+with_number (OfNode node) register = record register { nodes = register.nodes ++ node.number ∷ [] }
+with_number (OfCaller caller) register = record register { callers = register.callers ++ caller.number ∷ [] }
+
+-- what a node's seat shows
+pub record NodeSight : Type 0 where
+  pub node : Node
+  pub messages : List Message
+
+-- what a caller's seat shows
+pub record CallerSight : Type 0 where
+  pub caller : Caller
+  pub messages : List Message
+
+abbrev pub node_in : Actor → Node
+node_in (OfNode node) = node
+node_in (OfCaller caller) = no_node
+
+abbrev pub caller_in : Actor → Caller
+caller_in (OfNode node) = no_caller
+caller_in (OfCaller caller) = caller
+
+-- with one of these messages taken in, or none, an event leads to the new state and sends that message, if any
+abbrev pub MayBecome : Actor → List Message → Actor → Option Message → Type 0
+MayBecome old messages new sent = (taken : Option Message) × (done : Option Done) × WasSent messages taken × Event old taken new sent done
+
+-- the same of a node
+abbrev pub MayAct : Node → List Message → Node → Option Message → Type 0
+MayAct old messages new sent = (taken : Option Message) × (done : Option Done) × WasSent messages taken × NodeStep old taken new sent done
+
+-- the same of a caller, which sends that letter, if any
+abbrev pub MayCall : Caller → List Message → Caller → Option Letter → Type 0
+MayCall old messages new sent = (taken : Option Letter) × WasSent messages (letter_sent taken) × CallerStep old taken new sent
+
+-- a first node, which holds the whole circle
+abbrev pub IsFounder : Node → Type 0
+IsFounder node = (links : NodeLinks) × (limit : ℕ) × (links.me.id.number < 2 ^ 128) × (node ≡ founder links limit)
+
+-- a node that holds nothing yet
+abbrev pub IsNewborn : Node → Type 0
+IsNewborn node = (links : NodeLinks) × (limit : ℕ) × (links.me.id.number < 2 ^ 128) × (node ≡ newborn links limit)
+
+-- it may be admitted beside the nodes of these numbers
+abbrev pub MayFound : List ℕ → Node → Type 0
+MayFound nodes node = ((nodes ≡ []) × IsFounder node) ⊎ ((nodes ≢ []) × (¬ Contains nodes node.number) × IsNewborn node)
+
+-- it may be admitted beside the callers of these numbers
+abbrev pub MayOpen : List ℕ → Caller → Type 0
+MayOpen callers caller = (¬ Contains callers caller.number) × ((window : ℕ) × (1 ≤ window) × (window ≤ 16) × (caller ≡ new_caller caller.number window))
+
+abbrev pub MayEnter : Register → Actor → Type 0
+MayEnter register (OfNode node) = MayFound register.nodes node
+MayEnter register (OfCaller caller) = MayOpen register.callers caller

@@ -1,0 +1,96 @@
+//! The seat of any actor.
+ghost use Rattle.std.specs.Prelude.{◌≡◌, ◌++◌, [], ◌∷◌, Option, Some};
+ghost use Rattle.chord_node.specs.declared.message.Message.{Message as Content};
+ghost use Rattle.chord_table.specs.Shown.{IsShown};
+ghost use Rattle.chord_table.specs.Views.{MayBecome};
+
+use crate::event::Event;
+use crate::moves::{Local, Look, Post, Receive};
+use crate::naming::Naming;
+use crate::parcel::Parcel;
+use crate::shared::Shared;
+use crate::view::View;
+use atomic_table::Seat;
+use chord_node::Message;
+use std::marker::{Model, PhantomData};
+
+/// An actor's seat, with the place of its word. Contracts see the actor, and messages that were sent.
+#[derive(Drop)]
+pub(crate) struct ActorSeat<J: Naming> {
+    pub(crate) seat: Seat<u8, View>,
+    pub(crate) word: usize,
+    pub(crate) of: PhantomData<J>,
+}
+
+impl<J: Naming> Model for ActorSeat<J> {
+    ghost use Rattle.std.specs.Prelude.{◌≡◌, ◌<◌, []};
+    ghost use Rattle.chord_table.specs.Views.{Sight, sight_of, view_of};
+
+    ghost Value = { Sight };
+
+    ghost view = { λ a. sight_of a.seat.me.0 };
+
+    ghost invariant = { λ a. (a.seat.table_id ≡ J.name.table) × (a.seat.me ≡ (view_of (sight_of a.seat.me.0), [])) × (a.word < J.name.table.words) };
+}
+
+impl<J: Naming> ActorSeat<J> {
+    /// The actor becomes the picked one, and a message that it sends is lost. The reference is there for the pick to
+    /// name it.
+    pub(crate) fn local<E: Event, A>(&mut self, table: &Shared<J>, after: &A)
+        requires event { (sent : Option Content) × MayBecome self.old.actor self.old.messages E.actor sent }
+        ensures { self.new ≡ record self.old { actor = E.actor } }
+    {
+        let _ = after;
+        let word = self.word;
+        table
+            .table
+            .shared
+            .fetch_add::<Local<E>>(&mut self.seat, word, 1);
+    }
+
+    /// The actor becomes the picked one, and the message goes out.
+    pub(crate) fn send<E: Event, A>(
+        &mut self,
+        table: &Shared<J>,
+        after: &A,
+        message: Message,
+    ) -> Parcel<J>
+        requires picked { E.message ≡ message }
+        requires event { MayBecome self.old.actor self.old.messages E.actor (Some message) }
+        ensures seat { self.new ≡ record self.old { actor = E.actor } }
+        ensures parcel { result ≡ message }
+    {
+        let _ = after;
+        let seat = table.table.shared.split_seat::<Post<E>>(&mut self.seat);
+        Parcel {
+            message,
+            seat,
+            of: PhantomData,
+        }
+    }
+
+    /// A message comes to the actor.
+    pub(crate) fn receive(&mut self, table: &Shared<J>, parcel: Parcel<J>) -> Message
+        ensures message { result ≡ parcel }
+        ensures seat { self.new ≡ record self.old { messages = self.old.messages ++ parcel ∷ [] } }
+    {
+        let Parcel {
+            message,
+            seat,
+            of: _,
+        } = parcel;
+        table
+            .table
+            .shared
+            .join_seat::<Receive>(&mut self.seat, seat);
+        message
+    }
+
+    /// What the seat shows is true of a world that some steps lead to.
+    pub(crate) fn look(&mut self, table: &Shared<J>)
+        ensures same { self.new ≡ self.old }
+        ensures shown { IsShown self.old }
+    {
+        table.table.shared.load::<Look>(&mut self.seat, 0);
+    }
+}

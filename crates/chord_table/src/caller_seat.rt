@@ -1,0 +1,69 @@
+//! The seats of callers.
+ghost use Rattle.std.specs.Prelude.{◌≡◌, ◌++◌, [], ◌∷◌, Option, Some};
+ghost use Rattle.chord_caller.specs.Caller.{Letter};
+ghost use Rattle.chord_node.specs.Letters.{message_of};
+ghost use Rattle.chord_table.specs.Shown.{CallerShown};
+ghost use Rattle.chord_table.specs.Views.{MayCall};
+
+use crate::actor_seat::ActorSeat;
+use crate::naming::Naming;
+use crate::parcel::Parcel;
+use crate::shared::Shared;
+use chord_caller::CallerCore;
+use chord_node::{Message, laws};
+use std::marker::{Brand, Model};
+
+/// A caller's seat. Contracts see the caller, and the messages that came to it.
+#[derive(Drop)]
+pub struct CallerSeat<J: Naming> {
+    pub(crate) seat: ActorSeat<J>,
+}
+
+impl<J: Naming> Model for CallerSeat<J> {
+    ghost use Rattle.std.specs.Prelude.{◌≡◌};
+    ghost use Rattle.chord_table.specs.Seen.{OfCaller};
+    ghost use Rattle.chord_table.specs.Views.{CallerSight, caller_in};
+
+    ghost Value = { CallerSight };
+
+    ghost view = { λ a. record { caller = caller_in a.seat.actor; messages = a.seat.messages } };
+
+    ghost invariant = { λ a. a.seat.actor ≡ OfCaller (caller_in a.seat.actor) };
+}
+
+impl<J: Naming> CallerSeat<J> {
+    /// The caller did an event that sends nothing, or whose message is lost.
+    pub fn local(&mut self, table: &Shared<J>, after: &CallerCore)
+        requires event { (sent : Option Letter) × MayCall self.old.caller self.old.messages after.now sent }
+        ensures { self.new ≡ record self.old { caller = after.now } }
+    {
+        self.seat.local::<Brand, CallerCore>(table, after);
+    }
+
+    /// The caller did an event, and its message goes out.
+    pub fn send(&mut self, table: &Shared<J>, after: &CallerCore, message: Message) -> Parcel<J>
+        requires event { (sent : Letter) × (message ≡ message_of sent) × MayCall self.old.caller self.old.messages after.now (Some sent) }
+        ensures seat { self.new ≡ record self.old { caller = after.now } }
+        ensures parcel { result ≡ message }
+    {
+        self.seat.send::<Brand, CallerCore>(table, after, message)
+    }
+
+    /// A message comes to the caller.
+    pub fn receive(&mut self, table: &Shared<J>, parcel: Parcel<J>) -> Message
+        ensures message { result ≡ parcel }
+        ensures seat { self.new ≡ record self.old { messages = self.old.messages ++ parcel ∷ [] } }
+    {
+        self.seat.receive(table, parcel)
+    }
+
+    /// All that the caller took stands in one legal history, each call once, in the order that callers had seen.
+    pub fn look(&mut self, table: &Shared<J>)
+        ensures same { self.new ≡ self.old }
+        ensures shown { CallerShown self.old }
+    {
+        laws::one_history();
+        laws::one_holder();
+        self.seat.look(table);
+    }
+}

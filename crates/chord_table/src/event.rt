@@ -1,0 +1,22 @@
+//! What a step of the table is about.
+
+use std::marker::Brand;
+
+/// The actor after an event, and the message that goes out. Each call with `Brand` picks them.
+pub trait Event {
+    ghost use Rattle.chord_node.specs.declared.message.Message.{Message};
+    ghost use Rattle.chord_table.specs.Seen.{Actor};
+
+    ghost actor: { Actor };
+
+    ghost message: { Message };
+}
+
+impl Event for Brand {
+    ghost use Rattle.chord_table.specs.Seen.{OfNode};
+    ghost use Rattle.chord_table.specs.Views.{no_message, no_node};
+
+    ghost actor = { OfNode no_node };
+
+    ghost message = { no_message };
+}

@@ -1,0 +1,36 @@
+//! What running threads know of one world of nodes and callers.
+//!
+//! One table is shared by all threads. Each node and each caller has a seat of it ([`NodeSeat`], [`CallerSeat`]), and
+//! each message under way is a [`Parcel`] with a seat of its own. What a seat shows is data that only proofs see: the
+//! actor's state, and messages that were sent. The rule of the table is that at every moment its seats show a world
+//! that some list of steps leads to, so the theorem over worlds holds of what threads see.
+//!
+//! A [`Registrar`] admits nodes and callers. A node that answered a call says so to its seat, which gives the reply as
+//! a parcel: `let parcel = seat.send(&table, &node, Message::Told(told));`. The caller's seat takes it in with
+//! `seat.receive(&table, parcel)`. A step that is no event of the core from the state that the seat shows is refused
+//! by the prover.
+#![tactic(auto)]
+
+mod actor_seat;
+mod blank_table;
+mod caller_seat;
+mod event;
+mod law;
+mod moves;
+mod naming;
+mod node_seat;
+mod parcel;
+mod registrar;
+mod shared;
+mod view;
+
+pub use blank_table::BlankTable;
+pub use caller_seat::CallerSeat;
+pub use naming::Naming;
+pub use node_seat::NodeSeat;
+pub use parcel::Parcel;
+pub use registrar::Registrar;
+pub use shared::Shared;
+
+#[cfg(test)]
+mod tests;

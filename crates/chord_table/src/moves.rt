@@ -1,0 +1,69 @@
+//! The kinds of step of the table. These types are for proofs alone: no value of them is made.
+
+use crate::event::Event;
+use crate::view::View;
+use atomic_table::{Join, Play, Split};
+use std::marker::PhantomData;
+
+/// An event whose message, if any, is lost.
+pub struct Local<E> {
+    of: PhantomData<E>,
+}
+
+impl<E: Event> Play<u8, View> for Local<E> {
+    ghost use Rattle.std.specs.Prelude.{◌≡◌};
+    ghost use Rattle.chord_table.specs.Views.{changed};
+
+    ghost then = { λ step me found new. new ≡ (changed E.actor me.0, me.1) };
+}
+
+/// A look, which tells that what the seat shows is true of a world.
+pub struct Look;
+
+impl Play<u8, View> for Look {
+    ghost use Rattle.std.specs.Prelude.{◌≡◌};
+    ghost use Rattle.chord_table.specs.Views.{IsTrueOfSome};
+
+    ghost then = { λ step me found new. (new ≡ me) × IsTrueOfSome me.0 };
+}
+
+/// An event whose message goes out with a seat of its own.
+pub struct Post<E> {
+    of: PhantomData<E>,
+}
+
+impl<E: Event> Split<View> for Post<E> {
+    ghost use Rattle.chord_table.specs.Seen.{Sent};
+    ghost use Rattle.chord_table.specs.Views.{changed};
+
+    ghost left = { changed E.actor };
+
+    ghost right = { λ v. Sent E.message };
+}
+
+/// A new actor, with a seat of its own.
+pub struct Admit<E> {
+    of: PhantomData<E>,
+}
+
+impl<E: Event> Split<View> for Admit<E> {
+    ghost use Rattle.std.specs.Prelude.{[]};
+    ghost use Rattle.chord_table.specs.Seen.{Shown};
+    ghost use Rattle.chord_table.specs.Views.{admitting};
+
+    ghost left = { admitting E.actor };
+
+    ghost right = { λ v. Shown E.actor [] };
+}
+
+/// A message that was sent comes to an actor.
+pub struct Receive;
+
+impl Join<View> for Receive {
+    ghost use Rattle.chord_table.specs.Seen.{Spent};
+    ghost use Rattle.chord_table.specs.Views.{told};
+
+    ghost both = { told };
+
+    ghost spent = { Spent };
+}

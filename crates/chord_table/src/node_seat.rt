@@ -1,0 +1,73 @@
+//! The seats of nodes.
+ghost use Rattle.std.specs.Prelude.{◌≡◌, ◌++◌, [], ◌∷◌, Option, Some};
+ghost use Rattle.chord_node.specs.declared.message.Message.{Message as Content};
+ghost use Rattle.chord_table.specs.Shown.{NodeShown};
+ghost use Rattle.chord_table.specs.Views.{MayAct};
+
+use crate::actor_seat::ActorSeat;
+use crate::naming::Naming;
+use crate::parcel::Parcel;
+use crate::shared::Shared;
+use chord_node::{Message, Node, laws};
+use chord_store::EntryStore;
+use std::marker::{Brand, Model};
+
+/// A node's seat. Contracts see the node, and the messages that came to it.
+#[derive(Drop)]
+pub struct NodeSeat<J: Naming> {
+    pub(crate) seat: ActorSeat<J>,
+}
+
+impl<J: Naming> Model for NodeSeat<J> {
+    ghost use Rattle.std.specs.Prelude.{◌≡◌};
+    ghost use Rattle.chord_table.specs.Seen.{OfNode};
+    ghost use Rattle.chord_table.specs.Views.{NodeSight, node_in};
+
+    ghost Value = { NodeSight };
+
+    ghost view = { λ a. record { node = node_in a.seat.actor; messages = a.seat.messages } };
+
+    ghost invariant = { λ a. a.seat.actor ≡ OfNode (node_in a.seat.actor) };
+}
+
+impl<J: Naming> NodeSeat<J> {
+    /// The node did an event that sends nothing, or whose message is lost.
+    pub fn local<S: EntryStore>(&mut self, table: &Shared<J>, after: &Node<S>)
+        requires event { (sent : Option Content) × MayAct self.old.node self.old.messages after.now sent }
+        ensures { self.new ≡ record self.old { node = after.now } }
+    {
+        self.seat.local::<Brand, Node<S>>(table, after);
+    }
+
+    /// The node did an event, and its message goes out.
+    pub fn send<S: EntryStore>(
+        &mut self,
+        table: &Shared<J>,
+        after: &Node<S>,
+        message: Message,
+    ) -> Parcel<J>
+        requires event { MayAct self.old.node self.old.messages after.now (Some message) }
+        ensures seat { self.new ≡ record self.old { node = after.now } }
+        ensures parcel { result ≡ message }
+    {
+        self.seat.send::<Brand, Node<S>>(table, after, message)
+    }
+
+    /// A message comes to the node.
+    pub fn receive(&mut self, table: &Shared<J>, parcel: Parcel<J>) -> Message
+        ensures message { result ≡ parcel }
+        ensures seat { self.new ≡ record self.old { messages = self.old.messages ++ parcel ∷ [] } }
+    {
+        self.seat.receive(table, parcel)
+    }
+
+    /// What the seat shows is true of a world that some steps lead to, and so the theorem holds there.
+    pub fn look(&mut self, table: &Shared<J>)
+        ensures same { self.new ≡ self.old }
+        ensures shown { NodeShown self.old }
+    {
+        laws::one_history();
+        laws::one_holder();
+        self.seat.look(table);
+    }
+}

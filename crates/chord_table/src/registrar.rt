@@ -1,0 +1,105 @@
+//! Who is admitted.
+ghost use Rattle.std.specs.Prelude.{◌≡◌, ◌<◌, ◌++◌, [], ◌∷◌, IfOk};
+ghost use Rattle.chord_table.specs.Views.{MayEnter, MayFound, MayOpen, with_number};
+
+use crate::actor_seat::ActorSeat;
+use crate::blank_table::BlankTable;
+use crate::caller_seat::CallerSeat;
+use crate::event::Event;
+use crate::moves::Admit;
+use crate::naming::Naming;
+use crate::node_seat::NodeSeat;
+use crate::shared::Shared;
+use crate::view::View;
+use atomic_table::{Seat, Table};
+use chord_caller::CallerCore;
+use chord_node::Node;
+use chord_store::EntryStore;
+use std::alloc::{AllocError, Global};
+use std::marker::{Brand, Model, PhantomData};
+
+/// Admits actors. Contracts see the numbers of those that it admitted.
+#[derive(Drop)]
+pub struct Registrar<J: Naming> {
+    pub(crate) seat: Seat<u8, View>,
+    pub(crate) of: PhantomData<J>,
+}
+
+impl<J: Naming> Model for Registrar<J> {
+    ghost use Rattle.std.specs.Prelude.{◌≡◌, []};
+    ghost use Rattle.chord_table.specs.Seen.{Admitted};
+    ghost use Rattle.chord_table.specs.Views.{Register, register_of};
+
+    ghost Value = { Register };
+
+    ghost view = { λ r. register_of r.seat.me.0 };
+
+    ghost invariant = { λ r. (r.seat.table_id ≡ J.name.table) × (r.seat.me ≡ (Admitted (register_of r.seat.me.0).nodes (register_of r.seat.me.0).callers, [])) };
+}
+
+impl Registrar<Brand> {
+    /// A table with a word for each node and each caller. Too many of them count as out of memory.
+    pub fn open(alloc: Global, slots: usize, callers: usize) -> Result<BlankTable, AllocError>
+        ensures { IfOk result (λ blank. (blank.slots ≡ slots) × (blank.callers ≡ callers)) }
+    {
+        let Some(count) = slots.checked_add(callers) else {
+            return Err(AllocError);
+        };
+        let words = vec![in alloc; 0u64; count]?;
+        let (table, seat) = Table::of_words(alloc, words.as_slice(), &())?;
+        Ok(BlankTable {
+            table,
+            seat,
+            slots,
+            callers,
+        })
+    }
+}
+
+impl<J: Naming> Registrar<J> {
+    /// A new node enters, and its seat shows it.
+    pub fn admit_node<S: EntryStore>(
+        &mut self,
+        table: &Shared<J>,
+        no: u64,
+        node: &Node<S>,
+    ) -> NodeSeat<J>
+        requires own { no ≡ node.now.number }
+        requires slot { no < J.name.slots }
+        requires may { MayFound self.old.nodes node.now }
+        ensures admitted { self.new ≡ record self.old { nodes = self.old.nodes ++ no ∷ [] } }
+        ensures seat { result ≡ record { node = node.now; messages = [] } }
+    {
+        let seat = self.admit::<Brand, Node<S>>(table, no as usize, node);
+        NodeSeat { seat }
+    }
+
+    /// A new caller enters, and its seat shows it.
+    pub fn admit_caller(&mut self, table: &Shared<J>, no: u64, core: &CallerCore) -> CallerSeat<J>
+        requires own { no ≡ core.now.number }
+        requires place { no < J.name.callers }
+        requires may { MayOpen self.old.callers core.now }
+        ensures admitted { self.new ≡ record self.old { callers = self.old.callers ++ no ∷ [] } }
+        ensures seat { result ≡ record { caller = core.now; messages = [] } }
+    {
+        let word = table.slots + no as usize;
+        let seat = self.admit::<Brand, CallerCore>(table, word, core);
+        CallerSeat { seat }
+    }
+
+    /// The picked actor enters. The reference is there for the pick to name it.
+    fn admit<E: Event, A>(&mut self, table: &Shared<J>, word: usize, actor: &A) -> ActorSeat<J>
+        requires word { word < J.name.table.words }
+        requires may { MayEnter self.old E.actor }
+        ensures admitted { self.new ≡ with_number E.actor self.old }
+        ensures seat { result ≡ record { actor = E.actor; messages = [] } }
+    {
+        let _ = actor;
+        let seat = table.table.shared.split_seat::<Admit<E>>(&mut self.seat);
+        ActorSeat {
+            seat,
+            word,
+            of: PhantomData,
+        }
+    }
+}
