@@ -1,5 +1,5 @@
 -- Each move of the table keeps its rule.
-use Rattle.std.proofs.Common.{◌≡◌, ◌≢◌, ℕ, ◌<◌, arith, List, [], ◌∷◌, ◌++◌, set, zero, suc, Option, Some, refl, sym, subst, ⊎_elim, Contains}
+use Rattle.std.proofs.Common.{◌≡◌, ◌≢◌, ℕ, ◌<◌, arith, List, [], ◌∷◌, ◌++◌, set, zero, suc, Option, Some, refl, sym, ap, ◌∙◌, subst, ⊎_elim, Contains}
 use Rattle.std.proofs.lemmas.List.Elements.{All-push, All-nil, Contains-push}
 use mathlib.Core.Option.{some, some-ne-none, some-injective}
 use lib.ListN.{get_elem?}
@@ -13,11 +13,19 @@ use Rattle.chord_table.proofs.Showing.{IsHeir, shows_changed, shows_added}
 use Rattle.chord_table.proofs.Worlds.{IsNew, new_apart, there_entered, may_enter}
 use Rattle.chord_table.specs.Actors.{IsThere, AreOne, after, entered}
 use Rattle.chord_table.specs.Seen.{Actor, OfNode, OfCaller, View, Admitted, Shown, Sent, Spent}
-use Rattle.chord_table.specs.Views.{IsTrueOf, HaveOneOwner, Shows, IsKept, IsTrueOfSome, Sight, view_of, Register, changed, admitting, told, MayBecome, MayEnter}
+use Rattle.chord_table.specs.Views.{Name, word_of, sight_of, IsTrueOf, HaveOneOwner, Shows, IsKept, IsTrueOfSome, Sight, view_of, Register, changed, admitting, told, MayBecome, MayEnter}
 
 -- where there is a word, the table has some
 pub some_words : {word words : ℕ} → word < words → 0 < words
 some_words at = omega arith
+
+-- after an event the seat shows the actor's new state, and it is still the actor's own seat
+pub still_seated : (name : Name) (word : ℕ) (old next : Me ℕ View) (s : Sight) (new : Actor) → old ≡ (view_of s, []) → next ≡ (changed new old.0, old.1)
+    → word ≡ word_of name s.actor → word_of name s.actor ≡ word_of name new
+    → (next ≡ (view_of (sight_of next.0), [])) × (word ≡ word_of name (sight_of next.0).actor)
+still_seated name word old next s new is becomes at same =
+    let shown : next ≡ (Shown new s.messages, []) = becomes ∙ ap (λ (m : Me ℕ View). (changed new m.0, m.1)) is in
+    subst (λ (m : Me ℕ View). (m ≡ (view_of (sight_of m.0), [])) × (word ≡ word_of name (sight_of m.0).actor)) (sym shown) (refl, at ∙ same)
 
 -- the registrar's seat alone shows the empty world
 pub begins : (words : List ℕ) → IsKept (opening words [] (Admitted [] []))

@@ -1,4 +1,3 @@
-pub mod Looking
 pub mod Numbers
 pub mod Worlds
 pub mod Showing

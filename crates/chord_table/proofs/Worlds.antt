@@ -4,12 +4,13 @@ use Rattle.std.proofs.lemmas.List.Elements.{Contains-append_left}
 use Rattle.std.proofs.lemmas.Option.{none-some}
 use Rattle.chord_caller.specs.Caller.{Caller}
 use Rattle.chord_map.proofs.Finding.{find_push_miss, find_push_hit}
+use Rattle.chord_node.proofs.CallerLemmas.{put_same, put_apart, caller_left}
+use Rattle.chord_node.proofs.Nodes.{node_at-put_same, node_at-put_other, node_at_push_other, node_at_push_same}
 use Rattle.chord_node.specs.declared.message.Message.{Message}
 use Rattle.chord_node.specs.Node.{Node, founder}
 use Rattle.chord_node.specs.World.{World, WorldStep, WasSent, node_at, caller_at}
 use Rattle.chord_segment.proofs.MarkLemmas.{eqb_same, eqb_other}
 use Rattle.chord_segment.specs.declared.done.Done.{Done}
-use Rattle.chord_table.proofs.Looking.{node_same, node_apart, caller_same, caller_apart}
 use Rattle.chord_table.proofs.Numbers.{absent, node_put, caller_put}
 use Rattle.chord_table.specs.Actors.{IsThere, AreOne, Event, after, entered, node_numbers, caller_numbers}
 use Rattle.chord_table.specs.Seen.{Actor, OfNode, OfCaller}
@@ -28,16 +29,16 @@ event_steps world _ _ _ _ _ there was (Event.Calls {old = old} {new = new} {take
 -- the actor is there afterwards, in its new state
 pub there_after : (world : World) (old new : Actor) (sent : Option Message) (call : Option Done) → AreOne old new → IsThere world old → IsThere (after world new sent call) new
 there_after world (OfNode old) (OfNode new) sent call same there =
-    node_same new old world.nodes (subst (λ n. node_at n world.nodes ≡ Some old) same there)
+    node_at-put_same new old world.nodes (subst (λ n. node_at n world.nodes ≡ Some old) same there)
 there_after world (OfCaller old) (OfCaller new) sent call same there =
-    caller_same new old world.callers (subst (λ n. caller_at n world.callers ≡ Some old) same there)
+    put_same new world.callers old (subst (λ n. caller_at n world.callers ≡ Some old) same there)
 there_after world (OfNode old) (OfCaller new) sent call same there = absurd same
 there_after world (OfCaller old) (OfNode new) sent call same there = absurd same
 
 -- and so is any other, as before
 pub others_after : (world : World) (new other : Actor) (sent : Option Message) (call : Option Done) → (AreOne other new → ⊥) → IsThere world other → IsThere (after world new sent call) other
-others_after world (OfNode new) (OfNode other) sent call apart there = node_apart other.number new world.nodes apart ∙ there
-others_after world (OfCaller new) (OfCaller other) sent call apart there = caller_apart other.number new world.callers apart ∙ there
+others_after world (OfNode new) (OfNode other) sent call apart there = node_at-put_other other.number new world.nodes apart ∙ there
+others_after world (OfCaller new) (OfCaller other) sent call apart there = put_apart new world.callers other.number apart ∙ there
 others_after world (OfNode new) (OfCaller other) sent call apart there = there
 others_after world (OfCaller new) (OfNode other) sent call apart there = there
 
@@ -71,15 +72,14 @@ new_apart world (OfCaller new) (OfNode other) none there same = same
 
 pub there_entered : (world : World) (new : Actor) → IsNew world new → IsThere (entered world new) new
 unfolding node_at caller_at
-there_entered world (OfNode new) none = find_push_hit (λ (n : Node). eqb n.number new.number) world.nodes new (eqb_same new.number new.number refl) none
+there_entered world (OfNode new) none = node_at_push_same new.number world.nodes new refl none
 there_entered world (OfCaller new) none = find_push_hit (λ (c : Caller). eqb c.number new.number) world.callers new (eqb_same new.number new.number refl) none
 
 pub others_entered : (world : World) (new other : Actor) → IsNew world new → IsThere world other → IsThere (entered world new) other
 unfolding node_at caller_at
 others_entered world (OfNode new) (OfNode other) none there =
-    find_push_miss (λ (n : Node). eqb n.number other.number) world.nodes new (eqb_other new.number other.number (λ same. new_apart world (OfNode new) (OfNode other) none there (sym same))) ∙ there
-others_entered world (OfCaller new) (OfCaller other) none there =
-    find_push_miss (λ (c : Caller). eqb c.number other.number) world.callers new (eqb_other new.number other.number (λ same. new_apart world (OfCaller new) (OfCaller other) none there (sym same))) ∙ there
+    node_at_push_other other.number world.nodes new (λ same. new_apart world (OfNode new) (OfNode other) none there (sym same)) ∙ there
+others_entered world (OfCaller new) (OfCaller other) none there = caller_left other.number world.callers (new ∷ []) other there
 others_entered world (OfNode new) (OfCaller other) none there = there
 others_entered world (OfCaller new) (OfNode other) none there = there
 

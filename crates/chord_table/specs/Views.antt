@@ -1,5 +1,5 @@
 -- What the seats of one table show of the world.
-use Rattle.std.specs.Prelude.{◌≡◌, ◌≢◌, ℕ, ◌^◌, ◌<◌, ◌≤◌, ◌⊎◌, Option, List, [], ◌∷◌, ◌++◌, All, Contains}
+use Rattle.std.specs.Prelude.{◌≡◌, ◌≢◌, ℕ, ◌+◌, ◌^◌, ◌<◌, ◌≤◌, ◌⊎◌, Option, List, [], ◌∷◌, ◌++◌, All, Contains}
 use mathlib.Core.Option.{some}
 use lib.ListN.{get_elem?}
 use Rattle.atomic_table.specs.Table.{State}
@@ -25,6 +25,11 @@ pub record Name : Type 0 where
 -- the name of no table
 abbrev pub no_name : Name
 no_name = record { table = record { words = 0; slots = 0; views_name = 0; atom = 0; block = 0; offset = 0; slot_names = [] }; slots = 0; callers = 0 }
+
+-- the place of an actor's word: those of the nodes come first
+abbrev pub word_of : Name → Actor → ℕ
+word_of name (OfNode node) = node.number
+word_of name (OfCaller caller) = name.slots + caller.number
 
 -- what a view says is true of this world
 abbrev pub IsTrueOf : World → View → Type 0

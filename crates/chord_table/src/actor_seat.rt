@@ -24,13 +24,13 @@ pub(crate) struct ActorSeat<J: Naming> {
 
 impl<J: Naming> Model for ActorSeat<J> {
     ghost use Rattle.std.specs.Prelude.{◌≡◌, ◌<◌, []};
-    ghost use Rattle.chord_table.specs.Views.{Sight, sight_of, view_of};
+    ghost use Rattle.chord_table.specs.Views.{Sight, sight_of, view_of, word_of};
 
     ghost Value = { Sight };
 
     ghost view = { λ a. sight_of a.seat.me.0 };
 
-    ghost invariant = { λ a. (a.seat.table_id ≡ J.name.table) × (a.seat.me ≡ (view_of (sight_of a.seat.me.0), [])) × (a.word < J.name.table.words) };
+    ghost invariant = { λ a. (a.seat.table_id ≡ J.name.table) × (a.seat.me ≡ (view_of (sight_of a.seat.me.0), [])) × (a.word ≡ word_of J.name (sight_of a.seat.me.0).actor) × (a.word < J.name.table.words) };
 }
 
 impl<J: Naming> ActorSeat<J> {

@@ -1,6 +1,6 @@
 //! Who is admitted.
 ghost use Rattle.std.specs.Prelude.{◌≡◌, ◌<◌, ◌++◌, [], ◌∷◌, IfOk};
-ghost use Rattle.chord_table.specs.Views.{MayEnter, MayFound, MayOpen, with_number};
+ghost use Rattle.chord_table.specs.Views.{MayEnter, MayFound, MayOpen, with_number, word_of};
 
 use crate::actor_seat::ActorSeat;
 use crate::blank_table::BlankTable;
@@ -89,6 +89,7 @@ impl<J: Naming> Registrar<J> {
 
     /// The picked actor enters. The reference is there for the pick to name it.
     fn admit<E: Event, A>(&mut self, table: &Shared<J>, word: usize, actor: &A) -> ActorSeat<J>
+        requires own { word ≡ word_of J.name E.actor }
         requires word { word < J.name.table.words }
         requires may { MayEnter self.old E.actor }
         ensures admitted { self.new ≡ with_number E.actor self.old }

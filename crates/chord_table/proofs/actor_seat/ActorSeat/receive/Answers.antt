@@ -11,6 +11,6 @@ join_seat-requires g c =
       i.0 ∙ sym named,
       p.0 ∙ sym named,
       ap (λ m. m.1) p.1,
-      subst (λ (t : TableId). 0 < t.words) (sym named) (some_words i.2),
+      subst (λ (t : TableId). 0 < t.words) (sym named) (some_words i.3),
       receive_as _ _ _ _ c.args.self.now c.parcel.inside.message (i.1 ∙ ap (λ s. (view_of s, [])) c.self.view_is) p.1,
     )
