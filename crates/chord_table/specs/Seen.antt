@@ -9,6 +9,7 @@ pub data Actor : Type 0 where
   OfNode : Node → Actor
   OfCaller : Caller → Actor
 
+-- what a seat shows
 pub data View : Type 0 where
   -- the numbers of the nodes and of the callers, in the order admitted
   Admitted : (nodes callers : List ℕ) → View

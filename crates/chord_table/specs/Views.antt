@@ -78,18 +78,23 @@ pub record Sight : Type 0 where
   pub actor : Actor
   pub messages : List Message
 
+-- such a view
 abbrev pub view_of : Sight → View
 view_of sight = Shown sight.actor sight.messages
 
+-- any node, where none is picked
 abbrev pub no_node : Node
 no_node = newborn (alone (record { no = 0; id = record { number = 0 } }) 2) 0
 
+-- any caller, where none is picked
 abbrev pub no_caller : Caller
 no_caller = new_caller 0 1
 
+-- any message, where none is sent
 abbrev pub no_message : Message
 no_message = Full 0 0
 
+-- what the view shows, where it is an actor's
 abbrev pub sight_of : View → Sight
 sight_of (Shown actor messages) = record { actor = actor; messages = messages }
 sight_of _ = record { actor = OfNode no_node; messages = [] }
@@ -99,10 +104,12 @@ pub record Register : Type 0 where
   pub nodes : List ℕ
   pub callers : List ℕ
 
+-- what the view shows, where it is the registrar's
 abbrev pub register_of : View → Register
 register_of (Admitted nodes callers) = record { nodes = nodes; callers = callers }
 register_of _ = record { nodes = []; callers = [] }
 
+-- such a view
 abbrev pub view_of_register : Register → View
 view_of_register register = Admitted register.nodes register.callers
 
@@ -121,10 +128,12 @@ pub record CallerSight : Type 0 where
   pub caller : Caller
   pub messages : List Message
 
+-- the actor as a node
 abbrev pub node_in : Actor → Node
 node_in (OfNode node) = node
 node_in (OfCaller caller) = no_node
 
+-- the actor as a caller
 abbrev pub caller_in : Actor → Caller
 caller_in (OfNode node) = no_caller
 caller_in (OfCaller caller) = caller
@@ -157,6 +166,7 @@ MayFound nodes node = ((nodes ≡ []) × IsFounder node) ⊎ ((nodes ≢ []) × 
 abbrev pub MayOpen : List ℕ → Caller → Type 0
 MayOpen callers caller = (¬ Contains callers caller.number) × ((window : ℕ) × (1 ≤ window) × (window ≤ 16) × (caller ≡ new_caller caller.number window))
 
+-- it may be admitted beside those that the registrar's seat shows
 abbrev pub MayEnter : Register → Actor → Type 0
 MayEnter register (OfNode node) = MayFound register.nodes node
 MayEnter register (OfCaller caller) = MayOpen register.callers caller
