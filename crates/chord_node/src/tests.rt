@@ -1,189 +1,144 @@
-//! A node alone.
+//! One node.
 
-ghost use Rattle.std.specs.Prelude.{◌≤◌};
+ghost use Rattle.std.specs.Prelude.{◌<◌, ◌≤◌, ◌+◌};
 
-use crate::{Answered, Back, Given, Node, Phase};
+mod asks;
+mod growths;
+mod handovers;
+mod leaving;
+mod parts;
+
+use crate::{Back, Given, Node, laws};
 use chord_caller::Ask;
 use chord_handover::{Declined, Got, Part, Ticket};
 use chord_ident::{Id, Span};
-use chord_links::{Links, Peer, SuccList};
-use chord_map::{Bytes, Reply, Request};
+use chord_links::{Links, Peer};
+use chord_map::{Bytes, Request};
+use chord_segment::Segment;
 use chord_store::{CappedStore, EntryStore};
-use std::alloc::Global;
-use std::test::Fail;
+use std::alloc::{AllocError, Global};
 
-const A: u128 = 0x40000000000000000000000000000000;
+pub const A: u128 = 0x40000000000000000000000000000000;
 
-const B: u128 = 0xc0000000000000000000000000000000;
+pub const B: u128 = 0x80000000000000000000000000000000;
 
-fn insert(alloc: Global, number: u64, value: &[u8]) -> Result<Ask, Fail>
-    requires low { 1 ≤ number }
-    requires high { number ≤ 16 }
+pub const C: u128 = 0xc0000000000000000000000000000000;
+
+pub fn span(after: u128, upto: u128) -> Span {
+    Span::new(Id::new(after), Id::new(upto))
+}
+
+pub fn ticket(from: u64, to: u64, number: u64) -> Ticket {
+    Ticket { from, to, number }
+}
+
+/// A call with as many hops as there can be.
+pub fn ask(number: u64, floor: u64, request: Request) -> Ask
+    requires above { floor < number }
+    requires near { number ≤ floor + 16 }
 {
-    Ok(Ask {
+    Ask {
         caller: 0,
         number,
-        floor: 0,
-        request: Request::Insert {
-            key: Bytes::from_slice(alloc, b"abc")?,
-            value: Bytes::from_slice(alloc, value)?,
-        },
+        floor,
+        request,
         hops: 255,
+    }
+}
+
+pub fn insert(alloc: Global, key: &[u8], value: &[u8]) -> Result<Request, AllocError> {
+    Ok(Request::Insert {
+        key: Bytes::from_slice(alloc, key)?,
+        value: Bytes::from_slice(alloc, value)?,
     })
 }
 
-fn is_told(answered: &Answered, number: u64, reply: &Reply) -> bool {
-    match answered {
-        Answered::Told(told) => told.number == number && told.reply == *reply,
-        _ => false,
+/// Node 0, at A, which holds the whole circle.
+pub fn found<S: EntryStore>(alloc: Global, store: S) -> Option<Node<S>> {
+    if store.count() != 0 {
+        return None;
     }
-}
-
-/// A call acts once however often it comes, and a full store refuses what it would add.
-#[test]
-fn a_call_acts_once(rt: HostRuntime) -> Result<(), Fail> {
-    let alloc = rt.alloc();
     let me = Peer {
         no: 0,
-        id: Id::new(0x40000000000000000000000000000000),
+        id: Id::new(A),
     };
-    let Ok(mut node) = Node::found(alloc, me, 3, CappedStore::new(alloc, 1)) else {
-        return Err(Fail::from("no node"));
-    };
-    assert_eq!(rt; node.phase(), Phase::Staying);
-    assert_eq!(rt; node.links().me(), me);
-    let first = node.on_ask(&insert(alloc, 1, b"x")?)?;
-    assert!(rt; is_told(&first, 1, &Reply::Added));
-    let again = node.on_ask(&insert(alloc, 1, b"x")?)?;
-    assert!(rt; is_told(&again, 1, &Reply::Added));
-    let full = node.on_ask(&insert(alloc, 2, b"y")?)?;
-    assert!(rt; matches!(&full, Answered::Full));
-    let (present, done) = node.on_ask_noting(&insert(alloc, 3, b"x")?)?;
-    assert!(rt; is_told(&present, 3, &Reply::Present));
-    assert!(rt; done.is_some());
-    Ok(())
+    Node::found(alloc, me, 3, store).ok()
 }
 
-/// A node that holds nothing passes a call on to the next hop with one hop less, and drops it where its hops are spent.
-#[test]
-fn forwards_and_drops(rt: HostRuntime) -> Result<(), Fail> {
-    let alloc = rt.alloc();
+/// Node 1, at C, which holds nothing.
+pub fn newborn(alloc: Global, limit: u64) -> Node<CappedStore> {
     let me = Peer {
-        no: 0,
-        id: Id::new(0x40000000000000000000000000000000),
-    };
-    let other = Peer {
         no: 1,
-        id: Id::new(0xc0000000000000000000000000000000),
+        id: Id::new(C),
     };
-    let alone = Links::alone(me, 3);
-    let mut node = Node::newborn(alloc, alone, CappedStore::new(alloc, 1));
-    assert_eq!(rt; node.phase(), Phase::Staying);
-    let dropped = node.on_ask(&insert(alloc, 1, b"x")?)?;
-    assert!(rt; matches!(&dropped, Answered::Dropped));
-    let mut links = alone;
-    links.set_list(SuccList::behind_successor(me, 3, other, alone.list()));
-    node.set_links(links);
-    assert_eq!(rt; node.links().first(), other);
-    let forward = node.on_ask(&insert(alloc, 1, b"x")?)?;
-    match &forward {
-        Answered::Forward(to, passed) => {
-            assert_eq!(rt; *to, 1);
-            assert_eq!(rt; passed.number, 1);
-            assert_eq!(rt; passed.hops, 254);
-        }
-        _ => return Err(Fail::from("not passed on")),
+    Node::newborn(alloc, Links::alone(me, 3), CappedStore::new(alloc, limit))
+}
+
+/// Node 0 at A with room for so many pairs, after it gave (A, C], with x under `abc`, to node 1; and the part of it.
+pub fn given_away(alloc: Global, limit: u64) -> Option<(Node<CappedStore>, Part)> {
+    let mut node = found(alloc, CappedStore::new(alloc, limit))?;
+    let request = insert(alloc, b"abc", b"x").ok()?;
+    node.on_ask(&ask(1, 0, request)).ok()?;
+    node.cut_at(0, Id::new(C)).ok()?;
+    let part = node.give(0, 1).ok()?;
+    Some((node, part))
+}
+
+/// The only part of a handover of an empty segment.
+pub fn empty_part(alloc: Global, ticket: Ticket, span: Span) -> Part {
+    first_part(alloc, ticket, span, 1)
+}
+
+/// The first of so many parts, with an empty segment and no pairs.
+pub fn first_part(alloc: Global, ticket: Ticket, span: Span, of: u64) -> Part
+    requires { 1 ≤ of }
+{
+    Part {
+        from: ticket.from,
+        to: ticket.to,
+        number: ticket.number,
+        part: 1,
+        of,
+        segment: Some(Segment::empty(alloc, span)),
+        pairs: Vec::new(alloc),
     }
-    let mut spent = insert(alloc, 1, b"x")?;
-    spent.hops = 0;
-    let dropped = node.on_ask(&spent)?;
-    assert!(rt; matches!(&dropped, Answered::Dropped));
-    Ok(())
 }
 
 /// What the node answers to a part that is for it.
-fn handed<S: EntryStore>(node: &mut Node<S>, part: &Part) -> Result<Option<Given>, Fail> {
+pub fn handed<S: EntryStore>(node: &mut Node<S>, part: &Part) -> Result<Option<Given>, AllocError> {
     if part.to != node.number() {
         return Ok(None);
     }
     Ok(Some(node.on_give(part)?))
 }
 
-/// Whether an item that it gave left the outbox.
-fn freed<S: EntryStore>(node: &mut Node<S>, got: &Got) -> Option<bool> {
+/// Whether an item that the node gave left the outbox.
+pub fn freed<S: EntryStore>(node: &mut Node<S>, got: Got) -> Option<bool> {
     if got.from != node.number() {
         return None;
     }
-    Some(node.on_got(got))
+    Some(node.on_got(&got))
 }
 
-/// What comes of an item that it gave and that was declined.
-fn taken_back<S: EntryStore>(
+/// What comes of an item that the node gave and that was declined.
+pub fn taken_back<S: EntryStore>(
     node: &mut Node<S>,
-    declined: &Declined,
-) -> Result<Option<Back>, Fail> {
+    declined: Declined,
+) -> Result<Option<Back>, AllocError> {
     if declined.from != node.number() {
         return Ok(None);
     }
-    Ok(Some(node.on_declined(declined)?))
-}
-
-/// The first node of a ring, over a store of nine pairs.
-fn first_node(alloc: Global) -> Result<Node<CappedStore>, Fail> {
-    let me = Peer {
-        no: 0,
-        id: Id::new(A),
-    };
-    match Node::found(alloc, me, 3, CappedStore::new(alloc, 9)) {
-        Ok(node) => Ok(node),
-        Err(_) => Err(Fail::from("no node")),
-    }
+    Ok(Some(node.on_declined(&declined)?))
 }
 
 #[test]
-fn cuts_and_merges(rt: HostRuntime) -> Result<(), Fail> {
-    let mut node = first_node(rt.alloc())?;
-    assert!(rt; node.cut_at(0, Id::new(B)).is_ok());
-    assert_eq!(rt; node.span(1), Some(Span::new(Id::new(B), Id::new(A))));
-    assert!(rt; node.merge(0, 1).is_ok());
-    assert_eq!(rt; node.span(1), None);
-    Ok(())
-}
-
-/// What it gives stays in its outbox until its receiver has it, and then it retires.
-#[test]
-fn gives_and_retires(rt: HostRuntime) -> Result<(), Fail> {
-    let mut node = first_node(rt.alloc())?;
-    assert!(rt; node.begin_leave().is_ok());
-    assert!(rt; node.retire().is_err());
-    assert!(rt; node.give(0, 1).is_ok());
-    assert_eq!(rt;
-        node.kept(0),
-        Some((1, 1, Span::new(Id::new(A), Id::new(A))))
-    );
-    let got = Ticket {
-        from: 0,
-        to: 1,
-        number: 1,
-    };
-    assert_eq!(rt; freed(&mut node, &got), Some(true));
-    assert_eq!(rt; taken_back(&mut node, &got)?, Some(Back::Unknown));
-    assert!(rt; node.retire().is_ok());
-    Ok(())
-}
-
-#[test]
-fn takes_what_is_given(rt: HostRuntime) -> Result<(), Fail> {
-    let alloc = rt.alloc();
-    let mut node = first_node(alloc)?;
-    let part = node.give(0, 1).ok().ok_or("not given")?;
-    let other = Peer {
-        no: 1,
-        id: Id::new(B),
-    };
-    let mut next = Node::newborn(alloc, Links::alone(other, 3), CappedStore::new(alloc, 9));
-    assert_eq!(rt; handed(&mut next, &part)?, Some(Given::Got));
-    assert_eq!(rt; handed(&mut next, &part)?, Some(Given::Got));
-    assert_eq!(rt; next.last_taken(0), 1);
-    Ok(())
+fn laws_are_called() {
+    laws::one_holder();
+    laws::no_clash();
+    laws::no_delivery_clashes();
+    laws::one_history();
+    laws::none_twice();
+    laws::some_run();
+    laws::every_rule();
+    laws::seen_first();
 }

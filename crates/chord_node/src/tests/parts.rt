@@ -1,0 +1,111 @@
+//! Parts that come.
+
+use super::{A, B, C, empty_part, found, given_away, handed, newborn, span, ticket};
+use crate::Given;
+use chord_handover::Part;
+use chord_ident::Id;
+use chord_map::{Bytes, Pair};
+use chord_segment::Segment;
+use chord_store::CappedStore;
+use std::alloc::{AllocError, Global};
+use std::test::Fail;
+
+#[test]
+fn takes_what_is_given(rt: HostRuntime) -> Result<(), Fail> {
+    let (_, part) = given_away(rt.alloc(), 1).ok_or("not given")?;
+    let mut next = newborn(rt.alloc(), 1);
+    assert_eq!(rt; handed(&mut next, &part)?, Some(Given::Got));
+    assert_eq!(rt; handed(&mut next, &part)?, Some(Given::Got));
+    assert_eq!(rt; next.last_taken(0), 1);
+    assert_eq!(rt; next.span(0), Some(span(A, C)));
+    assert_eq!(rt; next.held_count(), 1);
+    Ok(())
+}
+
+#[test]
+fn handovers_come_in_order(rt: HostRuntime) -> Result<(), Fail> {
+    let alloc = rt.alloc();
+    let mut node = newborn(alloc, 1);
+    let second = empty_part(alloc, ticket(0, 1, 2), span(B, C));
+    assert_eq!(rt; handed(&mut node, &second)?, Some(Given::Early));
+    let first = empty_part(alloc, ticket(0, 1, 1), span(A, B));
+    assert_eq!(rt; handed(&mut node, &first)?, Some(Given::Got));
+    assert_eq!(rt; handed(&mut node, &second)?, Some(Given::Got));
+    assert_eq!(rt; node.last_taken(0), 2);
+    Ok(())
+}
+
+/// A store with too little room takes nothing, however often the part comes.
+#[test]
+fn a_full_store_takes_no_handover(rt: HostRuntime) -> Result<(), Fail> {
+    let (_, part) = given_away(rt.alloc(), 1).ok_or("not given")?;
+    let mut next = newborn(rt.alloc(), 0);
+    assert_eq!(rt; handed(&mut next, &part)?, Some(Given::Full));
+    assert_eq!(rt; handed(&mut next, &part)?, Some(Given::Full));
+    assert_eq!(rt; next.last_taken(0), 0);
+    assert_eq!(rt; next.held_count(), 0);
+    Ok(())
+}
+
+#[test]
+fn a_handover_meets_nothing_held(rt: HostRuntime) -> Result<(), Fail> {
+    let alloc = rt.alloc();
+    let mut node = found(alloc, CappedStore::new(alloc, 1)).ok_or("no node")?;
+    let part = empty_part(alloc, ticket(1, 0, 1), span(A, B));
+    assert_eq!(rt; handed(&mut node, &part)?, Some(Given::Clash));
+    assert_eq!(rt; node.last_taken(1), 0);
+    assert_eq!(rt; node.held_count(), 1);
+    Ok(())
+}
+
+/// So many pairs under one key, whose values rise.
+fn pairs(alloc: Global, count: u8) -> Result<Vec<Pair>, AllocError> {
+    let mut pairs = Vec::new(alloc);
+    for i in 0..count {
+        pairs.push(Pair {
+            key: Bytes::from_slice(alloc, b"abc")?,
+            value: Bytes::from_slice(alloc, &[i])?,
+        })?;
+    }
+    Ok(pairs)
+}
+
+/// The two parts of a handover of the whole circle with 65 pairs.
+fn two_parts(alloc: Global) -> Result<(Part, Part), Fail> {
+    let mut first = pairs(alloc, 65)?;
+    let mut last = Vec::new(alloc);
+    last.push(first.pop().ok_or("no pair")?)?;
+    Ok((
+        Part {
+            from: 0,
+            to: 1,
+            number: 1,
+            part: 1,
+            of: 2,
+            segment: Some(Segment::empty(alloc, span(A, A))),
+            pairs: first,
+        },
+        Part {
+            from: 0,
+            to: 1,
+            number: 1,
+            part: 2,
+            of: 2,
+            segment: None,
+            pairs: last,
+        },
+    ))
+}
+
+/// Nothing is held before all parts are there.
+#[test]
+fn takes_two_parts(rt: HostRuntime) -> Result<(), Fail> {
+    let (first, second) = two_parts(rt.alloc())?;
+    let mut node = newborn(rt.alloc(), 65);
+    assert_eq!(rt; handed(&mut node, &second)?, Some(Given::Part));
+    assert_eq!(rt; handed(&mut node, &second)?, Some(Given::Part));
+    assert!(rt; !node.holds(Id::new(B)));
+    assert_eq!(rt; handed(&mut node, &first)?, Some(Given::Got));
+    assert!(rt; node.holds(Id::new(B)));
+    Ok(())
+}
