@@ -16,7 +16,7 @@ use std::test::Fail;
 type Order = Vec<usize>;
 
 /// Two stores with room for so many pairs.
-fn two_stores(alloc: Global, room: u64) -> Result<Vec<CappedStore>, AllocError>
+pub fn two_stores(alloc: Global, room: u64) -> Result<Vec<CappedStore>, AllocError>
     ensures { IfOk result (λ stores. All (λ s. s.pairs ≡ []) stores.items) }
 {
     let mut stores = Vec::new(alloc);

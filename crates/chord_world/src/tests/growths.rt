@@ -3,9 +3,12 @@
 ghost use Rattle.std.specs.Prelude.{◌≡◌, [], IfOk};
 ghost use Rattle.std.specs.List.{All};
 
+use crate::tests::disturbed::two_stores;
+use crate::tests::scripts::{C, moving_key};
 use crate::{Outcome, PartFault, Refusal, Step, World};
 use chord_ident::Id;
 use chord_map::{Bytes, Reply, Request};
+use chord_node::Holder;
 use chord_store::{CappedStore, EntryStore};
 use std::alloc::{AllocError, Global};
 use std::test::Fail;
@@ -123,5 +126,32 @@ fn a_refused_step_is_done_again(rt: HostRuntime) -> Result<(), Fail> {
     let mine = world.mine(1).and_then(|mine| mine.last());
     assert!(rt; mine.is_some_and(|done| done.reply == Reply::Added));
     assert_eq!(rt; world.told(0).map(|told| told.len()), Some(1));
+    Ok(())
+}
+
+/// Does all steps, each again where it was out of memory.
+fn does_each<S: EntryStore>(world: &mut World<S>, stores: &mut Vec<S>, steps: &[Step])
+    requires { All (λ s. S.content s ≡ []) stores.old.items }
+{
+    for step in steps {
+        let _ = at_last(world, stores, step);
+    }
+}
+
+/// A key moves from node to node and back, whichever growth is refused.
+#[test]
+fn a_key_moves_all_the_same(rt: HostRuntime) -> Result<(), Fail> {
+    let alloc = rt.alloc();
+    let steps = moving_key(alloc).or_else(|_| moving_key(alloc))?;
+    let mut stores = match two_stores(alloc, 9) {
+        Ok(stores) => stores,
+        Err(_) => two_stores(alloc, 9)?,
+    };
+    let mut world = World::new(alloc, 3);
+    does_each(&mut world, &mut stores, &steps);
+    assert_eq!(rt; world.history().len(), 4);
+    assert_eq!(rt; world.mine(0).map(|mine| mine.len()), Some(4));
+    assert_eq!(rt; world.holder(Id::new(C)), Some(Holder::Node(0)));
+    assert_eq!(rt; world.holder(Id::new(0)), Some(Holder::Node(0)));
     Ok(())
 }
