@@ -7,6 +7,7 @@ use crate::Peer;
 use crate::peer_list::PeerList;
 use chord_ident::{Id, between};
 use std::marker::Model;
+use thiserror::Error;
 
 /// At least one peer, at strictly rising distance from the owner. The owner itself is the whole circle away, so it
 /// can only be last.
@@ -52,7 +53,8 @@ fn rising_len(owner: Id, past: Id, peers: &[Peer]) -> usize
 }
 
 /// There is no entry to drop but the last one.
-#[derive(Clone, Copy, Debug, PartialEq, Eq)]
+#[derive(Clone, Copy, Debug, PartialEq, Eq, Error)]
+#[error("the list has one entry")]
 pub struct Empty;
 
 impl SuccList {

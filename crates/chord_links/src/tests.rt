@@ -4,6 +4,7 @@ ghost use Rattle.std.specs.Prelude.{◌<◌};
 
 use crate::{Empty, Fingers, Links, Peer, SuccList};
 use chord_ident::Id;
+use std::test::Fail;
 
 const QUARTER: u128 = 1 << 126;
 
@@ -42,14 +43,17 @@ fn lists_rise_and_stop_at_their_owner(rt: HostRuntime) {
 }
 
 #[test]
-fn drops_all_heads_but_the_last(rt: HostRuntime) {
+fn drops_all_heads_but_the_last(rt: HostRuntime) -> Result<(), Fail> {
     let a = peer(0, 1);
     let c = peer(1, 3);
     let mut list = SuccList::behind_successor(a, 3, c, &SuccList::alone(a));
     assert_eq!(rt; list.drop_head(), Ok(()));
     assert_eq!(rt; list, SuccList::alone(a));
     assert_eq!(rt; list.drop_head(), Err(Empty));
+    let text = format!(in rt.alloc(); "{Empty}")?;
+    assert_eq!(rt; text.as_str(), "the list has one entry");
     assert_eq!(rt; list.entries(), [a].as_slice());
+    Ok(())
 }
 
 #[test]

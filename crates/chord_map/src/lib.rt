@@ -1,16 +1,22 @@
-//! Requests, replies and the plain map of sets.
+//! Requests, replies and the plain map of sets: what a key store is, with no ring in sight.
+//!
+//! A [`PlainMap`] has a set of values for each key, and [`PlainMap::apply`] does a [`Request`] and gives its
+//! [`Reply`]. It is what all else is held to: whatever the nodes of a ring do, their replies are those of one such
+//! map.
+//!
+//! Keys have 1 to 255 bytes, values up to 4,096, and a set at most 1,000 values ([`limits`]).
 #![tactic(auto)]
 
-pub mod bytes;
+mod bytes;
 pub mod limits;
-pub mod pair;
-pub mod pair_list;
-pub mod plain_map;
-pub mod reply;
-pub mod request;
+mod pair;
+mod pair_list;
+mod plain_map;
+mod reply;
+mod request;
 #[cfg(test)]
 mod samples;
-pub mod values;
+mod values;
 
 pub use bytes::Bytes;
 pub use pair::Pair;

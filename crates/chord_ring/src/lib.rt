@@ -1,4 +1,11 @@
 //! The steps of a ring, and what they keep.
+//!
+//! Joining, stabilising, taking a candidate, dropping a dead first entry and rectifying, each over any
+//! [`MemberReader`], so that a world and a running ring do the same steps; [`RingCore`] is a ring of its own.
+//! [`can_depart_among`] says whether a member may leave or fail without the ring falling apart.
+//!
+//! A member that no member's list skips is a principal. Principals stay so until they depart, and they stand on one
+//! ring ([`principals_stand_on_one_ring`]).
 #![tactic(auto)]
 
 mod departing;

@@ -4,20 +4,34 @@ ghost use Rattle.chord_wire.specs.Fault.{out_of_memory, code_number, code_of};
 
 use crate::codes;
 use std::alloc::{AllocError, AllocFailed};
+use thiserror::Error;
 
-#[derive(Clone, Copy, Debug, PartialEq, Eq)]
+/// What is wrong.
+#[derive(Clone, Copy, Debug, PartialEq, Eq, Error)]
 pub enum FaultCode {
+    #[error("bad length")]
     BadLength,
+    #[error("bad version")]
     BadVersion,
+    #[error("bad operation")]
     BadOperation,
+    #[error("bad key")]
     BadKey,
+    #[error("bad value")]
     BadValue,
+    #[error("bytes behind the last field")]
     Trailing,
+    #[error("out of memory")]
     Memory,
+    #[error("the number was another request's")]
     NumberReused,
+    #[error("bad number")]
     BadNumber,
+    #[error("the store is full")]
     Full,
+    #[error("no answer came in time")]
     NoAnswer,
+    #[error("bad floor")]
     BadFloor,
 }
 
@@ -64,7 +78,8 @@ impl FaultCode {
 }
 
 /// A fault, and the number of the request that has it, or 0 where none is known.
-#[derive(Clone, Copy, Debug, PartialEq, Eq)]
+#[derive(Clone, Copy, Debug, PartialEq, Eq, Error)]
+#[error("request {number}: {code}")]
 pub struct WireFault {
     pub code: FaultCode,
     pub number: u64,

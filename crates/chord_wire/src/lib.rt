@@ -1,14 +1,20 @@
 //! Frames of requests and answers, versions 1 and 2.
+//!
+//! [`Frames`] takes the bytes of a stream in as they come, by `feed`, and gives the whole requests by `next`;
+//! [`Answers`] does the same for a client. The writers, as [`write_request`] and [`write_reply`], make one frame
+//! each. A frame that breaks a rule is a [`WireFault`] with its code.
+//!
+//! [`laws`] says of all streams that they read in one way, however they are cut.
 #![tactic(auto)]
 
-pub mod answer;
-pub mod answers;
-pub mod codes;
-pub mod fault;
-pub mod frames;
+mod answer;
+mod answers;
+mod codes;
+mod fault;
+mod frames;
 pub mod laws;
 mod reading;
-pub mod request;
+mod request;
 mod stream;
 mod writing;
 

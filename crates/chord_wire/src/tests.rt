@@ -323,3 +323,25 @@ fn laws_are_called() {
     laws::no_frame_begins_another();
     laws::values_of_a_map_have_a_frame();
 }
+
+#[test]
+fn faults_say_what_is_wrong(rt: HostRuntime) -> Result<(), Fail> {
+    let alloc = rt.alloc();
+    for (code, wanted) in [
+        (FaultCode::BadLength, "bad length"),
+        (FaultCode::BadFloor, "bad floor"),
+        (FaultCode::NumberReused, "the number was another request's"),
+        (FaultCode::Full, "the store is full"),
+        (FaultCode::NoAnswer, "no answer came in time"),
+    ] {
+        let text = format!(in alloc; "{code}")?;
+        assert_eq!(rt; text.as_str(), wanted);
+    }
+    let fault = WireFault {
+        code: FaultCode::Trailing,
+        number: 7,
+    };
+    let text = format!(in alloc; "{fault}")?;
+    assert_eq!(rt; text.as_str(), "request 7: bytes behind the last field");
+    Ok(())
+}
