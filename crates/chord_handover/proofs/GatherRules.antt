@@ -14,7 +14,7 @@ use Rattle.chord_map.proofs.Lists.{by_test, Has, has_left, has_last, has_pushed,
 use Rattle.chord_map.specs.declared.pair.Pair.{Pair}
 use Rattle.chord_segment.proofs.MarkLemmas.{eqb_same, eqb_is}
 use Rattle.chord_segment.specs.Segment.{Segment}
-use Rattle.chord_handover.specs.Gather.{AreOf, AreAllThere, MakeNone, part_in, segment_of, pairs_of, pairs_upto}
+use Rattle.chord_handover.specs.Gather.{AreOf, AreAllThere, AreWhole, MakeNone, part_in, segment_of, pairs_of, pairs_upto}
 use Rattle.chord_handover.specs.declared.ticket.Ticket.{Ticket}
 use Rattle.chord_handover.specs.Handover.{Handover, Part, parts_in, part_at, IsWhole, gathered, ticket_of_part}
 use Rattle.chord_handover.specs.Parcelled.{Parcelled, IsParcelled, handed}
@@ -203,6 +203,14 @@ whole_from part noted parcelled there each =
           contains_has all (part_at handover place)
           (subst (Has all) (each_all (λ (p : Part). p ≡ part_at handover p.part) all each a.0 a.3 ∙ ap (part_at handover) a.2) a.3);
     }
+
+-- so they make one where these are a parcel
+pub are_whole : (part : Part) (noted : List Part) (segment : Segment) → AreAllThere part.of (gathered part noted)
+    → IsParcelled (record { segment = segment; pairs = pairs_upto part.of (gathered part noted) })
+    → All (λ (other : Part). other ≡ part_at (handed (ticket_of_part part) (record { segment = segment; pairs = pairs_upto part.of (gathered part noted) })) other.part) (gathered part noted) → AreWhole part noted
+are_whole part noted segment there rules each =
+    let parcelled : Parcelled = record { segment = segment; pairs = pairs_upto part.of (gathered part noted) } in
+    (parcelled, rules, whole_from part noted parcelled there each)
 
 -- no other parcel is sent in these parts
 pub makes_none : (part : Part) (noted : List Part) (segment : Segment) (pairs : List Pair) → AreAllThere part.of (gathered part noted)

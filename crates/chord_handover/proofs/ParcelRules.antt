@@ -1,21 +1,19 @@
 -- How a walk over pairs finds out whether they rise, and how many each key has.
-use Rattle.std.proofs.Common.{◌≡◌, ℕ, zero, suc, ◌+◌, ◌-◌, ◌<◌, ◌≤◌, Bool, true, false, cond, ◌&&◌, nat_lt, List, [], ◌∷◌, ◌++◌, length, get_or, take, drop, min, map, filter, Ordering, Less, Equal, Greater, refl, sym, ◌∙◌, ap, subst, arith, bytes_eq, length-append, take-append-drop, inl, inr, nat_cmp}
+use Rattle.std.proofs.Common.{◌≡◌, ℕ, zero, suc, ◌+◌, ◌-◌, ◌<◌, ◌≤◌, Bool, true, false, cond, List, [], ◌∷◌, ◌++◌, length, get_or, take, drop, min, map, filter, Ordering, Less, Equal, Greater, refl, sym, ◌∙◌, ap, arith, bytes_eq, length-append, take-append-drop, inl, inr, nat_cmp}
 use Rattle.std.specs.Bool.{Decides}
 use Rattle.std.specs.Ordering.{ordering_then, ordering_reverse, is_eq, is_gt}
 use Rattle.std.specs.Cmp.Lexicographic.{slice_cmp}
-use Rattle.std.proofs.lemmas.Bool.{true≢false, cond-true, cond-false, cases_lt}
+use Rattle.std.proofs.lemmas.Bool.{true≢false, cond-false, cases_lt}
 use Rattle.std.proofs.lemmas.Map.Keys.{Less-from_sorted, sorted_from_all_adjacent}
 use Rattle.std.proofs.lemmas.Map.Text.{is_eq-slice_cmp}
 use Rattle.std.proofs.lemmas.List.{take_all, take_min, length-drop, length-map}
 use Rattle.std.proofs.Math.ListN.{drop_of_length-le}
-use Rattle.std.proofs.lemmas.Bool.Decides.{nat_tests}
 use Rattle.std.proofs.lemmas.List.Elements.{filter-append}
 use Rattle.chord_map.specs.declared.pair.Pair.{Pair}
 use Rattle.chord_map.specs.Map.{same_pair, pair_cmp, values_at}
 use Rattle.chord_map.specs.Pairs.{IsRising}
 use Rattle.chord_map.proofs.Lists.{by_test}
-use Rattle.chord_map.proofs.MapLemmas.{bytes_same, bytes_itself, same_is, is_same, pairs_total, values_total}
-use Rattle.chord_map.proofs.Walked.{values_at-more}
+use Rattle.chord_map.proofs.MapLemmas.{bytes_same, same_is, is_same, pairs_total, values_total}
 
 -- pairs of which each is below the next rise
 pub rising_from_next : (pairs : List Pair) → ((d : Pair) (k : ℕ) → k + 1 < length pairs → pair_cmp (get_or pairs k d) (get_or pairs (k + 1) d) ≡ Less) → IsRising pairs
@@ -36,14 +34,14 @@ no_value : (key : List ℕ) (x : Pair) (xs : List Pair) → bytes_eq x.key key �
 no_value key x xs other none =
     ap (map (λ (pair : Pair). pair.value)) (cond-false (bytes_eq x.key key) (x ∷ filter (λ (pair : Pair). bytes_eq pair.key key) xs) (filter (λ (pair : Pair). bytes_eq pair.key key) xs) other) ∙ none
 
-none_before : (key : List ℕ) (d : Pair) (n : ℕ) (xs : List Pair) → ((j : ℕ) → j < n → j < length xs → bytes_eq (get_or xs j d).key key ≡ false) → values_at key (take n xs) ≡ []
+pub none_before : (key : List ℕ) (d : Pair) (n : ℕ) (xs : List Pair) → ((j : ℕ) → j < n → j < length xs → bytes_eq (get_or xs j d).key key ≡ false) → values_at key (take n xs) ≡ []
 none_before key d zero xs others = refl
 none_before key d (suc n) [] others = refl
 none_before key d (suc n) (x ∷ xs) others =
     no_value key x (take n xs) (others 0 (omega arith) (omega arith)) (none_before key d n xs (λ j below within. others (suc j) (omega arith) (omega arith)))
 
 -- a key that is not the one before is no earlier one
-new_key : (pairs : List Pair) (i : ℕ) (d : Pair) → IsRising pairs → 0 < i → i < length pairs → bytes_eq (get_or pairs (i - 1) d).key (get_or pairs i d).key ≡ false
+pub new_key : (pairs : List Pair) (i : ℕ) (d : Pair) → IsRising pairs → 0 < i → i < length pairs → bytes_eq (get_or pairs (i - 1) d).key (get_or pairs i d).key ≡ false
     → (j : ℕ) → j < i → bytes_eq (get_or pairs j d).key (get_or pairs i d).key ≡ false
 new_key pairs i d rises positive within apart j below =
     let key = (get_or pairs i d).key in
@@ -67,56 +65,9 @@ new_key pairs i d rises positive within apart j below =
     ])
     (λ f. f)
 
-length_step : (b : Bool) (value : List ℕ) (values : List (List ℕ)) → length (cond b (values ++ value ∷ []) values) ≡ cond b (length values + 1) (length values)
+pub length_step : (b : Bool) (value : List ℕ) (values : List (List ℕ)) → length (cond b (values ++ value ∷ []) values) ≡ cond b (length values + 1) (length values)
 length_step true value values = length-append values (value ∷ [])
 length_step false value values = refl
-
-positive : (i : ℕ) → 0 < i → nat_lt 0 i ≡ true
-positive i h = grind (arith, nat_tests)
-
-one_more : (pairs : List Pair) (i : ℕ) (d : Pair) → i < length pairs
-    → length (values_at (get_or pairs i d).key (take (i + 1) pairs)) ≡ length (values_at (get_or pairs i d).key (take i pairs)) + 1
-one_more pairs i d within =
-    let key = (get_or pairs i d).key in
-    ap length (values_at-more key pairs i d within)
-    ∙ length_step (bytes_eq key key) (get_or pairs i d).value (values_at key (take i pairs))
-    ∙ cond-true (bytes_eq key key) (length (values_at key (take i pairs)) + 1) (length (values_at key (take i pairs))) (bytes_itself key key refl)
-
-run_by : (pairs : List Pair) (i run : ℕ) (d : Pair) → IsRising pairs → i < length pairs → 0 < i
-    → run ≡ length (values_at (get_or pairs (i - 1) d).key (take i pairs))
-    → length (values_at (get_or pairs i d).key (take (i + 1) pairs)) ≡ cond (nat_lt 0 i && bytes_eq (get_or pairs (i - 1) d).key (get_or pairs i d).key) (run + 1) 1
-run_by pairs i run d rises within later counted =
-    let key = (get_or pairs i d).key in
-    let last = (get_or pairs (i - 1) d).key in
-    by_test (bytes_eq last key)
-    (λ t.
-    let same : length (values_at last (take i pairs)) ≡ length (values_at key (take i pairs)) = ap (λ k. length (values_at k (take i pairs))) (bytes_same last key t) in
-    let here : length (values_at key (take (i + 1) pairs)) ≡ run + 1 = omega (arith, one_more pairs i d within) in
-    here ∙ sym (λ j. cond (positive i later j && t j) (run + 1) 1))
-    (λ f.
-    let none : length (values_at key (take i pairs)) ≡ 0 = ap length (none_before key d i pairs (λ j below low. new_key pairs i d rises later within f j below)) in
-    let here : length (values_at key (take (i + 1) pairs)) ≡ 1 = omega (arith, one_more pairs i d within) in
-    here ∙ sym (λ j. cond (positive i later j && f j) (run + 1) 1))
-
--- how many pairs have the key of this one, up to it
-pub run_is : (pairs : List Pair) (i run : ℕ) (d : Pair) → IsRising pairs → i < length pairs
-    → (0 < i → run ≡ length (values_at (get_or pairs (i - 1) d).key (take i pairs)))
-    → length (values_at (get_or pairs i d).key (take (i + 1) pairs)) ≡ cond (nat_lt 0 i && bytes_eq (get_or pairs (i - 1) d).key (get_or pairs i d).key) (run + 1) 1
-run_is pairs zero run d rises within counted = one_more pairs 0 d within
-run_is pairs (suc i) run d rises within counted = run_by pairs (suc i) run d rises within (omega arith) (counted (omega arith))
-
--- no key has more than so many pairs, one pair further
-pub few_more : (most : ℕ) (pairs : List Pair) (i : ℕ) (d : Pair) → i < length pairs → ((key : List ℕ) → length (values_at key (take i pairs)) ≤ most)
-    → length (values_at (get_or pairs i d).key (take (i + 1) pairs)) ≤ most → (key : List ℕ) → length (values_at key (take (i + 1) pairs)) ≤ most
-few_more most pairs i d within few here key =
-    by_test (bytes_eq (get_or pairs i d).key key)
-    (λ t. subst (λ k. length (values_at k (take (i + 1) pairs)) ≤ most) (bytes_same (get_or pairs i d).key key t) here)
-    (λ f.
-    let same = ap length (values_at-more key pairs i d within)
-    ∙ length_step (bytes_eq (get_or pairs i d).key key) (get_or pairs i d).value (values_at key (take i pairs))
-    ∙ cond-false (bytes_eq (get_or pairs i d).key key) (length (values_at key (take i pairs)) + 1) (length (values_at key (take i pairs))) f in
-    let low = few key in
-    omega arith)
 
 -- what a key has up to a place it has in all
 pub has_upto : (key : List ℕ) (pairs : List Pair) (n : ℕ) → length (values_at key (take n pairs)) ≤ length (values_at key pairs)

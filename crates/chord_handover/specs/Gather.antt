@@ -5,7 +5,7 @@ use Rattle.chord_segment.specs.Segment.{Segment}
 use Rattle.chord_handover.specs.declared.gather.Gather.{Gather}
 use Rattle.chord_handover.specs.declared.gather.Gather.TheVariants.{More, Unfit, Whole}
 use Rattle.chord_handover.specs.declared.ticket.Ticket.{Ticket}
-use Rattle.chord_handover.specs.Handover.{Part, IsWhole, gathered, ticket_of_part}
+use Rattle.chord_handover.specs.Handover.{Part, IsFilled, IsWhole, gathered, ticket_of_part}
 use Rattle.chord_handover.specs.Parcelled.{Parcelled, IsParcelled, handed}
 
 -- they tell the same number of parts
@@ -31,9 +31,14 @@ Make ticket of parts (Whole parcelled) = IsWhole parts (handed ticket parcelled)
 abbrev pub GatherIs : Part → List Part → Gather → Type 0
 GatherIs part noted gather = Make (ticket_of_part part) part.of (gathered part noted) gather
 
--- all places have their parts, which tell the same number: they make a parcel, or are unfit
-abbrev pub AreComplete : Part → List Part → Type 0
-AreComplete part noted = AreOf part.of (gathered part noted) × AreAllThere part.of (gathered part noted)
+-- a whole that is told is a parcel
+abbrev pub TellsParcel : Gather → Type 0
+TellsParcel (Whole parcelled) = IsParcelled parcelled
+TellsParcel gather = Unit {0}
+
+-- they make a parcel
+abbrev pub AreWhole : Part → List Part → Type 0
+AreWhole part noted = (parcelled : Parcelled) × IsParcelled parcelled × GatherIs part noted (Whole parcelled)
 
 -- the part of a place
 abbrev pub part_in : ℕ → List Part → Option Part
@@ -51,3 +56,9 @@ pairs_of (Some part) = part.pairs
 unfoldable pub pairs_upto : ℕ → List Part → List Pair
 pairs_upto zero parts = []
 pairs_upto (suc place) parts = pairs_upto place parts ++ pairs_of (part_in (suc place) parts)
+
+-- a part of the same receiver as another, which is the one of its place and has as many pairs as that asks for
+pub record IsFitting (part : Part) (parts : List Part) (other : Part) : Type 0 where
+  pub receiver : other.to ≡ part.to
+  pub filled : IsFilled other
+  pub found : part_in other.part parts ≡ Some other

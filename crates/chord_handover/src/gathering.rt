@@ -1,25 +1,26 @@
 //! Parts of a handover, put together.
-ghost use Rattle.std.specs.Prelude.{◌≡◌, ◌↔◌, ◌&&◌, ◌==◌, ◌++◌, not, All, IsTrue, IfOk, OnOk, OnErr, List, length, filter, find, Some};
+ghost use Rattle.std.specs.Prelude.{◌≡◌, ◌↔◌, ◌-◌, ◌≤◌, ◌&&◌, ◌==◌, ◌++◌, not, All, IsTrue, IfOk, OnOk, OnErr, List, length, filter, find, Some};
 ghost use Rattle.std.specs.List.{list_any};
 ghost use Rattle.std.specs.Option.{option_copied};
-ghost use Rattle.chord_handover.specs.Gather.{AreOf, AreAllThere, AreComplete, GatherIs, part_in, segment_of, pairs_upto};
-ghost use Rattle.chord_handover.specs.Handover.{Part as PartOf, part_at, gathered, ticket_of_part};
+ghost use Rattle.chord_handover.specs.Gather.{AreOf, AreAllThere, AreWhole, GatherIs, IsFitting, TellsParcel, part_in, segment_of, pairs_upto};
+ghost use Rattle.chord_handover.specs.Handover.{Part as PartOf, IsPart, part_at, gathered, ticket_of_part};
 ghost use Rattle.chord_handover.specs.Known.{known_of};
-ghost use Rattle.chord_handover.specs.Parcelled.{handed};
+ghost use Rattle.chord_handover.specs.Parcelled.{IsParcelled, handed};
+ghost use Rattle.chord_handover.specs.Passed.{HasPassed, Goes};
 
-use crate::checks::is_parcel;
 use crate::gather::Gather;
 use crate::parcelled::Parcelled;
 use crate::part::Part;
-use crate::ticket::Ticket;
+use crate::run::Run;
 use chord_map::Pair;
 use chord_segment::Segment;
 use std::alloc::{AllocError, Global};
 
-/// What the noted parts of a part's handover make with that part.
+/// What the noted parts of a part's handover make with that part. Only a parcel takes memory.
 pub fn gather(alloc: Global, noted: &[Part], part: &Part) -> Result<Gather, AllocError>
     ensures made { IfOk result (λ gather. GatherIs part.now noted.now gather) }
-    ensures complete { OnErr result (AreComplete part.now noted.now) }
+    ensures parcel { IfOk result (λ gather. TellsParcel gather) }
+    ensures whole { OnErr result (AreWhole part.now noted.now) }
 {
     if has_other_count(noted, part) {
         return Ok(Gather::Unfit);
@@ -30,9 +31,12 @@ pub fn gather(alloc: Global, noted: &[Part], part: &Part) -> Result<Gather, Allo
     let Some(first) = first_segment(noted, part) else {
         return Ok(Gather::Unfit);
     };
+    if !are_parts_of(noted, part, first) || !are_parcelled(noted, part, first) {
+        return Ok(Gather::Unfit);
+    }
     let segment = first.try_copy()?;
     let pairs = join_pairs(alloc, noted, part)?;
-    Ok(make(noted, part, segment, pairs))
+    Ok(Gather::Whole(Parcelled::new(segment, pairs)))
 }
 
 /// Whether a noted part of the handover tells another number of parts.
@@ -120,33 +124,63 @@ fn push_copies(pairs: &mut Vec<Pair>, more: &[Pair]) -> Result<(), AllocError>
     Ok(())
 }
 
-/// Whether all parts of the handover are those of this segment and these pairs.
-fn are_parts_of(noted: &[Part], part: &Part, segment: &Segment, pairs: &[Pair]) -> bool
-    ensures { IsTrue result ↔ All (λ (other : PartOf). other ≡ part_at (handed (ticket_of_part part.now) (record { segment = segment.now.known; pairs = pairs.now })) other.part) (gathered part.now noted.now) }
+/// The walk over the parts before a place with that of the place too.
+fn pass_place<'a>(
+    run: Run<'a>,
+    noted: &'a [Part],
+    part: &'a Part,
+    segment: &Segment,
+    place: u64,
+) -> Option<Run<'a>>
+    requires { 1 ≤ place }
+    ensures { HasPassed segment.now.known (pairs_upto (place - 1) (gathered part.now noted.now)) run.entry → Goes segment.now.known (pairs_upto place (gathered part.now noted.now)) result }
 {
-    let ticket = Ticket::of(part);
+    match find_part(noted, part, place) {
+        Some(other) => run.walk(segment, &other.pairs),
+        None => Some(run),
+    }
+}
+
+/// Whether the pairs of all parts, in order, are those of a parcel with this segment.
+fn are_parcelled<'a>(noted: &'a [Part], part: &'a Part, segment: &Segment) -> bool
+    ensures { IsTrue result ↔ IsParcelled (record { segment = segment.now.known; pairs = pairs_upto part.now.of (gathered part.now noted.now) }) }
+{
+    let mut run = Run::new();
+    for i in 0..part.of {
+        match pass_place(run, noted, part, segment, i + 1) {
+            Some(next) => run = next,
+            None => return false,
+        }
+    }
+    true
+}
+
+/// Whether a part of the handover goes to this part's receiver, has as many pairs as its place asks for, and is the one
+/// of that place.
+fn is_fitting(noted: &[Part], part: &Part, other: &Part) -> bool
+    ensures test { IsTrue result ↔ IsFitting part.now (gathered part.now noted.now) other.now }
+    ensures rules { IsPart other.now }
+{
+    let Some(found) = find_part(noted, part, other.part) else {
+        return false;
+    };
+    other.to == part.to && other.is_filled() && other.equals(found)
+}
+
+/// Whether all parts of the handover are those of this segment and of the pairs of all parts.
+fn are_parts_of(noted: &[Part], part: &Part, segment: &Segment) -> bool
+    requires agree { AreOf part.now.of (gathered part.now noted.now) }
+    requires there { AreAllThere part.now.of (gathered part.now noted.now) }
+    requires segment { segment_of (part_in 1 (gathered part.now noted.now)) ≡ Some segment.now.known }
+    ensures { IsTrue result ↔ All (λ (other : PartOf). other ≡ part_at (handed (ticket_of_part part.now) (record { segment = segment.now.known; pairs = pairs_upto part.now.of (gathered part.now noted.now) })) other.part) (gathered part.now noted.now) }
+{
     for other in noted {
         if other.from == part.from
             && other.number == part.number
-            && !other.is_of(ticket, segment, pairs)
+            && !is_fitting(noted, part, other)
         {
             return false;
         }
     }
-    part.is_of(ticket, segment, pairs)
-}
-
-/// What the parts make, which are all there: the segment and the pairs, or nothing.
-fn make(noted: &[Part], part: &Part, segment: Segment, pairs: Vec<Pair>) -> Gather
-    requires agree { AreOf part.now.of (gathered part.now noted.now) }
-    requires there { AreAllThere part.now.of (gathered part.now noted.now) }
-    requires segment { segment_of (part_in 1 (gathered part.now noted.now)) ≡ Some segment.known }
-    requires pairs { pairs_upto part.now.of (gathered part.now noted.now) ≡ pairs.items }
-    ensures { GatherIs part.now noted.now result }
-{
-    if is_parcel(&segment, &pairs) && are_parts_of(noted, part, &segment, &pairs) {
-        Gather::Whole(Parcelled::new(segment, pairs))
-    } else {
-        Gather::Unfit
-    }
+    is_fitting(noted, part, part)
 }

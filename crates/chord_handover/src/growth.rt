@@ -90,3 +90,23 @@ fn refused_parts_and_copies(rt: HostRuntime) -> Result<(), Fail> {
     assert!(rt; copy.segment.is_some());
     Ok(())
 }
+
+/// Parts that are all there and make no parcel take no memory.
+#[test]
+fn parts_of_no_parcel_are_unfit(rt: HostRuntime) -> Result<(), Fail> {
+    let (first, _) = match parts(rt.alloc()) {
+        Ok(parts) => parts,
+        Err(_) => parts(rt.alloc())?,
+    };
+    let (again, _) = match parts(rt.alloc()) {
+        Ok(parts) => parts,
+        Err(_) => parts(rt.alloc())?,
+    };
+    let second = part(rt.alloc(), 2, again.pairs);
+    let mut taken = Taken::new(rt.alloc());
+    if noted(&mut taken, &first).is_err() {
+        assert!(rt; noted(&mut taken, &first)?);
+    }
+    assert!(rt; matches!(taken_with(&taken, &second)?, Some(Gather::Unfit)));
+    Ok(())
+}

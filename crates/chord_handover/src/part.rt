@@ -1,8 +1,7 @@
 //! Parts of handovers.
-ghost use Rattle.std.specs.Prelude.{◌≡◌, ◌↔◌, ◌==◌, if◌then◌else◌, Some, None, IsTrue, IfOk};
-ghost use Rattle.chord_handover.specs.Handover.{parts_in, chunk, part_at};
+ghost use Rattle.std.specs.Prelude.{◌≡◌, ◌↔◌, IsTrue, IfOk};
+ghost use Rattle.chord_handover.specs.Handover.{IsFilled, parts_in, chunk};
 ghost use Rattle.chord_handover.specs.Known.{known_of};
-ghost use Rattle.chord_handover.specs.Parcelled.{handed};
 
 use crate::parcelled::copy_pairs;
 use crate::ticket::Ticket;
@@ -38,24 +37,27 @@ impl Model for Part {
 }
 
 impl Part {
-    /// Whether it is one of the parts of this handover.
-    pub fn is_of(&self, ticket: Ticket, segment: &Segment, pairs: &[Pair]) -> bool
-        ensures { IsTrue result ↔ (self.now ≡ part_at (handed ticket (record { segment = segment.now.known; pairs = pairs.now })) self.now.part) }
+    /// Whether it has as many pairs as its place asks for.
+    pub(crate) fn is_filled(&self) -> bool
+        ensures { IsTrue result ↔ IsFilled self.now }
     {
-        Ticket::of(self) == ticket
-            && self.of == count_parts(pairs)
-            && self.fits_segment(segment)
-            && same_pairs(&self.pairs, chunk_of(pairs, self.part))
+        let count = self.pairs.len();
+        if self.part < self.of {
+            count == PART_PAIRS
+        } else {
+            count <= PART_PAIRS && (count > 0 || self.of == 1)
+        }
     }
 
-    /// Whether it has the segment if it is the first, and else has none.
-    fn fits_segment(&self, segment: &Segment) -> bool
-        ensures { IsTrue result ↔ (self.now.segment ≡ (if self.now.part == 1 then Some segment.now.known else None)) }
+    /// Whether both are equal.
+    pub fn equals(&self, other: &Part) -> bool
+        ensures { IsTrue result ↔ (self.now ≡ other.now) }
     {
-        match &self.segment {
-            Some(found) => self.part == 1 && found.equals(segment),
-            None => self.part != 1,
-        }
+        Ticket::of(self) == Ticket::of(other)
+            && self.part == other.part
+            && self.of == other.of
+            && same_segments(&self.segment, &other.segment)
+            && same_pairs(&self.pairs, &other.pairs)
     }
 
     /// An equal copy.
@@ -86,6 +88,17 @@ pub fn copy_segment(segment: &Option<Segment>) -> Result<Option<Segment>, AllocE
             Ok(Some(copy))
         }
         None => Ok(None),
+    }
+}
+
+/// Whether both are equal, or neither is there.
+fn same_segments(first: &Option<Segment>, second: &Option<Segment>) -> bool
+    ensures { IsTrue result ↔ (known_of first.now ≡ known_of second.now) }
+{
+    match (first, second) {
+        (Some(first), Some(second)) => first.equals(second),
+        (None, None) => true,
+        _ => false,
     }
 }
 

@@ -1,15 +1,14 @@
 //! Handovers that are taken whole.
 ghost use Rattle.std.specs.Prelude.{◌≡◌, ◌+◌, ◌<◌, ◌^◌, [], true, false, IfOk, OnOk, OnErr};
 ghost use Rattle.chord_segment.specs.Marks.{mark_of};
-ghost use Rattle.chord_handover.specs.Gather.{GatherIs, AreComplete};
+ghost use Rattle.chord_handover.specs.Gather.{GatherIs, AreWhole, TellsParcel};
 ghost use Rattle.chord_handover.specs.Taken.{nothing_taken, JudgeIs, marked, is_noted, with_noted};
 
 use crate::gather::Gather;
 use crate::gathering::gather;
 use crate::part::Part;
 use crate::verdict::Verdict;
-use chord_segment::Mark;
-use chord_segment::mark::{number_of, raise_mark};
+use chord_segment::{Mark, number_of, raise_mark};
 use std::alloc::{AllocError, Global};
 use std::marker::Model;
 
@@ -89,11 +88,13 @@ impl Taken {
         self.noted.clear();
     }
 
-    /// What the noted parts of a sender's next handover make with this one. Nothing is noted by it.
+    /// What the noted parts of a sender's next handover make with this one. Nothing is noted by it, and only a parcel
+    /// takes memory.
     pub fn whole_with(&self, part: &Part) -> Result<Gather, AllocError>
         requires { part.now.number ≡ mark_of part.now.from self.now.known.last + 1 }
         ensures made { IfOk result (λ gather. GatherIs part.now self.now.known.noted gather) }
-        ensures complete { OnErr result (AreComplete part.now self.now.known.noted) }
+        ensures parcel { IfOk result (λ gather. TellsParcel gather) }
+        ensures whole { OnErr result (AreWhole part.now self.now.known.noted) }
     {
         let made = gather(*self.noted.allocator(), &self.noted, part)?;
         Ok(made)

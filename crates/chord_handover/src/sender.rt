@@ -9,8 +9,7 @@ use crate::item::Item;
 use crate::parcelled::Parcelled;
 use crate::part::{Part, count_parts};
 use crate::ticket::Ticket;
-use chord_segment::Mark;
-use chord_segment::mark::{number_of, raise_mark};
+use chord_segment::{Mark, number_of, raise_mark};
 use std::alloc::{AllocError, Global};
 use std::marker::Model;
 
@@ -174,3 +173,6 @@ fn place_of(items: &[Item], to: u64, number: u64) -> Option<usize>
         .iter()
         .position(|item| item.to == to && item.number == number)
 }
+
+#[cfg(test)]
+mod spent;

@@ -1,5 +1,5 @@
 //! Worked values.
-ghost use Rattle.std.specs.Prelude.{◌≤◌};
+ghost use Rattle.std.specs.Prelude.{◌+◌, ◌≤◌};
 
 use crate::{Gather, Outbox, Parcelled, Part, Taken, Ticket, Verdict};
 use chord_ident::{Id, Span};
@@ -174,6 +174,60 @@ fn parts_that_do_not_fit(rt: HostRuntime) -> Result<(), Fail> {
     assert!(rt; matches!(taken_with(&taken, &again)?, Some(Gather::Unfit)));
     let empty = part(alloc, 2, Vec::new(alloc));
     assert!(rt; matches!(taken_with(&taken, &empty)?, Some(Gather::Unfit)));
+    let alone = part_of(alloc, 1, 1, Vec::new(alloc));
+    assert!(rt; matches!(taken_with(&taken, &alone)?, Some(Gather::Unfit)));
+    Ok(())
+}
+
+/// So many pairs under one key, whose values rise from this one.
+fn pairs_from(alloc: Global, first: u64, count: u64) -> Result<Vec<Pair>, AllocError>
+    requires { first + count ≤ 1024 }
+{
+    let mut pairs = Vec::new(alloc);
+    for i in 0..count {
+        let value = (first + i) as u16;
+        pairs.push(Pair {
+            key: Bytes::from_slice(alloc, b"abc")?,
+            value: Bytes::from_slice(alloc, &value.to_be_bytes())?,
+        })?;
+    }
+    Ok(pairs)
+}
+
+/// What all parts of so many pairs under one key make together, where each but the last has 64.
+fn made_of(alloc: Global, count: u64) -> Result<Option<Gather>, AllocError>
+    requires some { 1 ≤ count }
+    requires few { count ≤ 1024 }
+{
+    let of = count.div_ceil(64);
+    let mut taken = Taken::new(alloc);
+    for i in 1..of {
+        let pairs = pairs_from(alloc, 64 * (i - 1), 64)?;
+        take_in(&mut taken, &part_of(alloc, i, of, pairs))?;
+    }
+    let before = 64 * (of - 1);
+    let pairs = pairs_from(alloc, before, count - before)?;
+    taken_with(&taken, &part_of(alloc, of, of, pairs))
+}
+
+#[test]
+fn a_set_of_a_parcel_has_at_most_a_thousand_values(rt: HostRuntime) -> Result<(), Fail> {
+    let Some(Gather::Whole(whole)) = made_of(rt.alloc(), 1000)? else {
+        return Err(Fail::from("not whole"));
+    };
+    assert!(rt; whole.pairs() == pairs_from(rt.alloc(), 0, 1000)?.as_slice());
+    assert!(rt; matches!(made_of(rt.alloc(), 1001)?, Some(Gather::Unfit)));
+    Ok(())
+}
+
+#[test]
+fn parts_are_compared(rt: HostRuntime) -> Result<(), Fail> {
+    let alloc = rt.alloc();
+    let first = part(alloc, 1, pairs(alloc, 64)?);
+    assert!(rt; first.equals(&first.try_copy()?));
+    assert!(rt; !first.equals(&part(alloc, 1, pairs(alloc, 63)?)));
+    assert!(rt; !first.equals(&part(alloc, 2, pairs(alloc, 64)?)));
+    assert!(rt; !first.equals(&part_of(alloc, 1, 3, pairs(alloc, 64)?)));
     Ok(())
 }
 

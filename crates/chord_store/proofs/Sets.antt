@@ -31,7 +31,7 @@ use Rattle.chord_store.specs.Tree.{ByteVec, vec_cmp, has_bytes, pairs_under, pai
 abbrev pub same_bytes : List ℕ → List ℕ → Bool
 same_bytes x y = is_eq (slice_cmp nat_cmp x y)
 
-alike : (x y : List ℕ) → bytes_eq x y ≡ same_bytes x y
+pub alike : (x y : List ℕ) → bytes_eq x y ≡ same_bytes x y
 alike x y = sym (is_eq-slice_cmp x y)
 
 same_bytes-is : (x y : List ℕ) → same_bytes x y ≡ true → x ≡ y

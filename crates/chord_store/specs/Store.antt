@@ -21,6 +21,11 @@ reply_for Added = reply.Added
 reply_for Present = reply.Present
 reply_for SetFull = reply.SetFull
 
+-- The insert did what the map replies, and left what the map has then. For memory nothing changed where it was due to add.
+abbrev pub AddIs : {E : Type 0} → Pair → List Pair → Result Inserted E → List Pair → Type 0
+AddIs pair pairs (Ok did) pairs' = (reply_to (insertion pair) pairs ≡ reply_for did) × (pairs' ≡ pairs_after (insertion pair) pairs)
+AddIs pair pairs (Err e) pairs' = (reply_to (insertion pair) pairs ≡ reply.Added) × (pairs' ≡ pairs)
+
 -- The insert did what the map replies, and left what the map has then. It was refused where the pair was due to be
 -- added: for the limit where that was reached, else for memory; and nothing changed.
 abbrev pub InsertIs : Pair → List Pair → ℕ → Result Inserted StoreFault → List Pair → Type 0

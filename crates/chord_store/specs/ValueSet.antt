@@ -1,6 +1,8 @@
 -- Sets of values in order.
-use Rattle.std.specs.Prelude.{◌≡◌, ℕ, Bool, not, ◌&&◌, ◌||◌, List, bytes_eq}
+use Rattle.std.specs.Prelude.{◌≡◌, ◌<◌, ◌≤◌, ℕ, Bool, true, false, not, ◌&&◌, ◌||◌, List, length, bytes_eq, Result, Ok, Err}
 use Rattle.std.specs.List.{list_any}
+use Rattle.chord_store.specs.declared.outcome.Inserted.{Inserted}
+use Rattle.chord_store.specs.declared.outcome.Inserted.TheVariants.{Added, Present, SetFull}
 
 -- whether the value is there
 abbrev pub has_value : List ℕ → List (List ℕ) → Bool
@@ -13,3 +15,10 @@ pub record Gains (value : List ℕ) (old new : List (List ℕ)) : Type 0 where
 -- the value has gone, and nothing else has changed
 pub record Loses (value : List ℕ) (old new : List (List ℕ)) : Type 0 where
   pub each : (other : List ℕ) → has_value other new ≡ (not (bytes_eq other value) && has_value other old)
+
+-- What an insert into a set answers, and what the set has then. Memory stands for an addition alone.
+abbrev pub SetInsertIs : {E : Type 0} → List ℕ → List (List ℕ) → Result Inserted E → List (List ℕ) → Type 0
+SetInsertIs value old (Ok Present) new = (has_value value old ≡ true) × (new ≡ old)
+SetInsertIs value old (Ok SetFull) new = (has_value value old ≡ false) × (1000 ≤ length old) × (new ≡ old)
+SetInsertIs value old (Ok Added) new = (has_value value old ≡ false) × (length old < 1000) × Gains value old new
+SetInsertIs value old (Err e) new = (has_value value old ≡ false) × (length old < 1000) × (new ≡ old)

@@ -22,6 +22,10 @@ impl EntryStore for Box<dyn EntryStore + Send> {
         (**self).take_out(span)
     }
 
+    fn drop_copied(&mut self, span: &Span, copies: &[Pair]) {
+        (**self).drop_copied(span, copies)
+    }
+
     fn count(&self) -> u64 {
         (**self).count()
     }

@@ -58,6 +58,10 @@ impl EntryStore for CappedStore {
         take_out(&mut self.pairs, span);
     }
 
+    fn drop_copied(&mut self, span: &Span, _copies: &[Pair]) {
+        self.take_out(span);
+    }
+
     fn count(&self) -> u64 {
         self.pairs.as_slice().len() as u64
     }

@@ -54,6 +54,10 @@ impl EntryStore for ListStore {
         self.list.take_out(span);
     }
 
+    fn drop_copied(&mut self, span: &Span, copies: &[Pair]) {
+        self.list.drop_copied(span, copies);
+    }
+
     fn count(&self) -> u64 {
         self.list.count()
     }

@@ -34,6 +34,13 @@ pub trait EntryStore: Drop {
         ensures change { content self.new ≡ pairs_outside span.now (content self.old) }
         ensures limit { limit self.new ≡ limit self.old };
 
+    /// Drops the pairs whose keys lie in the span, of which these are the copies. A tree looks up each of them and walks
+    /// nothing; a list moves what stands behind the first one anyway, and walks once.
+    fn drop_copied(&mut self, span: &Span, copies: &[Pair])
+        requires { pairs_inside span.now (content self.old) ≡ copies.now }
+        ensures change { content self.new ≡ pairs_outside span.now (content self.old) }
+        ensures limit { limit self.new ≡ limit self.old };
+
     /// How many pairs it has.
     fn count(&self) -> u64
         ensures count { result ≡ length (content self.now) }

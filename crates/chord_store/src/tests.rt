@@ -59,6 +59,30 @@ fn move_a_span<S: EntryStore>(rt: &impl Abort, alloc: Global, store: &mut S) -> 
     Ok(())
 }
 
+// What was copied of half of the circle leaves the store.
+fn drop_what_was_copied<S: EntryStore>(
+    rt: &impl Abort,
+    alloc: Global,
+    store: &mut S,
+) -> Result<(), Fail> {
+    let span = Span::new(Id::new(0x4 << 124), Id::new(0xc << 124));
+    for (key, value) in [
+        (b"b".as_slice(), b"x"),
+        (b"abc", b"x"),
+        (b"a", b"y"),
+        (b"a", b"x"),
+    ] {
+        assert_eq!(rt; store.insert(key, value), Ok(Inserted::Added));
+    }
+    let copies = store.copy_span(alloc, &span)?;
+    assert_eq!(rt; copies.len(), 3);
+    store.drop_copied(&span, &copies);
+    assert_eq!(rt; store.count(), 1);
+    assert_eq!(rt; store.copy_span(alloc, &span)?.len(), 0);
+    assert_eq!(rt; store.values(alloc, b"b")?.as_slice().len(), 1);
+    Ok(())
+}
+
 // The pairs come into an empty store.
 fn put_list<S: EntryStore>(store: &mut S, list: &PairList) -> Result<(), StoreFault>
     requires { S.content store.old ≡ [] }
@@ -102,6 +126,17 @@ fn each_kind_moves_a_span(rt: HostRuntime) -> Result<(), Fail> {
     let note = Arc::new(alloc, OnceLock::new())?;
     let mut store: Box<dyn EntryStore + Send> = Box::new(alloc, NotedStore::new(alloc, note))?;
     move_a_span(&rt, alloc, &mut store)
+}
+
+#[test]
+fn each_kind_drops_what_was_copied(rt: HostRuntime) -> Result<(), Fail> {
+    let alloc = rt.alloc();
+    drop_what_was_copied(&rt, alloc, &mut ListStore::new(alloc))?;
+    drop_what_was_copied(&rt, alloc, &mut TreeStore::new(alloc))?;
+    drop_what_was_copied(&rt, alloc, &mut CappedStore::new(alloc, 4))?;
+    let note = Arc::new(alloc, OnceLock::new())?;
+    let mut store: Box<dyn EntryStore + Send> = Box::new(alloc, NotedStore::new(alloc, note))?;
+    drop_what_was_copied(&rt, alloc, &mut store)
 }
 
 #[test]

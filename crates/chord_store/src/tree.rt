@@ -1,15 +1,16 @@
 //! The pairs of a map as a tree of sets.
-ghost use Rattle.std.specs.Prelude.{◌≡◌, ◌≢◌, ◌↔◌, ◌+◌, ◌<◌, ◌≤◌, ◌^◌, ◌-◌, ◌++◌, ◌∷◌, List, [], true, false, length, IsTrue, IfOk, OnOk, OnErr};
+ghost use Rattle.std.specs.Prelude.{◌≡◌, ◌≢◌, ◌↔◌, ◌+◌, ◌<◌, ◌≤◌, ◌^◌, ◌-◌, ◌++◌, ◌∷◌, ◌&&◌, List, [], true, false, not, length, IsTrue, IfOk, OnOk, OnErr};
 ghost use Rattle.std.specs.BTreeMap.{keys};
 ghost use Rattle.std.specs.Map.{lookup};
 ghost use Rattle.std.specs.List.Sorted.{IsStrictlySortedBy};
-ghost use Rattle.chord_map.specs.declared.pair.Pair.{Pair};
+ghost use Rattle.chord_map.specs.declared.pair.Pair.{Pair as PairOf};
 ghost use Rattle.chord_map.specs.Map.{has_pair, insert_pair, remove_pair, values_at};
 ghost use Rattle.chord_map.specs.Pairs.{IsRising};
 ghost use Rattle.chord_store.specs.Inside.{pairs_inside, pairs_outside};
-ghost use Rattle.chord_store.specs.Store.{HasFew};
-ghost use Rattle.chord_store.specs.Tree.{has_bytes, pairs_of_sets, pairs_under, set_values, vec_cmp};
+ghost use Rattle.chord_store.specs.Store.{AddIs, HasFew};
+ghost use Rattle.chord_store.specs.Tree.{has_bytes, has_key, pairs_of_sets, pairs_under, set_values, vec_cmp};
 
+use crate::outcome::Inserted;
 use crate::value_set::ValueSet;
 use chord_ident::{Id, Span};
 use chord_map::{Bytes, Pair, Values};
@@ -88,17 +89,20 @@ impl Tree {
         }
     }
 
-    /// Adds the pair, which is not there.
-    pub fn insert(&mut self, key: &[u8], value: &[u8]) -> Result<(), AllocError>
-        requires new { has_pair (record { key = key.now; value = value.now }) self.old ≡ false }
-        requires room { length self.old < 2 ^ 64 - 1 }
-        requires few { length (values_at key.now self.old) < 1000 }
-        ensures ok { OnOk result (self.new ≡ insert_pair (record { key = key.now; value = value.now }) self.old) }
-        ensures err { OnErr result (self.new ≡ self.old) }
+    /// Adds the pair, unless it is there or its set is full. It looks the key up once, and a new key twice.
+    pub fn insert(&mut self, key: &[u8], value: &[u8]) -> Result<Inserted, AllocError>
+        requires { length self.old < 2 ^ 64 - 1 }
+        ensures answer { AddIs (record { key = key.now; value = value.now }) self.old result self.new }
+        ensures rising { IsRising self.old }
     {
-        add(&mut self.sets, self.alloc, key, value)?;
-        self.count += 1;
-        Ok(())
+        match add(&mut self.sets, self.alloc, key, value)? {
+            Inserted::Added => {
+                self.count += 1;
+                Ok(Inserted::Added)
+            }
+            Inserted::Present => Ok(Inserted::Present),
+            Inserted::SetFull => Ok(Inserted::SetFull),
+        }
     }
 
     /// Puts the pair in, unless it is there.
@@ -108,12 +112,7 @@ impl Tree {
         ensures ok { OnOk result (self.new ≡ insert_pair pair.now self.old) }
         ensures err { OnErr result (self.new ≡ self.old) }
     {
-        let key = pair.key.as_slice();
-        let value = pair.value.as_slice();
-        if self.contains(key, value) {
-            return Ok(());
-        }
-        self.insert(key, value)?;
+        self.insert(pair.key.as_slice(), pair.value.as_slice())?;
         Ok(())
     }
 
@@ -138,6 +137,15 @@ impl Tree {
         self.count = count_values(&self.sets);
     }
 
+    /// Drops the pairs whose keys lie in the span, of which these are the copies: each costs a look-up.
+    pub fn drop_copied(&mut self, _span: &Span, copies: &[Pair])
+        requires { pairs_inside _span.now self.old ≡ copies.now }
+        ensures { self.new ≡ pairs_outside _span.now self.old }
+    {
+        drop_keys(&mut self.sets, copies);
+        self.count -= copies.len() as u64;
+    }
+
     /// Copies of the pairs whose keys lie in the span, in order. Each key's identifier is computed once.
     pub fn copy_span(&self, alloc: Global, span: &Span) -> Result<Vec<Pair>, AllocError>
         ensures { IfOk result (λ pairs. pairs.items ≡ pairs_inside span.now self.now) }
@@ -146,30 +154,24 @@ impl Tree {
     }
 }
 
-// Adds the value to the set under the key.
+// Adds the value to the set under the key, unless it is there or the set is full.
 fn add(
     sets: &mut BTreeMap<Vec<u8>, ValueSet>,
     alloc: Global,
     key: &[u8],
     value: &[u8],
-) -> Result<(), AllocError>
-    requires ordered { IsStrictlySortedBy vec_cmp (keys sets.old) }
-    requires new { has_pair (record { key = key.now; value = value.now }) (pairs_of_sets sets.old.entries) ≡ false }
-    requires few { length (values_at key.now (pairs_of_sets sets.old.entries)) < 1000 }
+) -> Result<Inserted, AllocError>
+    requires { IsStrictlySortedBy vec_cmp (keys sets.old) }
     ensures ordered { IsStrictlySortedBy vec_cmp (keys sets.new) }
-    ensures ok { OnOk result (pairs_of_sets sets.new.entries ≡ insert_pair (record { key = key.now; value = value.now }) (pairs_of_sets sets.old.entries)) }
-    ensures err { OnErr result (pairs_of_sets sets.new.entries ≡ pairs_of_sets sets.old.entries) }
+    ensures answer { AddIs (record { key = key.now; value = value.now }) (pairs_of_sets sets.old.entries) result (pairs_of_sets sets.new.entries) }
 {
     match sets.get_mut(key) {
-        Some(set) => {
-            set.insert(alloc, value)?;
-            Ok(())
-        }
+        Some(set) => set.insert(alloc, value),
         None => {
             let set = ValueSet::one(alloc, value)?;
             let key = Vec::from_slice(alloc, key)?;
             sets.insert(key, set)?;
-            Ok(())
+            Ok(Inserted::Added)
         }
     }
 }
@@ -218,6 +220,17 @@ fn drop_span(sets: &mut BTreeMap<Vec<u8>, ValueSet>, span: &Span)
     ensures change { pairs_of_sets sets.new.entries ≡ pairs_outside span.now (pairs_of_sets sets.old.entries) }
 {
     sets.retain(|key, _| !span.contains(Id::of_bytes(key.as_slice())));
+}
+
+// Drops the sets under the keys of the pairs.
+fn drop_keys(sets: &mut BTreeMap<Vec<u8>, ValueSet>, pairs: &[Pair])
+    requires { IsStrictlySortedBy vec_cmp (keys sets.old) }
+    ensures ordered { IsStrictlySortedBy vec_cmp (keys sets.new) }
+    ensures change { (q : PairOf) → has_pair q (pairs_of_sets sets.new.entries) ≡ (not (has_key q.key pairs.now) && has_pair q (pairs_of_sets sets.old.entries)) }
+{
+    for pair in pairs {
+        sets.remove(pair.key.as_slice());
+    }
 }
 
 // How many values all sets have.

@@ -1,5 +1,5 @@
 //! A store over a tree.
-ghost use Rattle.std.specs.Prelude.{◌≡◌, ◌-◌, ◌^◌, List, []};
+ghost use Rattle.std.specs.Prelude.{◌≡◌, ◌-◌, ◌^◌, List, [], length};
 ghost use Rattle.chord_map.specs.declared.pair.Pair.{Pair};
 ghost use Rattle.chord_store.specs.Inside.{pairs_inside};
 ghost use Rattle.chord_store.specs.Store.{HasFew, InsertIs, PutAllIs};
@@ -56,6 +56,10 @@ impl EntryStore for TreeStore {
         self.tree.take_out(span);
     }
 
+    fn drop_copied(&mut self, span: &Span, copies: &[Pair]) {
+        self.tree.drop_copied(span, copies);
+    }
+
     fn count(&self) -> u64 {
         self.tree.len()
     }
@@ -77,19 +81,27 @@ impl EntryStore for TreeStore {
 fn insert_new(tree: &mut Tree, key: &[u8], value: &[u8]) -> Result<Inserted, StoreFault>
     ensures { InsertIs (record { key = key.now; value = value.now }) tree.old (2 ^ 64 - 1) result tree.new }
 {
+    if tree.len() == LIMIT {
+        return insert_into_full(tree, key, value);
+    }
+    match tree.insert(key, value) {
+        Ok(did) => Ok(did),
+        Err(_) => Err(StoreFault::Memory),
+    }
+}
+
+// What an insert answers where the tree has as many pairs as it may.
+fn insert_into_full(tree: &Tree, key: &[u8], value: &[u8]) -> Result<Inserted, StoreFault>
+    requires { length tree.now ≡ 2 ^ 64 - 1 }
+    ensures { InsertIs (record { key = key.now; value = value.now }) tree.now (2 ^ 64 - 1) result tree.now }
+{
     if tree.contains(key, value) {
         return Ok(Inserted::Present);
     }
     if tree.count_under(key) >= SET_VALUES {
         return Ok(Inserted::SetFull);
     }
-    if tree.len() == LIMIT {
-        return Err(StoreFault::Full);
-    }
-    match tree.insert(key, value) {
-        Ok(()) => Ok(Inserted::Added),
-        Err(_) => Err(StoreFault::Memory),
-    }
+    Err(StoreFault::Full)
 }
 
 // Puts all the pairs, which lie in a span where the tree has nothing, or none of them.

@@ -4,8 +4,10 @@ ghost use Rattle.std.specs.Ordering.{nat_cmp};
 ghost use Rattle.std.specs.Cmp.Lexicographic.{slice_cmp};
 ghost use Rattle.std.specs.List.Sorted.{IsStrictlySortedBy, IsStrictlySortedBy-prop};
 ghost use Rattle.chord_map.specs.Places.{IsAt, IsGapFor};
-ghost use Rattle.chord_store.specs.ValueSet.{has_value, Gains, Loses};
+ghost use Rattle.chord_store.specs.ValueSet.{has_value, Loses, SetInsertIs};
 
+use crate::outcome::Inserted;
+use chord_map::limits::SET_VALUES;
 use chord_map::{Bytes, Values};
 use std::alloc::{AllocError, Global};
 use std::cmp::Ordering;
@@ -64,19 +66,17 @@ impl ValueSet {
         place_of(self.values.as_slice(), value).is_ok()
     }
 
-    /// Adds the value, which is not there.
-    pub fn insert(&mut self, alloc: Global, value: &[u8]) -> Result<(), AllocError>
-        requires new { has_value value.now self.old.values ≡ false }
-        requires room { length self.old.values < 1000 }
-        ensures ok { OnOk result (Gains value.now self.old.values self.new.values) }
-        ensures err { OnErr result (self.new.values ≡ self.old.values) }
+    /// Adds the value, unless it is there or the set has 1,000.
+    pub fn insert(&mut self, alloc: Global, value: &[u8]) -> Result<Inserted, AllocError>
+        ensures { SetInsertIs value.now self.old.values result self.new.values }
     {
         match place_of(self.values.as_slice(), value) {
-            Ok(_) => Ok(()),
+            Ok(_) => Ok(Inserted::Present),
+            Err(_) if self.len() >= SET_VALUES => Ok(Inserted::SetFull),
             Err(place) => {
                 let value = Bytes::from_slice(alloc, value)?;
                 self.values.insert(place, value)?;
-                Ok(())
+                Ok(Inserted::Added)
             }
         }
     }

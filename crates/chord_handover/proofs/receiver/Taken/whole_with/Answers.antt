@@ -1,5 +1,5 @@
 use Rattle.std.proofs.Common.{List, ap, ◌∙◌, subst}
-use Rattle.chord_handover.specs.Gather.{GatherIs, AreComplete}
+use Rattle.chord_handover.specs.Gather.{GatherIs, AreWhole}
 use Rattle.chord_handover.specs.Handover.{Part}
 use Rattle.chord_handover.specs.Taken.{RoomyTaken}
 use Rattle.chord_handover.proofs.GatherRules.{on_err}
@@ -11,9 +11,9 @@ returns-clause-made c =
     (c.deref.ensures.value ∙ ap (λ (taken : RoomyTaken). taken.known.noted) c.self.view_is)
     c.in_ok-made.ensures.made
 
-pub returns-in_err-made-clause-complete : goal.returns-in_err-made-clause-complete
-returns-in_err-made-clause-complete c =
-    on_err c.from_residual.result (AreComplete c.args.part.now c.args.self.now.known.noted)
-    (subst (λ (noted : List Part). AreComplete c.args.part.now noted)
+pub returns-in_err-made-clause-whole : goal.returns-in_err-made-clause-whole
+returns-in_err-made-clause-whole c =
+    on_err c.from_residual.result (AreWhole c.args.part.now c.args.self.now.known.noted)
+    (subst (λ (noted : List Part). AreWhole c.args.part.now noted)
     (c.deref.ensures.value ∙ ap (λ (taken : RoomyTaken). taken.known.noted) c.self.view_is)
-    c.in_err-made.ensures.complete)
+    c.in_err-made.ensures.whole)

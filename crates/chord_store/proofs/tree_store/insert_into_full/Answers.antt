@@ -1,9 +1,9 @@
 use Rattle.std.proofs.Common.{◌∙◌, sym, refl, arith, ◌-◌, ◌^◌}
 use Rattle.chord_map.specs.declared.pair.Pair.{Pair}
 use Rattle.chord_map.proofs.Replies.{due_present, due_full, due_added}
-use Rattle.chord_store.specs.declared.outcome.Inserted.TheVariants.{Added, Present, SetFull}
+use Rattle.chord_store.specs.declared.outcome.Inserted.TheVariants.{Present, SetFull}
 use Rattle.chord_store.proofs.Puts.{did_is}
-use Rattle.chord_store.proofs.tree_store.insert_new.Goals as goal
+use Rattle.chord_store.proofs.tree_store.insert_into_full.Goals as goal
 
 pub returns-then-contains : goal.returns-then-contains
 returns-then-contains c =
@@ -17,16 +17,6 @@ returns-then-count_under-ge-SET_VALUES c =
     did_is pair c.args.tree.now c.args.tree.now (2 ^ 64 - 1) SetFull
     (due_full pair.key pair.value c.args.tree.now (sym c.contains.ensures.test ∙ c.if-contains.false) (omega arith)) (λ e. cc) refl
 
-pub returns-then-len-eq-LIMIT : goal.returns-then-len-eq-LIMIT
-returns-then-len-eq-LIMIT c =
+pub returns : goal.returns
+returns c =
     (due_added c.args.key.now c.args.value.now c.args.tree.now (sym c.contains.ensures.test ∙ c.if-contains.false) (omega arith), omega arith, refl)
-
-pub returns-in-Ok : goal.returns-in-Ok
-returns-in-Ok c =
-    let pair : Pair = record { key = c.args.key.now; value = c.args.value.now } in
-    did_is pair c.args.tree.now c.insert.new.self (2 ^ 64 - 1) Added
-    (due_added pair.key pair.value c.args.tree.now (sym c.contains.ensures.test ∙ c.if-contains.false) (omega arith)) (λ e. omega arith) c.in-Ok.ensures.ok
-
-pub returns-in-Err : goal.returns-in-Err
-returns-in-Err c =
-    (due_added c.args.key.now c.args.value.now c.args.tree.now (sym c.contains.ensures.test ∙ c.if-contains.false) (omega arith), omega arith, c.in-Err.ensures.err)

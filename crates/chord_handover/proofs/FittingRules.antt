@@ -1,0 +1,185 @@
+-- How parts of one place each, with as many pairs as these ask for, are those of the pairs of all.
+use Rattle.std.proofs.Common.{◌≡◌, ℕ, zero, suc, ◌+◌, ◌-◌, ◌*◌, ◌<◌, ◌≤◌, true, false, cond, eqb, Option, Some, None, List, [], ◌++◌, length, take, drop, is_some, append-nil, append_assoc, inl, inr, ⊎_elim, refl, sym, ◌∙◌, ap, ap₂, subst, arith, All, length-append, filter}
+use Rattle.std.proofs.lemmas.Bool.{cond-true, cond-false, cases_lt, and_parts}
+use Rattle.std.proofs.lemmas.List.{take_all, length-drop, length-take}
+use Rattle.std.proofs.Math.Seq.{take-append_seam, drop-append_seam}
+use Rattle.chord_map.proofs.Lists.{by_test, Has, has_pushed, has_filter, each_all, all_each, finds, found}
+use Rattle.chord_map.specs.declared.pair.Pair.{Pair}
+use Rattle.chord_segment.proofs.MarkLemmas.{eqb_same, eqb_is}
+use Rattle.chord_segment.specs.Segment.{Segment}
+use Rattle.chord_handover.specs.Gather.{AreOf, AreAllThere, IsFitting, part_in, segment_of, pairs_of, pairs_upto}
+use Rattle.chord_handover.specs.Handover.{Part, IsPart, IsFilled, parts_in, chunk, part_at, gathered, ticket_of_part}
+use Rattle.chord_handover.specs.Parcelled.{IsParcelled, handed}
+use Rattle.chord_handover.proofs.GatherRules.{is_like, at_place, all_gathered, IsPartOf}
+use Rattle.chord_handover.proofs.PassRules.{front}
+
+-- the parts tell so many and have as many pairs as their places ask for
+abbrev pub AreFilled : ℕ → List Part → Type 0
+AreFilled of parts = (x : Part) → Has parts x → (x.of ≡ of) × IsFilled x
+
+-- the pairs before a place are full parts
+upto_length : (of place : ℕ) (parts : List Part) → AreAllThere of parts → AreFilled of parts → place < of → length (pairs_upto place parts) ≡ 64 * place
+unfolding pairs_upto
+upto_length of zero parts there filled low = omega arith
+upto_length of (suc place) parts there filled low =
+    let a = at_place of (suc place) parts there (omega arith) (omega arith) in
+    let f = filled a.0 a.3 in
+    let at : (a.0).part ≡ suc place = a.2 in
+    let count : (a.0).of ≡ of = f.0 in
+    let full : length (a.0).pairs ≡ 64 = (f.1).full (omega arith) in
+    let before = upto_length of place parts there filled (omega arith) in
+    let pairs : length (pairs_of (part_in (suc place) parts)) ≡ length (a.0).pairs = ap (λ o. length (pairs_of o)) a.1 in
+    omega (arith, length-append (pairs_upto place parts) (pairs_of (part_in (suc place) parts)))
+
+-- the pairs behind a place
+pub further : (place more : ℕ) (parts : List Part) → (rest : List Pair) × (pairs_upto (place + more) parts ≡ pairs_upto place parts ++ rest)
+unfolding pairs_upto
+further place zero parts =
+    let same : place + 0 ≡ place = omega arith in
+    ([], ap (λ n. pairs_upto n parts) same ∙ sym (append-nil (pairs_upto place parts)))
+further place (suc more) parts =
+    let r = further place more parts in
+    let next = pairs_of (part_in (suc (place + more)) parts) in
+    let at : place + suc more ≡ suc (place + more) = omega arith in
+    (r.0 ++ next, ap (λ n. pairs_upto n parts) at ∙ ap (λ ps. ps ++ next) r.1 ∙ append_assoc (pairs_upto place parts) r.0 next)
+
+-- pairs up to a place that make no parcel leave all pairs without one
+pub none_further : (segment : Segment) (place of : ℕ) (parts : List Part) → place ≤ of → ¬ IsParcelled (record { segment = segment; pairs = pairs_upto place parts })
+    → ¬ IsParcelled (record { segment = segment; pairs = pairs_upto of parts })
+none_further segment place of parts upto none rules =
+    let r = further place (of - place) parts in
+    let at : of ≡ place + (of - place) = omega arith in
+    let whole : pairs_upto of parts ≡ pairs_upto place parts ++ r.0 = ap (λ n. pairs_upto n parts) at ∙ r.1 in
+    none (front segment (pairs_upto place parts) r.0 (subst (λ (pairs : List Pair). IsParcelled (record { segment = segment; pairs = pairs })) whole rules))
+
+last_split : (k : ℕ) (parts : List Part) → pairs_upto (suc k) parts ≡ pairs_upto k parts ++ pairs_of (part_in (suc k) parts)
+unfolding pairs_upto
+last_split k parts = refl
+
+-- the pairs of a place are those that a part of it has
+chunk_is : (of k : ℕ) (parts : List Part) → AreAllThere of parts → AreFilled of parts → k < of → take 64 (drop (64 * k) (pairs_upto of parts)) ≡ pairs_of (part_in (suc k) parts)
+chunk_is of k parts there filled low =
+    let a = at_place of (suc k) parts there (omega arith) (omega arith) in
+    let f = filled a.0 a.3 in
+    let at : (a.0).part ≡ suc k = a.2 in
+    let count : (a.0).of ≡ of = f.0 in
+    let here = pairs_of (part_in (suc k) parts) in
+    let same : length here ≡ length (a.0).pairs = ap (λ o. length (pairs_of o)) a.1 in
+    let start : 64 * k ≡ length (pairs_upto k parts) = sym (upto_length of k parts there filled low) in
+    elim (cases_lt (suc k) of) [
+      | inl earlier ↦
+          let r = further (suc k) (of - suc k) parts in
+          let ends : of ≡ suc k + (of - suc k) = omega arith in
+          let whole : pairs_upto of parts ≡ pairs_upto k parts ++ (here ++ r.0) =
+          ap (λ n. pairs_upto n parts) ends ∙ r.1 ∙ ap (λ ps. ps ++ r.0) (last_split k parts) ∙ append_assoc (pairs_upto k parts) here r.0 in
+          let full : length (a.0).pairs ≡ 64 = (f.1).full (omega arith) in
+          let size : 64 ≡ length here = omega arith in
+          ap₂ (λ n ps. take 64 (drop n ps)) start whole ∙ ap (take 64) (drop-append_seam (pairs_upto k parts) (here ++ r.0))
+          ∙ ap (λ n. take n (here ++ r.0)) size ∙ take-append_seam here r.0
+      | inr last ↦
+          let ends : of ≡ suc k = omega arith in
+          let whole : pairs_upto of parts ≡ pairs_upto k parts ++ here = ap (λ n. pairs_upto n parts) ends ∙ last_split k parts in
+          let most : length (a.0).pairs ≤ 64 = (f.1).most (omega arith) in
+          ap₂ (λ n ps. take 64 (drop n ps)) start whole ∙ ap (take 64) (drop-append_seam (pairs_upto k parts) here) ∙ take_all 64 here (omega arith)
+    ]
+
+-- so many parts are sent of all pairs
+count_is : (of k : ℕ) (parts : List Part) → AreAllThere of parts → AreFilled of parts → of ≡ suc k → of ≡ parts_in (pairs_upto of parts)
+count_is of k parts there filled e =
+    let a = at_place of of parts there (omega arith) (omega arith) in
+    let f = filled a.0 a.3 in
+    let at : (a.0).part ≡ of = a.2 in
+    let count : (a.0).of ≡ of = f.0 in
+    let here = pairs_of (part_in (suc k) parts) in
+    let same : length (pairs_of (part_in of parts)) ≡ length (a.0).pairs = ap (λ o. length (pairs_of o)) a.1 in
+    let place : length here ≡ length (pairs_of (part_in of parts)) = ap (λ n. length (pairs_of (part_in n parts))) (sym e) in
+    let before = upto_length of k parts there filled (omega arith) in
+    let whole : length (pairs_upto of parts) ≡ length (pairs_upto k parts) + length here =
+    ap (λ n. length (pairs_upto n parts)) e ∙ ap length (last_split k parts) ∙ length-append (pairs_upto k parts) here in
+    let most : length (a.0).pairs ≤ 64 = (f.1).most (omega arith) in
+    elim (cases_lt 1 of) [
+      | inl more ↦ let some : 1 ≤ length (a.0).pairs = (f.1).some (omega arith) (omega arith) in omega arith
+      | inr alone ↦ omega arith
+    ]
+
+-- what parts of one handover have alike
+like_part : (part : Part) (noted : List Part) (x : Part) → Has (gathered part noted) x → (x.from ≡ part.from) × (x.number ≡ part.number)
+like_part part noted x there =
+    ⊎_elim
+    (λ old.
+    let h = has_filter (is_like part) noted x old in
+    let parts = and_parts (eqb x.from part.from) (eqb x.number part.number) h.1 in
+    (eqb_is x.from part.from parts.0, eqb_is x.number part.number parts.1))
+    (λ same. (ap (λ (p : Part). p.from) (sym same), ap (λ (p : Part). p.number) (sym same)))
+    (has_pushed (filter (is_like part) noted) part x there)
+
+part_is : (x : Part) (from to number of : ℕ) (segment : Option Segment) (pairs : List Pair) → x.from ≡ from → x.to ≡ to → x.number ≡ number → x.of ≡ of → x.segment ≡ segment → x.pairs ≡ pairs
+    → x ≡ record { from = from; to = to; number = number; part = x.part; of = of; segment = segment; pairs = pairs }
+part_is x from to number of segment pairs e1 e2 e3 e4 e5 e6 =
+    λ i. record { from = e1 i; to = e2 i; number = e3 i; part = x.part; of = e4 i; segment = e5 i; pairs = e6 i }
+
+not_some : (o : Option Segment) → is_some o ≡ false → o ≡ None
+not_some None h = refl
+not_some (Some segment) h = absurd (cc)
+
+segment_is : (part : Part) (noted : List Part) (segment : Segment) (x : Part) → segment_of (part_in 1 (gathered part noted)) ≡ Some segment → part_in x.part (gathered part noted) ≡ Some x
+    → is_some x.segment ≡ eqb x.part 1 → x.segment ≡ cond (eqb x.part 1) (Some segment) None
+segment_is part noted segment x first here rule =
+    by_test (eqb x.part 1)
+    (λ t.
+    let at : part_in 1 (gathered part noted) ≡ Some x = ap (λ n. part_in n (gathered part noted)) (sym (eqb_is x.part 1 t)) ∙ here in
+    sym (ap segment_of at) ∙ first ∙ sym (cond-true (eqb x.part 1) (Some segment) None t))
+    (λ f. not_some x.segment (rule ∙ f) ∙ sym (cond-false (eqb x.part 1) (Some segment) None f))
+
+-- parts that are fitting are those of the first one's segment and the pairs of all
+pub fitting_are : (part : Part) (noted : List Part) (segment : Segment) → AreOf part.of (gathered part noted) → AreAllThere part.of (gathered part noted)
+    → segment_of (part_in 1 (gathered part noted)) ≡ Some segment → ((x : Part) → Has (gathered part noted) x → IsPart x × IsFitting part (gathered part noted) x)
+    → All (IsPartOf (ticket_of_part part) segment (pairs_upto part.of (gathered part noted))) (gathered part noted)
+fitting_are part noted segment agree there first fitting =
+    let all = gathered part noted in
+    let filled : AreFilled part.of all = λ x h. (each_all (λ (p : Part). p.of ≡ part.of) all agree x h, ((fitting x h).1).filled) in
+    all_each (IsPartOf (ticket_of_part part) segment (pairs_upto part.of all)) all (λ x h.
+    let rules = (fitting x h).0 in
+    let fits = (fitting x h).1 in
+    let like = like_part part noted x h in
+    let of : x.of ≡ part.of = (filled x h).0 in
+    let some = rules.some in
+    let within = rules.within in
+    let k : suc (x.part - 1) ≡ x.part = omega arith in
+    let last : part.of ≡ suc (part.of - 1) = omega arith in
+    let pairs : x.pairs ≡ chunk x.part (pairs_upto part.of all) =
+    sym (ap pairs_of fits.found) ∙ sym (chunk_is part.of (x.part - 1) all there filled (omega arith) ∙ ap (λ n. pairs_of (part_in n all)) k) in
+    part_is x part.from part.to part.number (parts_in (pairs_upto part.of all)) (cond (eqb x.part 1) (Some segment) None) (chunk x.part (pairs_upto part.of all))
+    like.0 fits.receiver like.1 (of ∙ count_is part.of (part.of - 1) all there filled last) (segment_is part noted segment x first fits.found rules.first) pairs)
+
+-- a part of a handover has as many pairs as its place asks for
+part_filled : (x : Part) (pairs : List Pair) → IsPart x → x.of ≡ parts_in pairs → x.pairs ≡ chunk x.part pairs → IsFilled x
+part_filled x pairs rules of is =
+    let some = rules.some in
+    let within = rules.within in
+    let rest = length-drop (64 * (x.part - 1)) pairs in
+    let size : length x.pairs ≡ length (take 64 (drop (64 * (x.part - 1)) pairs)) = ap length is in
+    let taken = length-take 64 (drop (64 * (x.part - 1)) pairs) in
+    record { full = λ low. omega arith; most = λ high. omega arith; some = λ high more. omega arith }
+
+-- where each part is one of a segment and some pairs, each is fitting
+pub are_fitting : (part : Part) (noted : List Part) (segment : Segment) (pairs : List Pair) → All (IsPartOf (ticket_of_part part) segment pairs) (gathered part noted)
+    → (x : Part) → Has (gathered part noted) x → IsPart x → IsFitting part (gathered part noted) x
+are_fitting part noted segment pairs each x h rules =
+    let all = gathered part noted in
+    let P = IsPartOf (ticket_of_part part) segment pairs in
+    let own : P x = each_all P all each x h in
+    let r = finds (λ (p : Part). eqb p.part x.part) all x h (eqb_same x.part x.part refl) in
+    let f = found (λ (p : Part). eqb p.part x.part) all r.0 r.1 in
+    let other : P r.0 = each_all P all each r.0 f.1 in
+    let handover = handed (ticket_of_part part) (record { segment = segment; pairs = pairs }) in
+    let same : r.0 ≡ x = other ∙ ap (part_at handover) (eqb_is (r.0).part x.part f.0) ∙ sym own in
+    record {
+      receiver = ap (λ (p : Part). p.to) own;
+      filled = part_filled x pairs rules (ap (λ (p : Part). p.of) own) (ap (λ (p : Part). p.pairs) own);
+      found = r.1 ∙ ap Some same;
+    }
+
+-- what holds of the part, and of each noted one of its handover
+pub each_gathered : (P : Part → Type 0) (part : Part) (noted : List Part) → ((other : Part) → Has noted other → is_like part other ≡ true → P other) → P part → (x : Part) → Has (gathered part noted) x → P x
+each_gathered P part noted each here x there = each_all P (gathered part noted) (all_gathered P part noted each here) x there

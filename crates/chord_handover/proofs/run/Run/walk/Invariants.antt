@@ -1,0 +1,7 @@
+use Rattle.std.proofs.Common.{List, ◌++◌, take}
+use Rattle.chord_map.specs.declared.pair.Pair.{Pair}
+use Rattle.chord_handover.specs.Passed.{HasPassed}
+use Rattle.chord_handover.proofs.run.Run.walk.Given as goal
+
+abbrev pub invariant-loop-pair : goal.invariant-loop-pair
+invariant-loop-pair l = (passed : List Pair) → HasPassed l.segment.known passed l.self → HasPassed l.segment.known (passed ++ take l.pair-index l.pairs) l.run
