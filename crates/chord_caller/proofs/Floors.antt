@@ -1,5 +1,5 @@
 -- Which calls of a caller are taken, and its floor.
-use Rattle.std.proofs.Common.{◌≡◌, ◌≢◌, ℕ, zero, suc, ◌<◌, ◌≤◌, min, Bool, true, false, cond, ◌&&◌, eqb, Option, None, Some, List, length, is_some, ◌⊎◌, inl, inr, ⊎_elim, refl, sym, ◌∙◌, ap, arith}
+use Rattle.std.proofs.Common.{◌≡◌, ◌≢◌, ℕ, zero, suc, ◌<◌, ◌≤◌, min, Bool, true, false, cond, ◌&&◌, eqb, Option, None, Some, List, length, is_some, slice_get, ◌⊎◌, inl, inr, ⊎_elim, refl, sym, ◌∙◌, ap, arith}
 use Rattle.std.proofs.lemmas.Bool.{true≢false, and_from, cases_lt}
 use Rattle.std.proofs.lemmas.Bool.Decides.{eqb_tells}
 use Rattle.std.proofs.lemmas.List.{length-map}
@@ -43,6 +43,32 @@ not_over_absent caller submitted mine tied number e =
     let same : is_over (progress_at number submitted) ≡ true = ap (λ n. is_over (progress_at n submitted)) (sym parts.1) ∙ taken in
     absurd (true≢false (sym same ∙ e)))
 
+place_in : Option Progress → ℕ
+place_in (Some (Taken place)) = place
+place_in other = 0
+
+-- what is over stands in mine at its place
+pub found_at : (caller : ℕ) (submitted : List Submitted) (mine : List Done) → IsTied caller submitted mine → (number place : ℕ)
+    → progress_at number submitted ≡ Some (Taken place) → slice_get mine place ≡ done_at caller number mine
+unfolding place_in
+found_at caller submitted mine tied number place e =
+    by_option (done_at caller number mine)
+    (λ none. absurd (true≢false (sym (over_found caller submitted mine tied number place e) ∙ ap is_some none)))
+    (λ done found.
+    let parts = done_is caller number mine done found in
+    let here = place_of mine done parts.2 in
+    let over = ap (λ n. progress_at n submitted) (sym parts.1) ∙ tied.taken here.0 done here.1 in
+    let same : place ≡ here.0 = ap place_in (sym e ∙ over) in
+    ap (slice_get mine) same ∙ here.1 ∙ sym found)
+
+-- and what is not over does not stand there
+pub absent_at : (caller : ℕ) (submitted : List Submitted) (mine : List Done) → IsTied caller submitted mine → (number : ℕ)
+    → is_over (progress_at number submitted) ≡ false → None ≡ done_at caller number mine
+absent_at caller submitted mine tied number e =
+    by_option (done_at caller number mine)
+    (λ none. sym none)
+    (λ done found. absurd (true≢false (sym (ap is_some found) ∙ not_over_absent caller submitted mine tied number e)))
+
 -- a call is taken exactly where its request is over
 pub is_taken_is : (caller window : ℕ) (submitted : List Submitted) (mine told : List Done) → IsTied caller submitted mine → (number : ℕ)
     → is_taken (caller_of caller window submitted mine told) number ≡ is_over (progress_at number submitted)
@@ -68,7 +94,7 @@ upto_step f n floor false e low here =
     (eqb_tells f n)
 
 -- a number with all up to it taken and the next not is what the floor comes to
-upto_is : (caller : Caller) (floor : ℕ) → ((number : ℕ) → 1 ≤ number → number ≤ floor → is_taken caller number ≡ true) → is_taken caller (suc floor) ≡ false
+pub upto_is : (caller : Caller) (floor : ℕ) → ((number : ℕ) → 1 ≤ number → number ≤ floor → is_taken caller number ≡ true) → is_taken caller (suc floor) ≡ false
     → (n : ℕ) → floor_upto caller n ≡ min n floor
 unfolding floor_upto
 upto_is caller floor taken next zero = omega arith

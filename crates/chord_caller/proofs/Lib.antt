@@ -6,3 +6,5 @@ pub mod Taking
 pub mod Views
 pub mod Steps
 pub mod Naming
+pub mod Clients
+pub mod ClientSteps

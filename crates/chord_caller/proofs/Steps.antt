@@ -1,12 +1,12 @@
 -- What a call answers is a caller's event.
-use Rattle.std.proofs.Common.{◌≡◌, ℕ, ◌++◌, None, Some, Ok, sym, subst}
+use Rattle.std.proofs.Common.{◌≡◌, ℕ, ◌++◌, None, Some, Ok, true, sym, ◌∙◌, ap₂, subst}
 use Rattle.chord_map.specs.declared.request.Request.{Request}
 use Rattle.chord_caller.specs.declared.ask.Ask.{Ask}
 use Rattle.chord_caller.specs.declared.told.Told.{Told}
 use Rattle.chord_caller.specs.declared.heard.Heard.TheVariants.{Fresh, Known}
-use Rattle.chord_caller.specs.Caller.{Note, Caller, known, unknown, AskLetter, ToldLetter, NoteLetter, CallerStep}
+use Rattle.chord_caller.specs.Caller.{Note, Caller, known, unknown, AskLetter, ToldLetter, NoteLetter, CallerStep, next_number, with_request}
 use Rattle.chord_caller.specs.Caller.CallerStep.{Submits, Repeats, Takes, Ignores, Shows, Meets}
-use Rattle.chord_caller.specs.Answers.{SubmitIs, ResendIs, TakeIs}
+use Rattle.chord_caller.specs.Answers.{SubmitIs, ResendIs, TakeIs, is_pending}
 use Rattle.chord_caller.proofs.Views.{known_stale}
 
 pub submit_steps : (request : Request) (old : Caller) (ask : Ask) (new : Caller) → SubmitIs request old (Ok ask) new → CallerStep old None new (Some (AskLetter ask))
@@ -26,3 +26,7 @@ show_steps caller note e = subst (λ (shown : Note). CallerStep caller None call
 
 pub meet_steps : (old : Caller) (note : Note) (new : Caller) → new ≡ record old { told = old.told ++ unknown old note.done } → CallerStep old (Some (NoteLetter note)) new None
 meet_steps old note new e = subst (λ (caller : Caller). CallerStep old (Some (NoteLetter note)) caller None) (sym e) (Meets note)
+
+pub submit_waits : (request : Request) (old : Caller) (ask : Ask) (new : Caller) → SubmitIs request old (Ok ask) new → is_pending (next_number old) (with_request request old) ≡ true
+    → is_pending ask.number new ≡ true
+submit_waits request old ask new (fit, window, small, sent, is) waits = ap₂ is_pending sent.number is ∙ waits

@@ -1,20 +1,22 @@
 -- What a caller's fields say of the caller that it is.
-use Rattle.std.proofs.Common.{◌≡◌, ℕ, zero, suc, ◌+◌, ◌<◌, ◌≤◌, ⊎_elim, Bool, true, false, not, ◌&&◌, eqb, Option, None, Some, List, length, option_map, refl, sym, ◌∙◌, ap, arith}
+use Rattle.std.proofs.Common.{◌≡◌, ℕ, zero, suc, ◌+◌, ◌<◌, ◌≤◌, ⊎_elim, Bool, true, false, not, ◌&&◌, eqb, Option, None, Some, is_some, List, [], ◌∷◌, ◌++◌, length, slice_get, option_map, refl, sym, ◌∙◌, ap, ap₂, add-one, arith}
 use Rattle.chord_map.specs.declared.request.Request.{Request}
-use Rattle.chord_caller.specs.declared.submitted.Progress.TheVariants.{Pending}
+use Rattle.chord_caller.specs.declared.submitted.Progress.TheVariants.{Pending, Taken}
 use Rattle.std.proofs.lemmas.List.{length-map}
 use Rattle.std.proofs.lemmas.Bool.{cond-true, cond-false, and_from, true≢false, cases_lt}
 use Rattle.std.proofs.lemmas.Option.{none-some, slice_get_within}
 use Rattle.chord_map.specs.Map.{fits}
 use Rattle.chord_segment.specs.declared.done.Done.{Done}
+use Rattle.chord_segment.specs.History.{done_at}
 use Rattle.chord_segment.proofs.MarkLemmas.{eqb_same}
 use Rattle.chord_caller.specs.declared.told.Told.{Told}
 use Rattle.chord_caller.specs.declared.submitted.Submitted.{Submitted}
-use Rattle.chord_caller.specs.Caller.{Submission, Caller, submission_at, is_taken, floor_of, next_number, fitting, fresh_for}
+use Rattle.chord_caller.specs.Caller.{Submission, Caller, submission_at, is_taken, floor_of, next_number, with_request, fitting, fresh_for}
 use Rattle.chord_caller.specs.Submitted.{submitted_at, progress_of, progress_at, is_over, IsFloor, IsTied, IsCaller, submission_of, caller_of}
 use Rattle.chord_caller.specs.Answers.{is_pending}
-use Rattle.chord_caller.proofs.Floors.{is_taken_is, floor_of_is}
-use Rattle.chord_caller.proofs.Waiting.{is_waiting, submission_at_is, is_pending_is}
+use Rattle.chord_caller.proofs.Floors.{found_at, absent_at, is_taken_is, floor_of_is}
+use Rattle.chord_caller.proofs.Places.{got_last}
+use Rattle.chord_caller.proofs.Waiting.{got_beyond, is_waiting, submission_at_is, is_pending_is}
 
 -- the caller's number, window, floor and next number
 pub record Shows (number window floor count : ℕ) (caller : Caller) : Type 0 where
@@ -43,6 +45,36 @@ pub taken_asked : (number window : ℕ) (submitted : List Submitted) (mine told 
     → IsTied number submitted mine → (asked : ℕ) (o : Option Submitted) → o ≡ submitted_at asked submitted → is_taken caller asked ≡ is_over (progress_of o)
 taken_asked number window submitted mine told caller view tied asked o e =
     ap (λ c. is_taken c asked) (sym view) ∙ is_taken_is number window submitted mine told tied asked ∙ ap (λ s. is_over (progress_of s)) (sym e)
+
+taken_before : (caller : Caller) (request : Request) (asked : ℕ) → is_taken (with_request request caller) asked ≡ is_taken caller asked
+unfolding is_taken
+taken_before caller request asked = refl
+
+submission_last : (submitted : List Submission) (last : Submission) → submission_at (length submitted + 1) (submitted ++ last ∷ []) ≡ Some last
+submission_last submitted last = rw add-one (got_last submitted last)
+
+-- a request that was just submitted waits
+pub next_waits : (number window : ℕ) (submitted : List Submitted) (mine told : List Done) (caller : Caller) → caller_of number window submitted mine told ≡ caller
+    → IsTied number submitted mine → (request : Request) → is_pending (next_number caller) (with_request request caller) ≡ true
+next_waits number window submitted mine told caller view tied request =
+    let same : length caller.submitted ≡ length submitted = ap (λ (c : Caller). length c.submitted) (sym view) ∙ length-map submitted (submission_of mine) in
+    let beyond : None ≡ submitted_at (length submitted + 1) submitted = rw add-one (sym (got_beyond submitted (length submitted) (omega arith))) in
+    let free : is_taken caller (next_number caller) ≡ false =
+    ap (λ n. is_taken caller (n + 1)) same ∙ taken_asked number window submitted mine told caller view tied (length submitted + 1) None beyond in
+    ap₂ (λ o b. is_some o && not b) (submission_last caller.submitted (record { request = request; mine_seen = length caller.mine; told_seen = length caller.told }))
+    (taken_before caller request (next_number caller) ∙ free)
+
+-- the call of a number stands at the place that is kept
+pub found_asked : (number window : ℕ) (submitted : List Submitted) (mine told : List Done) (caller : Caller) → caller_of number window submitted mine told ≡ caller
+    → IsTied number submitted mine → (asked place : ℕ) → progress_at asked submitted ≡ Some (Taken place) → slice_get mine place ≡ done_at caller.number asked caller.mine
+found_asked number window submitted mine told caller view tied asked place e =
+    found_at number submitted mine tied asked place e ∙ ap (λ (c : Caller). done_at c.number asked c.mine) view
+
+-- where none is kept it stands nowhere
+pub absent_asked : (number window : ℕ) (submitted : List Submitted) (mine told : List Done) (caller : Caller) → caller_of number window submitted mine told ≡ caller
+    → IsTied number submitted mine → (asked : ℕ) → is_over (progress_at asked submitted) ≡ false → None ≡ done_at caller.number asked caller.mine
+absent_asked number window submitted mine told caller view tied asked e =
+    absent_at number submitted mine tied asked e ∙ ap (λ (c : Caller). done_at c.number asked c.mine) view
 
 -- the submission of a number is what is kept of it
 pub submission_asked : (number window : ℕ) (submitted : List Submitted) (mine told : List Done) (caller : Caller) → caller_of number window submitted mine told ≡ caller

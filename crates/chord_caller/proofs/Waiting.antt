@@ -56,7 +56,7 @@ got_within [] place low = absurd (omega arith)
 got_within (x ∷ xs) zero low = refl
 got_within (x ∷ xs) (suc place) low = got_within xs place (omega arith)
 
-got_beyond : {A : Type 0} (xs : List A) (place : ℕ) → length xs ≤ place → slice_get xs place ≡ None
+pub got_beyond : {A : Type 0} (xs : List A) (place : ℕ) → length xs ≤ place → slice_get xs place ≡ None
 got_beyond [] place high = refl
 got_beyond (x ∷ xs) zero high = absurd (omega arith)
 got_beyond (x ∷ xs) (suc place) high = got_beyond xs place (omega arith)

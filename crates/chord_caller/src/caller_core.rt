@@ -1,17 +1,18 @@
 //! The core of a caller.
-ghost use Rattle.std.specs.Prelude.{◌≡◌, ◌≤◌, ◌++◌, None, Some, IfOk, OnOk, OnErr};
-ghost use Rattle.chord_caller.specs.Caller.{floor_of, known, unknown, AskLetter, ToldLetter, NoteLetter, CallerStep};
+ghost use Rattle.std.specs.Prelude.{◌≡◌, ◌≤◌, ◌++◌, None, Some, is_some, true, IfOk, OnOk, OnErr};
+ghost use Rattle.std.specs.Option.{option_copied};
+ghost use Rattle.chord_segment.specs.History.{done_at};
+ghost use Rattle.chord_caller.specs.Caller.{floor_of, known, unknown, submission_at, AskLetter, ToldLetter, NoteLetter, CallerStep};
 ghost use Rattle.chord_caller.specs.Answers.{new_caller, is_pending, PendingIs, RefusalIs, SubmitIs, ResendIs, TakeIs};
 
 use crate::ask::Ask;
 use crate::fault::{ResendFault, SubmitFault, TakeFault};
 use crate::heard::Heard;
 use crate::note::{Note, copy_unknown};
-use crate::submitted::{Progress, Submitted, raise_floor, settle, submission};
+use crate::submitted::{Progress, Submitted, done_in, raise_floor, settle, submission};
 use crate::told::Told;
 use chord_map::Request;
-use chord_segment::Done;
-use chord_segment::done::copy_dones;
+use chord_segment::{Done, copy_dones};
 use std::alloc::{AllocError, Global};
 use std::marker::Model;
 
@@ -85,6 +86,26 @@ impl CallerCore {
         }
     }
 
+    /// Whether a request of this number was submitted.
+    pub fn was_submitted(&self, number: u64) -> bool
+        ensures { result ≡ is_some (submission_at number self.now.submitted) }
+    {
+        submission(&self.submitted, number).is_some()
+    }
+
+    /// The call of this number, where its reply was taken.
+    pub fn taken(&self, number: u64) -> Option<&Done>
+        ensures { option_copied result ≡ done_at self.now.number number self.now.mine }
+    {
+        match submission(&self.submitted, number) {
+            Some(submitted) => match &submitted.progress {
+                Progress::Taken(place) => done_in(&self.mine, *place),
+                Progress::Pending(_) => None,
+            },
+            None => None,
+        }
+    }
+
     /// The least pending number.
     pub fn pending(&self) -> Option<u64>
         ensures { PendingIs self.now result }
@@ -116,6 +137,7 @@ impl CallerCore {
     /// Submits a request under the next number. What is refused is dropped.
     pub fn submit(&mut self, request: Request) -> Result<Ask, SubmitFault>
         ensures answer { SubmitIs request self.old result self.new }
+        ensures waits { IfOk result (λ ask. is_pending ask.number self.new ≡ true) }
         ensures step { IfOk result (λ ask. CallerStep self.old None self.new (Some (AskLetter ask))) }
     {
         if let Some(fault) = self.refusal(&request) {

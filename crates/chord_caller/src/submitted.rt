@@ -1,5 +1,5 @@
 //! What a caller submitted, by number.
-ghost use Rattle.std.specs.Prelude.{◌≡◌, ◌<◌, ◌≤◌, length};
+ghost use Rattle.std.specs.Prelude.{◌≡◌, ◌<◌, ◌≤◌, length, slice_get};
 ghost use Rattle.std.specs.Option.{option_copied};
 ghost use Rattle.std.specs.Vec.{vec_len, vec_capacity};
 ghost use Rattle.chord_caller.specs.Submitted.{submitted_at, IsFloor, AreTaken, IsPending, Settles};
@@ -33,6 +33,13 @@ pub fn submission(submitted: &[Submitted], number: u64) -> Option<&Submitted>
         return None;
     }
     submitted.get((number - 1) as usize)
+}
+
+/// The call that stands at this place.
+pub fn done_in(dones: &[Done], place: usize) -> Option<&Done>
+    ensures { option_copied result ≡ slice_get dones.now place }
+{
+    dones.get(place)
 }
 
 /// Raises a floor to the greatest number with all at or below it taken.

@@ -5,6 +5,7 @@ use chord_map::{Bytes, Reply, Request, RequestFault, Values};
 use std::alloc::{AllocError, Global};
 use std::test::Fail;
 
+mod clients;
 mod growths;
 
 fn insert(alloc: Global, key: &[u8]) -> Result<Request, AllocError> {
@@ -64,6 +65,21 @@ fn a_reply_is_taken_once(rt: HostRuntime) -> Result<(), Fail> {
     assert_eq!(rt; core.take(added(7, 1))?, Heard::Known);
     assert_eq!(rt; core.mine().len(), 1);
     assert_eq!(rt; core.floor(), 1);
+    Ok(())
+}
+
+#[test]
+fn a_taken_call_is_found_by_its_number(rt: HostRuntime) -> Result<(), Fail> {
+    let mut core = CallerCore::new(rt.alloc(), 7, 2);
+    core.submit(insert(rt.alloc(), b"a")?)?;
+    core.submit(insert(rt.alloc(), b"b")?)?;
+    assert_eq!(rt; core.take(added(7, 2))?, Heard::Fresh);
+    assert!(rt; core.was_submitted(1) && core.was_submitted(2));
+    assert!(rt; !core.was_submitted(0) && !core.was_submitted(3));
+    assert!(rt; core.taken(1).is_none() && core.taken(3).is_none());
+    let found = core.taken(2).ok_or("not found")?;
+    assert_eq!(rt; (found.caller, found.number), (7, 2));
+    assert!(rt; found.request.key() == b"b".as_slice() && found.reply == Reply::Added);
     Ok(())
 }
 

@@ -1,9 +1,10 @@
 -- Events of nodes and of callers as events of actors.
-use Rattle.std.proofs.Common.{◌≡◌, Option, Some, None, sym, subst}
-use Rattle.chord_caller.specs.Caller.{Caller, Letter}
+use Rattle.std.proofs.Common.{◌≡◌, Option, Some, None, sym, ap, subst}
+use Rattle.chord_caller.specs.Caller.{Caller, CallerStep, Letter}
 use Rattle.chord_node.specs.declared.message.Message.{Message}
 use Rattle.chord_node.specs.Letters.{message_of, letter_sent}
 use Rattle.chord_node.specs.Node.{Node}
+use Rattle.chord_node.specs.World.{WasSent}
 use Rattle.chord_table.specs.Actors.{Event}
 use Rattle.chord_table.specs.Seen.{Actor, OfNode, OfCaller}
 use Rattle.chord_table.specs.Views.{Sight, NodeSight, CallerSight, node_in, caller_in, MayBecome, MayAct, MayCall}
@@ -29,3 +30,11 @@ pub caller_may_send : (s : Sight) (v : CallerSight) (after : Caller) (sent : Let
     → MayCall v.caller v.messages after (Some sent) → MayBecome s.actor s.messages (OfCaller after) (Some message)
 caller_may_send s v after sent message is shows same may =
     subst (λ (m : Message). MayBecome s.actor s.messages (OfCaller after) (Some m)) (sym same) (caller_may s v after (Some sent) is shows may)
+
+-- what a caller's seat shows may become what follows from it
+pub caller_follows : (s : Sight) (v : CallerSight) (next : Caller → Caller) (taken sent : Option Letter) → s.actor ≡ OfCaller (caller_in s.actor)
+    → record { caller = caller_in s.actor; messages = s.messages } ≡ v → WasSent v.messages (letter_sent taken) → CallerStep v.caller taken (next v.caller) sent
+    → MayBecome s.actor s.messages (OfCaller (next (caller_in s.actor))) (letter_sent sent)
+caller_follows s v next taken sent is shows known step =
+    let same : caller_in s.actor ≡ v.caller = ap (λ (c : CallerSight). c.caller) shows in
+    subst (λ (c : Caller). MayBecome s.actor s.messages (OfCaller (next c)) (letter_sent sent)) (sym same) (caller_may s v (next v.caller) sent is shows (taken, known, step))

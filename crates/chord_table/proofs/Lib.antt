@@ -4,4 +4,5 @@ pub mod Showing
 pub mod Events
 pub mod Keeping
 pub mod Becoming
+pub mod Cores
 pub mod Telling

@@ -5,10 +5,10 @@ use lib.ListN.{get_elem?}
 use Rattle.atomic_table.specs.Table.{State}
 pub use Rattle.atomic_table.specs.Seated.{TableId, table_id_coded}
 use Rattle.chord_caller.specs.Answers.{new_caller}
-use Rattle.chord_caller.specs.Caller.{Caller, CallerStep, Letter}
+use Rattle.chord_caller.specs.Caller.{Caller, CallerStep, Letter, with_request}
 use Rattle.chord_links.specs.NodeLinks.{NodeLinks, alone}
 use Rattle.chord_node.specs.declared.message.Message.{Message}
-use Rattle.chord_node.specs.declared.message.Message.TheVariants.{Full}
+use Rattle.chord_node.specs.declared.message.Message.TheVariants.{Ask, Full}
 use Rattle.chord_node.specs.Letters.{letter_sent}
 use Rattle.chord_node.specs.Node.{Node, NodeStep, founder, newborn}
 use Rattle.chord_node.specs.World.{World, Reached, WasSent}
@@ -137,6 +137,11 @@ node_in (OfCaller caller) = no_node
 abbrev pub caller_in : Actor → Caller
 caller_in (OfNode node) = no_caller
 caller_in (OfCaller caller) = caller
+
+-- the caller after it submitted the call that this message is, if it is one
+abbrev pub submitting : Message → Caller → Caller
+submitting (Ask ask) caller = with_request ask.request caller
+submitting message caller = caller
 
 -- with one of these messages taken in, or none, an event leads to the new state and sends that message, if any
 abbrev pub MayBecome : Actor → List Message → Actor → Option Message → Type 0

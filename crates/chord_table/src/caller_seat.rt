@@ -1,7 +1,9 @@
 //! The seats of callers.
-ghost use Rattle.std.specs.Prelude.{◌≡◌, ◌++◌, [], ◌∷◌, Option, Some};
-ghost use Rattle.chord_caller.specs.Caller.{Letter};
+ghost use Rattle.std.specs.Prelude.{◌≡◌, ◌++◌, [], ◌∷◌, Contains, Option, None, Some};
+ghost use Rattle.chord_caller.specs.Caller.{AskLetter, CallerStep, Letter, with_request};
+ghost use Rattle.chord_caller.specs.Client.{hearing};
 ghost use Rattle.chord_node.specs.Letters.{message_of};
+ghost use Rattle.chord_node.specs.declared.message.Message.TheVariants.{Ask as AskMessage, Told as ToldMessage};
 ghost use Rattle.chord_table.specs.Shown.{CallerShown};
 ghost use Rattle.chord_table.specs.Views.{MayCall};
 
@@ -9,7 +11,7 @@ use crate::actor_seat::ActorSeat;
 use crate::naming::Naming;
 use crate::parcel::Parcel;
 use crate::shared::Shared;
-use chord_caller::CallerCore;
+use chord_caller::{Ask, CallerCore, Told};
 use chord_node::{Message, laws};
 use std::marker::{Brand, Model};
 
@@ -47,6 +49,33 @@ impl<J: Naming> CallerSeat<J> {
         ensures parcel { result ≡ message }
     {
         self.seat.send::<Brand, CallerCore>(table, after, message)
+    }
+
+    /// The caller submitted a call, which goes out. No core need keep what the seat shows.
+    pub fn submit(&mut self, table: &Shared<J>, ask: Ask) -> Parcel<J>
+        requires event { CallerStep self.old.caller None (with_request ask.request self.old.caller) (Some (AskLetter ask)) }
+        ensures seat { self.new ≡ record self.old { caller = with_request ask.request self.old.caller } }
+        ensures parcel { result ≡ AskMessage ask }
+    {
+        self.seat.send::<Brand, ()>(table, &(), Message::Ask(ask))
+    }
+
+    /// A pending call goes out again, which leaves the caller as it is.
+    pub fn resend(&mut self, table: &Shared<J>, ask: Ask) -> Parcel<J>
+        requires event { CallerStep self.old.caller None self.old.caller (Some (AskLetter ask)) }
+        ensures seat { self.new ≡ self.old }
+        ensures parcel { result ≡ AskMessage ask }
+    {
+        let again = Message::Ask(ask);
+        self.seat.send::<Brand, ()>(table, &(), again)
+    }
+
+    /// The caller heard a reply that came.
+    pub fn hear(&mut self, table: &Shared<J>, told: &Told)
+        requires came { Contains self.old.messages (ToldMessage told.now) }
+        ensures { self.new ≡ record self.old { caller = hearing told.now self.old.caller } }
+    {
+        self.seat.local::<Brand, Told>(table, told);
     }
 
     /// A message comes to the caller.

@@ -1,5 +1,6 @@
 //! Who is admitted.
 ghost use Rattle.std.specs.Prelude.{◌≡◌, ◌<◌, ◌++◌, [], ◌∷◌, IfOk};
+ghost use Rattle.chord_caller.specs.Answers.{new_caller};
 ghost use Rattle.chord_table.specs.Views.{MayEnter, MayFound, MayOpen, with_number, word_of};
 
 use crate::actor_seat::ActorSeat;
@@ -84,6 +85,19 @@ impl<J: Naming> Registrar<J> {
     {
         let word = table.slots + no as usize;
         let seat = self.admit::<Brand, CallerCore>(table, word, core);
+        CallerSeat { seat }
+    }
+
+    /// A new caller of this number and window enters, and its seat shows it.
+    pub fn open_caller(&mut self, table: &Shared<J>, no: u64, window: u64) -> CallerSeat<J>
+        requires place { no < J.name.callers }
+        requires may { MayOpen self.old.callers (new_caller no window) }
+        ensures admitted { self.new ≡ record self.old { callers = self.old.callers ++ no ∷ [] } }
+        ensures seat { result ≡ record { caller = new_caller no window; messages = [] } }
+    {
+        let place = table.slots + no as usize;
+        let opened = (no, window);
+        let seat = self.admit::<Brand, (u64, u64)>(table, place, &opened);
         CallerSeat { seat }
     }
 

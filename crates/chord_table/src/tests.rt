@@ -13,6 +13,8 @@ use std::marker::Brand;
 use std::process::Abort;
 use std::test::Fail;
 
+mod clients;
+
 /// Insert `x` under `abc`.
 fn insert(alloc: Global) -> Result<Request, AllocError> {
     Ok(Request::Insert {

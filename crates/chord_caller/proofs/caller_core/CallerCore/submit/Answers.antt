@@ -7,8 +7,8 @@ use Rattle.chord_caller.specs.Answers.{SubmitIs}
 use Rattle.chord_caller.specs.Caller.{with_request}
 use Rattle.chord_caller.specs.Submitted.{caller_of, IsCaller}
 use Rattle.chord_caller.proofs.Submitting.{submit_keeps, submitted_is}
-use Rattle.chord_caller.proofs.Views.{Shows, shows}
-use Rattle.chord_caller.proofs.Steps.{submit_steps}
+use Rattle.chord_caller.proofs.Views.{Shows, shows, next_waits}
+use Rattle.chord_caller.proofs.Steps.{submit_steps, submit_waits}
 use Rattle.chord_caller.proofs.caller_core.CallerCore.submit.Goals as goal
 
 pub returns-in-Some-clause-answer : goal.returns-in-Some-clause-answer
@@ -68,3 +68,9 @@ returns-clause-answer c =
 
 pub returns-clause-step : goal.returns-clause-step
 returns-clause-step c = submit_steps c.args.request c.args.self.now _ _ (returns-clause-answer c)
+
+pub returns-clause-waits : goal.returns-clause-waits
+returns-clause-waits c =
+    let core = c.self.inside in
+    submit_waits c.args.request c.args.self.now _ _ (returns-clause-answer c)
+    (next_waits core.number core.window core.submitted.items core.mine.items core.told.items c.args.self.now c.self.view_is c.self.invariant.tied c.args.request)

@@ -1,0 +1,325 @@
+-- The slots of a client, and that a client stays the core of a caller that goes on with it.
+use Rattle.std.proofs.Common.{◌≡◌, ◌≢◌, ℕ, zero, suc, ◌+◌, ◌-◌, ◌<◌, ◌≤◌, Bool, true, false, cond, not, ◌&&◌, ◌||◌, eqb, Option, None, Some, List, [], ◌∷◌, ◌++◌, replicate, length, length-append, length-set, slice_get, slice_set, is_some, option_map, ⊎_elim, refl, sym, ◌∙◌, ap, ap₂, arith}
+use Rattle.std.proofs.lemmas.Bool.{true≢false, cases_lt, ne_eqb}
+use Rattle.std.proofs.lemmas.List.{append_assoc, length-replicate}
+use Rattle.std.proofs.lemmas.Option.{none-some, slice_get_past}
+use Rattle.chord_map.specs.declared.request.Request.{Request}
+use Rattle.chord_segment.specs.declared.done.Done.{Done}
+use Rattle.chord_segment.specs.History.{done_at}
+use Rattle.chord_segment.proofs.MarkLemmas.{same_or_not, eqb_same}
+use Rattle.chord_caller.specs.declared.slot.Slot.{Slot}
+use Rattle.chord_caller.specs.declared.slot.Slot.TheVariants.{Waiting, Over}
+use Rattle.chord_caller.specs.declared.told.Told.{Told}
+use Rattle.chord_caller.specs.Caller.{Submission, Caller, submission_at, is_taken, floor_of, with_request, with_reply}
+use Rattle.chord_caller.specs.Slots.{all_slots, slot_of, waiting, is_over, IsRaised}
+use Rattle.chord_caller.specs.Client.{Client, client_of, IsClient, new_client, count_of, slot_at, slot_in, waiting_at, IsCoreOf}
+use Rattle.chord_caller.specs.Answers.{new_caller, is_pending, PendingIs}
+use Rattle.chord_caller.specs.ClientAnswers.{with_waiting, IsSettled, ClientPendingIs}
+use Rattle.chord_caller.proofs.Floors.{upto_is}
+use Rattle.chord_caller.proofs.Places.{got_last, got_set_same, got_set_other, either_is}
+
+-- the slots up to the floor are over
+pub got_over : (floor : ℕ) (slots : List Slot) (place : ℕ) → place < floor → slice_get (all_slots floor slots) place ≡ Some Over
+got_over zero slots place low = absurd (omega arith)
+got_over (suc floor) slots zero low = refl
+got_over (suc floor) slots (suc place) low = got_over floor slots place (omega arith)
+
+-- those above it are the ones that are kept
+pub got_kept : (floor : ℕ) (slots : List Slot) (place : ℕ) → floor ≤ place → slice_get (all_slots floor slots) place ≡ slice_get slots (place - floor)
+got_kept zero slots place high = ap (slice_get slots) (omega arith)
+got_kept (suc floor) slots zero high = absurd (omega arith)
+got_kept (suc floor) slots (suc place) high = got_kept floor slots place (omega arith) ∙ ap (slice_get slots) (omega arith)
+
+pub count_all : (floor : ℕ) (slots : List Slot) → length (all_slots floor slots) ≡ floor + length slots
+count_all floor slots = length-append (replicate floor Over) slots ∙ ap (λ n. n + length slots) (length-replicate floor Over)
+
+-- the slot of a number by whether it is taken and what was submitted
+abbrev pub slot_by : Bool → Option Submission → Option Slot
+slot_by taken submission = cond taken (Some Over) (option_map (λ (s : Submission). Waiting s.request) submission)
+
+over_by : (taken : Bool) (submission : Option Submission) → is_over (slot_by taken submission) ≡ taken
+over_by true submission = refl
+over_by false None = refl
+over_by false (Some submission) = refl
+
+-- a number is taken exactly where its slot is over
+pub taken_is : (client : Client) (caller : Caller) → ((number : ℕ) → slot_at number client ≡ slot_in number caller) → (number : ℕ) → is_taken caller number ≡ is_over (slot_at number client)
+taken_is client caller slots number =
+    sym (over_by (is_taken caller number) (submission_at number caller.submitted)) ∙ ap is_over (sym (slots number))
+
+-- the floor of the caller is the client's
+floor_from : (client : Client) (caller : Caller) → is_over (slice_get client.slots 0) ≡ false → count_of client ≡ length caller.submitted
+    → ((number : ℕ) → slot_at number client ≡ slot_in number caller) → client.floor ≡ floor_of caller
+floor_from client caller next count slots =
+    let e = upto_is caller client.floor below
+    (taken_is client caller slots (suc client.floor)
+    ∙ ap is_over (got_kept client.floor client.slots client.floor (omega arith))
+    ∙ ap (λ n. is_over (slice_get client.slots n)) (omega arith)
+    ∙ next)
+    (length caller.submitted) in
+    sym (e ∙ omega arith)
+  where
+    below : (number : ℕ) → 1 ≤ number → number ≤ client.floor → is_taken caller number ≡ true
+    below zero low high = absurd (omega arith)
+    below (suc place) low high = taken_is client caller slots (suc place) ∙ ap is_over (got_over client.floor client.slots place (omega arith))
+
+-- a client is the core of a caller where number, window, count and slots agree
+core_from : (client : Client) (caller : Caller) → client.number ≡ caller.number → client.window ≡ caller.window → is_over (slice_get client.slots 0) ≡ false
+    → count_of client ≡ length caller.submitted → ((number : ℕ) → slot_at number client ≡ slot_in number caller) → IsCoreOf client caller
+core_from client caller number window next count slots = record {
+  number_is = number;
+  window_is = window;
+  floor_is = floor_from client caller next count slots;
+  count_is = count;
+  slots_are = slots;
+}
+
+new_slots : (number window asked : ℕ) → slot_at asked (new_client number window) ≡ slot_in asked (new_caller number window)
+unfolding is_taken done_at
+new_slots number window zero = refl
+new_slots number window (suc place) = refl
+
+-- a new client is the core of a new caller
+pub new_core : (number window : ℕ) → IsCoreOf (new_client number window) (new_caller number window)
+new_core number window = core_from (new_client number window) (new_caller number window) refl refl refl refl (new_slots number window)
+
+got_push_other : {A : Type 0} (xs : List A) (last : A) (place : ℕ) → place ≢ length xs → slice_get (xs ++ last ∷ []) place ≡ slice_get xs place
+got_push_other [] last zero apart = absurd (apart refl)
+got_push_other [] last (suc place) apart = refl
+got_push_other (x ∷ xs) last zero apart = refl
+got_push_other (x ∷ xs) last (suc place) apart = got_push_other xs last place (λ e. apart (ap suc e))
+
+next_pushed : (slots : List Slot) (request : Request) → is_over (slice_get slots 0) ≡ false → is_over (slice_get (slots ++ Waiting request ∷ []) 0) ≡ false
+next_pushed [] request next = refl
+next_pushed (slot ∷ slots) request next = next
+
+-- the submission that a request becomes
+abbrev pub submission_now : Request → Caller → Submission
+submission_now request caller = record { request = request; mine_seen = length caller.mine; told_seen = length caller.told }
+
+same_taken : (request : Request) (caller : Caller) (number : ℕ) → is_taken (with_request request caller) number ≡ is_taken caller number
+unfolding is_taken
+same_taken request caller number = refl
+
+pushed_slots : (request : Request) (client : Client) (caller : Caller) → IsCoreOf client caller → (number : ℕ)
+    → slot_at number (with_waiting request client) ≡ slot_in number (with_request request caller)
+pushed_slots request client caller core zero = core.slots_are zero ∙ ap (λ t. slot_by t None) (sym (same_taken request caller zero))
+pushed_slots request client caller core (suc place) =
+    let xs = all_slots client.floor client.slots in
+    let count : length xs ≡ length caller.submitted = count_all client.floor client.slots ∙ core.count_is in
+    let grown : slot_at (suc place) (with_waiting request client) ≡ slice_get (xs ++ Waiting request ∷ []) place =
+    ap (λ (all : List Slot). slice_get all place) (sym (append_assoc (replicate client.floor Over) client.slots (Waiting request ∷ []))) in
+    ⊎_elim
+    (λ (here : place ≡ length xs).
+    let none : slice_get xs place ≡ None = slice_get_past xs place (omega arith) in
+    let waits : is_taken caller (suc place) ≡ false = taken_is client caller core.slots_are (suc place) ∙ ap is_over none in
+    let mine : slice_get (xs ++ Waiting request ∷ []) place ≡ Some (Waiting request) = ap (slice_get (xs ++ Waiting request ∷ [])) here ∙ got_last xs (Waiting request) in
+    let theirs : slice_get (caller.submitted ++ submission_now request caller ∷ []) place ≡ Some (submission_now request caller) =
+    ap (slice_get (caller.submitted ++ submission_now request caller ∷ [])) (here ∙ count) ∙ got_last caller.submitted (submission_now request caller) in
+    grown ∙ mine ∙ sym (ap₂ slot_by (same_taken request caller (suc place) ∙ waits) theirs))
+    (λ (there : place ≢ length xs).
+    let theirs : slice_get (caller.submitted ++ submission_now request caller ∷ []) place ≡ slice_get caller.submitted place =
+    got_push_other caller.submitted (submission_now request caller) place (λ e. there (e ∙ sym count)) in
+    grown ∙ got_push_other xs (Waiting request) place there ∙ core.slots_are (suc place) ∙ sym (ap₂ slot_by (same_taken request caller (suc place)) theirs))
+    (same_or_not place (length xs))
+
+-- a client that submits a request is the core of the caller that does
+pub submit_core : (request : Request) (client : Client) (caller : Caller) → is_over (slice_get client.slots 0) ≡ false → IsCoreOf client caller
+    → IsCoreOf (with_waiting request client) (with_request request caller)
+submit_core request client caller next core =
+    core_from (with_waiting request client) (with_request request caller) core.number_is core.window_is
+    (next_pushed client.slots request next)
+    (let count = core.count_is in simp length-append (omega arith))
+    (pushed_slots request client caller core)
+
+one_found : (caller number : ℕ) (call : Done) → is_some (done_at caller number (call ∷ [])) ≡ (eqb call.caller caller && eqb call.number number)
+unfolding done_at
+one_found caller number call = by_test (eqb call.caller caller && eqb call.number number)
+  where
+    by_test : (test : Bool) → is_some (cond test (Some call) None) ≡ test
+    by_test true = refl
+    by_test false = refl
+
+taken_after : (told : Told) (request : Request) (caller : Caller) (number : ℕ)
+    → is_taken (with_reply told request caller) number ≡ (is_taken caller number || (eqb told.caller caller.number && eqb told.number number))
+unfolding is_taken
+taken_after told request caller number =
+    let call : Done = record { caller = told.caller; number = told.number; request = request; reply = told.reply } in
+    either_is caller.number number caller.mine (call ∷ [])
+    ∙ ap (λ b. is_some (done_at caller.number number caller.mine) || b) (one_found caller.number number call)
+
+settled_slots : (told : Told) (request : Request) (client new : Client) (caller : Caller) → told.caller ≡ caller.number → IsSettled told.number request client new → IsCoreOf client caller
+    → (number : ℕ) → slot_at number new ≡ slot_in number (with_reply told request caller)
+settled_slots told request client new caller own settled core number =
+    ⊎_elim
+    (λ (here : number ≡ told.number).
+    let taken : is_taken (with_reply told request caller) number ≡ true =
+    taken_after told request caller number ∙ ap₂ (λ a b. is_taken caller number || (a && b)) (eqb_same told.caller caller.number own) (eqb_same told.number number (sym here)) ∙ or_true (is_taken caller number) in
+    let at : slot_at number client ≡ Some (Waiting request) = ap (λ n. slot_at n client) here ∙ settled.waits in
+    over_here number (here ∙ settled.number_is) at ∙ sym (ap (λ t. slot_by t (submission_at number caller.submitted)) taken))
+    (λ (there : number ≢ told.number).
+    let taken : is_taken (with_reply told request caller) number ≡ is_taken caller number =
+    taken_after told request caller number
+    ∙ ap₂ (λ a b. is_taken caller number || (a && b)) (eqb_same told.caller caller.number own) (ne_eqb told.number number (λ e. there (sym e)))
+    ∙ or_false (is_taken caller number) in
+    same_there number (λ e. there (e ∙ sym settled.number_is)) ∙ core.slots_are number ∙ sym (ap (λ t. slot_by t (submission_at number caller.submitted)) taken))
+    (same_or_not number told.number)
+  where
+    or_true : (b : Bool) → (b || true) ≡ true
+    or_true true = refl
+    or_true false = refl
+
+    or_false : (b : Bool) → (b || false) ≡ b
+    or_false true = refl
+    or_false false = refl
+
+    over_here : (n : ℕ) → n ≡ suc settled.place → slot_at n client ≡ Some (Waiting request) → slot_at n new ≡ Some Over
+    over_here zero e at = absurd (none-some (Waiting request) at)
+    over_here (suc place) e at =
+        let same : place ≡ settled.place = omega arith in
+        ap (λ (all : List Slot). slice_get all place) settled.slots_are
+        ∙ ap (λ p. slice_get (slice_set (all_slots client.floor client.slots) p Over) place) (sym same)
+        ∙ got_set_same (all_slots client.floor client.slots) place (Waiting request) Over at
+
+    same_there : (n : ℕ) → n ≢ suc settled.place → slot_at n new ≡ slot_at n client
+    same_there zero apart = refl
+    same_there (suc place) apart =
+        ap (λ (all : List Slot). slice_get all place) settled.slots_are
+        ∙ got_set_other (all_slots client.floor client.slots) settled.place place Over (λ e. apart (ap suc e))
+
+-- a client that takes a reply is the core of the caller that does
+pub settle_core : (told : Told) (request : Request) (client new : Client) (caller : Caller) → told.caller ≡ client.number → IsSettled told.number request client new → IsCoreOf client caller
+    → IsCoreOf new (with_reply told request caller)
+settle_core told request client new caller own settled core =
+    core_from new (with_reply told request caller) (settled.caller_is ∙ core.number_is) (settled.window_is ∙ core.window_is) settled.next
+    (sym (count_all new.floor new.slots) ∙ ap (λ (all : List Slot). length all) settled.slots_are ∙ length-set (all_slots client.floor client.slots) settled.place Over
+    ∙ count_all client.floor client.slots ∙ core.count_is)
+    (settled_slots told request client new caller (own ∙ core.number_is) settled core)
+
+-- a pending number is above the floor and among those submitted
+pub waits_above : (floor : ℕ) (slots : List Slot) (number : ℕ) (request : Request) → waiting (slot_of floor slots number) ≡ Some request → (floor < number) × (number ≤ floor + length slots)
+waits_above floor slots zero request e = absurd (none-some request e)
+waits_above floor slots (suc place) request e =
+    let low : floor < suc place =
+    ⊎_elim (λ (above : floor < suc place). above)
+    (λ (below : suc place ≤ floor). absurd (none-some request (sym (ap waiting (got_over floor slots place (omega arith))) ∙ e)))
+    (cases_lt floor (suc place)) in
+    ⊎_elim
+    (λ (within : place < length (all_slots floor slots)). (low, let n = count_all floor slots in omega arith))
+    (λ (beyond : length (all_slots floor slots) ≤ place). absurd (none-some request (sym (ap waiting (slice_get_past (all_slots floor slots) place beyond)) ∙ e)))
+    (cases_lt place (length (all_slots floor slots)))
+
+-- the slot of a number whose request waits
+pub waits_slot : (o : Option Slot) (request : Request) → waiting o ≡ Some request → o ≡ Some (Waiting request)
+waits_slot None request e = absurd (none-some request e)
+waits_slot (Some (Waiting other)) request e = cc
+waits_slot (Some Over) request e = absurd (none-some request e)
+
+-- one that neither waits nor is over was never submitted
+pub idle_slot : (o : Option Slot) → is_over o ≡ false → waiting o ≡ None → o ≡ None
+idle_slot None over e = refl
+idle_slot (Some (Waiting request)) over e = absurd (none-some request (sym e))
+idle_slot (Some Over) over e = absurd (true≢false over)
+
+pub over_slot : (o : Option Slot) → is_over o ≡ true → o ≡ Some Over
+over_slot None over = absurd (true≢false (sym over))
+over_slot (Some (Waiting request)) over = absurd (true≢false (sym over))
+over_slot (Some Over) over = refl
+
+-- a slot that is set above the floor
+pub set_above : (floor : ℕ) (slots : List Slot) (place : ℕ) (slot : Slot) → floor ≤ place → all_slots floor (slice_set slots (place - floor) slot) ≡ slice_set (all_slots floor slots) place slot
+set_above zero slots place slot high = ap (λ p. slice_set slots p slot) (omega arith)
+set_above (suc floor) slots zero slot high = absurd (omega arith)
+set_above (suc floor) slots (suc place) slot high =
+    ap (λ (all : List Slot). Over ∷ all) (ap (λ p. all_slots floor (slice_set slots p slot)) (omega arith) ∙ set_above floor slots place slot (omega arith))
+
+-- the floor is not lowered
+raised_rises : (floor : ℕ) (slots : List Slot) (floor' : ℕ) (slots' : List Slot) → IsRaised floor slots floor' slots' → floor ≤ floor'
+raised_rises floor slots floor' slots' raised =
+    ⊎_elim
+    (λ (below : floor' < floor).
+    let first : slice_get slots' 0 ≡ Some Over =
+    ap (slice_get slots') (omega arith) ∙ sym (got_kept floor' slots' floor' (omega arith)) ∙ ap (λ (all : List Slot). slice_get all floor') raised.same ∙ got_over floor slots floor' below in
+    absurd (true≢false (sym (ap is_over first) ∙ raised.next)))
+    (λ rises. rises)
+    (cases_lt floor' floor)
+
+-- what a client keeps stays so as a slot is settled
+pub settled_keeps : (window floor room : ℕ) (slots : List Slot) (place floor' room' : ℕ) (slots' : List Slot) → IsClient window floor room slots
+    → IsRaised floor (slice_set slots place Over) floor' slots' → room' ≡ room → IsClient window floor' room' slots'
+settled_keeps window floor room slots place floor' room' slots' h raised same =
+    let rises = raised_rises floor (slice_set slots place Over) floor' slots' raised in
+    let count : floor' + length slots' ≡ floor + length slots =
+    sym (count_all floor' slots') ∙ ap (λ (all : List Slot). length all) raised.same ∙ count_all floor (slice_set slots place Over) ∙ ap (λ n. floor + n) (length-set slots place Over) in
+    let near = h.near in
+    let numbered = h.numbered in
+    record {
+      some_window = h.some_window;
+      small_window = h.small_window;
+      near = omega arith;
+      room_is = same ∙ h.room_is;
+      numbered = rw count numbered;
+      next = raised.next;
+    }
+
+-- a slot that is settled is that of the number
+pub settled_from : (number window floor : ℕ) (slots : List Slot) (asked : ℕ) (request : Request) (floor' : ℕ) (slots' : List Slot)
+    → waiting (slot_of floor slots asked) ≡ Some request → IsRaised floor (slice_set slots (asked - floor - 1) Over) floor' slots'
+    → IsSettled asked request (client_of number window floor slots) (client_of number window floor' slots')
+settled_from number window floor slots zero request floor' slots' waits raised = absurd (none-some request waits)
+settled_from number window floor slots (suc place) request floor' slots' waits raised =
+    let above = (waits_above floor slots (suc place) request waits).0 in
+    record {
+      place = place;
+      number_is = refl;
+      waits = waits_slot (slot_of floor slots (suc place)) request waits;
+      caller_is = refl;
+      window_is = refl;
+      slots_are = raised.same ∙ ap (λ p. all_slots floor (slice_set slots p Over)) (omega arith) ∙ set_above floor slots place Over (omega arith);
+      next = raised.next;
+    }
+
+pending_by : (taken : Bool) (submission : Option Submission) → is_some (waiting (slot_by taken submission)) ≡ (is_some submission && not taken)
+pending_by true None = refl
+pending_by true (Some submission) = refl
+pending_by false None = refl
+pending_by false (Some submission) = refl
+
+-- a number is pending with each caller that the client is the core of exactly where it is with the client
+pub pending_is : (client : Client) (caller : Caller) → IsCoreOf client caller → (number : ℕ) → is_some (waiting_at number client) ≡ is_pending number caller
+pending_is client caller core number =
+    ap (λ o. is_some (waiting o)) (core.slots_are number) ∙ pending_by (is_taken caller number) (submission_at number caller.submitted)
+
+pub least_is : (client : Client) (caller : Caller) → IsCoreOf client caller → (least : Option ℕ) → ClientPendingIs client least → PendingIs caller least
+least_is client caller core None h = λ number. sym (pending_is client caller core number) ∙ ap is_some (h number)
+least_is client caller core (Some least) h =
+    (sym (pending_is client caller core least) ∙ h.0, λ number below. sym (pending_is client caller core number) ∙ ap is_some (h.1 number below))
+
+low_idle : (client : Client) (number : ℕ) → number ≤ client.floor → waiting_at number client ≡ None
+low_idle client zero low = refl
+low_idle client (suc place) low = ap waiting (got_over client.floor client.slots place (omega arith))
+
+-- with no slot none is pending
+pub none_waits : (client : Client) → length client.slots ≡ 0 → ClientPendingIs client None
+none_waits client empty zero = refl
+none_waits client empty (suc place) =
+    let count = count_all client.floor client.slots in
+    ⊎_elim
+    (λ (low : place < client.floor). low_idle client (suc place) (omega arith))
+    (λ (high : client.floor ≤ place). ap waiting (slice_get_past (all_slots client.floor client.slots) place (omega arith)))
+    (cases_lt place client.floor)
+
+first_waits : (slots : List Slot) → 0 < length slots → is_over (slice_get slots 0) ≡ false → is_some (waiting (slice_get slots 0)) ≡ true
+first_waits [] some next = absurd (omega arith)
+first_waits (Waiting request ∷ slots) some next = refl
+first_waits (Over ∷ slots) some next = absurd (true≢false next)
+
+-- with one the first above the floor is the least pending
+pub one_waits : (client : Client) → 0 < length client.slots → is_over (slice_get client.slots 0) ≡ false → ClientPendingIs client (Some (client.floor + 1))
+one_waits client some next =
+    let shift : client.floor + 1 ≡ suc client.floor = omega arith in
+    let here : is_some (waiting_at (suc client.floor) client) ≡ true =
+    ap (λ o. is_some (waiting o)) (got_kept client.floor client.slots client.floor (omega arith))
+    ∙ ap (λ n. is_some (waiting (slice_get client.slots n))) (omega arith)
+    ∙ first_waits client.slots some next in
+    (ap (λ n. is_some (waiting_at n client)) shift ∙ here, λ number below. low_idle client number (omega arith))

@@ -1,0 +1,72 @@
+-- A client: a caller by what is above its floor, of which callers it is the core, and how it goes on as they do.
+use Rattle.std.specs.Prelude.{◌≡◌, ℕ, ◌+◌, ◌^◌, ◌<◌, ◌≤◌, false, if◌then◌else◌, Option, None, Some, option_map, List, [], length, slice_get}
+use Rattle.chord_map.specs.declared.request.Request.{Request}
+use Rattle.chord_caller.specs.declared.slot.Slot.{Slot}
+use Rattle.chord_caller.specs.declared.slot.Slot.TheVariants.{Waiting, Over}
+use Rattle.chord_caller.specs.declared.told.Told.{Told}
+use Rattle.chord_caller.specs.Slots.{slot_of, waiting, is_over}
+use Rattle.chord_caller.specs.Caller.{Submission, Caller, Letter, CallerStep, submission_at, is_taken, floor_of, with_reply, fresh_for}
+
+-- The slots are those of the numbers above the floor, in order
+pub record Client : Type 0 where
+  pub number : ℕ
+  pub window : ℕ
+  pub floor : ℕ
+  pub slots : List Slot
+
+-- a client by what it keeps
+abbrev pub client_of : ℕ → ℕ → ℕ → List Slot → Client
+client_of number window floor slots = record { number = number; window = window; floor = floor; slots = slots }
+
+-- what every client keeps: it has room for its window and for no more
+pub record IsClient (window floor room : ℕ) (slots : List Slot) : Type 0 where
+  pub some_window : 1 ≤ window
+  pub small_window : window ≤ 16
+  pub near : length slots ≤ window
+  pub room_is : room ≡ window
+  pub numbered : floor + length slots < 2 ^ 64
+  pub next : is_over (slice_get slots 0) ≡ false
+
+-- a client that has submitted nothing
+abbrev pub new_client : ℕ → ℕ → Client
+new_client number window = client_of number window 0 []
+
+-- how many requests it submitted
+abbrev pub count_of : Client → ℕ
+count_of client = client.floor + length client.slots
+
+-- what it keeps of the request of this number
+abbrev pub slot_at : ℕ → Client → Option Slot
+slot_at number client = slot_of client.floor client.slots number
+
+-- the pending request of this number
+abbrev pub waiting_at : ℕ → Client → Option Request
+waiting_at number client = waiting (slot_at number client)
+
+-- what a client keeps of this number of a caller's
+abbrev pub slot_in : ℕ → Caller → Option Slot
+slot_in number caller =
+    if is_taken caller number then Some Over
+    else option_map (λ (submission : Submission). Waiting submission.request) (submission_at number caller.submitted)
+
+-- the client is what is above the floor of this caller, whatever the caller took, saw and was told
+pub record IsCoreOf (client : Client) (caller : Caller) : Type 0 where
+  pub number_is : client.number ≡ caller.number
+  pub window_is : client.window ≡ caller.window
+  pub floor_is : client.floor ≡ floor_of caller
+  pub count_is : count_of client ≡ length caller.submitted
+  pub slots_are : (number : ℕ) → slot_at number client ≡ slot_in number caller
+
+-- each caller that the old is the core of may take in and send these letters and go on to one that the new is the core of
+abbrev pub Simulates : Client → Option Letter → Client → Option Letter → Type 0
+Simulates old taken new sent =
+    (caller : Caller) → IsCoreOf old caller → (after : Caller) × IsCoreOf new after × CallerStep caller taken after sent
+
+-- the caller after it took the reply, where it is to this request of its own
+abbrev pub taking : Told → Option Request → Caller → Caller
+taking told None caller = caller
+taking told (Some request) caller = with_reply told request caller
+
+-- the caller after it heard a reply: the first to a pending request of its own is taken, and any other changes nothing
+abbrev pub hearing : Told → Caller → Caller
+hearing told caller = taking told (fresh_for told caller) caller

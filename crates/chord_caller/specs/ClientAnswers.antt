@@ -1,0 +1,105 @@
+-- What each call of a client's core answers.
+use Rattle.std.specs.Prelude.{◌≡◌, ◌≢◌, ℕ, ◌+◌, ◌^◌, ◌<◌, ◌≤◌, true, false, ◌⊎◌, Option, None, Some, is_some, [], ◌∷◌, ◌++◌, slice_get, slice_set, suc, Result, Ok, Err}
+use Rattle.chord_map.specs.declared.request.Request.{Request}
+use Rattle.chord_map.specs.Map.{fits}
+use Rattle.chord_map.specs.Checked.{IsRequest, HasFault}
+use Rattle.chord_caller.specs.declared.ask.Ask.{Ask}
+use Rattle.chord_caller.specs.declared.told.Told.{Told}
+use Rattle.chord_caller.specs.declared.slot.Slot.TheVariants.{Waiting, Over}
+use Rattle.chord_caller.specs.declared.outcome.Outcome.{Outcome}
+use Rattle.chord_caller.specs.declared.outcome.Outcome.TheVariants.{Fresh, Known, Foreign}
+use Rattle.chord_caller.specs.declared.fault.SubmitFault.{SubmitFault}
+use Rattle.chord_caller.specs.declared.fault.SubmitFault.TheVariants.{Bad, WindowFull, NumbersSpent, Memory as SubmitMemory}
+use Rattle.chord_caller.specs.declared.fault.ResendFault.{ResendFault}
+use Rattle.chord_caller.specs.declared.fault.ResendFault.TheVariants.{Idle, Memory as ResendMemory}
+use Rattle.chord_caller.specs.declared.fault.TakeFault.{TakeFault}
+use Rattle.chord_caller.specs.declared.fault.TakeFault.TheVariants as refused
+use Rattle.chord_caller.specs.declared.heard.Heard.{Heard}
+use Rattle.chord_caller.specs.declared.heard.Heard.TheVariants as heard
+use Rattle.chord_caller.specs.Answers.{SubmitIs, TakeIs}
+use Rattle.chord_caller.specs.Caller.{Caller}
+use Rattle.chord_caller.specs.Slots.{all_slots, is_over}
+use Rattle.chord_caller.specs.Client.{Client, IsCoreOf, count_of, slot_at, waiting_at, hearing}
+
+-- the ask is the call of this number, as it is sent now
+pub record IsAsked (sender : Client) (place : ℕ) (what : Request) (ask : Ask) : Type 0 where
+  pub caller : ask.caller ≡ sender.number
+  pub number : ask.number ≡ place
+  pub floor : ask.floor ≡ sender.floor
+  pub request : ask.request ≡ what
+  pub hops : ask.hops ≡ 255
+
+-- the number of the next request
+abbrev pub next_of : Client → ℕ
+next_of client = count_of client + 1
+
+-- the next number is within the window
+abbrev pub HasRoom : Client → Type 0
+HasRoom client = next_of client ≤ client.floor + client.window
+
+-- the client after it submitted a request
+abbrev pub with_waiting : Request → Client → Client
+with_waiting request client = record client { slots = client.slots ++ Waiting request ∷ [] }
+
+-- the pending request of the number is over, all else stands, and the floor is as high as it can be
+pub record IsSettled (number : ℕ) (request : Request) (old new : Client) : Type 0 where
+  pub place : ℕ
+  pub number_is : number ≡ suc place
+  pub waits : slot_at number old ≡ Some (Waiting request)
+  pub caller_is : new.number ≡ old.number
+  pub window_is : new.window ≡ old.window
+  pub slots_are : all_slots new.floor new.slots ≡ slice_set (all_slots old.floor old.slots) place Over
+  pub next : is_over (slice_get new.slots 0) ≡ false
+
+-- this is the least pending number, if there is one
+abbrev pub ClientPendingIs : Client → Option ℕ → Type 0
+ClientPendingIs client None = (number : ℕ) → waiting_at number client ≡ None
+ClientPendingIs client (Some least) = (is_some (waiting_at least client) ≡ true) × ((number : ℕ) → number < least → waiting_at number client ≡ None)
+
+-- The request goes out under the next number, or the first refusal that fits is answered and nothing changes
+abbrev pub ClientSubmitIs : Request → Client → Result Ask SubmitFault → Client → Type 0
+ClientSubmitIs request old (Ok ask) new =
+    IsRequest request × HasRoom old × (next_of old < 2 ^ 64) × IsAsked old (next_of old) request ask × (new ≡ with_waiting request old)
+ClientSubmitIs request old (Err (Bad fault)) new = HasFault request fault × (new ≡ old)
+ClientSubmitIs request old (Err WindowFull) new = IsRequest request × (old.floor + old.window < next_of old) × (new ≡ old)
+ClientSubmitIs request old (Err NumbersSpent) new = IsRequest request × HasRoom old × (2 ^ 64 ≤ next_of old) × (new ≡ old)
+ClientSubmitIs request old (Err SubmitMemory) new = IsRequest request × HasRoom old × (next_of old < 2 ^ 64) × (new ≡ old)
+
+-- the first refusal that fits, which is never want of memory; with none, only memory can be wanting
+abbrev pub ClientRefusalIs : Request → Client → Option SubmitFault → Type 0
+ClientRefusalIs request client None = ClientSubmitIs request client (Err SubmitMemory) client
+ClientRefusalIs request client (Some fault) = ClientSubmitIs request client (Err fault) client × (fault ≢ SubmitMemory)
+
+-- The pending request of the number goes out again
+abbrev pub ClientResendIs : ℕ → Client → Result Ask ResendFault → Type 0
+ClientResendIs number client (Ok ask) = (request : Request) × (slot_at number client ≡ Some (Waiting request)) × IsAsked client number request ask
+ClientResendIs number client (Err Idle) = waiting_at number client ≡ None
+ClientResendIs number client (Err ResendMemory) = is_some (waiting_at number client) ≡ true
+
+-- the reply is another caller's, or to a number never submitted, or does not fit the pending request
+abbrev pub IsStrange : Told → Client → Type 0
+IsStrange told client =
+    (told.caller ≢ client.number)
+    ⊎ (slot_at told.number client ≡ None)
+    ⊎ ((request : Request) × (slot_at told.number client ≡ Some (Waiting request)) × (fits told.reply request ≡ false))
+
+-- The reply to a pending request is handed out, one to a request that was over changes nothing, and no other is heard
+abbrev pub ClientTakeIs : Told → Client → Outcome → Client → Type 0
+ClientTakeIs told old (Fresh reply) new =
+    (request : Request) × (told.caller ≡ old.number) × (fits reply request ≡ true) × (reply ≡ told.reply) × IsSettled told.number request old new
+ClientTakeIs told old Known new = (told.caller ≡ old.number) × (slot_at told.number old ≡ Some Over) × (new ≡ old)
+ClientTakeIs told old Foreign new = IsStrange told old × (new ≡ old)
+
+-- each caller that the old is the core of answers the same, and the new is the core of what it is then
+abbrev pub SubmitsAlike : Request → Client → Result Ask SubmitFault → Client → Type 0
+SubmitsAlike request old result new = (caller : Caller) → IsCoreOf old caller → (after : Caller) × IsCoreOf new after × SubmitIs request caller result after
+
+-- what a caller that keeps its replies answers
+abbrev pub heard_of : Outcome → Result Heard TakeFault
+heard_of (Fresh reply) = Ok heard.Fresh
+heard_of Known = Ok heard.Known
+heard_of Foreign = Err refused.Foreign
+
+-- each caller that the old is the core of answers the same, and the new is the core of what it is then
+abbrev pub TakesAlike : Told → Client → Outcome → Client → Type 0
+TakesAlike told old outcome new = (caller : Caller) → IsCoreOf old caller → IsCoreOf new (hearing told caller) × TakeIs told caller (heard_of outcome) (hearing told caller)

@@ -1,0 +1,161 @@
+//! The core of a client: a caller that keeps only what is above its floor.
+ghost use Rattle.std.specs.Prelude.{◌≡◌, ◌≤◌, None, Some, is_some, IfOk};
+ghost use Rattle.chord_caller.specs.Caller.{Caller, floor_of, AskLetter, ToldLetter};
+ghost use Rattle.chord_caller.specs.Answers.{new_caller, is_pending, PendingIs, RefusalIs, ResendIs};
+ghost use Rattle.chord_caller.specs.Client.{new_client, waiting_at, IsCoreOf, Simulates};
+ghost use Rattle.chord_caller.specs.ClientAnswers.{ClientPendingIs, ClientRefusalIs, ClientSubmitIs, ClientResendIs, ClientTakeIs, SubmitsAlike, TakesAlike};
+
+use crate::ask::Ask;
+use crate::fault::{ResendFault, SubmitFault};
+use crate::outcome::Outcome;
+use crate::slot::{Slot, is_number_over, settle_slot, waiting_request};
+use crate::told::Told;
+use chord_map::Request;
+use std::alloc::{AllocError, Global};
+use std::collections::VecDeque;
+use std::marker::Model;
+
+/// The requests of a caller that wait, and the numbers of those that are over. At most 16 are above the floor.
+#[derive(Debug, Drop)]
+pub struct ClientCore {
+    number: u64,
+    window: u64,
+    floor: u64,
+    slots: VecDeque<Slot>,
+}
+
+impl Model for ClientCore {
+    ghost use Rattle.std.specs.VecDeque.{deque_capacity};
+    ghost use Rattle.chord_caller.specs.Client.{Client, client_of, IsClient};
+
+    ghost Value = { Client };
+
+    ghost view = { λ core. client_of core.number core.window core.floor core.slots.items };
+
+    ghost invariant = { λ core. IsClient core.window core.floor (deque_capacity core.slots) core.slots.items };
+}
+
+impl ClientCore {
+    /// A client that has submitted nothing. It has room for its window, and takes no more for itself.
+    pub fn new(alloc: Global, number: u64, window: u64) -> Result<ClientCore, AllocError>
+        requires some { 1 ≤ window }
+        requires small { window ≤ 16 }
+        ensures value { IfOk result (λ core. core ≡ new_client number window) }
+        ensures core { IfOk result (λ core. IsCoreOf core (new_caller number window)) }
+    {
+        Ok(ClientCore {
+            number,
+            window,
+            floor: 0,
+            slots: VecDeque::with_capacity(alloc, window as usize)?,
+        })
+    }
+
+    /// The greatest number with all at or below it taken.
+    pub fn floor(&self) -> u64
+        ensures answer { result ≡ self.now.floor }
+        ensures callers { (caller : Caller) → IsCoreOf self.now caller → result ≡ floor_of caller }
+    {
+        self.floor
+    }
+
+    /// Whether the request of this number waits for its reply.
+    pub fn is_pending(&self, number: u64) -> bool
+        ensures answer { result ≡ is_some (waiting_at number self.now) }
+        ensures callers { (caller : Caller) → IsCoreOf self.now caller → result ≡ is_pending number caller }
+    {
+        waiting_request(&self.slots, self.floor, number).is_some()
+    }
+
+    /// The least pending number.
+    pub fn pending(&self) -> Option<u64>
+        ensures answer { ClientPendingIs self.now result }
+        ensures callers { (caller : Caller) → IsCoreOf self.now caller → PendingIs caller result }
+    {
+        if self.slots.is_empty() {
+            None
+        } else {
+            Some(self.floor + 1)
+        }
+    }
+
+    /// Why the request would be refused now, want of memory apart.
+    pub fn refusal(&self, request: &Request) -> Option<SubmitFault>
+        ensures answer { ClientRefusalIs request.now self.now result }
+        ensures callers { (caller : Caller) → IsCoreOf self.now caller → RefusalIs request.now caller result }
+    {
+        if let Err(fault) = request.check() {
+            return Some(SubmitFault::Bad(fault));
+        }
+        let above = self.slots.len() as u64;
+        if self.window <= above {
+            return Some(SubmitFault::WindowFull);
+        }
+        if self.floor + above == u64::MAX {
+            return Some(SubmitFault::NumbersSpent);
+        }
+        None
+    }
+
+    /// Submits a request under the next number. What is refused is dropped.
+    pub fn submit(&mut self, request: Request) -> Result<Ask, SubmitFault>
+        ensures answer { ClientSubmitIs request self.old result self.new }
+        ensures waits { IfOk result (λ ask. waiting_at ask.number self.new ≡ Some request) }
+        ensures callers { SubmitsAlike request self.old result self.new }
+        ensures step { IfOk result (λ ask. Simulates self.old None self.new (Some (AskLetter ask))) }
+    {
+        if let Some(fault) = self.refusal(&request) {
+            return Err(fault);
+        }
+        let copy = request.try_copy()?;
+        self.slots.push_back_reserved(Slot::Waiting(request));
+        Ok(Ask {
+            caller: self.number,
+            number: self.floor + self.slots.len() as u64,
+            floor: self.floor,
+            request: copy,
+            hops: 255,
+        })
+    }
+
+    /// Takes a reply and hands it out. What is not the first reply to a pending request is dropped.
+    pub fn take(&mut self, told: Told) -> Outcome
+        ensures answer { ClientTakeIs told self.old result self.new }
+        ensures callers { TakesAlike told self.old result self.new }
+        ensures step { Simulates self.old (Some (ToldLetter told)) self.new None }
+    {
+        if told.caller != self.number {
+            return Outcome::Foreign;
+        }
+        if is_number_over(&self.slots, self.floor, told.number) {
+            return Outcome::Known;
+        }
+        let Some(request) = waiting_request(&self.slots, self.floor, told.number) else {
+            return Outcome::Foreign;
+        };
+        if !told.reply.fits(request) {
+            return Outcome::Foreign;
+        }
+        self.floor = settle_slot(&mut self.slots, self.floor, told.number);
+        Outcome::Fresh(told.reply)
+    }
+
+    /// Sends a pending request again, under its number and with the floor that it has by now.
+    pub fn resend(&self, number: u64) -> Result<Ask, ResendFault>
+        ensures answer { ClientResendIs number self.now result }
+        ensures callers { (caller : Caller) → IsCoreOf self.now caller → ResendIs number caller result }
+        ensures step { IfOk result (λ ask. Simulates self.now None self.now (Some (AskLetter ask))) }
+    {
+        let Some(request) = waiting_request(&self.slots, self.floor, number) else {
+            return Err(ResendFault::Idle);
+        };
+        let request = request.try_copy()?;
+        Ok(Ask {
+            caller: self.number,
+            number,
+            floor: self.floor,
+            request,
+            hops: 255,
+        })
+    }
+}

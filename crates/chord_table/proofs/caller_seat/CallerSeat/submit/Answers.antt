@@ -1,0 +1,9 @@
+use Rattle.std.proofs.Common.{None, Some}
+use Rattle.chord_caller.specs.Caller.{with_request}
+use Rattle.chord_caller.specs.Caller.Letter.{AskLetter}
+use Rattle.chord_table.proofs.Becoming.{caller_follows}
+use Rattle.chord_table.proofs.caller_seat.CallerSeat.submit.Goals as goal
+
+pub send-requires-clause-event : goal.send-requires-clause-event
+send-requires-clause-event g c =
+    caller_follows c.self.inside.seat c.args.self.now (with_request c.args.ask.request) None (Some (AskLetter c.args.ask)) c.self.invariant c.self.view_is tt c.requires.event
