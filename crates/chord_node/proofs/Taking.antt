@@ -124,15 +124,15 @@ part_is part view old e result held pairs limit taken next there same h =
 
 -- a parcel that was taken, or was not
 pub taken_next : (part : Part) (parcelled : Parcelled) (held : List Segment) (pairs : List Pair) (limit : ℕ) (taken : Taken) (result : Result Given AllocError)
-    (held' : List Segment) (pairs' : List Pair) (taken' : Taken) → GatherIs part taken.noted (Whole parcelled)
+    (held' : List Segment) (pairs' : List Pair) (taken' : Taken) → IsParcelled parcelled → GatherIs part taken.noted (Whole parcelled)
     → WholeIs part parcelled held pairs limit taken result held' pairs' taken' → NextIs part held pairs limit taken result held' pairs' taken'
-taken_next part parcelled held pairs limit taken (Ok given.Got) held' pairs' taken' whole h = (parcelled, whole, h)
-taken_next part parcelled held pairs limit taken (Ok given.Full) held' pairs' taken' whole h = (parcelled, whole, h)
-taken_next part parcelled held pairs limit taken (Ok given.Clash) held' pairs' taken' whole h = (inr (parcelled, whole, h.0), h.1, h.2, h.3)
-taken_next part parcelled held pairs limit taken (Ok given.Declined) held' pairs' taken' whole h = absurd h
-taken_next part parcelled held pairs limit taken (Ok given.Early) held' pairs' taken' whole h = absurd h
-taken_next part parcelled held pairs limit taken (Ok given.Part) held' pairs' taken' whole h = absurd h
-taken_next part parcelled held pairs limit taken (Err fault) held' pairs' taken' whole h = (inr (inr (parcelled, whole)), h.0, h.1, h.2)
+taken_next part parcelled held pairs limit taken (Ok given.Got) held' pairs' taken' rules whole h = (parcelled, whole, h)
+taken_next part parcelled held pairs limit taken (Ok given.Full) held' pairs' taken' rules whole h = (parcelled, whole, h)
+taken_next part parcelled held pairs limit taken (Ok given.Clash) held' pairs' taken' rules whole h = (inr (parcelled, whole, h.0), h.1, h.2, h.3)
+taken_next part parcelled held pairs limit taken (Ok given.Declined) held' pairs' taken' rules whole h = absurd h
+taken_next part parcelled held pairs limit taken (Ok given.Early) held' pairs' taken' rules whole h = absurd h
+taken_next part parcelled held pairs limit taken (Ok given.Part) held' pairs' taken' rules whole h = absurd h
+taken_next part parcelled held pairs limit taken (Err fault) held' pairs' taken' rules whole h = (inr (parcelled, rules, whole), h.0, h.1, h.2)
 
 -- ---- the item that is taken back
 

@@ -7,7 +7,7 @@ use Rattle.chord_segment.specs.Marks.{mark_of}
 use Rattle.chord_segment.specs.Segment.{Segment}
 use Rattle.chord_handover.specs.declared.gather.Gather.TheVariants.{More, Unfit, Whole}
 use Rattle.chord_handover.specs.declared.ticket.Ticket.{Ticket}
-use Rattle.chord_handover.specs.Gather.{GatherIs, AreComplete}
+use Rattle.chord_handover.specs.Gather.{GatherIs, AreWhole}
 use Rattle.chord_handover.specs.Handover.{Item, Part, ticket_of_part, item_at, without}
 use Rattle.chord_handover.specs.Parcelled.{Parcelled, handed}
 use Rattle.chord_handover.specs.Taken.{Taken, marked, is_noted, with_noted}
@@ -43,10 +43,9 @@ WholeIs part parcelled held pairs limit taken (Ok given.Full) held' pairs' taken
 WholeIs part parcelled held pairs limit taken (Ok answer) held' pairs' taken' = ⊥
 WholeIs part parcelled held pairs limit taken (Err fault) held' pairs' taken' = (held' ≡ held) × (pairs' ≡ pairs) × (taken' ≡ taken)
 
--- a part takes memory where it is noted for the first time, where all parts are there, and where a parcel is taken
+-- a part takes memory where it is noted for the first time, and where it makes a parcel
 abbrev pub PartTakesMemory : Part → List Part → Type 0
-PartTakesMemory part noted =
-    (GatherIs part noted More × (is_noted part noted ≡ false)) ⊎ AreComplete part noted ⊎ ((parcelled : Parcelled) × GatherIs part noted (Whole parcelled))
+PartTakesMemory part noted = (GatherIs part noted More × (is_noted part noted ≡ false)) ⊎ AreWhole part noted
 
 -- a part of the next handover of its sender is noted, or makes the handover whole
 abbrev pub NextIs : Part → List Segment → List Pair → ℕ → Taken → Result Given AllocError → List Segment → List Pair → Taken → Type 0

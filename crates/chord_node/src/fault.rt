@@ -49,7 +49,8 @@ pub enum ResendFault {
 }
 
 /// The node does not stay, so it can't begin to leave.
-#[derive(Clone, Copy, Debug, PartialEq, Eq)]
+#[derive(Clone, Copy, Debug, PartialEq, Eq, Error)]
+#[error("the node is not staying")]
 pub struct NotStaying;
 
 /// Why a node does not retire.

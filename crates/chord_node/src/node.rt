@@ -131,7 +131,7 @@ impl<S: EntryStore> Node<S> {
     {
         let x = Id::of_bytes(ask.request.key());
         let Some(place) = place_with(&self.held, x) else {
-            match pass_on(&self.links, ask) {
+            match pass_on(&self.links, ask, x) {
                 Ok(passed) => return Ok((passed, None)),
                 Err(fault) => return Err(fault),
             }
@@ -289,7 +289,7 @@ impl<S: EntryStore> Node<S> {
             return Err(GiveFault::Memory);
         }
         let segment = self.held.remove(place);
-        store.take_out(&segment.span());
+        store.drop_copied(&segment.span(), &pairs);
         match self.outbox.give(to, Parcelled::new(segment, pairs)) {
             Ok(_) => Ok(part),
             Err(_) => unreachable!(),

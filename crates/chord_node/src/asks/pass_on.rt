@@ -3,6 +3,7 @@ ghost use Rattle.std.specs.Prelude.{◌≡◌, IfOk, OnErr};
 ghost use Rattle.chord_node.specs.Asked.{TakesMemory};
 ghost use Rattle.chord_node.specs.declared.asks.answered.Answered.{Answered as AnsweredType};
 ghost use Rattle.chord_node.specs.Passed.{peer_of, PassesOn};
+ghost use Rattle.chord_segment.specs.Segment.{id_of};
 
 use crate::asks::answered::Answered;
 use chord_caller::Ask;
@@ -21,13 +22,13 @@ fn peer_of_hop(hop: Hop) -> Peer
     }
 }
 
-/// Passes the call on to the next hop, with one hop less. It is dropped where its hops are spent or the node knows no
-/// other.
-pub(crate) fn pass_on(links: &Links, ask: &Ask) -> Result<Answered, AllocError>
+/// Passes the call on to the next hop towards its key's identifier, with one hop less. It is dropped where its hops are
+/// spent or the node knows no other.
+pub(crate) fn pass_on(links: &Links, ask: &Ask, target: Id) -> Result<Answered, AllocError>
+    requires { target.number ≡ id_of ask.now.request }
     ensures passed { IfOk result (λ answered. PassesOn links.now ask.now answered) }
     ensures memory { OnErr result ((answered : AnsweredType) × PassesOn links.now ask.now answered × TakesMemory answered) }
 {
-    let target = Id::of_bytes(ask.request.key());
     let peer = peer_of_hop(next_hop(links, target));
     if ask.hops == 0 || peer.no == links.me().no {
         return Ok(Answered::Dropped);

@@ -5,8 +5,7 @@ ghost use Rattle.chord_handover.specs.Parcelled.{handed};
 ghost use Rattle.chord_node.specs.Rules.{IsStocked};
 ghost use Rattle.chord_store.specs.Inside.{pairs_inside};
 
-use chord_handover::part::{copy_chunk, count_parts};
-use chord_handover::{Part, Ticket};
+use chord_handover::{Part, Ticket, copy_chunk, count_parts};
 use chord_map::Pair;
 use chord_segment::Segment;
 use chord_store::EntryStore;

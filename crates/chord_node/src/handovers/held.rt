@@ -8,8 +8,7 @@ ghost use Rattle.chord_node.specs.View.{knowns};
 
 use crate::fault::{CutAtFault, MergeFault};
 use chord_ident::{Id, Span};
-use chord_segment::Segment;
-use chord_segment::fault::{CutFault, JoinFault};
+use chord_segment::{CutFault, JoinFault, Segment};
 use std::alloc::Global;
 use std::mem::replace;
 

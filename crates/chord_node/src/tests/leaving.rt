@@ -14,6 +14,8 @@ fn leaves_once(rt: HostRuntime) -> Result<(), Fail> {
     assert_eq!(rt; node.retire(), Err(RetireFault::NotLeaving));
     assert_eq!(rt; node.begin_leave(), Ok(()));
     assert_eq!(rt; node.begin_leave(), Err(NotStaying));
+    let text = format!(in alloc; "{NotStaying}")?;
+    assert_eq!(rt; text.as_str(), "the node is not staying");
     assert_eq!(rt; node.phase(), Phase::Leaving);
     assert_eq!(rt; node.retire(), Err(RetireFault::NotEmpty));
     Ok(())

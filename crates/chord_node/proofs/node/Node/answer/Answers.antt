@@ -10,6 +10,9 @@ use Rattle.chord_node.specs.Rules.{IsStocked}
 use Rattle.chord_node.proofs.Stocking.{asked_stocked}
 use Rattle.chord_node.proofs.node.Node.answer.Goals as goal
 
+pub pass_on-requires : goal.pass_on-requires
+pass_on-requires g c = c.of_bytes-x.ensures ∙ ap key_id c.key.ensures
+
 pub returns-in-Ok-clause-answer : goal.returns-in-Ok-clause-answer
 returns-in-Ok-clause-answer g c =
     let held = c.self.inside.held.items in

@@ -44,7 +44,7 @@ returns-clause-answer g c =
     gave_at c.args.place c.args.to c.in-Some.number _ c.args.self.now c.self.view_is held c.remove-segment.new.self.items c.index.result.now c.remove-segment.result old.outbox.known c.give.new.self.known
     _ c.in-Ok.pairs.items _ c.in-Ok.part c.span.result
     refl refl refl inside c.index.ensures c.remove-segment.ensures.value c.in-Some.ensures.some.0 c.in-Some.ensures.some.1 part (c.in-Ok.ensures.pairs ∙ ap (pairs_inside a.span) entries)
-    c.remove-segment.ensures.items c.span.ensures.value (c.take_out.ensures.change ∙ ap (pairs_outside c.span.result) entries) (c.take_out.ensures.limit ∙ ap (limit_in g.S.EntryStore.limit) store) given
+    c.remove-segment.ensures.items c.span.ensures.value (c.drop_copied.ensures.change ∙ ap (pairs_outside c.span.result) entries) (c.drop_copied.ensures.limit ∙ ap (limit_in g.S.EntryStore.limit) store) given
 
 pub invariant_of-self-2 : goal.invariant_of-self-2
 invariant_of-self-2 g c =
