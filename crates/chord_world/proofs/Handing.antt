@@ -28,15 +28,16 @@ use Rattle.chord_node.specs.Node.{Node, NodeStep}
 use Rattle.chord_segment.specs.Segment.{Segment}
 use Rattle.chord_node.specs.World.{WasSent, node_at, put_node, with_one}
 use Rattle.chord_world.specs.declared.outcome.Outcome.{Outcome}
+use Rattle.chord_world.specs.declared.outcome.Outcome.TheVariants as did
 use Rattle.chord_world.specs.declared.refusal.Refusal.{Refusal}
 use Rattle.chord_world.specs.Handing.{IsMissing, HasNode, CannotAct, ActIs, Call, Moved, RefusedBy, MoveIs, SendsPart, GiveStepIs, SendPartIs, refusal_of_give, refusal_of_resend, refusal_of_retire, IsNeeded, NeededIs, RetireStepIs, DoesAt}
 use Rattle.chord_world.specs.Handing.IsMissing.{Uncreated, Missing}
 use Rattle.chord_world.specs.Handing.CannotAct.{Is_missing, Is_crashed}
 use Rattle.chord_world.specs.Linking.{with_node}
 use Rattle.chord_world.specs.Members.{is_gone, links_unless, member_links}
-use Rattle.chord_world.specs.State.{WorldState, IsWorld, ring_of, with_sent, is_crashed}
+use Rattle.chord_world.specs.State.{WorldState, IsWorld, ring_of, with_sent, is_crashed, KeepsRing}
 use Rattle.chord_world.specs.Steps.{Advances}
-use Rattle.chord_world.proofs.Acting.{After, SendsCall, acted, acts_at, ring_stays, put_is, links_here}
+use Rattle.chord_world.proofs.Acting.{After, SendsCall, acted, acts_at, keeps_same, ring_stays, put_is, links_here}
 use Rattle.chord_world.proofs.Keeping.{with_nodes}
 use Rattle.chord_world.proofs.Upkeeping.{retires}
 use Rattle.chord_world.proofs.Pointing.{node_stands, node_within}
@@ -194,6 +195,45 @@ move_not Is refusal_of place old refusal (Err e) cannot is = (inl (subst (Cannot
 pub advances_not : (old new : WorldState) (P : Refusal → Type 0) (result : Result Outcome Refusal) → IsErrAnd result P → new ≡ old → Advances old result new
 advances_not old new P (Ok outcome) is same = absurd is
 advances_not old new P (Err refusal) is same = same
+
+-- ---- a step of a node, whole
+
+-- a step that is answered so is one of the world, and keeps its ring
+pub record Stepped (Is : WorldState → Result Outcome Refusal → WorldState → Type 0) (old : WorldState) (result : Result Outcome Refusal) (new : WorldState) : Type 0 where
+  pub answer : Is old result new
+  pub step : Advances old result new
+  pub ring : KeepsRing old new
+
+-- a node that refused leaves the world as it was
+pub left_world : {A : Type 0} (Is Steps : Call A) (place : ℕ) (result : A) (view : WorldState) (nodes : List Node) → IsWorld view → DoesAt Is Steps place view.known.nodes result nodes
+    → ((node after : Node) → Is node result after → after ≡ node) → IsWorld (with_nodes nodes view)
+left_world Is Steps place result view nodes kept does stays =
+    subst (λ ns. IsWorld (with_nodes ns view)) (sym (nodes_stay Is Steps place result view.known.nodes nodes does (stays does.node does.after does.is))) kept
+
+pub left_step : {A : Type 0} (Is Steps : Call A) (place : ℕ) (did : A) (P : Refusal → Type 0) (view old : WorldState) (nodes : List Node) (result : Result Outcome Refusal) → view ≡ old → DoesAt Is Steps place view.known.nodes did nodes
+    → ((node after : Node) → Is node did after → after ≡ node) → IsErrAnd result P → (Advances old result (with_nodes nodes view)) × KeepsRing old (with_nodes nodes view)
+left_step Is Steps place did P view old nodes result same does stays is =
+    let left = nodes_stay Is Steps place did view.known.nodes nodes does (stays does.node does.after does.is) in
+    (advances_not old (with_nodes nodes view) P result is (ap (λ ns. with_nodes ns view) left ∙ same), keeps_same view old (with_nodes nodes view) same left refl)
+
+pub move_refuses : {E : Type 0} (Is : Call (Result (Unit {0}) E)) (refusal_of : E → Refusal) (place : ℕ) (fault : E) (view old : WorldState) (nodes : List Node) (result : Result Outcome Refusal) → view ≡ old → IsWorld view
+    → is_crashed place old ≡ false → DoesAt Is MoveSteps place view.known.nodes (Err fault) nodes → ((node after : Node) → Is node (Err fault) after → after ≡ node) → IsErrAnd result (λ e. e ≡ refusal_of fault)
+    → Stepped (MoveIs Is refusal_of place) old result (with_nodes nodes view)
+move_refuses Is refusal_of place fault view old nodes result same kept running does stays is =
+    let left = left_step Is MoveSteps place (Err fault) (λ e. e ≡ refusal_of fault) view old nodes result same does stays is in
+    record { answer = move_refused Is refusal_of place fault view old nodes result same kept running does (stays does.node does.after does.is) is; step = left.0; ring = left.1 }
+
+-- a node that moved
+pub move_does : {E : Type 0} (Is : Call (Result (Unit {0}) E)) (refusal_of : E → Refusal) (place : ℕ) (view old : WorldState) (nodes : List Node) → view ≡ old → IsWorld view → is_crashed place old ≡ false
+    → DoesAt Is MoveSteps place view.known.nodes (Ok tt) nodes → ((node after : Node) → Is node (Ok tt) after → IsStill node after) → Stepped (MoveIs Is refusal_of place) old (Ok did.Done) (with_nodes nodes view)
+move_does Is refusal_of place view old nodes same kept running does stays =
+    let still = stays does.node does.after does.is in
+    let after = moves Is place view old nodes same kept running does still in
+    record { answer = moved Is MoveSteps place view old nodes same kept running does still.number; step = after.step; ring = after.ring }
+
+pub moved_world : {E : Type 0} (Is : Call (Result (Unit {0}) E)) (place : ℕ) (view old : WorldState) (nodes : List Node) → view ≡ old → IsWorld view → is_crashed place old ≡ false
+    → DoesAt Is MoveSteps place view.known.nodes (Ok tt) nodes → ((node after : Node) → Is node (Ok tt) after → IsStill node after) → IsWorld (with_nodes nodes view)
+moved_world Is place view old nodes same kept running does stays = (moves Is place view old nodes same kept running does (stays does.node does.after does.is)).world
 
 -- ---- a part that goes out
 

@@ -1,4 +1,8 @@
 //! All nodes and callers in one place, taking any steps in any order.
+//!
+//! A [`World`] does a [`Step`] by `world.step(step)`, and says what came of it or why it refuses. Messages wait in it
+//! until a step delivers them, in any order and as often as one likes. [`run`] does a list of steps, and its contract
+//! is the theorem: the replies are those of one map of sets.
 #![tactic(auto)]
 
 mod act;
@@ -14,15 +18,15 @@ mod join;
 mod members;
 mod note;
 mod open_caller;
-pub mod outcome;
-pub mod refusal;
+mod outcome;
+mod refusal;
 mod retire;
-pub mod running;
-pub mod step;
+mod running;
+mod step;
 mod submit;
 mod take;
 mod upkeep;
-pub mod world;
+mod world;
 
 pub use outcome::Outcome;
 pub use refusal::{PartFault, Refusal};

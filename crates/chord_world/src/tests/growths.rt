@@ -4,7 +4,7 @@ ghost use Rattle.std.specs.Prelude.{◌≡◌, [], IfOk};
 ghost use Rattle.std.specs.List.{All};
 
 use crate::tests::disturbed::two_stores;
-use crate::tests::scripts::{C, moving_key};
+use crate::tests::scripts::{A, B, C, moving_key};
 use crate::{Outcome, PartFault, Refusal, Step, World};
 use chord_ident::Id;
 use chord_map::{Bytes, Reply, Request};
@@ -12,6 +12,9 @@ use chord_node::Holder;
 use chord_store::{CappedStore, EntryStore};
 use std::alloc::{AllocError, Global};
 use std::test::Fail;
+
+/// A step, and what is to come of it.
+type Wanted = (Step, Result<Outcome, Refusal>);
 
 /// One store alone.
 fn alone<S: EntryStore>(alloc: Global, store: S) -> Result<Vec<S>, AllocError>
@@ -62,9 +65,9 @@ fn remove(alloc: Global, caller: u64, value: &[u8]) -> Result<Step, AllocError> 
 }
 
 /// A call that a full store refuses goes out again after there is room, with what each step does.
-fn script(alloc: Global) -> Result<Vec<(Step, Result<Outcome, Refusal>)>, AllocError> {
+fn script(alloc: Global) -> Result<Vec<Wanted>, AllocError> {
     let mut steps = Vec::new(alloc);
-    let id = Id::new(0x40000000000000000000000000000000);
+    let id = Id::new(A);
     steps.push((Step::Create { id }, Ok(Outcome::Node(0))))?;
     steps.push((Step::OpenCaller { window: 1 }, Ok(Outcome::Caller(0))))?;
     steps.push((Step::OpenCaller { window: 1 }, Ok(Outcome::Caller(1))))?;
@@ -97,12 +100,9 @@ fn script(alloc: Global) -> Result<Vec<(Step, Result<Outcome, Refusal>)>, AllocE
 }
 
 /// Does all steps, and tells whether each did what it is to do.
-fn does_all<S: EntryStore>(
-    world: &mut World<S>,
-    stores: &mut Vec<S>,
-    steps: &[(Step, Result<Outcome, Refusal>)],
-) -> bool
+fn does_all<S: EntryStore>(world: &mut World<S>, stores: &mut Vec<S>, steps: &[Wanted]) -> bool
     requires { All (λ s. S.content s ≡ []) stores.old.items }
+    ensures { All (λ s. S.content s ≡ []) stores.new.items }
 {
     for (step, wanted) in steps {
         if at_last(world, stores, step) != *wanted {
@@ -153,5 +153,108 @@ fn a_key_moves_all_the_same(rt: HostRuntime) -> Result<(), Fail> {
     assert_eq!(rt; world.mine(0).map(|mine| mine.len()), Some(4));
     assert_eq!(rt; world.holder(Id::new(C)), Some(Holder::Node(0)));
     assert_eq!(rt; world.holder(Id::new(0)), Some(Holder::Node(0)));
+    Ok(())
+}
+
+/// Node 0 takes 65 values of one key: one more than a part of a handover has.
+fn many_values(alloc: Global) -> Result<Vec<Wanted>, AllocError> {
+    let mut steps = Vec::new(alloc);
+    let id = Id::new(A);
+    steps.push((Step::Create { id }, Ok(Outcome::Node(0))))?;
+    steps.push((Step::OpenCaller { window: 1 }, Ok(Outcome::Caller(0))))?;
+    for value in 0..65u8 {
+        let message = 2 * u64::from(value);
+        let told = message + 1;
+        let sent = Ok(Outcome::Message(message));
+        steps.push((insert(alloc, 0, [value].as_slice())?, sent))?;
+        steps.push((Step::Deliver { message }, Ok(Outcome::Told(told))))?;
+        steps.push((Step::Deliver { message: told }, Ok(Outcome::Fresh(0))))?;
+    }
+    Ok(steps)
+}
+
+/// A part of the first handover of node 0, which goes to node 1.
+fn send_part(part: u64) -> Step {
+    Step::SendPart {
+        node: 0,
+        to: 1,
+        number: 1,
+        part,
+    }
+}
+
+/// A new node is given half of the circle; the first part comes twice.
+fn first_part(alloc: Global) -> Result<Vec<Wanted>, AllocError> {
+    let mut steps = Vec::new(alloc);
+    let join = Step::Join {
+        id: Id::new(C),
+        behind: 0,
+    };
+    steps.push((join, Ok(Outcome::Node(1))))?;
+    let cut = Step::Cut {
+        node: 0,
+        place: 0,
+        at: Id::new(C),
+    };
+    steps.push((cut, Ok(Outcome::Done)))?;
+    let give = Step::Give {
+        node: 0,
+        place: 0,
+        to: 1,
+    };
+    steps.push((give, Ok(Outcome::Message(130))))?;
+    for message in [130, 130] {
+        steps.push((Step::Deliver { message }, Ok(Outcome::Noted)))?;
+    }
+    Ok(steps)
+}
+
+/// The second part, which is the last one, comes, and the first one once more.
+fn second_part(alloc: Global) -> Result<Vec<Wanted>, AllocError> {
+    let mut steps = Vec::new(alloc);
+    let no_part = Err(Refusal::Part(PartFault::NoPart));
+    steps.push((send_part(3), no_part))?;
+    steps.push((send_part(2), Ok(Outcome::Message(131))))?;
+    steps.push((Step::Deliver { message: 131 }, Ok(Outcome::Got(132))))?;
+    steps.push((Step::Deliver { message: 130 }, Ok(Outcome::Got(133))))?;
+    Ok(steps)
+}
+
+/// Its sender hears that the handover was taken, and has no part of it any more.
+fn confirmation(alloc: Global) -> Result<Vec<Wanted>, AllocError> {
+    let mut steps = Vec::new(alloc);
+    steps.push((Step::Deliver { message: 132 }, Ok(Outcome::Freed)))?;
+    let no_part = Err(Refusal::Part(PartFault::NoPart));
+    steps.push((send_part(1), no_part))?;
+    Ok(steps)
+}
+
+/// A handover goes in two parts, whichever growth is refused.
+#[test]
+fn a_handover_in_two_parts(rt: HostRuntime) -> Result<(), Fail> {
+    let alloc = rt.alloc();
+    let many_values = many_values(alloc).or_else(|_| many_values(alloc))?;
+    let first_part = first_part(alloc).or_else(|_| first_part(alloc))?;
+    let second_part = second_part(alloc).or_else(|_| second_part(alloc))?;
+    let confirmation = confirmation(alloc).or_else(|_| confirmation(alloc))?;
+    let mut stores = match two_stores(alloc, 65) {
+        Ok(stores) => stores,
+        Err(_) => two_stores(alloc, 65)?,
+    };
+    let between = Id::new(B);
+    let under_way = Holder::UnderWay {
+        from: 0,
+        to: 1,
+        number: 1,
+    };
+    let mut world = World::new(alloc, 3);
+    assert!(rt; does_all(&mut world, &mut stores, &many_values));
+    assert!(rt; does_all(&mut world, &mut stores, &first_part));
+    assert_eq!(rt; world.holder(between), Some(under_way));
+    assert!(rt; does_all(&mut world, &mut stores, &second_part));
+    assert_eq!(rt; world.holder(between), Some(Holder::Node(1)));
+    assert!(rt; does_all(&mut world, &mut stores, &confirmation));
+    assert_eq!(rt; world.holder(between), Some(Holder::Node(1)));
+    assert_eq!(rt; world.history().len(), 65);
     Ok(())
 }

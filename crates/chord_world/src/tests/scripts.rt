@@ -7,6 +7,8 @@ use std::alloc::{AllocError, Global};
 
 pub const A: u128 = 0x40000000000000000000000000000000;
 
+pub const B: u128 = 0x80000000000000000000000000000000;
+
 pub const C: u128 = 0xc0000000000000000000000000000000;
 
 /// What a step of a script asks.

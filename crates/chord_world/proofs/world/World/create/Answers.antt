@@ -14,62 +14,42 @@ invariant_of-self-in-Ok g c =
     let flags = founded_flags view _ _ c.self.invariant none c.add_node.ensures.crashed c.room_for_node.ensures.crashed in
     founded_at c.args.id _ view _ _ (search rules) none c.self.invariant nodes flags
 
-pub returns-in-Ok-clause-answer : goal.returns-in-Ok-clause-answer
-returns-in-Ok-clause-answer g c =
+pub returns-in-Ok : goal.returns-in-Ok
+returns-in-Ok g c =
     let view : WorldState = state_of c.self.inside in
     let none : view.known.nodes ≡ [] = grind (arith, common_steps) in
     let nodes = founded_items c.args.id _ view _ _ c.in-Ok.node none c.add_node.ensures.nodes c.room_for_node.ensures.nodes c.in-Ok.ensures.ok in
     let flags = founded_flags view _ _ c.self.invariant none c.add_node.ensures.crashed c.room_for_node.ensures.crashed in
-    let some : 0 < length c.args.stores.now.items = search rules in
-    founded_answer c.args.id _ _ view _ _ _ c.self.view_is none (limit_first g.S.EntryStore.limit c.args.stores.now.items c.remove-store.result some c.remove-store.ensures.value) nodes flags
+    let some : 0 < length c.args.stores.now.items = search rules in record {
+      answer = founded_answer c.args.id _ _ view _ _ _ c.self.view_is none (limit_first g.S.EntryStore.limit c.args.stores.now.items c.remove-store.result some c.remove-store.ensures.value) nodes flags;
+      step = founded_step c.args.id _ view _ _ c.add_node.new.crashed.items c.self.view_is (search rules) none nodes;
+      ring = founded_keeps view _ _ _ c.self.view_is c.self.invariant none;
+      stores = search rules;
+    }
 
-pub returns-in-Ok-clause-step : goal.returns-in-Ok-clause-step
-returns-in-Ok-clause-step g c =
-    let view : WorldState = state_of c.self.inside in
-    let none : view.known.nodes ≡ [] = grind (arith, common_steps) in
-    let nodes = founded_items c.args.id _ view _ _ c.in-Ok.node none c.add_node.ensures.nodes c.room_for_node.ensures.nodes c.in-Ok.ensures.ok in
-    let flags = founded_flags view _ _ c.self.invariant none c.add_node.ensures.crashed c.room_for_node.ensures.crashed in
-    founded_step c.args.id _ view _ _ c.add_node.new.crashed.items c.self.view_is (search rules) none nodes
-
-pub returns-in-Ok-clause-ring : goal.returns-in-Ok-clause-ring
-returns-in-Ok-clause-ring g c =
-    let view : WorldState = state_of c.self.inside in
-    let none : view.known.nodes ≡ [] = grind (arith, common_steps) in
-    founded_keeps view _ _ _ c.self.view_is c.self.invariant none
-
-pub returns-then-is_err-clause-answer : goal.returns-then-is_err-clause-answer
-returns-then-is_err-clause-answer g c =
+pub returns-then-is_err : goal.returns-then-is_err
+returns-then-is_err g c =
     let view : WorldState = state_of c.self.inside in
     let same = no_room view c.args.self.now _ _ c.self.view_is c.room_for_node.ensures.nodes c.room_for_node.ensures.crashed in
     let none : view.known.nodes ≡ [] = grind (arith, common_steps) in
-    let some : 0 < length c.args.stores.now.items = search rules in
-    (ap (λ (w : WorldState). w.known.nodes) (sym c.self.view_is) ∙ none, map_some g.S.EntryStore.limit c.args.stores.now.items some, same)
+    let some : 0 < length c.args.stores.now.items = search rules in record {
+      answer = (ap (λ (w : WorldState). w.known.nodes) (sym c.self.view_is) ∙ none, map_some g.S.EntryStore.limit c.args.stores.now.items some, same);
+      step = same;
+      ring = keeps_same _ c.args.self.now _ c.self.view_is c.room_for_node.ensures.nodes c.room_for_node.ensures.crashed;
+      stores = search rules;
+    }
 
-pub returns-then-is_err-clause-step : goal.returns-then-is_err-clause-step
-returns-then-is_err-clause-step g c =
-    let view : WorldState = state_of c.self.inside in
-    let same = no_room view c.args.self.now _ _ c.self.view_is c.room_for_node.ensures.nodes c.room_for_node.ensures.crashed in
-    same
-
-pub returns-then-is_err-clause-ring : goal.returns-then-is_err-clause-ring
-returns-then-is_err-clause-ring g c = keeps_same _ c.args.self.now _ c.self.view_is c.room_for_node.ensures.nodes c.room_for_node.ensures.crashed
-
-pub returns-in-Err-clause-answer : goal.returns-in-Err-clause-answer
-returns-in-Err-clause-answer g c =
+pub returns-in-Err : goal.returns-in-Err
+returns-in-Err g c =
     let view : WorldState = state_of c.self.inside in
     let same = no_room view c.args.self.now _ _ c.self.view_is c.room_for_node.ensures.nodes c.room_for_node.ensures.crashed in
     let none : view.known.nodes ≡ [] = grind (arith, common_steps) in
-    let some : 0 < length c.args.stores.now.items = search rules in
-    (ap (λ (w : WorldState). w.known.nodes) (sym c.self.view_is) ∙ none, map_some g.S.EntryStore.limit c.args.stores.now.items some, same)
-
-pub returns-in-Err-clause-step : goal.returns-in-Err-clause-step
-returns-in-Err-clause-step g c =
-    let view : WorldState = state_of c.self.inside in
-    let same = no_room view c.args.self.now _ _ c.self.view_is c.room_for_node.ensures.nodes c.room_for_node.ensures.crashed in
-    same
-
-pub returns-in-Err-clause-ring : goal.returns-in-Err-clause-ring
-returns-in-Err-clause-ring g c = keeps_same _ c.args.self.now _ c.self.view_is c.room_for_node.ensures.nodes c.room_for_node.ensures.crashed
+    let some : 0 < length c.args.stores.now.items = search rules in record {
+      answer = (ap (λ (w : WorldState). w.known.nodes) (sym c.self.view_is) ∙ none, map_some g.S.EntryStore.limit c.args.stores.now.items some, same);
+      step = same;
+      ring = keeps_same _ c.args.self.now _ c.self.view_is c.room_for_node.ensures.nodes c.room_for_node.ensures.crashed;
+      stores = search rules;
+    }
 
 pub returns-then-is_empty-clause-answer : goal.returns-then-is_empty-clause-answer
 returns-then-is_empty-clause-answer g c =

@@ -93,8 +93,8 @@ invariant_of-self-2 g c =
     (answer_after c.args.place c.index-to.result.now c.in-Ask.ask view c.args.self.now c.in-Ok.answered done.node done.after _ c.self.view_is c.self.invariant asked
     (flag_old c.index-to.result.now view c.args.self.now _ _ c.self.view_is c.deref.ensures.value c.is_out.ensures c.if-is_out.false) is).world
 
-pub returns-clause-answer : goal.returns-clause-answer
-returns-clause-answer g c =
+pub returns : goal.returns
+returns g c =
     let view : WorldState = state_of c.self.inside in
     let within = slice_get_within view.known.sent c.args.place _ (sent_here view c.args.self.now c.args.place _ c.self.view_is c.requires.ask.1) in
     let room = ap length c.make_room.ensures.sent in
@@ -105,36 +105,11 @@ returns-clause-answer g c =
     let is = answered_is c.args.place c.index-to.result.now c.in-Ask.ask view c.in-Ok.answered c.in-Ok.done c.answer_at.new.nodes.items c.post.new.sent.items c.make_room.new.sent.items
     c.note.new.history.items c.reserve.new.self.items c.post.new.targets.items c.make_room.new.targets.items c.self.invariant done
     c.post.ensures.sent c.make_room.ensures.sent c.note.ensures c.reserve.ensures.items c.post.ensures.targets c.make_room.ensures.targets in
-    delivers_after c.args.place c.args.self.now _ _ c.post.result _ is (c.post.ensures.outcome ∙ ap (λ (xs : List Message). outcome_of c.in-Ok.answered (length xs)) c.make_room.ensures.sent)
-    (answer_delivers c.args.place c.index-to.result.now c.in-Ask.ask view c.args.self.now c.in-Ok.answered done.node done.after c.self.view_is c.self.invariant asked
-    (flag_old c.index-to.result.now view c.args.self.now _ _ c.self.view_is c.deref.ensures.value c.is_out.ensures c.if-is_out.false))
-
-pub returns-clause-step : goal.returns-clause-step
-returns-clause-step g c =
-    let view : WorldState = state_of c.self.inside in
-    let within = slice_get_within view.known.sent c.args.place _ (sent_here view c.args.self.now c.args.place _ c.self.view_is c.requires.ask.1) in
-    let room = ap length c.make_room.ensures.sent in
-    let sent = read c.make_room.new.sent.items view.known.sent c.args.place c.index.result.now c.make_room.ensures.sent (omega arith) c.index.ensures ∙ ap (λ m. Some m) c.in-Ask.is in
-    let target = got view.targets c.args.place c.index-to.result.now (let t = c.self.invariant.targets in omega arith) c.index-to.ensures in
-    let done : Answers c.index-to.result.now c.in-Ask.ask view.known.nodes c.in-Ok.answered c.in-Ok.done c.answer_at.new.nodes.items = c.in-Ok.ensures in
-    let asked = asked_of c.args.place c.index-to.result.now c.in-Ask.ask view c.in-Ok.answered c.in-Ok.done c.answer_at.new.nodes.items sent target done in
-    let is = answered_is c.args.place c.index-to.result.now c.in-Ask.ask view c.in-Ok.answered c.in-Ok.done c.answer_at.new.nodes.items c.post.new.sent.items c.make_room.new.sent.items
-    c.note.new.history.items c.reserve.new.self.items c.post.new.targets.items c.make_room.new.targets.items c.self.invariant done
-    c.post.ensures.sent c.make_room.ensures.sent c.note.ensures c.reserve.ensures.items c.post.ensures.targets c.make_room.ensures.targets in
-    (answer_after c.args.place c.index-to.result.now c.in-Ask.ask view c.args.self.now c.in-Ok.answered done.node done.after _ c.self.view_is c.self.invariant asked
-    (flag_old c.index-to.result.now view c.args.self.now _ _ c.self.view_is c.deref.ensures.value c.is_out.ensures c.if-is_out.false) is).step
-
-pub returns-clause-ring : goal.returns-clause-ring
-returns-clause-ring g c =
-    let view : WorldState = state_of c.self.inside in
-    let within = slice_get_within view.known.sent c.args.place _ (sent_here view c.args.self.now c.args.place _ c.self.view_is c.requires.ask.1) in
-    let room = ap length c.make_room.ensures.sent in
-    let sent = read c.make_room.new.sent.items view.known.sent c.args.place c.index.result.now c.make_room.ensures.sent (omega arith) c.index.ensures ∙ ap (λ m. Some m) c.in-Ask.is in
-    let target = got view.targets c.args.place c.index-to.result.now (let t = c.self.invariant.targets in omega arith) c.index-to.ensures in
-    let done : Answers c.index-to.result.now c.in-Ask.ask view.known.nodes c.in-Ok.answered c.in-Ok.done c.answer_at.new.nodes.items = c.in-Ok.ensures in
-    let asked = asked_of c.args.place c.index-to.result.now c.in-Ask.ask view c.in-Ok.answered c.in-Ok.done c.answer_at.new.nodes.items sent target done in
-    let is = answered_is c.args.place c.index-to.result.now c.in-Ask.ask view c.in-Ok.answered c.in-Ok.done c.answer_at.new.nodes.items c.post.new.sent.items c.make_room.new.sent.items
-    c.note.new.history.items c.reserve.new.self.items c.post.new.targets.items c.make_room.new.targets.items c.self.invariant done
-    c.post.ensures.sent c.make_room.ensures.sent c.note.ensures c.reserve.ensures.items c.post.ensures.targets c.make_room.ensures.targets in
-    (answer_after c.args.place c.index-to.result.now c.in-Ask.ask view c.args.self.now c.in-Ok.answered done.node done.after _ c.self.view_is c.self.invariant asked
-    (flag_old c.index-to.result.now view c.args.self.now _ _ c.self.view_is c.deref.ensures.value c.is_out.ensures c.if-is_out.false) is).ring
+    let after = answer_after c.args.place c.index-to.result.now c.in-Ask.ask view c.args.self.now c.in-Ok.answered done.node done.after _ c.self.view_is c.self.invariant asked
+    (flag_old c.index-to.result.now view c.args.self.now _ _ c.self.view_is c.deref.ensures.value c.is_out.ensures c.if-is_out.false) is in record {
+      answer = delivers_after c.args.place c.args.self.now _ _ c.post.result _ is (c.post.ensures.outcome ∙ ap (λ (xs : List Message). outcome_of c.in-Ok.answered (length xs)) c.make_room.ensures.sent)
+          (answer_delivers c.args.place c.index-to.result.now c.in-Ask.ask view c.args.self.now c.in-Ok.answered done.node done.after c.self.view_is c.self.invariant asked
+          (flag_old c.index-to.result.now view c.args.self.now _ _ c.self.view_is c.deref.ensures.value c.is_out.ensures c.if-is_out.false));
+      step = after.step;
+      ring = after.ring;
+    }

@@ -1,12 +1,12 @@
-use Rattle.std.proofs.Common.{Ok, Err, refl, sym, ◌∙◌, ap, subst}
+use Rattle.std.proofs.Common.{Ok, Err, refl, ◌∙◌, ap}
 use Rattle.chord_node.specs.Received.{BackIs, BackSteps}
 use Rattle.chord_world.specs.Handing.{DoesAt}
 use Rattle.chord_world.specs.View.{state_of}
-use Rattle.chord_world.specs.State.{WorldState, IsWorld}
+use Rattle.chord_world.specs.State.{WorldState}
 use Rattle.chord_world.specs.Delivered.IsFor.{Declined_for}
 use Rattle.chord_world.proofs.Acting.{keeps_same}
 use Rattle.chord_world.proofs.Answering.{sent_here, stays}
-use Rattle.chord_world.proofs.Handing.{nodes_stay}
+use Rattle.chord_world.proofs.Handing.{nodes_stay, left_world}
 use Rattle.chord_world.proofs.Keeping.{with_nodes}
 use Rattle.chord_world.proofs.RingLemmas.{flag_old}
 use Rattle.chord_world.proofs.Taking.{numbered, declined_ends, for_out, back_stays, back_takes, back_fits, back_after, back_delivers}
@@ -33,34 +33,21 @@ take_back_in-requires-clause-numbered g c =
 
 pub invariant_of-self : goal.invariant_of-self
 invariant_of-self g c =
-    let view : WorldState = state_of c.self.inside in
-    let does : DoesAt (BackIs c.args.declined) (BackSteps c.args.declined) c.args.declined.from view.known.nodes (Err _) c.take_back_in.new.nodes.items = c.in_default.ensures in
-    let same = nodes_stay (BackIs c.args.declined) (BackSteps c.args.declined) c.args.declined.from (Err _) view.known.nodes c.take_back_in.new.nodes.items does (back_stays c.args.declined _ does.node does.after does.is) in
-    subst (λ ns. IsWorld (with_nodes ns view)) (sym same) c.self.invariant
+    left_world (BackIs c.args.declined) (BackSteps c.args.declined) c.args.declined.from _ (state_of c.self.inside) c.take_back_in.new.nodes.items c.self.invariant c.in_default.ensures
+    (back_stays c.args.declined _)
 
-pub returns-in_default-clause-answer : goal.returns-in_default-clause-answer
-returns-in_default-clause-answer g c =
+pub returns-in_default : goal.returns-in_default
+returns-in_default g c =
     let view : WorldState = state_of c.self.inside in
     let sent = sent_here view c.args.self.now c.args.place _ c.self.view_is c.requires.declined in
     let does : DoesAt (BackIs c.args.declined) (BackSteps c.args.declined) c.args.declined.from view.known.nodes (Err _) c.take_back_in.new.nodes.items = c.in_default.ensures in
     let same = nodes_stay (BackIs c.args.declined) (BackSteps c.args.declined) c.args.declined.from (Err _) view.known.nodes c.take_back_in.new.nodes.items does (back_stays c.args.declined _ does.node does.after does.is) in
-    let running = flag_old c.args.declined.from view c.args.self.now _ _ c.self.view_is c.deref.ensures.value c.is_out.ensures c.if-is_out.false in
-    stays view c.args.self.now _ c.args.place c.self.view_is
-    (back_takes c.args.place c.args.declined _ view c.args.self.now does.node does.after c.self.view_is c.self.invariant sent does.here running does.is) (ap (λ ns. with_nodes ns view) same)
-
-pub returns-in_default-clause-step : goal.returns-in_default-clause-step
-returns-in_default-clause-step g c =
-    let view : WorldState = state_of c.self.inside in
-    let does : DoesAt (BackIs c.args.declined) (BackSteps c.args.declined) c.args.declined.from view.known.nodes (Err _) c.take_back_in.new.nodes.items = c.in_default.ensures in
-    let same = nodes_stay (BackIs c.args.declined) (BackSteps c.args.declined) c.args.declined.from (Err _) view.known.nodes c.take_back_in.new.nodes.items does (back_stays c.args.declined _ does.node does.after does.is) in
-    ap (λ ns. with_nodes ns view) same ∙ c.self.view_is
-
-pub returns-in_default-clause-ring : goal.returns-in_default-clause-ring
-returns-in_default-clause-ring g c =
-    let view : WorldState = state_of c.self.inside in
-    let does : DoesAt (BackIs c.args.declined) (BackSteps c.args.declined) c.args.declined.from view.known.nodes (Err _) c.take_back_in.new.nodes.items = c.in_default.ensures in
-    let same = nodes_stay (BackIs c.args.declined) (BackSteps c.args.declined) c.args.declined.from (Err _) view.known.nodes c.take_back_in.new.nodes.items does (back_stays c.args.declined _ does.node does.after does.is) in
-    keeps_same view c.args.self.now _ c.self.view_is same refl
+    let running = flag_old c.args.declined.from view c.args.self.now _ _ c.self.view_is c.deref.ensures.value c.is_out.ensures c.if-is_out.false in record {
+      answer = stays view c.args.self.now _ c.args.place c.self.view_is
+          (back_takes c.args.place c.args.declined _ view c.args.self.now does.node does.after c.self.view_is c.self.invariant sent does.here running does.is) (ap (λ ns. with_nodes ns view) same);
+      step = ap (λ ns. with_nodes ns view) same ∙ c.self.view_is;
+      ring = keeps_same view c.args.self.now _ c.self.view_is same refl;
+    }
 
 pub invariant_of-self-2 : goal.invariant_of-self-2
 invariant_of-self-2 g c =
@@ -70,29 +57,17 @@ invariant_of-self-2 g c =
     let does : DoesAt (BackIs c.args.declined) (BackSteps c.args.declined) c.args.declined.from view.known.nodes (Ok c.in-Ok.back) c.take_back_in.new.nodes.items = c.in-Ok.ensures in
     (back_after c.args.place c.args.declined c.in-Ok.back view c.args.self.now c.take_back_in.new.nodes.items c.self.view_is c.self.invariant running sent does).world
 
-pub returns-clause-answer : goal.returns-clause-answer
-returns-clause-answer g c =
+pub returns : goal.returns
+returns g c =
     let view : WorldState = state_of c.self.inside in
     let sent = sent_here view c.args.self.now c.args.place _ c.self.view_is c.requires.declined in
     let running = flag_old c.args.declined.from view c.args.self.now _ _ c.self.view_is c.deref.ensures.value c.is_out.ensures c.if-is_out.false in
     let does : DoesAt (BackIs c.args.declined) (BackSteps c.args.declined) c.args.declined.from view.known.nodes (Ok c.in-Ok.back) c.take_back_in.new.nodes.items = c.in-Ok.ensures in
-    back_delivers c.args.place c.args.declined c.in-Ok.back view c.args.self.now c.take_back_in.new.nodes.items c.outcome_of_declined.result c.self.view_is c.self.invariant running sent does c.outcome_of_declined.ensures
-
-pub returns-clause-step : goal.returns-clause-step
-returns-clause-step g c =
-    let view : WorldState = state_of c.self.inside in
-    let sent = sent_here view c.args.self.now c.args.place _ c.self.view_is c.requires.declined in
-    let running = flag_old c.args.declined.from view c.args.self.now _ _ c.self.view_is c.deref.ensures.value c.is_out.ensures c.if-is_out.false in
-    let does : DoesAt (BackIs c.args.declined) (BackSteps c.args.declined) c.args.declined.from view.known.nodes (Ok c.in-Ok.back) c.take_back_in.new.nodes.items = c.in-Ok.ensures in
-    (back_after c.args.place c.args.declined c.in-Ok.back view c.args.self.now c.take_back_in.new.nodes.items c.self.view_is c.self.invariant running sent does).step
-
-pub returns-clause-ring : goal.returns-clause-ring
-returns-clause-ring g c =
-    let view : WorldState = state_of c.self.inside in
-    let sent = sent_here view c.args.self.now c.args.place _ c.self.view_is c.requires.declined in
-    let running = flag_old c.args.declined.from view c.args.self.now _ _ c.self.view_is c.deref.ensures.value c.is_out.ensures c.if-is_out.false in
-    let does : DoesAt (BackIs c.args.declined) (BackSteps c.args.declined) c.args.declined.from view.known.nodes (Ok c.in-Ok.back) c.take_back_in.new.nodes.items = c.in-Ok.ensures in
-    (back_after c.args.place c.args.declined c.in-Ok.back view c.args.self.now c.take_back_in.new.nodes.items c.self.view_is c.self.invariant running sent does).ring
+    let after = back_after c.args.place c.args.declined c.in-Ok.back view c.args.self.now c.take_back_in.new.nodes.items c.self.view_is c.self.invariant running sent does in record {
+      answer = back_delivers c.args.place c.args.declined c.in-Ok.back view c.args.self.now c.take_back_in.new.nodes.items c.outcome_of_declined.result c.self.view_is c.self.invariant running sent does c.outcome_of_declined.ensures;
+      step = after.step;
+      ring = after.ring;
+    }
 
 pub outcome_of_declined-requires : goal.outcome_of_declined-requires
 outcome_of_declined-requires g c =

@@ -33,23 +33,13 @@ invariant_of-self g c =
     let running = flag_old c.args.got.from view c.args.self.now _ _ c.self.view_is c.deref.ensures.value c.is_out.ensures c.if-is_out.false in
     (got_after c.args.place c.args.got c.free_in-freed.result view c.args.self.now c.free_in-freed.new.nodes.items c.self.view_is c.self.invariant running sent c.free_in-freed.ensures).world
 
-pub returns-clause-answer : goal.returns-clause-answer
-returns-clause-answer g c =
+pub returns : goal.returns
+returns g c =
     let view : WorldState = state_of c.self.inside in
     let sent = sent_here view c.args.self.now c.args.place _ c.self.view_is c.requires.got in
     let running = flag_old c.args.got.from view c.args.self.now _ _ c.self.view_is c.deref.ensures.value c.is_out.ensures c.if-is_out.false in
-    got_delivers c.args.place c.args.got c.free_in-freed.result view c.args.self.now c.free_in-freed.new.nodes.items c.outcome_of_got.result c.self.view_is c.self.invariant running sent c.free_in-freed.ensures c.outcome_of_got.ensures
-
-pub returns-clause-step : goal.returns-clause-step
-returns-clause-step g c =
-    let view : WorldState = state_of c.self.inside in
-    let sent = sent_here view c.args.self.now c.args.place _ c.self.view_is c.requires.got in
-    let running = flag_old c.args.got.from view c.args.self.now _ _ c.self.view_is c.deref.ensures.value c.is_out.ensures c.if-is_out.false in
-    (got_after c.args.place c.args.got c.free_in-freed.result view c.args.self.now c.free_in-freed.new.nodes.items c.self.view_is c.self.invariant running sent c.free_in-freed.ensures).step
-
-pub returns-clause-ring : goal.returns-clause-ring
-returns-clause-ring g c =
-    let view : WorldState = state_of c.self.inside in
-    let sent = sent_here view c.args.self.now c.args.place _ c.self.view_is c.requires.got in
-    let running = flag_old c.args.got.from view c.args.self.now _ _ c.self.view_is c.deref.ensures.value c.is_out.ensures c.if-is_out.false in
-    (got_after c.args.place c.args.got c.free_in-freed.result view c.args.self.now c.free_in-freed.new.nodes.items c.self.view_is c.self.invariant running sent c.free_in-freed.ensures).ring
+    let after = got_after c.args.place c.args.got c.free_in-freed.result view c.args.self.now c.free_in-freed.new.nodes.items c.self.view_is c.self.invariant running sent c.free_in-freed.ensures in record {
+      answer = got_delivers c.args.place c.args.got c.free_in-freed.result view c.args.self.now c.free_in-freed.new.nodes.items c.outcome_of_got.result c.self.view_is c.self.invariant running sent c.free_in-freed.ensures c.outcome_of_got.ensures;
+      step = after.step;
+      ring = after.ring;
+    }

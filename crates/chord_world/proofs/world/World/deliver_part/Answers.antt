@@ -71,31 +71,19 @@ invariant_of-self-in_default-take_in g c =
     let all = same_fields view c.take_in.new.nodes.items c.make_room.new.sent.items view.known.history c.make_room.new.targets.items same c.make_room.ensures.sent refl c.make_room.ensures.targets in
     subst IsWorld (sym all) c.self.invariant
 
-pub returns-in_default-take_in-clause-answer : goal.returns-in_default-take_in-clause-answer
-returns-in_default-take_in-clause-answer g c =
+pub returns-in_default-take_in : goal.returns-in_default-take_in
+returns-in_default-take_in g c =
     let view : WorldState = state_of c.self.inside in
     let running = flag_old c.args.to view c.args.self.now _ _ c.self.view_is c.deref.ensures.value c.is_out.ensures c.if-is_out.false in
     let it : Came c.args.place c.args.to c.in-Part.part view = came c.args.place c.args.to view c.args.self.now c.requires.part.0 c.in-Part.part c.make_room.new.sent.items c.index.result.now
     c.self.view_is c.requires.part.1 c.requires.part.2 c.make_room.ensures.sent c.index.ensures c.in-Part.is in
     let does : DoesAt (PartIs c.in-Part.part) (PartSteps c.in-Part.part) c.args.to view.known.nodes (Err _) c.take_in.new.nodes.items = c.in_default-take_in.ensures in
     let same = nodes_stay (PartIs c.in-Part.part) (PartSteps c.in-Part.part) c.args.to (Err _) view.known.nodes c.take_in.new.nodes.items does (part_stays c.in-Part.part _ does.node does.after does.is) in
-    let all = same_fields view c.take_in.new.nodes.items c.make_room.new.sent.items view.known.history c.make_room.new.targets.items same c.make_room.ensures.sent refl c.make_room.ensures.targets in
-    stays view c.args.self.now _ c.args.place c.self.view_is (part_takes c.args.place c.args.to c.in-Part.part view c.args.self.now c.self.view_is c.self.invariant it.sent it.own running) all
-
-pub returns-in_default-take_in-clause-step : goal.returns-in_default-take_in-clause-step
-returns-in_default-take_in-clause-step g c =
-    let view : WorldState = state_of c.self.inside in
-    let does : DoesAt (PartIs c.in-Part.part) (PartSteps c.in-Part.part) c.args.to view.known.nodes (Err _) c.take_in.new.nodes.items = c.in_default-take_in.ensures in
-    let same = nodes_stay (PartIs c.in-Part.part) (PartSteps c.in-Part.part) c.args.to (Err _) view.known.nodes c.take_in.new.nodes.items does (part_stays c.in-Part.part _ does.node does.after does.is) in
-    let all = same_fields view c.take_in.new.nodes.items c.make_room.new.sent.items view.known.history c.make_room.new.targets.items same c.make_room.ensures.sent refl c.make_room.ensures.targets in
-    all ∙ c.self.view_is
-
-pub returns-in_default-take_in-clause-ring : goal.returns-in_default-take_in-clause-ring
-returns-in_default-take_in-clause-ring g c =
-    let view : WorldState = state_of c.self.inside in
-    let does : DoesAt (PartIs c.in-Part.part) (PartSteps c.in-Part.part) c.args.to view.known.nodes (Err _) c.take_in.new.nodes.items = c.in_default-take_in.ensures in
-    let same = nodes_stay (PartIs c.in-Part.part) (PartSteps c.in-Part.part) c.args.to (Err _) view.known.nodes c.take_in.new.nodes.items does (part_stays c.in-Part.part _ does.node does.after does.is) in
-    keeps_same view c.args.self.now _ c.self.view_is same refl
+    let all = same_fields view c.take_in.new.nodes.items c.make_room.new.sent.items view.known.history c.make_room.new.targets.items same c.make_room.ensures.sent refl c.make_room.ensures.targets in record {
+      answer = stays view c.args.self.now _ c.args.place c.self.view_is (part_takes c.args.place c.args.to c.in-Part.part view c.args.self.now c.self.view_is c.self.invariant it.sent it.own running) all;
+      step = all ∙ c.self.view_is;
+      ring = keeps_same view c.args.self.now _ c.self.view_is same refl;
+    }
 
 pub confirm-requires-clause-fits : goal.confirm-requires-clause-fits
 confirm-requires-clause-fits g c =
@@ -117,8 +105,8 @@ invariant_of-self-2 g c =
     c.self.invariant took c.of-ticket.ensures c.confirm.ensures.sent c.make_room.ensures.sent c.confirm.ensures.targets c.make_room.ensures.targets in
     (part_after c.args.place c.args.to c.in-Part.part c.in-Ok.given view c.args.self.now _ c.take_in.new.nodes.items c.self.view_is c.self.invariant running took is).world
 
-pub returns-clause-answer : goal.returns-clause-answer
-returns-clause-answer g c =
+pub returns : goal.returns
+returns g c =
     let view : WorldState = state_of c.self.inside in
     let running = flag_old c.args.to view c.args.self.now _ _ c.self.view_is c.deref.ensures.value c.is_out.ensures c.if-is_out.false in
     let it : Came c.args.place c.args.to c.in-Part.part view = came c.args.place c.args.to view c.args.self.now c.requires.part.0 c.in-Part.part c.make_room.new.sent.items c.index.result.now
@@ -127,29 +115,9 @@ returns-clause-answer g c =
     let took : TookPart c.args.place c.args.to c.in-Part.part c.in-Ok.given view c.take_in.new.nodes.items = record { sent = it.sent; own = it.own; does = does } in
     let is = part_is c.args.place c.args.to c.in-Part.part c.in-Ok.given c.of-ticket.result view c.take_in.new.nodes.items c.confirm.new.sent.items c.make_room.new.sent.items c.confirm.new.targets.items c.make_room.new.targets.items
     c.self.invariant took c.of-ticket.ensures c.confirm.ensures.sent c.make_room.ensures.sent c.confirm.ensures.targets c.make_room.ensures.targets in
-    part_delivers c.args.place c.args.to c.in-Part.part c.in-Ok.given view c.args.self.now _ c.take_in.new.nodes.items c.confirm.result c.self.view_is c.self.invariant running took is
-    (ap (λ (xs : List Message). outcome_of_given c.in-Ok.given (length xs)) (sym c.make_room.ensures.sent) ∙ c.confirm.ensures.outcome)
-
-pub returns-clause-step : goal.returns-clause-step
-returns-clause-step g c =
-    let view : WorldState = state_of c.self.inside in
-    let running = flag_old c.args.to view c.args.self.now _ _ c.self.view_is c.deref.ensures.value c.is_out.ensures c.if-is_out.false in
-    let it : Came c.args.place c.args.to c.in-Part.part view = came c.args.place c.args.to view c.args.self.now c.requires.part.0 c.in-Part.part c.make_room.new.sent.items c.index.result.now
-    c.self.view_is c.requires.part.1 c.requires.part.2 c.make_room.ensures.sent c.index.ensures c.in-Part.is in
-    let does : DoesAt (PartIs c.in-Part.part) (PartSteps c.in-Part.part) c.args.to view.known.nodes (Ok c.in-Ok.given) c.take_in.new.nodes.items = c.in-Ok.ensures in
-    let took : TookPart c.args.place c.args.to c.in-Part.part c.in-Ok.given view c.take_in.new.nodes.items = record { sent = it.sent; own = it.own; does = does } in
-    let is = part_is c.args.place c.args.to c.in-Part.part c.in-Ok.given c.of-ticket.result view c.take_in.new.nodes.items c.confirm.new.sent.items c.make_room.new.sent.items c.confirm.new.targets.items c.make_room.new.targets.items
-    c.self.invariant took c.of-ticket.ensures c.confirm.ensures.sent c.make_room.ensures.sent c.confirm.ensures.targets c.make_room.ensures.targets in
-    (part_after c.args.place c.args.to c.in-Part.part c.in-Ok.given view c.args.self.now _ c.take_in.new.nodes.items c.self.view_is c.self.invariant running took is).step
-
-pub returns-clause-ring : goal.returns-clause-ring
-returns-clause-ring g c =
-    let view : WorldState = state_of c.self.inside in
-    let running = flag_old c.args.to view c.args.self.now _ _ c.self.view_is c.deref.ensures.value c.is_out.ensures c.if-is_out.false in
-    let it : Came c.args.place c.args.to c.in-Part.part view = came c.args.place c.args.to view c.args.self.now c.requires.part.0 c.in-Part.part c.make_room.new.sent.items c.index.result.now
-    c.self.view_is c.requires.part.1 c.requires.part.2 c.make_room.ensures.sent c.index.ensures c.in-Part.is in
-    let does : DoesAt (PartIs c.in-Part.part) (PartSteps c.in-Part.part) c.args.to view.known.nodes (Ok c.in-Ok.given) c.take_in.new.nodes.items = c.in-Ok.ensures in
-    let took : TookPart c.args.place c.args.to c.in-Part.part c.in-Ok.given view c.take_in.new.nodes.items = record { sent = it.sent; own = it.own; does = does } in
-    let is = part_is c.args.place c.args.to c.in-Part.part c.in-Ok.given c.of-ticket.result view c.take_in.new.nodes.items c.confirm.new.sent.items c.make_room.new.sent.items c.confirm.new.targets.items c.make_room.new.targets.items
-    c.self.invariant took c.of-ticket.ensures c.confirm.ensures.sent c.make_room.ensures.sent c.confirm.ensures.targets c.make_room.ensures.targets in
-    (part_after c.args.place c.args.to c.in-Part.part c.in-Ok.given view c.args.self.now _ c.take_in.new.nodes.items c.self.view_is c.self.invariant running took is).ring
+    let after = part_after c.args.place c.args.to c.in-Part.part c.in-Ok.given view c.args.self.now _ c.take_in.new.nodes.items c.self.view_is c.self.invariant running took is in record {
+      answer = part_delivers c.args.place c.args.to c.in-Part.part c.in-Ok.given view c.args.self.now _ c.take_in.new.nodes.items c.confirm.result c.self.view_is c.self.invariant running took is
+          (ap (λ (xs : List Message). outcome_of_given c.in-Ok.given (length xs)) (sym c.make_room.ensures.sent) ∙ c.confirm.ensures.outcome);
+      step = after.step;
+      ring = after.ring;
+    }

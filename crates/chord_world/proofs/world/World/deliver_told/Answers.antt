@@ -36,29 +36,19 @@ invariant_of-self-2 g c =
     let is = heard_is c.in-Told.told view c.in-Ok.heard c.hear_at.new.callers.items c.self.invariant did in
     world_after view _ _ is (told_is_world c.args.place c.in-Told.told view c.in-Ok.heard did.core did.after c.self.invariant to)
 
-pub returns-clause-answer : goal.returns-clause-answer
-returns-clause-answer g c =
+pub returns : goal.returns
+returns g c =
     let view : WorldState = state_of c.self.inside in
     let within = slice_get_within view.known.sent c.args.place _ (sent_here view c.args.self.now c.args.place _ c.self.view_is c.requires.told.1) in
     let sent : slice_get view.known.sent c.args.place ≡ Some (ToldMessage c.in-Told.told) = read view.known.sent view.known.sent c.args.place c.index.result.now refl within c.index.ensures ∙ ap (λ m. Some m) c.in-Told.is in
     let did : Hears c.in-Told.told.caller c.in-Told.told view.known.callers c.in-Ok.heard c.hear_at.new.callers.items = c.in-Ok.ensures in
     let to = told_to c.args.place c.in-Told.told view c.in-Ok.heard c.hear_at.new.callers.items sent did in
-    let is = heard_is c.in-Told.told view c.in-Ok.heard c.hear_at.new.callers.items c.self.invariant did in
-    delivers_after c.args.place c.args.self.now _ _ c.outcome_of_heard.result _ is c.outcome_of_heard.ensures
-    (told_delivers c.args.place c.in-Told.told view c.args.self.now c.in-Ok.heard did.core did.after c.self.view_is c.self.invariant to)
-
-pub returns-clause-step : goal.returns-clause-step
-returns-clause-step g c =
-    let view : WorldState = state_of c.self.inside in
-    let within = slice_get_within view.known.sent c.args.place _ (sent_here view c.args.self.now c.args.place _ c.self.view_is c.requires.told.1) in
-    let sent : slice_get view.known.sent c.args.place ≡ Some (ToldMessage c.in-Told.told) = read view.known.sent view.known.sent c.args.place c.index.result.now refl within c.index.ensures ∙ ap (λ m. Some m) c.in-Told.is in
-    let did : Hears c.in-Told.told.caller c.in-Told.told view.known.callers c.in-Ok.heard c.hear_at.new.callers.items = c.in-Ok.ensures in
-    let to = told_to c.args.place c.in-Told.told view c.in-Ok.heard c.hear_at.new.callers.items sent did in
-    let is = heard_is c.in-Told.told view c.in-Ok.heard c.hear_at.new.callers.items c.self.invariant did in
-    step_after view c.args.self.now _ _ c.self.view_is is (told_step c.args.place c.in-Told.told view c.in-Ok.heard did.core did.after c.self.invariant to)
-
-pub returns-clause-ring : goal.returns-clause-ring
-returns-clause-ring g c = keeps_same _ c.args.self.now _ c.self.view_is refl refl
+    let is = heard_is c.in-Told.told view c.in-Ok.heard c.hear_at.new.callers.items c.self.invariant did in record {
+      answer = delivers_after c.args.place c.args.self.now _ _ c.outcome_of_heard.result _ is c.outcome_of_heard.ensures
+          (told_delivers c.args.place c.in-Told.told view c.args.self.now c.in-Ok.heard did.core did.after c.self.view_is c.self.invariant to);
+      step = step_after view c.args.self.now _ _ c.self.view_is is (told_step c.args.place c.in-Told.told view c.in-Ok.heard did.core did.after c.self.invariant to);
+      ring = keeps_same _ c.args.self.now _ c.self.view_is refl refl;
+    }
 
 pub returns-in_default-hear_at-clause-answer : goal.returns-in_default-hear_at-clause-answer
 returns-in_default-hear_at-clause-answer g c =

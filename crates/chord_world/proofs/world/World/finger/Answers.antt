@@ -43,21 +43,14 @@ invariant_of-self g c =
     (flag_old c.args.node view c.args.self.now _ _ c.self.view_is c.deref.ensures.value c.is_out.ensures c.if-is_out.false)
     (pointed_is c.args.node c.args.finger c.me-peer.result view c.point_at.new.nodes.items c.self.invariant c.point_at.ensures)).world
 
-pub returns-clause-answer : goal.returns-clause-answer
-returns-clause-answer g c =
-    points_after c.args.node c.args.finger c.args.to c.index.result.now c.me-peer.result _ c.args.self.now c.point_at.new.nodes.items c.self.view_is c.self.invariant
-    (omega arith, omega arith) (flag_old c.args.node _ c.args.self.now _ _ c.self.view_is c.deref.ensures.value c.is_out.ensures c.if-is_out.false) (got c.self.inside.nodes.items c.args.to c.index.result.now (omega arith) c.index.ensures) (c.me-peer.ensures ∙ ap (λ l. l.me) c.links.ensures) c.point_at.ensures
-
-pub returns-clause-step : goal.returns-clause-step
-returns-clause-step g c =
+pub returns : goal.returns
+returns g c =
     let view : WorldState = state_of c.self.inside in
-    (pointed_after c.args.node c.args.finger c.me-peer.result c.point_at.ensures.node view c.args.self.now _ c.self.view_is c.self.invariant c.point_at.ensures.here
+    let after = pointed_after c.args.node c.args.finger c.me-peer.result c.point_at.ensures.node view c.args.self.now _ c.self.view_is c.self.invariant c.point_at.ensures.here
     (flag_old c.args.node view c.args.self.now _ _ c.self.view_is c.deref.ensures.value c.is_out.ensures c.if-is_out.false)
-    (pointed_is c.args.node c.args.finger c.me-peer.result view c.point_at.new.nodes.items c.self.invariant c.point_at.ensures)).step
-
-pub returns-clause-ring : goal.returns-clause-ring
-returns-clause-ring g c =
-    let view : WorldState = state_of c.self.inside in
-    (pointed_after c.args.node c.args.finger c.me-peer.result c.point_at.ensures.node view c.args.self.now _ c.self.view_is c.self.invariant c.point_at.ensures.here
-    (flag_old c.args.node view c.args.self.now _ _ c.self.view_is c.deref.ensures.value c.is_out.ensures c.if-is_out.false)
-    (pointed_is c.args.node c.args.finger c.me-peer.result view c.point_at.new.nodes.items c.self.invariant c.point_at.ensures)).ring
+    (pointed_is c.args.node c.args.finger c.me-peer.result view c.point_at.new.nodes.items c.self.invariant c.point_at.ensures) in record {
+      answer = points_after c.args.node c.args.finger c.args.to c.index.result.now c.me-peer.result _ c.args.self.now c.point_at.new.nodes.items c.self.view_is c.self.invariant
+          (omega arith, omega arith) (flag_old c.args.node _ c.args.self.now _ _ c.self.view_is c.deref.ensures.value c.is_out.ensures c.if-is_out.false) (got c.self.inside.nodes.items c.args.to c.index.result.now (omega arith) c.index.ensures) (c.me-peer.ensures ∙ ap (λ l. l.me) c.links.ensures) c.point_at.ensures;
+      step = after.step;
+      ring = after.ring;
+    }

@@ -61,56 +61,31 @@ invariant_of-self-2 g c =
     let after = gives c.args.node c.args.to c.args.place c.in_ok-part.part view c.args.self.now _ c.give_in.new.nodes.items c.self.view_is c.self.invariant c.in_ok-can_act.ensures.1 there does is in
     after.world
 
-pub returns-in_err-part-clause-answer : goal.returns-in_err-part-clause-answer
-returns-in_err-part-clause-answer g c =
+pub returns-in_err-part : goal.returns-in_err-part
+returns-in_err-part g c =
     let view : WorldState = state_of c.self.inside in
     let does : DoesAt (GiveIs c.args.place c.args.to) SendSteps c.args.node view.known.nodes (Err c.in_err-part.field-0.0) c.give_in.new.nodes.items = c.in_err-part.ensures in
-    give_refused_at c.args.node c.args.to c.args.place c.in_err-part.field-0.0 view c.args.self.now c.give_in.new.nodes.items c.make_room.new.sent.items c.make_room.new.targets.items c.from_residual-in_err-part.result c.self.view_is c.self.invariant
-    c.in_ok-is_there.ensures c.in_ok-can_act.ensures.1 does c.make_room.ensures.sent c.make_room.ensures.targets c.from_residual-in_err-part.ensures.1
+    let stays = give_stays c.args.node c.args.to c.args.place c.in_err-part.field-0.0 view c.give_in.new.nodes.items c.make_room.new.sent.items c.make_room.new.targets.items does c.make_room.ensures.sent c.make_room.ensures.targets in record {
+      answer = give_refused_at c.args.node c.args.to c.args.place c.in_err-part.field-0.0 view c.args.self.now c.give_in.new.nodes.items c.make_room.new.sent.items c.make_room.new.targets.items c.from_residual-in_err-part.result c.self.view_is c.self.invariant
+          c.in_ok-is_there.ensures c.in_ok-can_act.ensures.1 does c.make_room.ensures.sent c.make_room.ensures.targets c.from_residual-in_err-part.ensures.1;
+      step = advances_not c.args.self.now _ _ c.from_residual-in_err-part.result c.from_residual-in_err-part.ensures.1 (stays ∙ c.self.view_is);
+      ring = keeps_same view c.args.self.now _ c.self.view_is (nodes_stay (GiveIs c.args.place c.args.to) SendSteps c.args.node (Err c.in_err-part.field-0.0) view.known.nodes c.give_in.new.nodes.items does
+          (give_kept c.args.place c.args.to c.in_err-part.field-0.0 does.node does.after does.is)) refl;
+    }
 
-pub returns-in_err-part-clause-step : goal.returns-in_err-part-clause-step
-returns-in_err-part-clause-step g c =
-    let view : WorldState = state_of c.self.inside in
-    let does : DoesAt (GiveIs c.args.place c.args.to) SendSteps c.args.node view.known.nodes (Err c.in_err-part.field-0.0) c.give_in.new.nodes.items = c.in_err-part.ensures in
-    let stays = give_stays c.args.node c.args.to c.args.place c.in_err-part.field-0.0 view c.give_in.new.nodes.items c.make_room.new.sent.items c.make_room.new.targets.items does c.make_room.ensures.sent c.make_room.ensures.targets in
-    advances_not c.args.self.now _ _ c.from_residual-in_err-part.result c.from_residual-in_err-part.ensures.1 (stays ∙ c.self.view_is)
-
-pub returns-in_err-part-clause-ring : goal.returns-in_err-part-clause-ring
-returns-in_err-part-clause-ring g c =
-    let view : WorldState = state_of c.self.inside in
-    let does : DoesAt (GiveIs c.args.place c.args.to) SendSteps c.args.node view.known.nodes (Err c.in_err-part.field-0.0) c.give_in.new.nodes.items = c.in_err-part.ensures in
-    keeps_same view c.args.self.now _ c.self.view_is (nodes_stay (GiveIs c.args.place c.args.to) SendSteps c.args.node (Err c.in_err-part.field-0.0) view.known.nodes c.give_in.new.nodes.items does
-    (give_kept c.args.place c.args.to c.in_err-part.field-0.0 does.node does.after does.is)) refl
-
-pub returns-clause-answer : goal.returns-clause-answer
-returns-clause-answer g c =
+pub returns : goal.returns
+returns g c =
     let view : WorldState = state_of c.self.inside in
     let does : DoesAt (GiveIs c.args.place c.args.to) SendSteps c.args.node view.known.nodes (Ok c.in_ok-part.part) c.give_in.new.nodes.items = c.in_ok-part.ensures in
     let is = giving_is c.args.node c.args.to c.args.place c.in_ok-part.part view c.give_in.new.nodes.items c.push_message-message.new.sent.items c.make_room.new.sent.items c.push_message-message.new.targets.items c.make_room.new.targets.items
     c.self.invariant does c.push_message-message.ensures.sent c.make_room.ensures.sent c.push_message-message.ensures.targets c.make_room.ensures.targets in
     let there = acts_within c.args.to view c.args.self.now c.self.view_is c.self.invariant c.in_ok-is_there.ensures in
-    let after = gives c.args.node c.args.to c.args.place c.in_ok-part.part view c.args.self.now _ c.give_in.new.nodes.items c.self.view_is c.self.invariant c.in_ok-can_act.ensures.1 there does is in (
-      c.in_ok-is_there.ensures,
-      sends_part (GiveIs c.args.place c.args.to) c.args.node c.push_message-message.result does.node does.after c.in_ok-part.part view c.args.self.now _ c.self.view_is c.self.invariant does.here c.in_ok-can_act.ensures.1 does.is
-          (c.push_message-message.ensures.number ∙ ap length c.make_room.ensures.sent) is,
-    )
-
-pub returns-clause-step : goal.returns-clause-step
-returns-clause-step g c =
-    let view : WorldState = state_of c.self.inside in
-    let does : DoesAt (GiveIs c.args.place c.args.to) SendSteps c.args.node view.known.nodes (Ok c.in_ok-part.part) c.give_in.new.nodes.items = c.in_ok-part.ensures in
-    let is = giving_is c.args.node c.args.to c.args.place c.in_ok-part.part view c.give_in.new.nodes.items c.push_message-message.new.sent.items c.make_room.new.sent.items c.push_message-message.new.targets.items c.make_room.new.targets.items
-    c.self.invariant does c.push_message-message.ensures.sent c.make_room.ensures.sent c.push_message-message.ensures.targets c.make_room.ensures.targets in
-    let there = acts_within c.args.to view c.args.self.now c.self.view_is c.self.invariant c.in_ok-is_there.ensures in
-    let after = gives c.args.node c.args.to c.args.place c.in_ok-part.part view c.args.self.now _ c.give_in.new.nodes.items c.self.view_is c.self.invariant c.in_ok-can_act.ensures.1 there does is in
-    after.step
-
-pub returns-clause-ring : goal.returns-clause-ring
-returns-clause-ring g c =
-    let view : WorldState = state_of c.self.inside in
-    let does : DoesAt (GiveIs c.args.place c.args.to) SendSteps c.args.node view.known.nodes (Ok c.in_ok-part.part) c.give_in.new.nodes.items = c.in_ok-part.ensures in
-    let is = giving_is c.args.node c.args.to c.args.place c.in_ok-part.part view c.give_in.new.nodes.items c.push_message-message.new.sent.items c.make_room.new.sent.items c.push_message-message.new.targets.items c.make_room.new.targets.items
-    c.self.invariant does c.push_message-message.ensures.sent c.make_room.ensures.sent c.push_message-message.ensures.targets c.make_room.ensures.targets in
-    let there = acts_within c.args.to view c.args.self.now c.self.view_is c.self.invariant c.in_ok-is_there.ensures in
-    let after = gives c.args.node c.args.to c.args.place c.in_ok-part.part view c.args.self.now _ c.give_in.new.nodes.items c.self.view_is c.self.invariant c.in_ok-can_act.ensures.1 there does is in
-    after.ring
+    let after = gives c.args.node c.args.to c.args.place c.in_ok-part.part view c.args.self.now _ c.give_in.new.nodes.items c.self.view_is c.self.invariant c.in_ok-can_act.ensures.1 there does is in record {
+      answer = (
+        c.in_ok-is_there.ensures,
+        sends_part (GiveIs c.args.place c.args.to) c.args.node c.push_message-message.result does.node does.after c.in_ok-part.part view c.args.self.now _ c.self.view_is c.self.invariant does.here c.in_ok-can_act.ensures.1 does.is
+            (c.push_message-message.ensures.number ∙ ap length c.make_room.ensures.sent) is,
+      );
+      step = after.step;
+      ring = after.ring;
+    }

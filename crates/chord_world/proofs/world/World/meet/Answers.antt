@@ -28,20 +28,13 @@ invariant_of-self-2 g c =
     (heard_is_world c.args.caller met.core _ view c.self.invariant met.here refl
     (met_step c.args.caller c.in-Note.note met.core view c.self.invariant met.here (was_sent view.known.sent c.args.message (NoteMessage c.in-Note.note) sent)))
 
-pub returns-clause-answer : goal.returns-clause-answer
-returns-clause-answer g c =
+pub returns : goal.returns
+returns g c =
     let view : WorldState = state_of c.self.inside in
     let sent : slice_get view.known.sent c.args.message ≡ Some (NoteMessage c.in-Note.note) = read view.known.sent view.known.sent c.args.message c.index.result.now refl (omega arith) c.index.ensures ∙ ap (λ m. Some m) c.in-Note.is in
-    let met : Met c.args.caller c.in-Note.note view.known.callers c.meet_at.new.callers.items = c.in_ok-meet_at.ensures in
-    meets_after c.args.caller c.args.message view c.args.self.now c.in-Note.note c.meet_at.new.callers.items c.self.view_is c.self.invariant sent met
-
-pub returns-clause-step : goal.returns-clause-step
-returns-clause-step g c =
-    let view : WorldState = state_of c.self.inside in
-    let sent : slice_get view.known.sent c.args.message ≡ Some (NoteMessage c.in-Note.note) = read view.known.sent view.known.sent c.args.message c.index.result.now refl (omega arith) c.index.ensures ∙ ap (λ m. Some m) c.in-Note.is in
-    let met : Met c.args.caller c.in-Note.note view.known.callers c.meet_at.new.callers.items = c.in_ok-meet_at.ensures in
-    step_after view c.args.self.now _ _ c.self.view_is (met_is c.args.caller c.in-Note.note view c.meet_at.new.callers.items c.self.invariant met)
-    (met_step c.args.caller c.in-Note.note met.core view c.self.invariant met.here (was_sent view.known.sent c.args.message (NoteMessage c.in-Note.note) sent))
-
-pub returns-clause-ring : goal.returns-clause-ring
-returns-clause-ring g c = keeps_same _ c.args.self.now _ c.self.view_is refl refl
+    let met : Met c.args.caller c.in-Note.note view.known.callers c.meet_at.new.callers.items = c.in_ok-meet_at.ensures in record {
+      answer = meets_after c.args.caller c.args.message view c.args.self.now c.in-Note.note c.meet_at.new.callers.items c.self.view_is c.self.invariant sent met;
+      step = step_after view c.args.self.now _ _ c.self.view_is (met_is c.args.caller c.in-Note.note view c.meet_at.new.callers.items c.self.invariant met)
+          (met_step c.args.caller c.in-Note.note met.core view c.self.invariant met.here (was_sent view.known.sent c.args.message (NoteMessage c.in-Note.note) sent));
+      ring = keeps_same _ c.args.self.now _ c.self.view_is refl refl;
+    }

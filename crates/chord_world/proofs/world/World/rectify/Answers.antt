@@ -17,17 +17,10 @@ invariant_of-self g c =
     let view : WorldState = state_of c.self.inside in
     (upkept (step.Rectify c.args.node c.args.notifier) c.args.node c.in_ok-did.did.0 view c.args.self.now c.relink_at.new.nodes.items c.self.view_is c.self.invariant c.in_ok-did.ensures.own c.in_ok-did.ensures.done c.relink_at.ensures).after.world
 
-pub returns-clause-answer : goal.returns-clause-answer
-returns-clause-answer g c =
-    let view : WorldState = state_of c.self.inside in
-    record { did = ring.Done; told = refl; is = tt; moves = (upkept (step.Rectify c.args.node c.args.notifier) c.args.node c.in_ok-did.did.0 view c.args.self.now c.relink_at.new.nodes.items c.self.view_is c.self.invariant c.in_ok-did.ensures.own c.in_ok-did.ensures.done c.relink_at.ensures).moves }
-
-pub returns-clause-step : goal.returns-clause-step
-returns-clause-step g c =
-    let view : WorldState = state_of c.self.inside in
-    (upkept (step.Rectify c.args.node c.args.notifier) c.args.node c.in_ok-did.did.0 view c.args.self.now c.relink_at.new.nodes.items c.self.view_is c.self.invariant c.in_ok-did.ensures.own c.in_ok-did.ensures.done c.relink_at.ensures).after.step
-
-pub returns-clause-ring : goal.returns-clause-ring
-returns-clause-ring g c =
-    let view : WorldState = state_of c.self.inside in
-    (upkept (step.Rectify c.args.node c.args.notifier) c.args.node c.in_ok-did.did.0 view c.args.self.now c.relink_at.new.nodes.items c.self.view_is c.self.invariant c.in_ok-did.ensures.own c.in_ok-did.ensures.done c.relink_at.ensures).after.ring
+pub returns : goal.returns
+returns g c =
+    let view : WorldState = state_of c.self.inside in record {
+      answer = record { did = ring.Done; told = refl; is = tt; moves = (upkept (step.Rectify c.args.node c.args.notifier) c.args.node c.in_ok-did.did.0 view c.args.self.now c.relink_at.new.nodes.items c.self.view_is c.self.invariant c.in_ok-did.ensures.own c.in_ok-did.ensures.done c.relink_at.ensures).moves };
+      step = (upkept (step.Rectify c.args.node c.args.notifier) c.args.node c.in_ok-did.did.0 view c.args.self.now c.relink_at.new.nodes.items c.self.view_is c.self.invariant c.in_ok-did.ensures.own c.in_ok-did.ensures.done c.relink_at.ensures).after.step;
+      ring = (upkept (step.Rectify c.args.node c.args.notifier) c.args.node c.in_ok-did.did.0 view c.args.self.now c.relink_at.new.nodes.items c.self.view_is c.self.invariant c.in_ok-did.ensures.own c.in_ok-did.ensures.done c.relink_at.ensures).after.ring;
+    }

@@ -39,21 +39,14 @@ invariant_of-self-2 g c =
     (sent_is_world c.args.caller c.args.via c.index.result.now (AskLetter c.in_ok-ask.ask) view c.self.invariant here (again_step c.args.number c.index.result.now c.in_ok-ask.ask c.in_ok-ask.ensures)
     (again_call c.args.number c.args.caller c.index.result.now c.in_ok-ask.ask view c.self.invariant here c.in_ok-ask.ensures))
 
-pub returns-clause-answer : goal.returns-clause-answer
-returns-clause-answer g c =
+pub returns : goal.returns
+returns g c =
     let view : WorldState = state_of c.self.inside in
     let within = caller_in c.args.caller view c.args.self.now _ c.self.view_is c.self.invariant c.in_ok-are_there.ensures.1.1 in
-    let here : slice_get view.known.callers c.args.caller ≡ Some c.index.result.now = got view.known.callers c.args.caller c.index.result.now within c.index.ensures in
-    again_sends c.args.caller c.args.via c.in_ok-message.message c.args.number view c.args.self.now c.index.result.now c.in_ok-ask.ask c.send.new.sent.items c.send.new.targets.items c.self.view_is
-    (there_now c.args.caller c.args.via view c.args.self.now _ c.index.result.now c.self.view_is c.self.invariant c.in_ok-are_there.ensures.1 here) c.in_ok-ask.ensures c.in_ok-message.ensures
-
-pub returns-clause-step : goal.returns-clause-step
-returns-clause-step g c =
-    let view : WorldState = state_of c.self.inside in
-    let within = caller_in c.args.caller view c.args.self.now _ c.self.view_is c.self.invariant c.in_ok-are_there.ensures.1.1 in
-    let here : slice_get view.known.callers c.args.caller ≡ Some c.index.result.now = got view.known.callers c.args.caller c.index.result.now within c.index.ensures in
-    step_after view c.args.self.now _ _ c.self.view_is (sent_now _ c.args.via view c.in_ok-message.message c.send.new.sent.items c.send.new.targets.items c.in_ok-message.ensures)
-    (sent_step c.args.caller c.args.via c.index.result.now (AskLetter c.in_ok-ask.ask) view c.self.invariant here (again_step c.args.number c.index.result.now c.in_ok-ask.ask c.in_ok-ask.ensures))
-
-pub returns-clause-ring : goal.returns-clause-ring
-returns-clause-ring g c = keeps_same _ c.args.self.now _ c.self.view_is refl refl
+    let here : slice_get view.known.callers c.args.caller ≡ Some c.index.result.now = got view.known.callers c.args.caller c.index.result.now within c.index.ensures in record {
+      answer = again_sends c.args.caller c.args.via c.in_ok-message.message c.args.number view c.args.self.now c.index.result.now c.in_ok-ask.ask c.send.new.sent.items c.send.new.targets.items c.self.view_is
+          (there_now c.args.caller c.args.via view c.args.self.now _ c.index.result.now c.self.view_is c.self.invariant c.in_ok-are_there.ensures.1 here) c.in_ok-ask.ensures c.in_ok-message.ensures;
+      step = step_after view c.args.self.now _ _ c.self.view_is (sent_now _ c.args.via view c.in_ok-message.message c.send.new.sent.items c.send.new.targets.items c.in_ok-message.ensures)
+          (sent_step c.args.caller c.args.via c.index.result.now (AskLetter c.in_ok-ask.ask) view c.self.invariant here (again_step c.args.number c.index.result.now c.in_ok-ask.ask c.in_ok-ask.ensures));
+      ring = keeps_same _ c.args.self.now _ c.self.view_is refl refl;
+    }

@@ -57,8 +57,8 @@ invariant_of-self-2 g c =
     c.in_ok-part.ensures.answer c.in_ok-part.ensures.step is in
     after.world
 
-pub returns-clause-answer : goal.returns-clause-answer
-returns-clause-answer g c =
+pub returns : goal.returns
+returns g c =
     let view : WorldState = state_of c.self.inside in
     let within = acts_within c.args.node view c.args.self.now c.self.view_is c.self.invariant c.in_ok-can_act.ensures.0 in
     let here = got view.known.nodes c.args.node c.index.result.now within c.index.ensures in
@@ -67,32 +67,12 @@ returns-clause-answer g c =
     let is = sent_now (PartMessage c.in_ok-part.part) 0 view c.in_ok-message.message c.send.new.sent.items c.send.new.targets.items c.in_ok-message.ensures
     ∙ sym (ap (with_sent (PartMessage c.in_ok-part.part) 0) (same_node c.args.node c.index.result.now view c.self.invariant here)) in
     let after = resends c.args.node c.args.to c.args.number c.args.part c.index.result.now c.in_ok-part.part view c.args.self.now _ c.self.view_is c.self.invariant here c.in_ok-can_act.ensures.1 there
-    c.in_ok-part.ensures.answer c.in_ok-part.ensures.step is in (
-      has,
-      sends_part (Resends c.args.to c.args.number c.args.part) c.args.node c.in_ok-message.message c.index.result.now c.index.result.now c.in_ok-part.part view c.args.self.now _ c.self.view_is c.self.invariant here
-          c.in_ok-can_act.ensures.1 (c.in_ok-part.ensures.answer, refl) c.in_ok-message.ensures.0 is,
-    )
-
-pub returns-clause-step : goal.returns-clause-step
-returns-clause-step g c =
-    let view : WorldState = state_of c.self.inside in
-    let within = acts_within c.args.node view c.args.self.now c.self.view_is c.self.invariant c.in_ok-can_act.ensures.0 in
-    let here = got view.known.nodes c.args.node c.index.result.now within c.index.ensures in
-    let there : c.args.to < length view.known.nodes = omega arith in
-    let is = sent_now (PartMessage c.in_ok-part.part) 0 view c.in_ok-message.message c.send.new.sent.items c.send.new.targets.items c.in_ok-message.ensures
-    ∙ sym (ap (with_sent (PartMessage c.in_ok-part.part) 0) (same_node c.args.node c.index.result.now view c.self.invariant here)) in
-    let after = resends c.args.node c.args.to c.args.number c.args.part c.index.result.now c.in_ok-part.part view c.args.self.now _ c.self.view_is c.self.invariant here c.in_ok-can_act.ensures.1 there
-    c.in_ok-part.ensures.answer c.in_ok-part.ensures.step is in
-    after.step
-
-pub returns-clause-ring : goal.returns-clause-ring
-returns-clause-ring g c =
-    let view : WorldState = state_of c.self.inside in
-    let within = acts_within c.args.node view c.args.self.now c.self.view_is c.self.invariant c.in_ok-can_act.ensures.0 in
-    let here = got view.known.nodes c.args.node c.index.result.now within c.index.ensures in
-    let there : c.args.to < length view.known.nodes = omega arith in
-    let is = sent_now (PartMessage c.in_ok-part.part) 0 view c.in_ok-message.message c.send.new.sent.items c.send.new.targets.items c.in_ok-message.ensures
-    ∙ sym (ap (with_sent (PartMessage c.in_ok-part.part) 0) (same_node c.args.node c.index.result.now view c.self.invariant here)) in
-    let after = resends c.args.node c.args.to c.args.number c.args.part c.index.result.now c.in_ok-part.part view c.args.self.now _ c.self.view_is c.self.invariant here c.in_ok-can_act.ensures.1 there
-    c.in_ok-part.ensures.answer c.in_ok-part.ensures.step is in
-    after.ring
+    c.in_ok-part.ensures.answer c.in_ok-part.ensures.step is in record {
+      answer = (
+        has,
+        sends_part (Resends c.args.to c.args.number c.args.part) c.args.node c.in_ok-message.message c.index.result.now c.index.result.now c.in_ok-part.part view c.args.self.now _ c.self.view_is c.self.invariant here
+            c.in_ok-can_act.ensures.1 (c.in_ok-part.ensures.answer, refl) c.in_ok-message.ensures.0 is,
+      );
+      step = after.step;
+      ring = after.ring;
+    }

@@ -25,22 +25,14 @@ invariant_of-self-2 g c =
     c.push_reserved.ensures.items c.make_room.ensures.sent c.push_reserved-2.ensures.items c.make_room.ensures.targets in
     posted_is_world c.args.caller c.args.via c.args.request.now view c.submit_at.new.callers.items c.in-Ok.ask _ c.self.invariant node c.in-Ok.ensures is
 
-pub returns-clause-answer : goal.returns-clause-answer
-returns-clause-answer g c =
+pub returns : goal.returns
+returns g c =
     let view : WorldState = state_of c.self.inside in
     let node = node_there c.args.caller c.args.via c.args.request.now view c.args.self.now c.self.view_is c.in_ok-may_submit.ensures in
     let is = posted_is c.args.caller c.args.via c.args.request.now view c.submit_at.new.callers.items c.push_reserved.new.self.items _ c.push_reserved-2.new.self.items _ c.in-Ok.ask c.self.invariant c.in-Ok.ensures
     c.push_reserved.ensures.items c.make_room.ensures.sent c.push_reserved-2.ensures.items c.make_room.ensures.targets in
-    let number : c.len-number.result ≡ length c.self.inside.sent.items = let same = ap length c.make_room.ensures.sent in omega arith in
-    posted_sends c.args.caller c.args.via c.len-number.result c.args.request.now view c.args.self.now c.submit_at.new.callers.items c.in-Ok.ask _ c.self.view_is c.self.invariant node c.in-Ok.ensures number is
-
-pub returns-clause-step : goal.returns-clause-step
-returns-clause-step g c =
-    let view : WorldState = state_of c.self.inside in
-    let node = node_there c.args.caller c.args.via c.args.request.now view c.args.self.now c.self.view_is c.in_ok-may_submit.ensures in
-    let is = posted_is c.args.caller c.args.via c.args.request.now view c.submit_at.new.callers.items c.push_reserved.new.self.items _ c.push_reserved-2.new.self.items _ c.in-Ok.ask c.self.invariant c.in-Ok.ensures
-    c.push_reserved.ensures.items c.make_room.ensures.sent c.push_reserved-2.ensures.items c.make_room.ensures.targets in
-    posted_step c.args.caller c.args.via c.args.request.now view c.args.self.now c.submit_at.new.callers.items c.in-Ok.ask _ c.self.view_is c.self.invariant node c.in-Ok.ensures is
-
-pub returns-clause-ring : goal.returns-clause-ring
-returns-clause-ring g c = keeps_same _ c.args.self.now _ c.self.view_is refl refl
+    let number : c.len-number.result ≡ length c.self.inside.sent.items = let same = ap length c.make_room.ensures.sent in omega arith in record {
+      answer = posted_sends c.args.caller c.args.via c.len-number.result c.args.request.now view c.args.self.now c.submit_at.new.callers.items c.in-Ok.ask _ c.self.view_is c.self.invariant node c.in-Ok.ensures number is;
+      step = posted_step c.args.caller c.args.via c.args.request.now view c.args.self.now c.submit_at.new.callers.items c.in-Ok.ask _ c.self.view_is c.self.invariant node c.in-Ok.ensures is;
+      ring = keeps_same _ c.args.self.now _ c.self.view_is refl refl;
+    }

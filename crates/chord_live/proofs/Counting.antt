@@ -1,0 +1,25 @@
+-- Numbers below the next one.
+use Rattle.std.proofs.Common.{◌≡◌, ℕ, ◌+◌, ◌<◌, ◌≤◌, List, [], ◌∷◌, ◌++◌, All, refl, sym, ap, ◌∙◌, subst, arith, length}
+use Rattle.std.proofs.lemmas.List.Elements.{All-contains, All-weaker, All-push}
+use Rattle.std.proofs.lemmas.List.{length_push}
+use Rattle.chord_caller.specs.Answers.{new_caller}
+use Rattle.chord_caller.specs.Caller.{Caller}
+use Rattle.chord_table.specs.Views.{MayOpen}
+
+-- a caller under the next number may be admitted
+pub open_may : (callers : List ℕ) (number window : ℕ) (core : Caller) → All (λ n. n < number) callers → 1 ≤ window → window ≤ 16 → core ≡ new_caller number window → MayOpen callers core
+open_may callers number window core below some small made =
+    subst (λ (c : Caller). MayOpen callers c) (sym made)
+    ((λ there. absurd (omega (arith, All-contains (λ n. n < number) callers number below there))), (window, some, small, refl))
+
+-- with that number, all are below the one after it
+pub next_above : (callers : List ℕ) (number : ℕ) → All (λ n. n < number) callers → All (λ n. n < number + 1) (callers ++ number ∷ [])
+next_above callers number below = All-push (λ n. n < number + 1) callers number (All-weaker (λ n. n < number) (λ n. n < number + 1) (λ n less. omega (arith, less)) callers below) (omega arith)
+
+-- a number equal to the count is one more, and all are below the count after it
+pub counted_on : (nodes : List ℕ) (count number : ℕ) → number ≡ count → length nodes ≡ count → All (λ n. n < count) nodes
+    → (length (nodes ++ number ∷ []) ≡ count + 1) × All (λ n. n < count + 1) (nodes ++ number ∷ [])
+counted_on nodes count number same long below = (
+  length_push nodes number ∙ ap (λ n. n + 1) long,
+  All-push (λ n. n < count + 1) nodes number (All-weaker (λ n. n < count) (λ n. n < count + 1) (λ n less. omega (arith, less)) nodes below) (omega (arith, same)),
+)

@@ -1,0 +1,107 @@
+-- Replies that a caller takes while it waits for one.
+use Rattle.std.proofs.Common.{◌≡◌, ◌≢◌, ℕ, Bool, true, false, not, ◌&&◌, ◌||◌, eqb, None, Some, is_some, Result, Ok, Err, [], ◌∷◌, ◌++◌, append-nil, inr, sym, ◌∙◌, ap, subst}
+use Rattle.std.proofs.Math.Bool.{or-false}
+use Rattle.std.proofs.lemmas.Bool.{cond-false, and_parts, eqb-true, not-true, true≢false}
+use Rattle.std.proofs.lemmas.List.{append_assoc}
+use Rattle.std.proofs.lemmas.Option.{none-some}
+use Rattle.chord_caller.specs.Answers.{TakeIs, is_pending}
+use Rattle.chord_caller.specs.Caller.{Caller, fitting, fresh_for, is_taken, next_number, submission_at, with_reply}
+use Rattle.chord_caller.specs.declared.fault.TakeFault.{TakeFault}
+use Rattle.chord_caller.specs.declared.fault.TakeFault.TheVariants.{Foreign, Memory}
+use Rattle.chord_caller.specs.declared.heard.Heard.{Heard as TakenAs}
+use Rattle.chord_caller.specs.declared.heard.Heard.TheVariants.{Fresh, Known}
+use Rattle.chord_caller.specs.declared.told.Told.{Told}
+use Rattle.chord_caller.proofs.Places.{either_is}
+use Rattle.chord_live.specs.Asking.{AskIs, BeginIs, IsTaken, TookReplies, WaitIs, WaitsStill, WasSubmitted}
+use Rattle.chord_live.specs.Refused.{waited_ask}
+use Rattle.chord_live.specs.declared.fault.AskFault.{AskFault}
+use Rattle.chord_live.specs.declared.fault.WaitFault.{WaitFault}
+use Rattle.chord_live.specs.declared.fault.WaitFault.TheVariants as wait
+use Rattle.chord_map.specs.declared.reply.Reply.{Reply}
+use Rattle.chord_map.specs.declared.request.Request.{Request}
+use Rattle.chord_map.proofs.Lists.{by_option, by_test}
+use Rattle.chord_node.proofs.CallerLemmas.{is_taken_from}
+use Rattle.chord_segment.specs.History.{done_at}
+use Rattle.chord_segment.specs.declared.done.Done.{Done}
+use Rattle.chord_segment.proofs.HistoryLemmas.{done_right, done_alone, is_call}
+
+none_more : (caller : Caller) → caller ≡ record caller { mine = caller.mine ++ [] }
+none_more caller = ap (λ mine. record caller { mine = mine }) (sym (append-nil caller.mine))
+
+pub waits_same : (number : ℕ) (old new : Caller) → new ≡ old → WaitsStill number old new
+waits_same number old new same = (([], same ∙ none_more old), ap (is_pending number) same)
+
+-- one reply after others
+pub took_on : (first middle last : Caller) → TookReplies first middle → TookReplies middle last → TookReplies first last
+took_on first middle last (rest, is) (more, is') =
+    (rest ++ more, is' ∙ ap (λ (c : Caller). record c { mine = c.mine ++ more }) is ∙ ap (λ mine. record first { mine = mine }) (append_assoc first.mine rest more))
+
+pub waits_on : (number : ℕ) (first middle last : Caller) → WaitsStill number first middle → WaitsStill number middle last → WaitsStill number first last
+waits_on number first middle last (took, is) (took', is') = (took_on first middle last took took', is' ∙ is)
+
+-- a reply that is taken is to a request of the caller's own that waits
+fresh_own : (told : Told) (caller : Caller) (request : Request) → fresh_for told caller ≡ Some request → (told.caller ≡ caller.number) × (is_taken caller told.number ≡ false)
+unfolding fresh_for
+fresh_own told caller request e =
+    let test : Bool = eqb told.caller caller.number && not (is_taken caller told.number) in
+    by_test test
+    (λ t.
+    let tests = and_parts (eqb told.caller caller.number) (not (is_taken caller told.number)) t in
+    (eqb-true told.caller caller.number tests.0, not-true (is_taken caller told.number) tests.1))
+    (λ f. absurd (none-some request (sym (cond-false test (fitting told.reply (submission_at told.number caller.submitted)) None f) ∙ e)))
+
+-- the reply that the caller waits for
+pub took_fresh : (number : ℕ) (told : Told) (copy : Reply) (old new : Caller) → told.number ≡ number → copy ≡ told.reply → TakeIs told old (Ok Fresh) new
+    → TookReplies old new × IsTaken new number copy
+took_fresh number told copy old new same copied (request, fresh, is) =
+    let parts = fresh_own told old request fresh in
+    let done : Done = record { caller = told.caller; number = told.number; request = request; reply = told.reply } in
+    let none : done_at old.number told.number old.mine ≡ None =
+    by_option (done_at old.number told.number old.mine) (λ none. none) (λ one found. absurd (true≢false (sym (is_taken_from old told.number one found) ∙ parts.1))) in
+    let last : done_at old.number told.number (done ∷ []) ≡ Some done = ap (λ n. done_at n told.number (done ∷ [])) (sym parts.0) ∙ done_alone done in
+    let found : done_at old.number number (old.mine ++ done ∷ []) ≡ Some done =
+    ap (λ n. done_at old.number n (old.mine ++ done ∷ [])) (sym same) ∙ done_right old.number told.number old.mine (done ∷ []) none ∙ last in (
+      (done ∷ [], is),
+      (done, ap (λ (c : Caller). done_at c.number number c.mine) is ∙ found, sym copied),
+    )
+
+-- a call of another number is not found in a list with it alone
+other_alone : (caller number : ℕ) (done : Done) → done.number ≢ number → is_some (done_at caller number (done ∷ [])) ≡ false
+unfolding done_at
+other_alone caller number done other =
+    by_test (is_call caller number done)
+    (λ t. absurd (other (eqb-true done.number number (and_parts (eqb done.caller caller) (eqb done.number number) t).1)))
+    (λ f. ap is_some (cond-false (is_call caller number done) (Some done) None f))
+
+taken_apart : (told : Told) (request : Request) (old : Caller) (number : ℕ) → told.number ≢ number → is_taken (with_reply told request old) number ≡ is_taken old number
+unfolding is_taken
+taken_apart told request old number other =
+    let done : Done = record { caller = told.caller; number = told.number; request = request; reply = told.reply } in
+    either_is old.number number old.mine (done ∷ [])
+    ∙ ap (λ b. is_some (done_at old.number number old.mine) || b) (other_alone old.number number done other)
+    ∙ or-false (is_some (done_at old.number number old.mine))
+
+-- any other reply
+pub took_other : (number : ℕ) (told : Told) (old new : Caller) (taken : Result TakenAs TakeFault) → told.number ≢ number → TakeIs told old taken new → WaitsStill number old new
+took_other number told old new (Ok Fresh) other (request, fresh, is) =
+    let done : Done = record { caller = told.caller; number = told.number; request = request; reply = told.reply } in (
+      (done ∷ [], is),
+      ap (is_pending number) is ∙ ap (λ taken. is_some (submission_at number old.submitted) && not taken) (taken_apart told request old number other),
+    )
+took_other number told old new (Ok Known) other is = waits_same number old new is.2
+took_other number told old new (Err Foreign) other is = waits_same number old new is.1
+took_other number told old new (Err Memory) other is = waits_same number old new is.2
+
+stays_asked : (request : Request) (old new : Caller) (fault : WaitFault) → WasSubmitted request old new → is_pending (next_number old) new ≡ true
+    → AskIs request old (Err (waited_ask fault)) new
+stays_asked request old new wait.Full sent still = (sent, still)
+stays_asked request old new wait.NoAnswer sent still = (sent, still)
+stays_asked request old new wait.Memory sent still = inr (sent, still)
+
+-- how a wait after a submission ended, as `ask` answers it
+pub ended_ask : (request : Request) (number : ℕ) (old middle new : Caller) (waited : WaitFault) (fault : AskFault) → BeginIs request old (Ok number) middle
+    → is_pending number middle ≡ true → WaitIs number middle (Err waited) new → fault ≡ waited_ask waited → AskIs request old (Err fault) new
+ended_ask request number old middle new waited fault (numbered, fit, window, small, is) waits ((rest, took), same) means =
+    subst (λ f. AskIs request old (Err f) new) (sym means)
+    (stays_asked request old new waited (fit, window, small, (rest, took ∙ ap (λ (c : Caller). record c { mine = c.mine ++ rest }) is))
+    (ap (λ n. is_pending n new) (sym numbered) ∙ same ∙ waits))

@@ -1,0 +1,4 @@
+pub mod Coming
+pub mod Counting
+pub mod Hearing
+pub mod Sending

@@ -1,0 +1,19 @@
+use Rattle.std.proofs.Common.{◌≡◌, ◌<◌, ◌+◌, length, All, subst, sym}
+use Rattle.chord_live.proofs.Counting.{open_may, next_above}
+use Rattle.chord_table.specs.Views.{Register}
+use Rattle.chord_live.proofs.register.Register.open_caller.Goals as goal
+
+pub admit_caller-seat-requires-clause-may : goal.admit_caller-seat-requires-clause-may
+admit_caller-seat-requires-clause-may g c =
+    open_may c.self.inside.registrar.callers c.self.inside.callers c.args.window c.new-core.result c.self.invariant.4 c.requires.some c.requires.small c.new-core.ensures
+
+pub invariant_of-self : goal.invariant_of-self
+invariant_of-self g c =
+    let i = c.self.invariant in
+    let admitted = c.admit_caller-seat.ensures.admitted in (
+      i.0,
+      i.1,
+      subst (λ (r : Register). length r.nodes ≡ c.self.inside.nodes) (sym admitted) i.2,
+      subst (λ (r : Register). All (λ no. no < c.self.inside.nodes) r.nodes) (sym admitted) i.3,
+      subst (λ (r : Register). All (λ no. no < c.self.inside.callers + 1) r.callers) (sym admitted) (next_above c.self.inside.registrar.callers c.self.inside.callers i.4),
+    )

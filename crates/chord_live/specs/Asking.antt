@@ -1,0 +1,88 @@
+-- What a caller of a ring answers, and what it knows afterwards.
+use Rattle.std.specs.Prelude.{◌≡◌, ◌⊎◌, ℕ, ◌^◌, ◌<◌, true, false, None, Some, is_some, List, ◌++◌, Result, Ok, Err}
+use Rattle.std.specs.declared.alloc.AllocError.{AllocError}
+use Rattle.chord_caller.specs.Answers.{SubmitIs, HasWindow, is_pending}
+use Rattle.chord_caller.specs.Caller.{Caller, Note, next_number, submission_at, unknown, with_request}
+use Rattle.chord_caller.specs.declared.fault.SubmitFault.TheVariants as submit
+use Rattle.chord_live.specs.declared.fault.AskFault.{AskFault}
+use Rattle.chord_live.specs.declared.fault.AskFault.TheVariants as ask
+use Rattle.chord_live.specs.declared.fault.BeginFault.{BeginFault}
+use Rattle.chord_live.specs.declared.fault.BeginFault.TheVariants as begin
+use Rattle.chord_live.specs.declared.fault.CollectFault.{CollectFault}
+use Rattle.chord_live.specs.declared.fault.CollectFault.TheVariants as collect
+use Rattle.chord_live.specs.declared.fault.RetryFault.{RetryFault}
+use Rattle.chord_live.specs.declared.fault.RetryFault.TheVariants as retry
+use Rattle.chord_live.specs.declared.fault.WaitFault.{WaitFault}
+use Rattle.chord_live.specs.declared.heard.Heard.{Heard}
+use Rattle.chord_live.specs.declared.heard.Heard.TheVariants as heard
+use Rattle.chord_map.specs.Checked.{IsRequest}
+use Rattle.chord_map.specs.declared.request.Request.{Request}
+use Rattle.chord_map.specs.declared.reply.Reply.{Reply}
+use Rattle.chord_segment.specs.History.{done_at}
+use Rattle.chord_segment.specs.declared.done.Done.{Done}
+
+-- the caller took replies, none or more, and nothing else of it changed
+abbrev pub TookReplies : Caller → Caller → Type 0
+TookReplies old new = (rest : List Done) × (new ≡ record old { mine = old.mine ++ rest })
+
+-- the caller took this reply to its request of the number
+abbrev pub IsTaken : Caller → ℕ → Reply → Type 0
+IsTaken caller number reply = (done : Done) × (done_at caller.number number caller.mine ≡ Some done) × (done.reply ≡ reply)
+
+-- the request of the number waits for its reply as before
+abbrev pub WaitsStill : ℕ → Caller → Caller → Type 0
+WaitsStill number old new = TookReplies old new × (is_pending number new ≡ is_pending number old)
+
+-- what came to a caller that waits for the reply to the request of the number
+abbrev pub HeardIs : ℕ → Caller → Heard → Caller → Type 0
+HeardIs number old (heard.Reply reply) new = TookReplies old new × IsTaken new number reply
+HeardIs number old _ new = WaitsStill number old new
+
+-- how a wait for the reply to the request of the number ended
+abbrev pub WaitIs : ℕ → Caller → Result Reply WaitFault → Caller → Type 0
+WaitIs number old (Ok reply) new = TookReplies old new × IsTaken new number reply
+WaitIs number old (Err fault) new = WaitsStill number old new
+
+-- the request is one that may go out now: it stood under the next number, and replies were taken since
+abbrev pub WasSubmitted : Request → Caller → Caller → Type 0
+WasSubmitted request old new = IsRequest request × HasWindow old × (next_number old < 2 ^ 64) × TookReplies (with_request request old) new
+
+-- the request stands under the next number, or the first refusal that fits is answered and nothing changes
+abbrev pub BeginIs : Request → Caller → Result ℕ BeginFault → Caller → Type 0
+BeginIs request old (Ok number) new =
+    (number ≡ next_number old) × IsRequest request × HasWindow old × (next_number old < 2 ^ 64) × (new ≡ with_request request old)
+BeginIs request old (Err (begin.Bad fault)) new = SubmitIs request old (Err (submit.Bad fault)) new
+BeginIs request old (Err begin.WindowFull) new = SubmitIs request old (Err submit.WindowFull) new
+BeginIs request old (Err begin.NumbersSpent) new = SubmitIs request old (Err submit.NumbersSpent) new
+BeginIs request old (Err begin.NoSuchNode) new = SubmitIs request old (Err submit.Memory) new
+BeginIs request old (Err begin.Memory) new = SubmitIs request old (Err submit.Memory) new
+
+-- the reply to the request stands among the calls taken, or the first refusal that fits is answered
+abbrev pub AskIs : Request → Caller → Result Reply AskFault → Caller → Type 0
+AskIs request old (Ok reply) new = WasSubmitted request old new × IsTaken new (next_number old) reply
+AskIs request old (Err (ask.Bad fault)) new = SubmitIs request old (Err (submit.Bad fault)) new
+AskIs request old (Err ask.WindowFull) new = SubmitIs request old (Err submit.WindowFull) new
+AskIs request old (Err ask.NumbersSpent) new = SubmitIs request old (Err submit.NumbersSpent) new
+AskIs request old (Err ask.NoSuchNode) new = SubmitIs request old (Err submit.Memory) new
+AskIs request old (Err ask.Full) new = WasSubmitted request old new × (is_pending (next_number old) new ≡ true)
+AskIs request old (Err ask.NoAnswer) new = WasSubmitted request old new × (is_pending (next_number old) new ≡ true)
+AskIs request old (Err ask.Memory) new =
+    SubmitIs request old (Err submit.Memory) new ⊎ (WasSubmitted request old new × (is_pending (next_number old) new ≡ true))
+
+-- the reply to the request of the number stands among the calls taken, or the request is as it was
+abbrev pub CollectIs : ℕ → Caller → Result Reply CollectFault → Caller → Type 0
+CollectIs number old (Ok reply) new = TookReplies old new × IsTaken new number reply
+CollectIs number old (Err collect.NotBegun) new = (submission_at number old.submitted ≡ None) × (new ≡ old)
+CollectIs number old (Err fault) new = (is_some (submission_at number old.submitted) ≡ true) × WaitsStill number old new
+
+-- the same of a request that was pending
+abbrev pub RetryIs : ℕ → Caller → Result Reply RetryFault → Caller → Type 0
+RetryIs number old (Ok reply) new = (is_pending number old ≡ true) × TookReplies old new × IsTaken new number reply
+RetryIs number old (Err retry.Idle) new = (is_pending number old ≡ false) × (new ≡ old)
+RetryIs number old (Err retry.NoSuchNode) new = (is_pending number old ≡ true) × (new ≡ old)
+RetryIs number old (Err fault) new = (is_pending number old ≡ true) × WaitsStill number old new
+
+-- the calls of the note that the caller did not know stand after those that it was told of
+abbrev pub MeetIs : Note → Caller → Result (Unit {0}) AllocError → Caller → Type 0
+MeetIs note old (Ok done) new = new ≡ record old { told = old.told ++ unknown old note.done }
+MeetIs note old (Err fault) new = new ≡ old

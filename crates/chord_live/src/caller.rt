@@ -1,0 +1,472 @@
+//! A caller that asks nodes.
+ghost use Rattle.std.specs.Prelude.{◌≡◌, ◌≤◌, ◌++◌, [], ◌∷◌, Ok, Err, None, true, IfOk, IfErr, IfSome, OnErr};
+ghost use Rattle.chord_caller.specs.Answers.{PendingIs, is_pending, new_caller};
+ghost use Rattle.chord_caller.specs.Caller.{floor_of, known};
+ghost use Rattle.chord_live.specs.Asking.{AskIs, BeginIs, CollectIs, HeardIs, MeetIs, RetryIs, WaitIs};
+ghost use Rattle.chord_node.specs.declared.message.Message.TheVariants.{Note as NoteMessage};
+ghost use Rattle.chord_table.specs.Shown.{CallerShown};
+
+use crate::fault::{AskFault, BeginFault, CollectFault, OpenFault, RetryFault, WaitFault};
+use crate::heard::Heard;
+use crate::note_parcel::NoteParcel;
+use crate::owned::Owned;
+use crate::ring::Ring;
+use crate::target::Target;
+use chord_map::{Reply, Request};
+use chord_segment::Done;
+use chord_store::EntryStore;
+use chord_table::{Naming, Parcel};
+use std::alloc::AllocError;
+use std::marker::Model;
+use std::sync::Wait;
+use std::time::{Clock, Duration, Instant};
+
+/// A caller, which borrows its ring. Contracts see what its seat shows.
+#[derive(Drop)]
+pub struct Caller<'a, J: Naming, S: EntryStore> {
+    ring: &'a Ring<J, S>,
+    own: Owned<J>,
+    no: u64,
+}
+
+impl<'a, J: Naming, S: EntryStore> Model for Caller<'a, J, S> {
+    ghost use Rattle.std.specs.Prelude.{◌≡◌, ◌<◌};
+    ghost use Rattle.chord_table.specs.Views.{CallerSight};
+
+    ghost Value = { CallerSight };
+
+    ghost view = { λ a. a.own };
+
+    ghost invariant = { λ a. a.no < J.name.callers };
+}
+
+impl<'a, J: Naming, S: EntryStore> Caller<'a, J, S> {
+    /// A caller under the next free number, with a window of 1 to 16 requests.
+    pub fn open(
+        ring: &'a Ring<J, S>,
+        rt: &impl Wait,
+        window: u64,
+    ) -> Result<Caller<'a, J, S>, OpenFault>
+        requires some { 1 ≤ window }
+        requires small { window ≤ 16 }
+        ensures ok { IfOk result (λ caller. (caller.caller ≡ new_caller caller.caller.number window) × CallerShown caller) }
+    {
+        let (no, own) = ring.open_seat(rt, window)?;
+        let mut caller = Caller { ring, own, no };
+        caller.look();
+        Ok(caller)
+    }
+
+    /// The calls whose replies it took, in the order taken.
+    pub fn mine(&self) -> &[Done]
+        ensures { result.now ≡ self.now.caller.mine }
+    {
+        self.own.mine()
+    }
+
+    /// The calls that others' notes told it of.
+    pub fn told(&self) -> &[Done]
+        ensures { result.now ≡ self.now.caller.told }
+    {
+        self.own.told()
+    }
+
+    /// The greatest number with all at or below it taken.
+    pub fn floor(&self) -> u64
+        ensures { result ≡ floor_of self.now.caller }
+    {
+        self.own.floor()
+    }
+
+    /// The least pending number.
+    pub fn pending(&self) -> Option<u64>
+        ensures { PendingIs self.now.caller result }
+    {
+        self.own.pending()
+    }
+
+    /// Whether the request of this number waits for its reply.
+    pub fn is_pending(&self, number: u64) -> bool
+        ensures { result ≡ is_pending number self.now.caller }
+    {
+        self.own.is_pending(number)
+    }
+
+    /// All that it took and was told of stands in one legal history.
+    pub fn look(&mut self)
+        ensures same { self.new ≡ self.old }
+        ensures shown { CallerShown self.old }
+    {
+        self.own.look(&self.ring.table);
+    }
+
+    /// Shows what the caller knows, for another caller of the same ring to meet.
+    pub fn show(&mut self) -> Result<NoteParcel<J>, AllocError>
+        ensures same { self.new ≡ self.old }
+        ensures note { IfOk result (λ shown. shown ≡ record { caller = self.old.caller.number; done = known self.old.caller }) }
+    {
+        self.own.show(&self.ring.table)
+    }
+
+    /// Learns what another caller showed and this one did not know. A refused note is lost.
+    pub fn meet(&mut self, shown: NoteParcel<J>) -> Result<(), AllocError>
+        ensures messages { self.new.messages ≡ self.old.messages ++ NoteMessage shown ∷ [] }
+        ensures answer { MeetIs shown self.old.caller result self.new.caller }
+        ensures shown { CallerShown self.new }
+    {
+        let met = self.own.meet(&self.ring.table, shown);
+        self.look();
+        met
+    }
+
+    /// Submits a request, if it would be taken and there is such a node. Its number comes with the parcel.
+    fn submit(&mut self, via: u64, request: Request) -> Result<(u64, Parcel<J>), BeginFault>
+        ensures ok { IfOk result (λ sent. BeginIs request self.old.caller (Ok sent.0) self.new.caller) }
+        ensures waits { IfOk result (λ sent. is_pending sent.0 self.new.caller ≡ true) }
+        ensures err { IfErr result (λ fault. BeginIs request self.old.caller (Err fault) self.new.caller) }
+        ensures same { OnErr result (self.new ≡ self.old) }
+    {
+        if let Some(fault) = self.own.refusal(&request) {
+            return Err(BeginFault::from(fault));
+        }
+        if !self.ring.was(via) {
+            return Err(BeginFault::NoSuchNode);
+        }
+        match self.own.submit(&self.ring.table, request) {
+            Ok(sent) => Ok(sent),
+            Err(fault) => Err(BeginFault::from(fault)),
+        }
+    }
+
+    /// Submits a request, sends it once, and waits for nothing. Answers its number.
+    pub fn begin(&mut self, rt: &impl Wait, via: u64, request: Request) -> Result<u64, BeginFault>
+        ensures answer { BeginIs request self.old.caller result self.new.caller }
+        ensures shown { CallerShown self.new }
+    {
+        let begun = match self.submit(via, request) {
+            Ok((number, parcel)) => {
+                self.ring.post(rt, Target::Node(via), parcel);
+                Ok(number)
+            }
+            Err(fault) => Err(fault),
+        };
+        self.look();
+        begun
+    }
+
+    /// Waits for one message, no longer than this. None where none came.
+    fn hear<R: Wait + Clock>(&mut self, rt: &R, limit: Duration, number: u64) -> Option<Heard>
+        ensures some { IfSome result (λ heard. HeardIs number self.old.caller heard self.new.caller) }
+        ensures none { result ≡ None → self.new ≡ self.old }
+    {
+        let ring = self.ring;
+        match ring.receive(rt, &ring.inboxes[self.no as usize].parcels, limit) {
+            Some(parcel) => Some(self.own.take(&ring.table, parcel, number)),
+            None => None,
+        }
+    }
+
+    /// Waits for the reply to a pending request, as long as one try is to wait.
+    fn wait<R: Wait + Clock>(&mut self, rt: &R, number: u64) -> Result<Reply, WaitFault>
+        ensures { WaitIs number self.old.caller result self.new.caller }
+    {
+        let start = Instant::now(rt).ok();
+        for _ in 0..u64::MAX {
+            let left = self.ring.time_left(rt, &start);
+            match self.hear(rt, left, number) {
+                Some(Heard::Reply(reply)) => return Ok(reply),
+                Some(Heard::Full) => return Err(WaitFault::Full),
+                Some(Heard::Memory) => return Err(WaitFault::Memory),
+                Some(Heard::Other) => {}
+                None => return Err(WaitFault::NoAnswer),
+            }
+        }
+        Err(WaitFault::NoAnswer)
+    }
+
+    /// Sends a pending request again, and waits.
+    fn resend<R: Wait + Clock>(&mut self, rt: &R, via: u64, number: u64) -> Result<Reply, WaitFault>
+        requires { is_pending number self.old.caller ≡ true }
+        ensures { WaitIs number self.old.caller result self.new.caller }
+    {
+        match self.own.resend(&self.ring.table, number) {
+            Ok(parcel) => self.ring.post(rt, Target::Node(via), parcel),
+            Err(_) => return Err(WaitFault::Memory),
+        }
+        self.wait(rt, number)
+    }
+
+    /// Sends a pending request again and again, so many times at most.
+    fn insist<R: Wait + Clock>(
+        &mut self,
+        rt: &R,
+        via: u64,
+        number: u64,
+        times: u64,
+    ) -> Result<Reply, WaitFault>
+        requires { is_pending number self.old.caller ≡ true }
+        ensures { WaitIs number self.old.caller result self.new.caller }
+    {
+        for _ in 0..times {
+            match self.resend(rt, via, number) {
+                Ok(reply) => return Ok(reply),
+                Err(WaitFault::NoAnswer) if !self.ring.is_stopped() => {}
+                Err(fault) => return Err(fault),
+            }
+        }
+        Err(WaitFault::NoAnswer)
+    }
+
+    /// Waits for the reply to a pending request, which was sent once, and sends it again where none comes.
+    fn fetch<R: Wait + Clock>(&mut self, rt: &R, via: u64, number: u64) -> Result<Reply, WaitFault>
+        requires { is_pending number self.old.caller ≡ true }
+        ensures { WaitIs number self.old.caller result self.new.caller }
+    {
+        let more = self.ring.settings.tries - 1;
+        match self.wait(rt, number) {
+            Err(WaitFault::NoAnswer) => {}
+            ended => return ended,
+        }
+        self.insist(rt, via, number, more)
+    }
+
+    /// Submits a request and waits for its reply, as `ask` does.
+    fn submit_and_fetch<R: Wait + Clock>(
+        &mut self,
+        rt: &R,
+        via: u64,
+        request: Request,
+    ) -> Result<Reply, AskFault>
+        ensures { AskIs request self.old.caller result self.new.caller }
+    {
+        let (number, parcel) = match self.submit(via, request) {
+            Ok(sent) => sent,
+            Err(fault) => return Err(AskFault::from(fault)),
+        };
+        self.ring.post(rt, Target::Node(via), parcel);
+        match self.fetch(rt, via, number) {
+            Ok(reply) => Ok(reply),
+            Err(fault) => Err(AskFault::from(fault)),
+        }
+    }
+
+    /// Submits a request and waits for its reply. It is sent up to as many times as the ring's settings say, with a
+    /// wait after each; a worker of the node has to run.
+    pub fn ask<R: Wait + Clock>(
+        &mut self,
+        rt: &R,
+        via: u64,
+        request: Request,
+    ) -> Result<Reply, AskFault>
+        ensures answer { AskIs request self.old.caller result self.new.caller }
+        ensures shown { CallerShown self.new }
+    {
+        let answered = self.submit_and_fetch(rt, via, request);
+        self.look();
+        answered
+    }
+
+    /// Waits for the reply to a pending request as long as `ask` does, and sends nothing.
+    fn linger<R: Wait + Clock>(&mut self, rt: &R, number: u64) -> Result<Reply, WaitFault>
+        ensures { WaitIs number self.old.caller result self.new.caller }
+    {
+        for _ in 0..self.ring.settings.tries {
+            match self.wait(rt, number) {
+                Ok(reply) => return Ok(reply),
+                Err(WaitFault::NoAnswer) if !self.ring.is_stopped() => {}
+                Err(fault) => return Err(fault),
+            }
+        }
+        Err(WaitFault::NoAnswer)
+    }
+
+    /// The reply to a submitted request: the one that was taken, or the one that comes.
+    fn find_or_wait<R: Wait + Clock>(&mut self, rt: &R, number: u64) -> Result<Reply, CollectFault>
+        ensures { CollectIs number self.old.caller result self.new.caller }
+    {
+        if !self.own.was_submitted(number) {
+            return Err(CollectFault::NotBegun);
+        }
+        match self.own.reply_to(number) {
+            Ok(Some(reply)) => return Ok(reply),
+            Ok(None) => {}
+            Err(_) => return Err(CollectFault::Memory),
+        }
+        match self.linger(rt, number) {
+            Ok(reply) => Ok(reply),
+            Err(fault) => Err(CollectFault::from(fault)),
+        }
+    }
+
+    /// The reply to a request that was submitted before. It waits as long as `ask` does, and sends nothing.
+    pub fn collect<R: Wait + Clock>(&mut self, rt: &R, number: u64) -> Result<Reply, CollectFault>
+        ensures answer { CollectIs number self.old.caller result self.new.caller }
+        ensures shown { CallerShown self.new }
+    {
+        let collected = self.find_or_wait(rt, number);
+        self.look();
+        collected
+    }
+
+    /// Sends a pending request again, as `retry` does.
+    fn resend_pending<R: Wait + Clock>(
+        &mut self,
+        rt: &R,
+        via: u64,
+        number: u64,
+    ) -> Result<Reply, RetryFault>
+        ensures { RetryIs number self.old.caller result self.new.caller }
+    {
+        if !self.own.is_pending(number) {
+            return Err(RetryFault::Idle);
+        }
+        if !self.ring.was(via) {
+            return Err(RetryFault::NoSuchNode);
+        }
+        let tries = self.ring.settings.tries;
+        match self.insist(rt, via, number, tries) {
+            Ok(reply) => Ok(reply),
+            Err(fault) => Err(RetryFault::from(fault)),
+        }
+    }
+
+    /// Sends a pending request again, under its number, and waits for its reply as `ask` does.
+    pub fn retry<R: Wait + Clock>(
+        &mut self,
+        rt: &R,
+        via: u64,
+        number: u64,
+    ) -> Result<Reply, RetryFault>
+        ensures answer { RetryIs number self.old.caller result self.new.caller }
+        ensures shown { CallerShown self.new }
+    {
+        let answered = self.resend_pending(rt, via, number);
+        self.look();
+        answered
+    }
+
+    /// Carries a parcel from node to node, each event under that node's lock, and takes what comes back.
+    fn carry(&mut self, rt: &impl Wait, via: u64, parcel: Parcel<J>, number: u64) -> Heard
+        ensures { HeardIs number self.old.caller result self.new.caller }
+    {
+        let ring = self.ring;
+        match ring.carry(rt, via, parcel) {
+            Some((to, answer)) if to == self.no => self.own.take(&ring.table, answer, number),
+            Some((to, answer)) => {
+                ring.post(rt, Target::Caller(to), answer);
+                Heard::Other
+            }
+            None => Heard::Other,
+        }
+    }
+
+    /// Carries a pending request, and waits where its reply does not come back at once.
+    fn carry_or_wait<R: Wait + Clock>(
+        &mut self,
+        rt: &R,
+        via: u64,
+        parcel: Parcel<J>,
+        number: u64,
+    ) -> Result<Reply, WaitFault>
+        ensures { WaitIs number self.old.caller result self.new.caller }
+    {
+        match self.carry(rt, via, parcel, number) {
+            Heard::Reply(reply) => return Ok(reply),
+            Heard::Full => return Err(WaitFault::Full),
+            Heard::Memory => return Err(WaitFault::Memory),
+            Heard::Other => {}
+        }
+        self.wait(rt, number)
+    }
+
+    /// Carries a pending request again.
+    fn carry_again<R: Wait + Clock>(
+        &mut self,
+        rt: &R,
+        via: u64,
+        number: u64,
+    ) -> Result<Reply, WaitFault>
+        requires { is_pending number self.old.caller ≡ true }
+        ensures { WaitIs number self.old.caller result self.new.caller }
+    {
+        match self.own.resend(&self.ring.table, number) {
+            Ok(parcel) => self.carry_or_wait(rt, via, parcel, number),
+            Err(_) => Err(WaitFault::Memory),
+        }
+    }
+
+    /// Carries a pending request again and again, so many times at most.
+    fn carry_on<R: Wait + Clock>(
+        &mut self,
+        rt: &R,
+        via: u64,
+        number: u64,
+        times: u64,
+    ) -> Result<Reply, WaitFault>
+        requires { is_pending number self.old.caller ≡ true }
+        ensures { WaitIs number self.old.caller result self.new.caller }
+    {
+        for _ in 0..times {
+            match self.carry_again(rt, via, number) {
+                Ok(reply) => return Ok(reply),
+                Err(WaitFault::NoAnswer) if !self.ring.is_stopped() => {}
+                Err(fault) => return Err(fault),
+            }
+        }
+        Err(WaitFault::NoAnswer)
+    }
+
+    /// Carries a pending request up to as many times as the ring's settings say.
+    fn bring<R: Wait + Clock>(
+        &mut self,
+        rt: &R,
+        via: u64,
+        parcel: Parcel<J>,
+        number: u64,
+    ) -> Result<Reply, WaitFault>
+        requires { is_pending number self.old.caller ≡ true }
+        ensures { WaitIs number self.old.caller result self.new.caller }
+    {
+        let more = self.ring.settings.tries - 1;
+        match self.carry_or_wait(rt, via, parcel, number) {
+            Err(WaitFault::NoAnswer) => {}
+            ended => return ended,
+        }
+        self.carry_on(rt, via, number, more)
+    }
+
+    /// Submits a request and carries it, as `call` does.
+    fn submit_and_bring<R: Wait + Clock>(
+        &mut self,
+        rt: &R,
+        via: u64,
+        request: Request,
+    ) -> Result<Reply, AskFault>
+        ensures { AskIs request self.old.caller result self.new.caller }
+    {
+        let (number, parcel) = match self.submit(via, request) {
+            Ok(sent) => sent,
+            Err(fault) => return Err(AskFault::from(fault)),
+        };
+        match self.bring(rt, via, parcel, number) {
+            Ok(reply) => Ok(reply),
+            Err(fault) => Err(AskFault::from(fault)),
+        }
+    }
+
+    /// As `ask`, but the calling thread itself does each node's event, under that node's lock: no worker is needed.
+    /// Where no reply comes back, as while a handover is under way, it waits and tries again as `ask` does.
+    pub fn call<R: Wait + Clock>(
+        &mut self,
+        rt: &R,
+        via: u64,
+        request: Request,
+    ) -> Result<Reply, AskFault>
+        ensures answer { AskIs request self.old.caller result self.new.caller }
+        ensures shown { CallerShown self.new }
+    {
+        let answered = self.submit_and_bring(rt, via, request);
+        self.look();
+        answered
+    }
+}

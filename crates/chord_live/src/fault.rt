@@ -1,0 +1,247 @@
+//! Why the ring and its callers refuse.
+ghost use Rattle.std.specs.Prelude.{◌≡◌};
+ghost use Rattle.chord_live.specs.Refused.{begin_fault, ask_fault, waited_ask, waited_collect, waited_retry};
+
+use chord_caller::SubmitFault;
+use chord_map::RequestFault;
+use thiserror::Error;
+
+/// Why there is no ring of these settings.
+#[derive(Clone, Copy, Debug, PartialEq, Eq, Error)]
+pub enum NewFault {
+    #[error("the settings are outside their limits")]
+    BadSettings,
+    #[error("out of memory")]
+    Memory,
+}
+
+/// Why there is no first node.
+#[derive(Clone, Copy, Debug, PartialEq, Eq, Error)]
+pub enum CreateFault {
+    #[error("the ring is stopped")]
+    Stopped,
+    #[error("there is a first node")]
+    AlreadyCreated,
+    #[error("out of memory")]
+    Memory,
+}
+
+/// Why a node does not join.
+#[derive(Clone, Copy, Debug, PartialEq, Eq, Error)]
+pub enum JoinFault {
+    #[error("the ring is stopped")]
+    Stopped,
+    #[error("all slots are taken")]
+    NoSlot,
+    #[error("a node has the identifier")]
+    IdTaken,
+    #[error("no node has the number")]
+    NoSuchNode,
+    #[error("the ring is not settled there")]
+    Unsettled,
+    #[error("out of memory")]
+    Memory,
+}
+
+/// No node has the number.
+#[derive(Clone, Copy, Debug, PartialEq, Eq, Error)]
+#[error("no node has the number")]
+pub struct NoSuchNode;
+
+/// Why a node does not begin to leave.
+#[derive(Clone, Copy, Debug, PartialEq, Eq, Error)]
+pub enum LeaveFault {
+    #[error("no node has the number")]
+    NoSuchNode,
+    #[error("the node does not stay")]
+    NotStaying,
+}
+
+/// Why a node does not retire.
+#[derive(Clone, Copy, Debug, PartialEq, Eq, Error)]
+pub enum RetireFault {
+    #[error("no node has the number")]
+    NoSuchNode,
+    #[error("the node is not leaving")]
+    NotLeaving,
+    #[error("the node holds a segment or hands one over")]
+    NotEmpty,
+    #[error("the ring would not hold together")]
+    Unsafe,
+}
+
+impl From<chord_node::RetireFault> for RetireFault {
+    fn from(refused: chord_node::RetireFault) -> RetireFault {
+        match refused {
+            chord_node::RetireFault::NotLeaving => RetireFault::NotLeaving,
+            chord_node::RetireFault::NotEmpty => RetireFault::NotEmpty,
+        }
+    }
+}
+
+/// Why a round of upkeep ended early.
+#[derive(Clone, Copy, Debug, PartialEq, Eq, Error)]
+pub enum TickFault {
+    #[error("no node has the number")]
+    NoSuchNode,
+    #[error("the ring is stopped")]
+    Stopped,
+    #[error("out of memory")]
+    Memory,
+}
+
+/// Why no caller is opened.
+#[derive(Clone, Copy, Debug, PartialEq, Eq, Error)]
+pub enum OpenFault {
+    #[error("the ring is stopped")]
+    Stopped,
+    #[error("all callers are open")]
+    CallersSpent,
+}
+
+/// Why no client is opened.
+#[derive(Clone, Copy, Debug, PartialEq, Eq, Error)]
+pub enum OpenClientFault {
+    #[error("the ring is stopped")]
+    Stopped,
+    #[error("all callers are open")]
+    CallersSpent,
+    #[error("out of memory")]
+    Memory,
+}
+
+/// Why a request is not submitted.
+#[derive(Clone, Copy, Debug, PartialEq, Eq, Error)]
+pub enum BeginFault {
+    #[error(transparent)]
+    Bad(RequestFault),
+    #[error("the window is full")]
+    WindowFull,
+    #[error("the numbers are spent")]
+    NumbersSpent,
+    #[error("no node has the number")]
+    NoSuchNode,
+    #[error("out of memory")]
+    Memory,
+}
+
+impl From<SubmitFault> for BeginFault {
+    ghost from_gives = { λ refused fault. fault ≡ begin_fault refused };
+
+    fn from(refused: SubmitFault) -> BeginFault {
+        match refused {
+            SubmitFault::Bad(fault) => BeginFault::Bad(fault),
+            SubmitFault::WindowFull => BeginFault::WindowFull,
+            SubmitFault::NumbersSpent => BeginFault::NumbersSpent,
+            SubmitFault::Memory => BeginFault::Memory,
+        }
+    }
+}
+
+/// Why a wait for a reply ended without it.
+#[derive(Clone, Copy, Debug, PartialEq, Eq, Error)]
+pub enum WaitFault {
+    #[error("the store has no room")]
+    Full,
+    #[error("no answer came")]
+    NoAnswer,
+    #[error("out of memory")]
+    Memory,
+}
+
+/// Why a request has no reply.
+#[derive(Clone, Copy, Debug, PartialEq, Eq, Error)]
+pub enum AskFault {
+    #[error(transparent)]
+    Bad(RequestFault),
+    #[error("the window is full")]
+    WindowFull,
+    #[error("the numbers are spent")]
+    NumbersSpent,
+    #[error("no node has the number")]
+    NoSuchNode,
+    #[error("the store has no room")]
+    Full,
+    #[error("no answer came")]
+    NoAnswer,
+    #[error("out of memory")]
+    Memory,
+}
+
+impl From<BeginFault> for AskFault {
+    ghost from_gives = { λ refused fault. fault ≡ ask_fault refused };
+
+    fn from(refused: BeginFault) -> AskFault {
+        match refused {
+            BeginFault::Bad(fault) => AskFault::Bad(fault),
+            BeginFault::WindowFull => AskFault::WindowFull,
+            BeginFault::NumbersSpent => AskFault::NumbersSpent,
+            BeginFault::NoSuchNode => AskFault::NoSuchNode,
+            BeginFault::Memory => AskFault::Memory,
+        }
+    }
+}
+
+impl From<WaitFault> for AskFault {
+    ghost from_gives = { λ waited fault. fault ≡ waited_ask waited };
+
+    fn from(waited: WaitFault) -> AskFault {
+        match waited {
+            WaitFault::Full => AskFault::Full,
+            WaitFault::NoAnswer => AskFault::NoAnswer,
+            WaitFault::Memory => AskFault::Memory,
+        }
+    }
+}
+
+/// Why a request that was begun has no reply.
+#[derive(Clone, Copy, Debug, PartialEq, Eq, Error)]
+pub enum CollectFault {
+    #[error("no request of the number was submitted")]
+    NotBegun,
+    #[error("the store has no room")]
+    Full,
+    #[error("no answer came")]
+    NoAnswer,
+    #[error("out of memory")]
+    Memory,
+}
+
+impl From<WaitFault> for CollectFault {
+    ghost from_gives = { λ waited fault. fault ≡ waited_collect waited };
+
+    fn from(waited: WaitFault) -> CollectFault {
+        match waited {
+            WaitFault::Full => CollectFault::Full,
+            WaitFault::NoAnswer => CollectFault::NoAnswer,
+            WaitFault::Memory => CollectFault::Memory,
+        }
+    }
+}
+
+/// Why a request that was sent again has no reply.
+#[derive(Clone, Copy, Debug, PartialEq, Eq, Error)]
+pub enum RetryFault {
+    #[error("no request of the number is pending")]
+    Idle,
+    #[error("no node has the number")]
+    NoSuchNode,
+    #[error("the store has no room")]
+    Full,
+    #[error("no answer came")]
+    NoAnswer,
+    #[error("out of memory")]
+    Memory,
+}
+
+impl From<WaitFault> for RetryFault {
+    ghost from_gives = { λ waited fault. fault ≡ waited_retry waited };
+
+    fn from(waited: WaitFault) -> RetryFault {
+        match waited {
+            WaitFault::Full => RetryFault::Full,
+            WaitFault::NoAnswer => RetryFault::NoAnswer,
+            WaitFault::Memory => RetryFault::Memory,
+        }
+    }
+}

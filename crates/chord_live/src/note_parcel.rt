@@ -1,0 +1,26 @@
+//! Notes under way.
+ghost use Rattle.std.specs.Prelude.{◌≡◌};
+ghost use Rattle.chord_node.specs.declared.message.Message.TheVariants.{Note as NoteMessage};
+ghost use Rattle.chord_live.specs.Noted.{note_in};
+
+use chord_table::{Naming, Parcel};
+use std::marker::Model;
+
+/// What a caller knew when it showed it. Only callers of the same ring can meet it. Contracts see the note.
+#[derive(Drop)]
+pub struct NoteParcel<J: Naming> {
+    pub(crate) parcel: Parcel<J>,
+}
+
+impl<J: Naming> Model for NoteParcel<J> {
+    ghost use Rattle.std.specs.Prelude.{◌≡◌};
+    ghost use Rattle.chord_caller.specs.Caller.{Note};
+    ghost use Rattle.chord_node.specs.declared.message.Message.TheVariants.{Note as NoteMessage};
+    ghost use Rattle.chord_live.specs.Noted.{note_in};
+
+    ghost Value = { Note };
+
+    ghost view = { λ shown. note_in shown.parcel };
+
+    ghost invariant = { λ shown. shown.parcel ≡ NoteMessage (note_in shown.parcel) };
+}

@@ -1,0 +1,38 @@
+//! Places of nodes.
+
+use crate::locked::Locked;
+use chord_store::EntryStore;
+use chord_table::{Naming, Parcel};
+use crossbeam_channel::{Receiver, Sender};
+use std::alloc::Global;
+use std::sync::Mutex;
+use std::sync::atomic::{AtomicBool, AtomicU64};
+
+/// What stands at a place.
+#[derive(Drop)]
+pub enum Place<J: Naming, S: EntryStore> {
+    /// No node was admitted.
+    Vacant,
+    Here(Locked<J, S>),
+    /// The node takes no further step.
+    Crashed(Locked<J, S>),
+}
+
+/// A place for a node, and its inbox.
+#[derive(Drop)]
+pub struct Slot<J: Naming, S: EntryStore> {
+    pub(crate) place: Mutex<Place<J, S>>,
+    /// Whether the node is a member: it was admitted, and has neither retired nor crashed.
+    pub(crate) live: AtomicBool,
+    /// The number of earlier ticks, below 128.
+    pub(crate) ticks: AtomicU64,
+    pub(crate) inbox: Sender<Parcel<J>, Global>,
+    pub(crate) parcels: Receiver<Parcel<J>, Global>,
+}
+
+/// The inbox of a caller.
+#[derive(Drop)]
+pub struct Inbox<J: Naming> {
+    pub(crate) inbox: Sender<Parcel<J>, Global>,
+    pub(crate) parcels: Receiver<Parcel<J>, Global>,
+}

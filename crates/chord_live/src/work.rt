@@ -1,0 +1,101 @@
+//! Parcels of nodes, taken in by workers or by the callers themselves.
+
+use crate::fault::NoSuchNode;
+use crate::gate::{Gate, Open};
+use crate::place::Place;
+use crate::ring::Ring;
+use crate::target::Target;
+use chord_store::EntryStore;
+use chord_table::{Naming, Parcel};
+use std::sync::Wait;
+use std::time::{Clock, Duration};
+
+/// So many milliseconds a worker sleeps before it looks whether the ring was stopped.
+const IDLE: u64 = 50;
+
+/// How many nodes a request goes through at most.
+const HOPS: u64 = 256;
+
+impl<J: Naming, S: EntryStore> Ring<J, S> {
+    /// A parcel comes to a node: one event under its lock. What is sent then, is to be posted after it.
+    pub(crate) fn answer(
+        &self,
+        rt: &impl Wait,
+        no: u64,
+        gate: &impl Gate,
+        parcel: Parcel<J>,
+    ) -> Option<(Target, Parcel<J>)> {
+        let slot = self.slots.get(no as usize)?;
+        match &mut *slot.place.lock(rt) {
+            Place::Here(locked) => {
+                let sent = locked.answer(&self.table, parcel);
+                gate.pass(no);
+                sent
+            }
+            _ => None,
+        }
+    }
+
+    /// Puts a parcel into an inbox; it is lost where there is none.
+    pub(crate) fn post(&self, rt: &impl Wait, target: Target, parcel: Parcel<J>) {
+        match target {
+            Target::Node(no) => {
+                if let Some(slot) = self.slots.get(no as usize) {
+                    let _ = slot.inbox.send(rt, parcel).is_ok();
+                }
+            }
+            Target::Caller(no) => {
+                if let Some(inbox) = self.inboxes.get(no as usize) {
+                    let _ = inbox.inbox.send(rt, parcel).is_ok();
+                }
+            }
+        }
+    }
+
+    /// Takes the parcels of a node in until the ring is stopped, and posts what it sends.
+    pub fn work<R: Wait + Clock, G: Gate>(
+        &self,
+        rt: &R,
+        no: u64,
+        gate: &G,
+    ) -> Result<(), NoSuchNode> {
+        if !self.was(no) {
+            return Err(NoSuchNode);
+        }
+        let Some(slot) = self.slots.get(no as usize) else {
+            return Err(NoSuchNode);
+        };
+        for _ in rt.forever() {
+            if self.is_stopped() {
+                return Ok(());
+            }
+            if let Some(parcel) = self.receive(rt, &slot.parcels, Duration::from_millis(IDLE)) {
+                if let Some((target, sent)) = self.answer(rt, no, gate, parcel) {
+                    self.post(rt, target, sent);
+                }
+            }
+        }
+        unreachable!()
+    }
+
+    /// Carries a parcel from node to node, each event under that node's lock, until one answers a caller.
+    pub(crate) fn carry(
+        &self,
+        rt: &impl Wait,
+        via: u64,
+        parcel: Parcel<J>,
+    ) -> Option<(u64, Parcel<J>)> {
+        let mut to = via;
+        let mut passed = parcel;
+        for _ in 0..HOPS {
+            match self.answer(rt, to, &Open, passed)? {
+                (Target::Node(next), parcel) => {
+                    to = next;
+                    passed = parcel;
+                }
+                (Target::Caller(no), answer) => return Some((no, answer)),
+            }
+        }
+        None
+    }
+}
