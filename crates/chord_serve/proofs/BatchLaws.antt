@@ -1,8 +1,8 @@
 -- Requests dealt with one after another, and how a session ends.
-use Rattle.std.proofs.Common.{◌≡◌, ◌⊎◌, ℕ, ◌<◌, List, [], ◌∷◌, ◌++◌, length, false, Option, Some, None, Result, Ok, Err, refl, sym, ap, subst, ◌∙◌, append_assoc, inl, inr}
+use Rattle.std.proofs.Common.{◌≡◌, ◌⊎◌, ℕ, ◌<◌, List, [], ◌∷◌, ◌++◌, length, Bool, true, false, Option, Some, None, Result, Ok, Err, refl, sym, ap, subst, ◌∙◌, append_assoc, inl, inr}
 use Rattle.std.specs.List.{flat_map, AllByRecursion}
 use Rattle.std.specs.Io.KnownBytes.{Appends, Consumes, Keeps}
-use Rattle.std.proofs.KnownBytes.{Appends-nil, Appends-kept, Appends-trans, Consumes-nil, Consumes-kept, Consumes-trans}
+use Rattle.std.proofs.KnownBytes.{Appends-nil, Appends-trans, Consumes-nil, Consumes-kept, Consumes-trans}
 use Rattle.std.proofs.lemmas.List.{append-nil}
 use Rattle.std.proofs.lemmas.List.Concat.{flat_map-cons, flat_map-append}
 use Rattle.chord_wire.specs.declared.request.WireRequest.{WireRequest}
@@ -12,17 +12,17 @@ use Rattle.chord_wire.specs.Reading.{next_request, body_at}
 use Rattle.chord_serve.specs.declared.asker.Asked.{Asked}
 use Rattle.chord_serve.specs.declared.served.Served.{Served}
 use Rattle.chord_serve.specs.declared.served.Served.TheVariants as served
-use Rattle.chord_serve.specs.declared.stop.Stop.{Stop}
-use Rattle.chord_serve.specs.declared.stop.Stop.TheVariants as stop
+use Rattle.std.specs.declared.alloc.AllocError.{AllocError}
 use Rattle.chord_serve.specs.Question.{Question}
 use Rattle.chord_serve.specs.State.{State}
 use Rattle.chord_serve.specs.Session.{start, move_of}
 use Rattle.chord_serve.specs.Output.{written, state_after, questions, question_of}
 use Rattle.chord_serve.specs.Steps.{Step, MayAsk, Deals}
 use Rattle.chord_serve.specs.declared.connection.Connection.{Connection}
+use Rattle.chord_serve.specs.Writes.{WritesFront}
 use Rattle.chord_serve.proofs.Serving.{Serves, Serves-append, as_function, serves}
 use Rattle.chord_wire.specs.Streams.{request_frame, Spells}
-use Rattle.chord_serve.specs.Served.{end_of, fault_frame, is_other, AreOfVersion, Dealt, IsRefused, Refuses, DealsWithAll, DealsWithSome, AsksNext, StopsAfter, DealsWithBatch, TakesTurn, IsServed, WritesFault, IsStop, EndsInput}
+use Rattle.chord_serve.specs.Served.{fault_frame, is_other, AreOfVersion, Dealt, IsRefused, Refuses, DealsWithAll, AsksNext, StopsAfter, DealsWithNext, DealsWithPart, WritesPart, DealsWithBatch, TakesTurn, IsServed, TellsFault, IsStop, EndsInput}
 
 -- nothing is decided before the first byte
 pub next_of_nothing : next_request [] ≡ Ok None
@@ -32,10 +32,6 @@ next_of_nothing = refl
 -- a connection of these parts
 abbrev pub connected : List ℕ → Option ℕ → State → Connection
 connected frames version session = record { frames = frames; version = version; session = session }
-
--- nothing was written
-pub Keeps-nothing : (old new : Option (List ℕ)) → Keeps old new → Appends old new []
-Keeps-nothing old new k = Appends-kept old old new [] (Appends-nil old) k
 
 AreOfVersion-append : (v w x : Option ℕ) (rs ts : List WireRequest) → AreOfVersion v rs w → AreOfVersion w ts x → AreOfVersion v (rs ++ ts) x
 AreOfVersion-append v w x [] ts p q = subst (λ (u : Option ℕ). AreOfVersion u ts x) p q
@@ -101,20 +97,20 @@ module _ {A : Type 0} (answers : A → Question → Asked → A → Type 0) wher
   stops_at_once : (v : Option ℕ) (s : State) (a : A) (bytes : List ℕ) → StopsAfter answers v s a bytes [] a
   stops_at_once v s a bytes = record { rest = bytes; version = v; state = s; asker = a; dealt = nothing v s a bytes; last = inl refl }
 
-  -- an end with what was written for it
-  abbrev pub EndsSo : Served → Option ℕ → State → A → List ℕ → Option (List ℕ) → Option (List ℕ) → A → Type 0
-  EndsSo end v s a bytes old new a' = (output : List ℕ) × IsServed answers end v s a bytes output a' × Appends old new output
+  -- an end, with what became due for it
+  abbrev pub EndsSo : Served → Option ℕ → State → A → List ℕ → List ℕ → List ℕ → A → Type 0
+  EndsSo end v s a bytes old new a' = (output : List ℕ) × IsServed answers end v s a bytes output a' × (new ≡ old ++ output)
 
-  pub memory_ends : (v : Option ℕ) (s : State) (a : A) (bytes : List ℕ) (old : Option (List ℕ)) → EndsSo served.Memory v s a bytes old old a
-  memory_ends v s a bytes old = ([], stops_at_once v s a bytes, Appends-nil old)
+  pub memory_ends : (v : Option ℕ) (s : State) (a : A) (bytes old new : List ℕ) → new ≡ old → EndsSo served.Memory v s a bytes old new a
+  memory_ends v s a bytes old new e = ([], stops_at_once v s a bytes, e ∙ sym (append-nil old))
 
   refuses_nothing : (v : Option ℕ) (s : State) (a : A) (bytes : List ℕ) (f : WireFault) → IsRefused answers v bytes f → Refuses answers v s a bytes (fault_frame f) f a
   refuses_nothing v s a bytes f refused = record { before = []; rest = bytes; version = v; state = s; dealt = nothing v s a bytes; refused = refused; output_is = refl }
 
-  pub refused_ends : (end : Served) (f : WireFault) (v : Option ℕ) (s : State) (a : A) (bytes : List ℕ) (old new : Option (List ℕ)) → IsRefused answers v bytes f → WritesFault end f old new → EndsSo end v s a bytes old new a
+  pub refused_ends : (end : Served) (f : WireFault) (v : Option ℕ) (s : State) (a : A) (bytes old new : List ℕ) → IsRefused answers v bytes f → TellsFault end f old new → EndsSo end v s a bytes old new a
   refused_ends (served.Malformed code) f v s a bytes old new refused w = (fault_frame f, (f, w.0, refuses_nothing v s a bytes f refused), w.1)
-  refused_ends served.Write f v s a bytes old new refused w = (w.front, (fault_frame f, w.rest, w.parts, inr (f, refuses_nothing v s a bytes f refused)), w.appends)
-  refused_ends served.Memory f v s a bytes old new refused w = ([], stops_at_once v s a bytes, Keeps-nothing old new w)
+  refused_ends served.Memory f v s a bytes old new refused w = memory_ends v s a bytes old new w
+  refused_ends served.Write f v s a bytes old new refused w = absurd w
   refused_ends served.Ended f v s a bytes old new refused w = absurd w
   refused_ends served.Truncated f v s a bytes old new refused w = absurd w
   refused_ends served.Read f v s a bytes old new refused w = absurd w
@@ -125,19 +121,18 @@ module _ {A : Type 0} (answers : A → Question → Asked → A → Type 0) wher
   may_ask v s a b r bytes rest (Some q) e next same (inl not_asked) = inl not_asked
   may_ask v s a b r bytes rest (Some q) e next same (inr asked) = inr (record { request = r; behind = rest; question = q; answer = asked.0; next = next; same_version = same; is_its_own = e; asks = asked.1 })
 
-  pub step_ends : (why : Stop) (v : Option ℕ) (s t : State) (a b : A) (r : WireRequest) (bytes rest : List ℕ) (old new : Option (List ℕ)) → next_request bytes ≡ Ok (Some (r, rest)) → IsWireRequest r × (bytes ≡ request_frame r ++ rest) → is_other v r.version ≡ false → Deals answers (Err why) s a r old new t b → EndsSo (end_of why) v s a bytes old new b
-  step_ends stop.Write v s t a b r bytes rest old new next fits same d =
-      (d.3.front, (d.0, d.3.rest, d.3.parts, inl (record { rest = rest; version = Some r.version; state = d.1; dealt = one_dealt v s d.1 a b r bytes d.0 rest fits same d.2 })), d.3.appends)
-  step_ends stop.Memory v s t a b r bytes rest old new next fits same d =
-      ([], record { rest = bytes; version = v; state = s; asker = a; dealt = nothing v s a bytes; last = may_ask v s a b r bytes rest (question_of (move_of s r) r) refl next same d.1 }, Keeps-nothing old new d.0)
+  pub step_ends : (refused : AllocError) (v : Option ℕ) (s t : State) (a b : A) (r : WireRequest) (bytes rest old new : List ℕ) → next_request bytes ≡ Ok (Some (r, rest)) → is_other v r.version ≡ false → Deals answers (Err refused) s a r old new t b → EndsSo served.Memory v s a bytes old new b
+  step_ends refused v s t a b r bytes rest old new next same d =
+      ([], record { rest = bytes; version = v; state = s; asker = a; dealt = nothing v s a bytes; last = may_ask v s a b r bytes rest (question_of (move_of s r) r) refl next same d.1 }, d.0 ∙ sym (append-nil old))
 
   -- ---- what comes after some requests
 
   all_after : (v w : Option ℕ) (s t : State) (a b c : A) (bytes first rest second end : List ℕ) → Dealt answers v s a bytes first rest w t b → DealsWithAll answers w t b rest second end c → DealsWithAll answers v s a bytes (first ++ second) end c
   all_after v w s t a b c bytes first rest second end p q = record { version = q.version; state = q.state; dealt = Dealt-then v w q.version s t q.state a b c bytes first rest second end p q.dealt; undecided = q.undecided }
 
-  some_after : (v w : Option ℕ) (s t : State) (a b c : A) (bytes first rest second : List ℕ) → Dealt answers v s a bytes first rest w t b → DealsWithSome answers w t b rest second c → DealsWithSome answers v s a bytes (first ++ second) c
-  some_after v w s t a b c bytes first rest second p q = record { rest = q.rest; version = q.version; state = q.state; dealt = Dealt-then v w q.version s t q.state a b c bytes first rest second q.rest p q.dealt }
+  stops_after : (v w : Option ℕ) (s t : State) (a b c : A) (bytes first rest second : List ℕ) → Dealt answers v s a bytes first rest w t b → StopsAfter answers w t b rest second c → StopsAfter answers v s a bytes (first ++ second) c
+  stops_after v w s t a b c bytes first rest second p q =
+      record { rest = q.rest; version = q.version; state = q.state; asker = q.asker; dealt = Dealt-then v w q.version s t q.state a b q.asker bytes first rest second q.rest p q.dealt; last = q.last }
 
   refuses_after : (v w : Option ℕ) (s t : State) (a b c : A) (bytes first rest second : List ℕ) (f : WireFault) → Dealt answers v s a bytes first rest w t b → Refuses answers w t b rest second f c → Refuses answers v s a bytes (first ++ second) f c
   refuses_after v w s t a b c bytes first rest second f p q = record {
@@ -162,12 +157,46 @@ module _ {A : Type 0} (answers : A → Question → Asked → A → Type 0) wher
         q.1,
         parts,
         elim q.3 [
-          | inl some ↦ inl (some_after v w s t a b c bytes first rest q.0 p some)
+          | inl some ↦ inl (stops_after v w s t a b c bytes first rest q.0 p some)
           | inr refused ↦ inr (refused.0, refuses_after v w s t a b c bytes first rest q.0 refused.0 p refused.1)
         ],
       )
-  served_after served.Memory v w s t a b c bytes first rest second p q =
-      record { rest = q.rest; version = q.version; state = q.state; asker = q.asker; dealt = Dealt-then v w q.version s t q.state a b q.asker bytes first rest second q.rest p q.dealt; last = q.last }
+  served_after served.Memory v w s t a b c bytes first rest second p q = stops_after v w s t a b c bytes first rest second p q
+
+  -- ---- a part of the requests
+
+  pub part_on : (v w x : Option ℕ) (s t u : State) (a b c : A) (bytes rest end output due : List ℕ) → Dealt answers v s a bytes output rest w t b
+      → DealsWithNext answers (Ok true) (connected rest w t) b output due (connected end x u) c → Dealt answers v s a bytes due end x u c
+  part_on v w x s t u a b c bytes rest end output due p q =
+      subst (λ (ys : List ℕ). Dealt answers v s a bytes ys end x u c) (sym q.2) (Dealt-then v w x s t u a b c bytes output rest q.0 end p q.1)
+
+  pub part_ends : (end : Served) (v w : Option ℕ) (s t : State) (a b c : A) (bytes rest output due : List ℕ) → Dealt answers v s a bytes output rest w t b
+      → EndsSo end w t b rest output due c → IsServed answers end v s a bytes due c
+  part_ends end v w s t a b c bytes rest output due p q =
+      subst (λ (ys : List ℕ). IsServed answers end v s a bytes ys c) (sym q.2) (served_after end v w s t a b c bytes output rest q.0 p q.1)
+
+  -- ---- what is due is written
+
+  -- where all requests were dealt with, these are some
+  all_stops : (v : Option ℕ) (s : State) (a : A) (bytes output rest : List ℕ) (b : A) → DealsWithAll answers v s a bytes output rest b → StopsAfter answers v s a bytes output b
+  all_stops v s a bytes output rest b p = record { rest = rest; version = p.version; state = p.state; asker = b; dealt = p.dealt; last = inl refl }
+
+  -- only a front of the output was written
+  front_served : (end : Served) (v : Option ℕ) (s : State) (a : A) (bytes whole front rest : List ℕ) (b : A) → whole ≡ front ++ rest → IsServed answers end v s a bytes whole b → IsServed answers served.Write v s a bytes front b
+  front_served served.Ended v s a bytes whole front rest b e p = (whole, rest, e, inl (all_stops v s a bytes whole [] b p))
+  front_served served.Truncated v s a bytes whole front rest b e p = (whole, rest, e, inl (all_stops v s a bytes whole p.0 b p.2))
+  front_served served.Read v s a bytes whole front rest b e p = (whole, rest, e, inl (all_stops v s a bytes whole p.0 b p.1))
+  front_served served.TurnsSpent v s a bytes whole front rest b e p = (whole, rest, e, inl (all_stops v s a bytes whole p.0 b p.1))
+  front_served (served.Malformed code) v s a bytes whole front rest b e p = (whole, rest, e, inr (p.0, p.2))
+  front_served served.Write v s a bytes whole front rest b e p = (p.0, rest ++ p.1, p.2 ∙ ap (λ (ys : List ℕ). ys ++ p.1) e ∙ append_assoc front rest p.1, p.3)
+  front_served served.Memory v s a bytes whole front rest b e p = (whole, rest, e, inl p)
+
+  -- at an error of the writer
+  pub part_unwritten : (result : Result Bool Served) (v w : Option ℕ) (s t : State) (a b : A) (bytes rest output : List ℕ) (old new : Option (List ℕ)) → DealsWithPart answers result (connected bytes v s) a output (connected rest w t) b → WritesFront old new output
+      → WritesPart answers (Err served.Write) (connected bytes v s) a old new (connected rest w t) b
+  part_unwritten (Ok more) v w s t a b bytes rest output old new p f =
+      (f.front, (output, f.rest, f.parts, inl (record { rest = rest; version = w; state = t; asker = b; dealt = p.0; last = inl refl })), f.appends)
+  part_unwritten (Err end) v w s t a b bytes rest output old new p f = (f.front, front_served end v s a bytes output f.front f.rest b f.parts p, f.appends)
 
   -- requests dealt with, and what was written for them
   abbrev pub DealsSo : Option ℕ → State → A → List ℕ → Option (List ℕ) → Option (List ℕ) → List ℕ → Option ℕ → State → A → Type 0
@@ -180,7 +209,11 @@ module _ {A : Type 0} (answers : A → Question → Asked → A → Type 0) wher
   deals_on v w x s t u a b c bytes rest end old mid new p q =
       (p.0 ++ q.0, Dealt-then v w x s t u a b c bytes p.0 rest q.0 end p.1 q.1, Appends-trans old mid new p.0 q.0 p.2 q.2)
 
-  pub ends_on : (end : Served) (v w : Option ℕ) (s t : State) (a b c : A) (bytes rest : List ℕ) (old mid new : Option (List ℕ)) → DealsSo v s a bytes old mid rest w t b → EndsSo end w t b rest mid new c → EndsSo end v s a bytes old new c
+  -- an end, with what was written for it
+  abbrev pub EndsWritten : Served → Option ℕ → State → A → List ℕ → Option (List ℕ) → Option (List ℕ) → A → Type 0
+  EndsWritten end v s a bytes old new a' = (output : List ℕ) × IsServed answers end v s a bytes output a' × Appends old new output
+
+  pub ends_on : (end : Served) (v w : Option ℕ) (s t : State) (a b c : A) (bytes rest : List ℕ) (old mid new : Option (List ℕ)) → DealsSo v s a bytes old mid rest w t b → EndsWritten end w t b rest mid new c → EndsWritten end v s a bytes old new c
   ends_on end v w s t a b c bytes rest old mid new p q =
       (p.0 ++ q.0, served_after end v w s t a b c bytes p.0 rest q.0 p.1 q.1, Appends-trans old mid new p.0 q.0 p.2 q.2)
 

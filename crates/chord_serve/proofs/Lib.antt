@@ -5,3 +5,4 @@ pub mod Serving
 pub mod BatchLaws
 pub mod FittingReplies
 pub mod BytesRead
+pub mod Windows

@@ -13,13 +13,12 @@ use Rattle.chord_serve.specs.declared.asker.Asked.TheVariants as asked
 use Rattle.chord_serve.specs.declared.kept.Kept.{Kept}
 use Rattle.chord_serve.specs.declared.session.Move.{Move}
 use Rattle.chord_serve.specs.declared.session.Move.TheVariants.{Refuse, Again, Ask, Retry}
-use Rattle.chord_serve.specs.declared.stop.Stop.{Stop}
-use Rattle.chord_serve.specs.declared.stop.Stop.TheVariants as stop
+use Rattle.std.specs.declared.alloc.AllocError.{AllocError}
 use Rattle.chord_serve.specs.Question.{Question}
 use Rattle.chord_serve.specs.Question as question
 use Rattle.chord_serve.specs.State.{State}
 use Rattle.chord_serve.specs.Session.{accepted, added, repeated, move_of}
-use Rattle.chord_serve.specs.Writes.{Writes}
+use Rattle.chord_serve.specs.Writes.{Joins}
 use Rattle.chord_serve.specs.Output.{frame_of, told, question_of}
 use Rattle.chord_serve.specs.Steps.{Asks, Does, Step, MayAsk, Deals}
 
@@ -47,58 +46,54 @@ module _ {A : Type 0} (answers : A → Question → Asked → A → Type 0) wher
   with_move m mid s a r bytes s' a' e t h =
       subst (λ (n : Move). Does answers n (accepted s r) a r bytes s' a') e (subst (λ (u : State). Does answers m u a r bytes s' a') t h)
 
-  -- a step of which these bytes were to be written
-  wrote : (result : Result (Unit {0}) Stop) (s : State) (a : A) (r : WireRequest) (bytes : List ℕ) (s' : State) (a' : A) (old new : Option (List ℕ)) → result ≢ Err stop.Memory → Step answers s a r bytes s' a' → Writes result old new bytes → Deals answers result s a r old new s' a'
-  wrote (Ok done) s a r bytes s' a' old new ne step w = (bytes, step, w)
-  wrote (Err stop.Write) s a r bytes s' a' old new ne step w = (bytes, s', step, w)
-  wrote (Err stop.Memory) s a r bytes s' a' old new ne step w = absurd (ne refl)
+  -- a step that asks nothing, of which these bytes were to join those that are due
+  joined : (result : Result (Unit {0}) AllocError) (m : Move) (s : State) (a : A) (r : WireRequest) (bytes : List ℕ) (s' : State) (old new : List ℕ)
+      → m ≡ move_of s r → question_of m r ≡ None → Step answers s a r bytes s' a → Joins result old new bytes → Deals answers result s a r old new s' a
+  joined (Ok done) m s a r bytes s' old new e none step w = (bytes, step, w)
+  joined (Err refused) m s a r bytes s' old new e none step w =
+      (w, subst (λ (o : Option Question). MayAsk answers o a a) (sym none ∙ ap (λ (n : Move). question_of n r) e) refl)
 
-  pub refuses : (result : Result (Unit {0}) Stop) (code : FaultCode) (s mid : State) (a : A) (r : WireRequest) (old new : Option (List ℕ)) → Refuse code ≡ move_of s r → mid ≡ accepted s r → result ≢ Err stop.Memory → Writes result old new (frame (fault_body r.number code)) → Deals answers result s a r old new mid a
-  refuses result code s mid a r old new e t ne w =
-      wrote result s a r (frame (fault_body r.number code)) mid a old new ne (with_move (Refuse code) mid s a r (frame (fault_body r.number code)) mid a e t (refl, refl, refl)) w
+  pub refuses : (result : Result (Unit {0}) AllocError) (code : FaultCode) (s mid : State) (a : A) (r : WireRequest) (old new : List ℕ) → Refuse code ≡ move_of s r → mid ≡ accepted s r → Joins result old new (frame (fault_body r.number code)) → Deals answers result s a r old new mid a
+  refuses result code s mid a r old new e t w =
+      joined result (Refuse code) s a r (frame (fault_body r.number code)) mid old new e refl (with_move (Refuse code) mid s a r (frame (fault_body r.number code)) mid a e t (refl, refl, refl)) w
 
-  pub repeats : (result : Result (Unit {0}) Stop) (bytes : List ℕ) (s mid : State) (a : A) (r : WireRequest) (old new : Option (List ℕ)) → Again ≡ move_of s r → mid ≡ accepted s r → bytes ≡ repeated mid r.number → result ≢ Err stop.Memory → Writes result old new bytes → Deals answers result s a r old new mid a
-  repeats result bytes s mid a r old new e t there ne w =
-      wrote result s a r bytes mid a old new ne (with_move Again mid s a r bytes mid a e t (there, refl, refl)) w
+  pub repeats : (result : Result (Unit {0}) AllocError) (bytes : List ℕ) (s mid : State) (a : A) (r : WireRequest) (old new : List ℕ) → Again ≡ move_of s r → mid ≡ accepted s r → bytes ≡ repeated mid r.number → Joins result old new bytes → Deals answers result s a r old new mid a
+  repeats result bytes s mid a r old new e t there w =
+      joined result Again s a r bytes mid old new e refl (with_move Again mid s a r bytes mid a e t (there, refl, refl)) w
 
   -- a question was asked, and its answer told
-  told_deals : (result : Result (Unit {0}) Stop) (answer : Asked) (q : Question) (before after s : State) (a a' : A) (r : WireRequest) (old new : Option (List ℕ))
+  told_deals : (result : Result (Unit {0}) AllocError) (answer : Asked) (q : Question) (before after s : State) (a a' : A) (r : WireRequest) (old new : List ℕ)
       → question_of (move_of s r) r ≡ Some q
       → ((bytes : List ℕ) (s' : State) → Asks answers before a q r.number bytes s' a' → Step answers s a r bytes s' a')
       → answers a q answer a'
-      → Writes result old new (frame_of r.number answer)
+      → Joins result old new (frame_of r.number answer)
       → OnOk result (after ≡ told before r.number answer)
       → OnOk result (answer ≢ asked.Memory)
-      → (result ≡ Err stop.Write → answer ≢ asked.Memory)
       → Deals answers result s a r old new after a'
-  told_deals (Ok done) answer q before after s a a' r old new asks step answered w t ok err =
+  told_deals (Ok done) answer q before after s a a' r old new asks step answered w t ok =
       (frame_of r.number answer, step (frame_of r.number answer) after (record { answer = answer; not_memory = ok; asks = answered; bytes_are = refl; state_is = t }), w)
-  told_deals (Err stop.Write) answer q before after s a a' r old new asks step answered w t ok err =
-      (frame_of r.number answer, told before r.number answer, step (frame_of r.number answer) (told before r.number answer) (record { answer = answer; not_memory = err refl; asks = answered; bytes_are = refl; state_is = refl }), w)
-  told_deals (Err stop.Memory) answer q before after s a a' r old new asks step answered w t ok err =
+  told_deals (Err refused) answer q before after s a a' r old new asks step answered w t ok =
       (w, subst (λ (o : Option Question). MayAsk answers o a a') (sym asks) (inr (answer, answered)))
 
-  pub asks_new : (result : Result (Unit {0}) Stop) (answer : Asked) (asked_for : Request) (mid before after s : State) (a a' : A) (r : WireRequest) (old new : Option (List ℕ))
+  pub asks_new : (result : Result (Unit {0}) AllocError) (answer : Asked) (asked_for : Request) (mid before after s : State) (a a' : A) (r : WireRequest) (old new : List ℕ)
       → Ask ≡ move_of s r → mid ≡ accepted s r → before ≡ added mid r.request → asked_for ≡ r.request
       → answers a (question.Ask asked_for) answer a'
-      → Writes result old new (frame_of r.number answer)
+      → Joins result old new (frame_of r.number answer)
       → OnOk result (after ≡ told before r.number answer)
       → OnOk result (answer ≢ asked.Memory)
-      → (result ≡ Err stop.Write → answer ≢ asked.Memory)
       → Deals answers result s a r old new after a'
-  asks_new result answer asked_for mid before after s a a' r old new e t b same answered w ok1 ok2 err =
+  asks_new result answer asked_for mid before after s a a' r old new e t b same answered w ok1 ok2 =
       told_deals result answer (question.Ask r.request) before after s a a' r old new (ap (λ (m : Move). question_of m r) (sym e))
       (λ bytes s' h. with_move Ask mid s a r bytes s' a' e t (subst (λ (u : State). Asks answers u a (question.Ask r.request) r.number bytes s' a') b h))
-      (subst (λ (x : Request). answers a (question.Ask x) answer a') same answered) w ok1 ok2 err
+      (subst (λ (x : Request). answers a (question.Ask x) answer a') same answered) w ok1 ok2
 
-  pub asks_again : (result : Result (Unit {0}) Stop) (answer : Asked) (mid after s : State) (a a' : A) (r : WireRequest) (old new : Option (List ℕ))
+  pub asks_again : (result : Result (Unit {0}) AllocError) (answer : Asked) (mid after s : State) (a a' : A) (r : WireRequest) (old new : List ℕ)
       → Retry ≡ move_of s r → mid ≡ accepted s r
       → answers a (question.Retry r.number) answer a'
-      → Writes result old new (frame_of r.number answer)
+      → Joins result old new (frame_of r.number answer)
       → OnOk result (after ≡ told mid r.number answer)
       → OnOk result (answer ≢ asked.Memory)
-      → (result ≡ Err stop.Write → answer ≢ asked.Memory)
       → Deals answers result s a r old new after a'
-  asks_again result answer mid after s a a' r old new e t answered w ok1 ok2 err =
+  asks_again result answer mid after s a a' r old new e t answered w ok1 ok2 =
       told_deals result answer (question.Retry r.number) mid after s a a' r old new (ap (λ (m : Move). question_of m r) (sym e))
-      (λ bytes s' h. with_move Retry mid s a r bytes s' a' e t h) answered w ok1 ok2 err
+      (λ bytes s' h. with_move Retry mid s a r bytes s' a' e t h) answered w ok1 ok2

@@ -7,3 +7,6 @@ pub mod Steps
 pub mod Served
 pub mod Calls
 pub mod BytesRead
+pub mod ClientState
+pub mod HasWindow
+pub mod InFlight

@@ -1,6 +1,6 @@
 -- What a session has written for the bytes that it read. Source: our own.
 use Rattle.std.specs.Prelude.{◌≡◌, ◌⊎◌, ◌<◌, ℕ, List, [], ◌∷◌, ◌++◌, length, Bool, true, false, not, ◌==◌, Option, Some, None, Result, Ok, Err}
-use Rattle.std.specs.Io.KnownBytes.{Appends, Consumes, Keeps, IsAtEnd}
+use Rattle.std.specs.Io.KnownBytes.{Appends, Consumes, IsAtEnd}
 use Rattle.chord_wire.specs.declared.request.WireRequest.{WireRequest}
 use Rattle.chord_wire.specs.declared.fault.WireFault.{WireFault}
 use Rattle.chord_wire.specs.declared.fault.FaultCode.TheVariants.{BadVersion}
@@ -12,19 +12,11 @@ use Rattle.chord_wire.specs.Reading.{next_request}
 use Rattle.chord_serve.specs.declared.asker.Asked.{Asked}
 use Rattle.chord_serve.specs.declared.served.Served.{Served}
 use Rattle.chord_serve.specs.declared.served.Served.TheVariants as served
-use Rattle.chord_serve.specs.declared.stop.Stop.{Stop}
-use Rattle.chord_serve.specs.declared.stop.Stop.TheVariants as stop
 use Rattle.chord_serve.specs.Question.{Question}
 use Rattle.chord_serve.specs.State.{State}
 use Rattle.chord_serve.specs.Session.{move_of}
 use Rattle.chord_serve.specs.declared.connection.Connection.{Connection}
 use Rattle.chord_serve.specs.Output.{written, state_after, questions, question_of, AreAnswers}
-use Rattle.chord_serve.specs.Writes.{WritesFront}
-
--- the end that stops a session in the midst of a request
-abbrev pub end_of : Stop → Served
-end_of stop.Write = served.Write
-end_of stop.Memory = served.Memory
 
 -- the frame of a fault
 abbrev pub fault_frame : WireFault → List ℕ
@@ -74,13 +66,6 @@ module _ {A : Type 0} (answers : A → Question → Asked → A → Type 0) wher
     pub dealt : Dealt v s a bytes output rest version state a'
     pub undecided : next_request rest ≡ Ok None
 
-  -- some requests were dealt with
-  pub record DealsWithSome (v : Option ℕ) (s : State) (a : A) (bytes output : List ℕ) (a' : A) : Type 0 where
-    pub rest : List ℕ
-    pub version : Option ℕ
-    pub state : State
-    pub dealt : Dealt v s a bytes output rest version state a'
-
   -- the question of the request that is next, which was asked last and is not answered in bytes
   pub record AsksNext (v : Option ℕ) (s : State) (a : A) (rest : List ℕ) (a' : A) : Type 0 where
     pub request : WireRequest
@@ -101,21 +86,31 @@ module _ {A : Type 0} (answers : A → Question → Asked → A → Type 0) wher
     pub dealt : Dealt v s a bytes output rest version state asker
     pub last : (a' ≡ asker) ⊎ AsksNext version state asker rest a'
 
-  -- How a session stands to its input and output where it ended so.
+  -- How a session stands to its input and output where it ended so. At Write a front was written of what was due, also
+  -- where memory ran out first or a frame was refused.
   abbrev pub IsServed : Served → Option ℕ → State → A → List ℕ → List ℕ → A → Type 0
   IsServed served.Ended v s a input output a' = DealsWithAll v s a input output [] a'
   IsServed served.Truncated v s a input output a' = (rest : List ℕ) × (0 < length rest) × DealsWithAll v s a input output rest a'
   IsServed served.Read v s a input output a' = (rest : List ℕ) × DealsWithAll v s a input output rest a'
   IsServed served.TurnsSpent v s a input output a' = (rest : List ℕ) × DealsWithAll v s a input output rest a'
   IsServed (served.Malformed code) v s a input output a' = (f : WireFault) × (f.code ≡ code) × Refuses v s a input output f a'
-  IsServed served.Write v s a input output a' = (whole : List ℕ) × (rest : List ℕ) × (whole ≡ output ++ rest) × (DealsWithSome v s a input whole a' ⊎ ((f : WireFault) × Refuses v s a input whole f a'))
+  IsServed served.Write v s a input output a' = (whole : List ℕ) × (rest : List ℕ) × (whole ≡ output ++ rest) × (StopsAfter v s a input whole a' ⊎ ((f : WireFault) × Refuses v s a input whole f a'))
   IsServed served.Memory v s a input output a' = StopsAfter v s a input output a'
 
-  -- the next request was dealt with, or none is next, or the session ended
-  abbrev pub DealsWithNext : Result Bool Served → (c : Connection) (a : A) (old new : Option (List ℕ)) (c' : Connection) (a' : A) → Type 0
-  DealsWithNext (Ok true) c a old new c' a' = (output : List ℕ) × Dealt c.version c.session a c.frames output c'.frames c'.version c'.session a' × Appends old new output
-  DealsWithNext (Ok false) c a old new c' a' = (next_request c.frames ≡ Ok None) × (c'.frames ≡ c.frames) × (c'.version ≡ c.version) × (c'.session ≡ c.session) × (a' ≡ a) × Keeps old new
-  DealsWithNext (Err end) c a old new c' a' = (output : List ℕ) × IsServed end c.version c.session a c.frames output a' × Appends old new output
+  -- the next request was dealt with, or none is next, or the session ended, with what is due
+  abbrev pub DealsWithNext : Result Bool Served → (c : Connection) (a : A) (old new : List ℕ) (c' : Connection) (a' : A) → Type 0
+  DealsWithNext (Ok true) c a old new c' a' = (output : List ℕ) × Dealt c.version c.session a c.frames output c'.frames c'.version c'.session a' × (new ≡ old ++ output)
+  DealsWithNext (Ok false) c a old new c' a' = (next_request c.frames ≡ Ok None) × (c'.frames ≡ c.frames) × (c'.version ≡ c.version) × (c'.session ≡ c.session) × (a' ≡ a) × (new ≡ old)
+  DealsWithNext (Err end) c a old new c' a' = (output : List ℕ) × IsServed end c.version c.session a c.frames output a' × (new ≡ old ++ output)
+
+  -- some requests were dealt with, and where no more are left none is next; or the session ended
+  abbrev pub DealsWithPart : Result Bool Served → (c : Connection) (a : A) (output : List ℕ) (c' : Connection) (a' : A) → Type 0
+  DealsWithPart (Ok more) c a output c' a' = Dealt c.version c.session a c.frames output c'.frames c'.version c'.session a' × (more ≡ false → next_request c'.frames ≡ Ok None)
+  DealsWithPart (Err end) c a output c' a' = IsServed end c.version c.session a c.frames output a'
+
+  -- the same, and its output was written
+  abbrev pub WritesPart : Result Bool Served → (c : Connection) (a : A) (old new : Option (List ℕ)) (c' : Connection) (a' : A) → Type 0
+  WritesPart result c a old new c' a' = (output : List ℕ) × DealsWithPart result c a output c' a' × Appends old new output
 
   -- all whole requests were dealt with, or the session ended
   abbrev pub DealsWithBatch : Result (Unit {0}) Served → (c : Connection) (a : A) (old new : Option (List ℕ)) (c' : Connection) (a' : A) → Type 0
@@ -127,15 +122,15 @@ module _ {A : Type 0} (answers : A → Question → Asked → A → Type 0) wher
   TakesTurn (Ok done) c a left left' old new c' a' = (input : List ℕ) × (output : List ℕ) × Consumes left left' input × Dealt c.version c.session a (c.frames ++ input) output c'.frames c'.version c'.session a' × (next_request c'.frames ≡ Ok None) × Appends old new output
   TakesTurn (Err end) c a left left' old new c' a' = (input : List ℕ) × (output : List ℕ) × Consumes left left' input × IsServed end c.version c.session a (c.frames ++ input) output a' × Appends old new output
 
--- a fault frame was written, or a front of it, or nothing
-abbrev pub WritesFault : Served → WireFault → Option (List ℕ) → Option (List ℕ) → Type 0
-WritesFault (served.Malformed code) f old new = (f.code ≡ code) × Appends old new (fault_frame f)
-WritesFault served.Write f old new = WritesFront old new (fault_frame f)
-WritesFault served.Memory f old new = Keeps old new
-WritesFault served.Ended f old new = ⊥
-WritesFault served.Truncated f old new = ⊥
-WritesFault served.Read f old new = ⊥
-WritesFault served.TurnsSpent f old new = ⊥
+-- a fault's frame joined what is due, or there was no memory for it
+abbrev pub TellsFault : Served → WireFault → List ℕ → List ℕ → Type 0
+TellsFault (served.Malformed code) f old new = (f.code ≡ code) × (new ≡ old ++ fault_frame f)
+TellsFault served.Memory f old new = new ≡ old
+TellsFault served.Write f old new = ⊥
+TellsFault served.Ended f old new = ⊥
+TellsFault served.Truncated f old new = ⊥
+TellsFault served.Read f old new = ⊥
+TellsFault served.TurnsSpent f old new = ⊥
 
 -- an end that comes of a request
 abbrev pub IsStop : Served → Type 0

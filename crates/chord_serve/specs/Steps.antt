@@ -1,6 +1,6 @@
 -- One request of a session, with the question that it asks. Source: our own.
-use Rattle.std.specs.Prelude.{◌≡◌, ◌≢◌, ◌⊎◌, ℕ, List, Option, Some, None, Result, Ok, Err}
-use Rattle.std.specs.Io.KnownBytes.{Appends, Keeps}
+use Rattle.std.specs.Prelude.{◌≡◌, ◌≢◌, ◌⊎◌, ℕ, List, ◌++◌, Option, Some, None, Result, Ok, Err}
+use Rattle.std.specs.declared.alloc.AllocError.{AllocError}
 use Rattle.chord_wire.specs.declared.request.WireRequest.{WireRequest}
 use Rattle.chord_wire.specs.Spelling.{frame}
 use Rattle.chord_wire.specs.Replies.{fault_body}
@@ -8,14 +8,11 @@ use Rattle.chord_serve.specs.declared.asker.Asked.{Asked}
 use Rattle.chord_serve.specs.declared.asker.Asked.TheVariants as asked
 use Rattle.chord_serve.specs.declared.session.Move.{Move}
 use Rattle.chord_serve.specs.declared.session.Move.TheVariants.{Refuse, Again, Ask, Retry}
-use Rattle.chord_serve.specs.declared.stop.Stop.{Stop}
-use Rattle.chord_serve.specs.declared.stop.Stop.TheVariants as stop
 use Rattle.chord_serve.specs.Question.{Question}
 use Rattle.chord_serve.specs.Question as question
 use Rattle.chord_serve.specs.State.{State}
 use Rattle.chord_serve.specs.Session.{accepted, added, repeated, move_of}
 use Rattle.chord_serve.specs.Output.{frame_of, told, question_of}
-use Rattle.chord_serve.specs.Writes.{WritesFront}
 
 module _ {A : Type 0} (answers : A → Question → Asked → A → Type 0) where
   -- the question is asked once, and its answer is what is written and kept
@@ -42,8 +39,7 @@ module _ {A : Type 0} (answers : A → Question → Asked → A → Type 0) wher
   MayAsk None a a' = a' ≡ a
   MayAsk (Some q) a a' = (a' ≡ a) ⊎ ((answer : Asked) × answers a q answer a')
 
-  -- a step with its bytes; at Write only a front of them was written; at Memory nothing
-  abbrev pub Deals : Result (Unit {0}) Stop → State → A → WireRequest → Option (List ℕ) → Option (List ℕ) → State → A → Type 0
-  Deals (Ok done) s a r old new s' a' = (bytes : List ℕ) × Step s a r bytes s' a' × Appends old new bytes
-  Deals (Err stop.Write) s a r old new s' a' = (bytes : List ℕ) × (later : State) × Step s a r bytes later a' × WritesFront old new bytes
-  Deals (Err stop.Memory) s a r old new s' a' = Keeps old new × MayAsk (question_of (move_of s r) r) a a'
+  -- a step, whose bytes joined those that are due; where there was no memory, none did
+  abbrev pub Deals : Result (Unit {0}) AllocError → State → A → WireRequest → List ℕ → List ℕ → State → A → Type 0
+  Deals (Ok done) s a r old new s' a' = (bytes : List ℕ) × Step s a r bytes s' a' × (new ≡ old ++ bytes)
+  Deals (Err refused) s a r old new s' a' = (new ≡ old) × MayAsk (question_of (move_of s r) r) a a'

@@ -8,7 +8,6 @@ ghost use Rattle.chord_wire.specs.ReadingReplies.{next_answer};
 ghost use Rattle.chord_serve.specs.BytesRead.{ReadsBetween};
 ghost use Rattle.chord_serve.specs.Calls.{ReadsAnswer, ReadsMore, GetsAnswer, IsCalled};
 
-use crate::stop::Stop;
 use crate::write_bytes::write_bytes;
 use chord_map::Request;
 use chord_wire::{Answer, Answers, FaultCode, write_request, write_request_2};
@@ -68,7 +67,7 @@ fn read_more<R: Read>(reader: &mut R, answers: &mut Answers) -> Result<Option<An
 }
 
 // The first answer.
-fn await_answer<R: Read>(
+pub(crate) fn await_answer<R: Read>(
     reader: &mut R,
     answers: &mut Answers,
     turns: u64,
@@ -104,8 +103,7 @@ fn exchange<R: Read, W: Write>(
 {
     match write_bytes(writer, frame) {
         Ok(()) => await_answer(reader, answers, turns),
-        Err(Stop::Write) => Err(CallFault::Write),
-        Err(Stop::Memory) => Err(CallFault::Memory),
+        Err(_) => Err(CallFault::Write),
     }
 }
 

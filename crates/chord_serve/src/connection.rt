@@ -3,14 +3,13 @@ ghost use Rattle.std.specs.Prelude.{◌≡◌, ◌≢◌, ◌<◌, [], None, Ok,
 ghost use Rattle.chord_wire.specs.Reading.{next_request};
 ghost use Rattle.chord_serve.specs.BytesRead.{ReadsBetween};
 ghost use Rattle.chord_serve.specs.Session.{start};
-ghost use Rattle.chord_serve.specs.Served.{end_of, is_other, IsStop, EndsInput, DealsWithNext, DealsWithBatch, TakesTurn, WritesFault};
+ghost use Rattle.chord_serve.specs.Served.{is_other, IsStop, EndsInput, DealsWithNext, DealsWithPart, DealsWithBatch, TakesTurn, TellsFault, WritesPart};
 
 use crate::asker::Asker;
+use crate::due::Due;
 use crate::served::Served;
 use crate::session::Session;
 use crate::step::answer_one;
-use crate::stop::Stop;
-use crate::write_bytes::write_bytes;
 use chord_wire::{FaultCode, Frames, WireFault, write_fault};
 use std::alloc::Global;
 use std::io::{Read, Write};
@@ -23,27 +22,17 @@ pub struct Connection {
     session: Session,
 }
 
-fn end_of(stop: Stop) -> Served
-    ensures end { result ≡ end_of stop }
-    ensures stop { IsStop result }
-{
-    match stop {
-        Stop::Write => Served::Write,
-        Stop::Memory => Served::Memory,
-    }
-}
-
-// Writes the fault, which ends the session.
-fn refuse<W: Write>(alloc: Global, writer: &mut W, fault: WireFault) -> Served
+// The end of a session that refuses: the fault's frame is added to what is due.
+fn refuse(alloc: Global, due: &mut Due, fault: WireFault) -> Served
     requires { fault.code ≢ FaultCode.Memory }
-    ensures written { WritesFault result fault (W.contents writer.old) (W.contents writer.new) }
+    ensures due { TellsFault result fault due.old due.new }
     ensures stop { IsStop result }
 {
     match write_fault(alloc, fault.number, fault.code) {
         Err(_) => Served::Memory,
-        Ok(frame) => match write_bytes(writer, &frame) {
+        Ok(frame) => match due.add(&frame) {
             Ok(()) => Served::Malformed(fault.code),
-            Err(stop) => end_of(stop),
+            Err(_) => Served::Memory,
         },
     }
 }
@@ -71,14 +60,14 @@ impl Connection {
         }
     }
 
-    // Deals with the next request, and answers whether there was one.
-    fn answer_next<W: Write, A: Asker>(
+    // Deals with the next request, and answers whether there was one. What is to be written for it joins what is due.
+    fn answer_next<A: Asker>(
         &mut self,
         alloc: Global,
-        writer: &mut W,
+        due: &mut Due,
         asker: &mut A,
     ) -> Result<bool, Served>
-        ensures next { DealsWithNext A.answers result self.old asker.old (W.contents writer.old) (W.contents writer.new) self.new asker.new }
+        ensures next { DealsWithNext A.answers result self.old asker.old due.old due.new self.new asker.new }
         ensures stop { IfErr result IsStop }
         ensures shorter { result ≡ Ok true → length self.new.frames < length self.old.frames }
     {
@@ -88,7 +77,7 @@ impl Connection {
                 if fault.code == FaultCode::Memory {
                     return Err(Served::Memory);
                 }
-                return Err(refuse(alloc, writer, fault));
+                return Err(refuse(alloc, due, fault));
             }
         };
         let Some(wire) = next else {
@@ -99,12 +88,51 @@ impl Connection {
                 code: FaultCode::BadVersion,
                 number: 0,
             };
-            return Err(refuse(alloc, writer, fault));
+            return Err(refuse(alloc, due, fault));
         }
         self.version = Some(wire.version);
-        match answer_one(alloc, &mut self.session, writer, asker, wire) {
+        match answer_one(alloc, &mut self.session, due, asker, wire) {
             Ok(()) => Ok(true),
-            Err(stop) => Err(end_of(stop)),
+            Err(_) => Err(Served::Memory),
+        }
+    }
+
+    // Deals with requests until none is whole, which is answered false, or as much is due as is to be written at once.
+    fn answer_part<A: Asker>(
+        &mut self,
+        alloc: Global,
+        due: &mut Due,
+        asker: &mut A,
+    ) -> Result<bool, Served>
+        requires { due.old ≡ [] }
+        ensures part { DealsWithPart A.answers result self.old asker.old due.new self.new asker.new }
+        ensures stop { IfErr result IsStop }
+        ensures shorter { result ≡ Ok true → length self.new.frames < length self.old.frames }
+    {
+        while !due.is_full() {
+            if !self.answer_next(alloc, due, asker)? {
+                return Ok(false);
+            }
+        }
+        Ok(true)
+    }
+
+    // Deals with a part of the requests, and then writes all that is due, however it ended.
+    fn write_part<W: Write, A: Asker>(
+        &mut self,
+        alloc: Global,
+        writer: &mut W,
+        asker: &mut A,
+    ) -> Result<bool, Served>
+        ensures part { WritesPart A.answers result self.old asker.old (W.contents writer.old) (W.contents writer.new) self.new asker.new }
+        ensures stop { IfErr result IsStop }
+        ensures shorter { result ≡ Ok true → length self.new.frames < length self.old.frames }
+    {
+        let mut due = Due::new(alloc);
+        let result = self.answer_part(alloc, &mut due, asker);
+        match due.write_to(writer) {
+            Ok(()) => result,
+            Err(_) => Err(Served::Write),
         }
     }
 
@@ -118,11 +146,11 @@ impl Connection {
         ensures stop { IfErr result IsStop }
         ensures deals { DealsWithBatch A.answers result self.old asker.old (W.contents writer.old) (W.contents writer.new) self.new asker.new }
     {
-        while self.answer_next(alloc, writer, asker)? {}
+        while self.write_part(alloc, writer, asker)? {}
         Ok(())
     }
 
-    /// One read of at most 4,096 bytes, and then all requests that are whole.
+    /// One read of at most 4,096 bytes, and then all requests that are whole. Their frames are written together.
     pub fn take_turn<R: Read, W: Write, A: Asker>(
         &mut self,
         alloc: Global,

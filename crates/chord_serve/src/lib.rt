@@ -4,17 +4,19 @@
 mod asker;
 mod client;
 mod connection;
+mod due;
+mod in_flight;
 mod kept;
 pub mod laws;
 mod served;
 mod server;
 mod session;
 mod step;
-mod stop;
 mod write_bytes;
 
 pub use asker::{Asked, Asker};
 pub use client::{CallFault, call, call_2};
+pub use in_flight::{AgainFault, Client, ReceiveFault, SendFault};
 pub use served::Served;
 pub use server::serve;
 

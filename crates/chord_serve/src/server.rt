@@ -12,7 +12,8 @@ use std::alloc::Global;
 use std::io::{Read, Write};
 
 /// Answers the requests that the reader gives, until the input ends, a frame is refused, a call fails, or that many
-/// reads were made.
+/// reads were made. All that is due for the requests of one read is written at once, or whenever it is more than 65,536
+/// bytes. What is due is also written before memory or a refused frame ends the session.
 pub fn serve<R: Read, W: Write, A: Asker>(
     alloc: Global,
     reader: &mut R,

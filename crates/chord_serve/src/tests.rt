@@ -3,4 +3,6 @@
 mod askers;
 mod devices;
 mod growths;
+mod in_flight;
 mod sessions;
+mod turns;

@@ -1,4 +1,4 @@
-//! Two askers: one over a plain map, one that is full at first.
+//! Three askers: one over a plain map, one that is full at first, and one that is out of memory once.
 ghost use Rattle.std.specs.Prelude.{◌≡◌, ◌++◌, ◌∷◌, [], true};
 ghost use Rattle.chord_serve.specs.Question.{IsHeard};
 
@@ -20,6 +20,13 @@ impl MapAsker {
             map: PlainMap::new(alloc),
             requests: Vec::new(alloc),
         }
+    }
+
+    /// With this request done.
+    pub fn having(mut self, request: &Request) -> Option<MapAsker> {
+        request.check().ok()?;
+        self.map.apply(request).ok()?;
+        Some(self)
     }
 }
 
@@ -109,6 +116,47 @@ impl Asker for FullAtFirst {
                 }
             }
         }
+    }
+
+    ghost notes = { λ a b question answer heard. heard.notes };
+
+    ghost kind = { λ a b question answer heard. heard.kind };
+}
+
+/// Adds each value, and is out of memory for the request with this number.
+#[derive(Drop)]
+pub struct OutOfMemoryAt {
+    pub requests: Vec<Request>,
+    pub number: usize,
+}
+
+impl OutOfMemoryAt {
+    pub fn new(alloc: Global, number: usize) -> OutOfMemoryAt {
+        OutOfMemoryAt {
+            requests: Vec::new(alloc),
+            number,
+        }
+    }
+}
+
+impl Asker for OutOfMemoryAt {
+    ghost answers = { λ a question answer b. IsHeard question answer a.requests.items b.requests.items };
+
+    ghost asked = { λ a. a.requests.items };
+
+    fn ask(&mut self, request: &Request) -> Asked {
+        if !note(&mut self.requests, request) || self.requests.len() == self.number {
+            return Asked::Memory;
+        }
+        if Reply::Added.fits(request) {
+            Asked::Reply(Reply::Added)
+        } else {
+            Asked::NoAnswer
+        }
+    }
+
+    fn retry(&mut self, _number: u64) -> Asked {
+        Asked::NoAnswer
     }
 
     ghost notes = { λ a b question answer heard. heard.notes };

@@ -3,7 +3,7 @@
 
 use super::askers::MapAsker;
 use super::sessions::{ADDED, INSERT, INSERT_2, insert, is_added, three};
-use crate::{CallFault, Served, call, call_2, serve};
+use crate::{CallFault, Client, SendFault, Served, call, call_2, serve};
 use chord_map::Request;
 use chord_wire::{Answer, Answers};
 use std::alloc::{AllocError, Global};
@@ -89,5 +89,28 @@ fn a_call_made_again_is_answered(rt: HostRuntime) -> Result<(), Fail> {
         assert!(rt; is_added(&answer));
         assert_eq!(rt; written.as_slice(), frame);
     }
+    Ok(())
+}
+
+/// A client whose send wanted memory wrote nothing, and sends under the same number then.
+#[test]
+fn a_send_made_again_has_the_same_number(rt: HostRuntime) -> Result<(), Fail> {
+    let alloc = rt.alloc();
+    let first = request(alloc)?;
+    let second = request(alloc)?;
+    let mut written = roomy(alloc)?;
+    let mut client = Client::new(alloc, 2, 16).ok_or("no client")?;
+    if first.check().is_err() || second.check().is_err() {
+        return Err(Fail::from("no request"));
+    }
+    let sent = match client.send(&mut written, first) {
+        Err(SendFault::Memory) => {
+            assert!(rt; written.is_empty());
+            client.send(&mut written, second)
+        }
+        sent => sent,
+    };
+    assert_eq!(rt; sent, Ok(1));
+    assert_eq!(rt; written.as_slice(), INSERT_2.as_slice());
     Ok(())
 }

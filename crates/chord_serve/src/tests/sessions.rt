@@ -17,7 +17,7 @@ pub const INSERT_2: [u8; 27] = [
 ];
 
 // Retrieve a, number 2.
-const RETRIEVE: [u8; 16] = [0, 0, 0, 0x0c, 1, 2, 0, 0, 0, 0, 0, 0, 0, 2, 1, 0x61];
+pub const RETRIEVE: [u8; 16] = [0, 0, 0, 0x0c, 1, 2, 0, 0, 0, 0, 0, 0, 0, 2, 1, 0x61];
 
 // Remove x from under a, number 3.
 const REMOVE: [u8; 19] = [
@@ -33,11 +33,11 @@ const ONE_VALUE: [u8; 21] = [
 
 const REMOVED: [u8; 15] = [0, 0, 0, 0x0b, 1, 0x83, 0, 0, 0, 0, 0, 0, 0, 3, 1];
 
-fn fault(number: u8, code: u8) -> [u8; 15] {
+pub fn fault(number: u8, code: u8) -> [u8; 15] {
     [0, 0, 0, 0x0b, 1, 0xff, 0, 0, 0, 0, 0, 0, 0, number, code]
 }
 
-fn joined(alloc: Global, parts: &[&[u8]]) -> Result<Vec<u8>, AllocError> {
+pub fn joined(alloc: Global, parts: &[&[u8]]) -> Result<Vec<u8>, AllocError> {
     let mut whole = Vec::new(alloc);
     for part in parts {
         whole.extend_from_slice(part)?;
@@ -254,18 +254,17 @@ fn a_reader_fails_at_each_call(rt: HostRuntime) -> Result<(), Fail> {
 fn a_writer_fails_at_each_call(rt: HostRuntime) -> Result<(), Fail> {
     let alloc = rt.alloc();
     let (input, output) = three(alloc)?;
-    // Each call takes 7 bytes, and each frame needs three.
+    // Each call takes 7 bytes of the 51, which are due at once.
     for (calls, end, written) in [
         (0, Served::Write, 0),
         (1, Served::Write, 7),
         (2, Served::Write, 14),
-        (3, Served::Write, 15),
-        (4, Served::Write, 22),
-        (5, Served::Write, 29),
-        (6, Served::Write, 36),
-        (7, Served::Write, 43),
-        (8, Served::Write, 50),
-        (9, Served::Ended, 51),
+        (3, Served::Write, 21),
+        (4, Served::Write, 28),
+        (5, Served::Write, 35),
+        (6, Served::Write, 42),
+        (7, Served::Write, 49),
+        (8, Served::Ended, 51),
     ] {
         let mut writer = Limited {
             inner: Vec::new(alloc),

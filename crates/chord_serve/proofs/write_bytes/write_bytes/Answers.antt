@@ -3,8 +3,8 @@ use Rattle.std.proofs.lemmas.List.{length-take, length-drop}
 use Rattle.chord_serve.proofs.Fronts.{grows, front_of, stays}
 use Rattle.chord_serve.proofs.write_bytes.write_bytes.Goals as goal
 
-pub returns-in-Ok-eq0-clause-written : goal.returns-in-Ok-eq0-clause-written
-returns-in-Ok-eq0-clause-written g c =
+pub returns-in-Ok-eq0 : goal.returns-in-Ok-eq0
+returns-in-Ok-eq0 g c =
     let bytes = c.args.bytes.now in
     front_of _ _ bytes _ (grows (g.W.Write.contents c.args.writer.now) (g.W.Write.contents c.loop-at.writer) (g.W.Write.contents c.write.new.self) bytes c.loop-at.at c.in-Ok-eq0.field-0 c.loop-at.invariant.1 c.in-Ok-eq0.ensures.bytes)
 
@@ -16,6 +16,6 @@ loop-at-preserved g c =
       grows (g.W.Write.contents c.args.writer.now) (g.W.Write.contents c.loop-at.writer) (g.W.Write.contents c.write.new.self) bytes c.loop-at.at c.in-Ok.count c.loop-at.invariant.1 c.in-Ok.ensures.bytes,
     )
 
-pub returns-in-Err-clause-written : goal.returns-in-Err-clause-written
-returns-in-Err-clause-written g c =
+pub returns-in-Err : goal.returns-in-Err
+returns-in-Err g c =
     stays (g.W.Write.contents c.args.writer.now) (g.W.Write.contents c.loop-at.writer) (g.W.Write.contents c.write.new.self) c.args.bytes.now c.loop-at.at c.loop-at.invariant.1 c.in-Err.ensures.bytes

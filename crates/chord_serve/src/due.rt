@@ -1,0 +1,55 @@
+//! What is to be written.
+ghost use Rattle.std.specs.Prelude.{◌≡◌, [], length, nat_lt};
+ghost use Rattle.chord_serve.specs.Writes.{Joins, Writes};
+
+use crate::write_bytes::write_bytes;
+use std::alloc::{AllocError, Global};
+use std::io::{self, Write};
+use std::marker::Model;
+
+/// Where more bytes than these are due, they are written before more join them.
+const DUE_LIMIT: usize = 65_536;
+
+/// The frames that are to be written together.
+#[derive(Debug, Drop)]
+pub struct Due {
+    bytes: Vec<u8>,
+}
+
+impl Model for Due {
+    ghost use Rattle.std.specs.Prelude.{ℕ, List};
+
+    ghost Value = { List ℕ };
+
+    ghost view = { λ d. d.bytes.items };
+}
+
+impl Due {
+    pub fn new(alloc: Global) -> Due
+        ensures { result ≡ [] }
+    {
+        Due {
+            bytes: Vec::new(alloc),
+        }
+    }
+
+    pub fn add(&mut self, frame: &[u8]) -> Result<(), AllocError>
+        ensures { Joins result self.old self.new frame.now }
+    {
+        self.bytes.extend_from_slice(frame)?;
+        Ok(())
+    }
+
+    /// Whether it is to be written before more joins it.
+    pub fn is_full(&self) -> bool
+        ensures { result ≡ nat_lt DUE_LIMIT (length self.now) }
+    {
+        DUE_LIMIT < self.bytes.len()
+    }
+
+    pub fn write_to<W: Write>(&self, writer: &mut W) -> io::Result<()>
+        ensures { Writes result (W.contents writer.old) (W.contents writer.new) self.now }
+    {
+        write_bytes(writer, &self.bytes)
+    }
+}

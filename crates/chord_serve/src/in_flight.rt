@@ -1,0 +1,274 @@
+//! A client with several requests in flight.
+ghost use Rattle.std.specs.Prelude.{◌≡◌, ◌≢◌, ◌↔◌, ◌+◌, ◌*◌, ◌^◌, ◌<◌, ℕ, length, nat_le, fold, true, false, Ok, Err, IfOk, IfSome, IsSome, vec_len, vec_capacity};
+ghost use Rattle.std.specs.Io.KnownBytes.{IsAtEnd};
+ghost use Rattle.chord_map.specs.Checked.{IsRequest};
+ghost use Rattle.chord_wire.specs.Spelling.{IsWireRequest};
+ghost use Rattle.chord_wire.specs.Streams.{request_frame};
+ghost use Rattle.chord_serve.specs.BytesRead.{ReadsBetween};
+ghost use Rattle.chord_serve.specs.HasWindow.{HasWindow};
+ghost use Rattle.chord_serve.specs.InFlight.{new_client, floor_under, floor_of, number_in, is_for, is_full, next_of, place_of, SendIs, AgainIs, JudgedIs, ReceiveIs};
+
+use crate::client::{CallFault, await_answer};
+use crate::write_bytes::write_bytes;
+use chord_map::Request;
+use chord_wire::{Answer, Answers, WireRequest, write_request, write_request_2};
+use std::alloc::{AllocError, Global};
+use std::io::{Read, Write};
+use std::marker::Model;
+
+/// Why a request was not sent, or not wholly.
+#[derive(Clone, Copy, Debug, PartialEq, Eq)]
+pub enum SendFault {
+    WindowFull,
+    NumbersSpent,
+    Write,
+    Memory,
+}
+
+/// Why a request was not sent again, or not wholly.
+#[derive(Clone, Copy, Debug, PartialEq, Eq)]
+pub enum AgainFault {
+    /// No request of this number got a fault and was not sent again since.
+    NotRefused,
+    Write,
+    Memory,
+}
+
+/// Why no answer was received.
+#[derive(Clone, Copy, Debug, PartialEq, Eq)]
+pub enum ReceiveFault {
+    /// No answer is awaited.
+    Idle,
+    /// None came.
+    Call(CallFault),
+    /// It has not the number of the first request that is awaited.
+    WrongNumber,
+    /// It is no reply to such a request.
+    WrongKind,
+}
+
+/// Keeps up to its window of requests in flight. After a fault of reading or writing the connection is of no more use.
+#[derive(Debug, Drop)]
+pub struct Client {
+    version: u8,
+    window: u64,
+    last: u64,
+    awaited: Vec<WireRequest>,
+    refused: Vec<WireRequest>,
+    answers: Answers,
+}
+
+impl Model for Client {
+    ghost use Rattle.chord_serve.specs.ClientState.{ClientState};
+    ghost use Rattle.chord_serve.specs.HasWindow.{IsClient};
+
+    ghost Value = { ClientState };
+
+    ghost view = { λ c. record { version = c.version; window = c.window; last = c.last; awaited = c.awaited.items; refused = c.refused.items; bytes = c.answers } };
+
+    ghost invariant = { λ c. IsClient (record { version = c.version; window = c.window; last = c.last; awaited = c.awaited.items; refused = c.refused.items; bytes = c.answers }) };
+}
+
+// The greatest number up to this one that is below the number of each request.
+fn floor_under(most: u64, wires: &[WireRequest]) -> u64
+    ensures { result ≡ floor_under most wires.now }
+{
+    wires.iter().fold(most, |floor, wire| floor.min(wire.number.saturating_sub(1)))
+}
+
+// Where the request of this number stands.
+fn place_of(number: u64, wires: &[WireRequest]) -> Option<usize>
+    ensures place { result ≡ place_of number wires.now }
+    ensures bound { IfSome result (λ place. place < length wires.now) }
+{
+    wires.iter().position(|wire| wire.number == number)
+}
+
+// The frame of a request of either version.
+fn frame_of(alloc: Global, wire: &WireRequest) -> Result<Vec<u8>, AllocError>
+    requires { IsWireRequest wire.now }
+    ensures { IfOk result (λ out. out.items ≡ request_frame wire.now) }
+{
+    if wire.version == 1 {
+        write_request(alloc, wire.number, &wire.request)
+    } else {
+        write_request_2(alloc, wire.number, wire.floor, &wire.request)
+    }
+}
+
+// The number that an answer has.
+fn number_in(answer: &Answer) -> u64
+    ensures { result ≡ number_in answer.now }
+{
+    match answer {
+        Answer::Reply { number, .. } | Answer::Fault { number, .. } => *number,
+    }
+}
+
+// Whether it may answer this request.
+fn is_for(answer: &Answer, request: &Request) -> bool
+    ensures { result ≡ is_for answer.now request.now }
+{
+    match answer {
+        Answer::Reply { reply, .. } => reply.fits(request),
+        Answer::Fault { .. } => true,
+    }
+}
+
+// An answer takes the first request from those awaited. With a fault that one joins those refused.
+fn judge(
+    awaited: &mut Vec<WireRequest>,
+    refused: &mut Vec<WireRequest>,
+    answer: Answer,
+) -> Result<(u64, Answer), ReceiveFault>
+    requires some { 0 < vec_len awaited.old }
+    requires room { vec_len refused.old < vec_capacity refused.old }
+    ensures { JudgedIs result answer awaited.old.items refused.old.items awaited.new.items refused.new.items }
+{
+    let first = &awaited[0];
+    if number_in(&answer) != first.number {
+        return Err(ReceiveFault::WrongNumber);
+    }
+    if !is_for(&answer, &first.request) {
+        return Err(ReceiveFault::WrongKind);
+    }
+    let wire = awaited.remove(0);
+    let number = wire.number;
+    if let Answer::Fault { .. } = &answer {
+        refused.push_reserved(wire);
+    }
+    Ok((number, answer))
+}
+
+impl Client {
+    /// A client of a new connection: a window of 1 in version 1, of 1 to 16 in version 2, and none for others.
+    pub fn new(alloc: Global, version: u8, window: u64) -> Option<Client>
+        ensures some { IfSome result (λ client. client ≡ new_client version window) }
+        ensures which { IsSome result ↔ HasWindow version window }
+    {
+        let most = match version {
+            1 => 1,
+            2 => 16,
+            _ => 0,
+        };
+        if window == 0 || most < window {
+            return None;
+        }
+        Some(Client {
+            version,
+            window,
+            last: 0,
+            awaited: Vec::new(alloc),
+            refused: Vec::new(alloc),
+            answers: Answers::new(alloc),
+        })
+    }
+
+    /// How many answers are awaited.
+    pub fn in_flight(&self) -> usize
+        ensures { result ≡ length self.now.awaited }
+    {
+        self.awaited.len()
+    }
+
+    /// The greatest number with no open request at or below it.
+    pub fn floor(&self) -> u64
+        ensures { result ≡ floor_of self.now }
+    {
+        floor_under(floor_under(self.last, &self.awaited), &self.refused)
+    }
+
+    /// Whether a new request has to wait for a reply.
+    pub fn is_full(&self) -> bool
+        ensures { result ≡ is_full self.now }
+    {
+        self.window <= self.last.saturating_sub(self.floor())
+    }
+
+    // The next request.
+    fn next(&self, request: Request) -> WireRequest
+        requires limits { IsRequest request }
+        requires room { is_full self.now ≡ false }
+        requires number { self.now.last + 1 < 2 ^ 64 }
+        ensures next { result ≡ next_of self.now request }
+        ensures frame { IsWireRequest result }
+    {
+        WireRequest {
+            version: self.version,
+            number: self.last + 1,
+            floor: self.floor(),
+            request,
+        }
+    }
+
+    /// Sends a request under the next number, and gives the number.
+    pub fn send<W: Write>(&mut self, writer: &mut W, request: Request) -> Result<u64, SendFault>
+        requires { IsRequest request }
+        ensures { SendIs result request self.old (W.contents writer.old) (W.contents writer.new) self.new }
+    {
+        if self.is_full() {
+            return Err(SendFault::WindowFull);
+        }
+        if self.last == u64::MAX {
+            return Err(SendFault::NumbersSpent);
+        }
+        let wire = self.next(request);
+        let number = wire.number;
+        let Ok(frame) = frame_of(*self.awaited.allocator(), &wire) else {
+            return Err(SendFault::Memory);
+        };
+        if self.awaited.reserve(1).is_err() {
+            return Err(SendFault::Memory);
+        }
+        self.awaited.push_reserved(wire);
+        self.last = number;
+        match write_bytes(writer, &frame) {
+            Ok(()) => Ok(number),
+            Err(_) => Err(SendFault::Write),
+        }
+    }
+
+    /// Sends the very same frame again, of a request that got a fault.
+    pub fn again<W: Write>(&mut self, writer: &mut W, number: u64) -> Result<(), AgainFault>
+        ensures { AgainIs result number self.old (W.contents writer.old) (W.contents writer.new) self.new }
+    {
+        let Some(place) = place_of(number, &self.refused) else {
+            return Err(AgainFault::NotRefused);
+        };
+        let Ok(frame) = frame_of(*self.refused.allocator(), &self.refused[place]) else {
+            return Err(AgainFault::Memory);
+        };
+        if self.awaited.reserve(1).is_err() {
+            return Err(AgainFault::Memory);
+        }
+        let wire = self.refused.remove(place);
+        self.awaited.push_reserved(wire);
+        match write_bytes(writer, &frame) {
+            Ok(()) => Ok(()),
+            Err(_) => Err(AgainFault::Write),
+        }
+    }
+
+    /// The answer to the first request that is awaited, and its number. It reads at most that many times.
+    pub fn receive<R: Read>(
+        &mut self,
+        reader: &mut R,
+        turns: u64,
+    ) -> Result<(u64, Answer), ReceiveFault>
+        ensures received { ReceiveIs result self.old (R.remaining reader.old) (R.remaining reader.new) self.new }
+        ensures end { result ≡ Err (ReceiveFault.Call CallFault.Ended) → IsAtEnd (R.remaining reader.new) }
+        ensures bytes { ReadsBetween 0 (4096 * turns) (R.remaining reader.old) (R.remaining reader.new) }
+        ensures spent { result ≡ Err (ReceiveFault.Call CallFault.TurnsSpent) → ReadsBetween turns (4096 * turns) (R.remaining reader.old) (R.remaining reader.new) }
+    {
+        if self.awaited.is_empty() {
+            return Err(ReceiveFault::Idle);
+        }
+        if self.refused.reserve(1).is_err() {
+            return Err(ReceiveFault::Call(CallFault::Memory));
+        }
+        match await_answer(reader, &mut self.answers, turns) {
+            Ok(answer) => judge(&mut self.awaited, &mut self.refused, answer),
+            Err(fault) => Err(ReceiveFault::Call(fault)),
+        }
+    }
+}
