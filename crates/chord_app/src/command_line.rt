@@ -1,7 +1,9 @@
 //! The command line of `chord`.
 
+use crate::ask::command::ask_command;
+use crate::load::command::load_command;
 use clap::error::ErrorKind;
-use clap::{Arg, Command};
+use clap::{Arg, ArgAction, ArgGroup, Command};
 use std::alloc::{AllocError, Global};
 
 /// The stores that nodes take where none are named.
@@ -27,6 +29,56 @@ fn world_command<'a>(alloc: Global) -> Result<Command<'a>, AllocError> {
         .arg(stores)
 }
 
+/// The command `run` and what it takes.
+fn run_command<'a>(alloc: Global) -> Result<Command<'a>, AllocError> {
+    let plan = Arg::new(alloc, "plan")
+        .long("plan")
+        .value_name("FILE")
+        .required(true)
+        .help("The ring's numbers, nodes and asks, as TOML");
+    Command::new(alloc, "run")
+        .about("Runs a ring by a plan, and writes what its callers were answered")
+        .arg(plan)
+}
+
+/// The command `serve` and what it takes.
+fn serve_command<'a>(alloc: Global) -> Result<Command<'a>, AllocError> {
+    let plan = Arg::new(alloc, "plan")
+        .long("plan")
+        .value_name("FILE")
+        .required(true)
+        .help("The ring's numbers and nodes, as TOML");
+    let port = Arg::new(alloc, "port")
+        .long("port")
+        .value_name("N")
+        .required(true)
+        .help("The port on 127.0.0.1, 1 to 65535");
+    let connections = Arg::new(alloc, "connections")
+        .long("connections")
+        .value_name("K")
+        .help("How many connections are served, 1 to 65535");
+    let stay = Arg::new(alloc, "stay")
+        .long("stay")
+        .action(ArgAction::SetTrue)
+        .help("Serves until standard input ends");
+    let notes = Arg::new(alloc, "notes")
+        .long("notes")
+        .action(ArgAction::SetTrue)
+        .help("Notes on standard error how each connection ends, as it ends");
+    let until = ArgGroup::new(alloc, "until")
+        .arg("connections")?
+        .arg("stay")?
+        .required(true);
+    Command::new(alloc, "serve")
+        .about("Serves clients over loopback, and writes how each connection ended")
+        .arg(plan)?
+        .arg(port)?
+        .arg(connections)?
+        .arg(stay)?
+        .arg(notes)?
+        .group(until)
+}
+
 /// The commands of `chord` and what they take.
 pub fn commands<'a>(alloc: Global) -> Result<Command<'a>, AllocError> {
     Command::new(alloc, "chord")
@@ -34,7 +86,11 @@ pub fn commands<'a>(alloc: Global) -> Result<Command<'a>, AllocError> {
         .version("0.1.0")
         .about("A Chord key store")
         .subcommand_required(true)
-        .subcommand(world_command(alloc)?)
+        .subcommand(world_command(alloc)?)?
+        .subcommand(run_command(alloc)?)?
+        .subcommand(serve_command(alloc)?)?
+        .subcommand(ask_command(alloc)?)?
+        .subcommand(load_command(alloc)?)
 }
 
 /// The fault of a word that names no stores.
@@ -44,6 +100,24 @@ pub fn no_stores(alloc: Global, word: &str) -> Result<clap::Error, AllocError> {
     )?;
     world_command(alloc)?
         .bin_name("chord world")?
+        .error(ErrorKind::InvalidValue, message.as_str())
+}
+
+/// The number from 1 to 65,535 that a word is, if it is one.
+pub fn small_number(word: &str) -> Option<u16> {
+    match word.parse::<u16>() {
+        Ok(number) if 0 < number => Some(number),
+        _ => None,
+    }
+}
+
+/// The fault of a word that is no such number.
+pub fn no_number(alloc: Global, option: &str, word: &str) -> Result<clap::Error, AllocError> {
+    let message = format!(in alloc;
+        "invalid value '{word}' for '--{option}': a number from 1 to 65535"
+    )?;
+    serve_command(alloc)?
+        .bin_name("chord serve")?
         .error(ErrorKind::InvalidValue, message.as_str())
 }
 

@@ -10,6 +10,16 @@ pub enum Fault {
     Line(u64),
     Read,
     Write,
+    /// The port cannot be had.
+    Listen,
+    /// The ring refuses this node of a plan, from 0.
+    Node(usize),
+    /// No server is found at the port.
+    Connect,
+    /// So many requests got no reply.
+    Unanswered(u64),
+    /// The time cannot be read.
+    Clock,
 }
 
 impl fmt::Display for Fault {
@@ -18,6 +28,11 @@ impl fmt::Display for Fault {
             Fault::Line(number) => write!(f, "fault line {number}"),
             Fault::Read => write!(f, "fault read"),
             Fault::Write => write!(f, "fault write"),
+            Fault::Listen => write!(f, "fault listen"),
+            Fault::Node(number) => { write!(f, "fault plan\nnode {number}: the ring refuses it") }
+            Fault::Connect => write!(f, "fault connect"),
+            Fault::Unanswered(count) => write!(f, "fault unanswered {count}"),
+            Fault::Clock => write!(f, "fault clock"),
         }
     }
 }
@@ -29,6 +44,8 @@ pub enum Finish {
     Fault(Fault),
     /// The command line is none of the program's. Its text was printed.
     BadCommandLine,
+    /// The plan breaks a rule. What is wrong was printed.
+    BadPlan,
     OutOfMemory,
 }
 
@@ -42,7 +59,7 @@ impl Finish {
     {
         match self {
             Finish::Done => 0,
-            Finish::Fault(_) => 1,
+            Finish::Fault(_) | Finish::BadPlan => 1,
             Finish::BadCommandLine => 2,
             Finish::OutOfMemory => 3,
         }

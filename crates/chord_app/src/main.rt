@@ -1,18 +1,39 @@
 //! The program `chord`: a Chord key store on the console.
 #![tactic(auto)]
 
+mod ask;
 mod command_line;
 mod console;
 mod finish;
+mod load;
+mod plan;
+mod run;
+mod running;
+mod serve;
 mod stores;
 
+use ask::command::start_ask;
 use chord_store::{CappedStore, EntryStore, ListStore, NotedStore, TreeStore};
+use clap::ArgMatches;
 use clap::error::ErrorKind;
-use command_line::{commands, names_stores, no_stores};
+use command_line::{DEFAULT_STORES, commands, names_stores, no_number, no_stores, small_number};
 use console::session::world;
 use finish::Finish;
+use load::command::start_load;
+use plan::Plan;
+use plan::fault::PlanFault;
+use plan::file::read_plan;
+use plan::node::StoreKind;
+use run::run;
+use serve::front::{Front, listen};
+use serve::server::serve;
+use serve::stay::stay;
+use std::alloc::Global;
+use std::net::{Net, TcpListener, TcpStream};
 use std::process::ExitCode;
-use std::sync::{Arc, OnceLock};
+use std::sync::{Arc, OnceLock, Wait};
+use std::thread::Threads;
+use std::time::Clock;
 use std::{env, io};
 use stores::empty_ones;
 
@@ -29,27 +50,8 @@ fn told<R: Print + Eprint>(rt: &R, error: &clap::Error) -> Result<Finish, Finish
     }
 }
 
-/// Reads the command line and does the command.
-fn start(rt: &HostRuntime) -> Result<Finish, Finish> {
-    let alloc = rt.alloc();
-    let words: Vec<String> = match env::args(rt) {
-        Ok(words) => words.collect(alloc)?,
-        Err(error) if error.kind() == io::ErrorKind::OutOfMemory => return Err(Finish::OutOfMemory),
-        Err(_) => {
-            eprintln!(rt; "error: an argument is no text")?;
-            return Ok(Finish::BadCommandLine);
-        }
-    };
-    let matches = match commands(alloc)?.try_get_matches_from(words.as_slice()) {
-        Ok(matches) => matches,
-        Err(error) => return told(rt, &error),
-    };
-    let word = match matches.subcommand() {
-        Some((_, found)) => found
-            .get_str("stores")
-            .unwrap_or(command_line::DEFAULT_STORES),
-        None => command_line::DEFAULT_STORES,
-    };
+/// Does `world`.
+fn start_world(rt: &HostRuntime, alloc: Global, word: &str) -> Result<Finish, Finish> {
     if !names_stores(word) {
         return told(rt, &no_stores(alloc, word)?);
     }
@@ -70,8 +72,165 @@ fn start(rt: &HostRuntime) -> Result<Finish, Finish> {
     Ok(world(alloc, stores, &mut rt.stdin(), rt.stdout()))
 }
 
+/// The plan of a file. What is wrong with it is printed.
+fn plan_of(rt: &HostRuntime, path: &str) -> Result<Plan, Finish> {
+    match read_plan(rt, rt.alloc(), path) {
+        Ok(plan) => Ok(plan),
+        Err(PlanFault::OutOfMemory) => Err(Finish::OutOfMemory),
+        Err(fault) => {
+            eprintln!(rt; "{fault}")?;
+            Err(Finish::BadPlan)
+        }
+    }
+}
+
+/// Where a server listens, for how long it serves, and where it notes how connections end.
+#[derive(Drop)]
+struct Served<'a> {
+    listener: TcpListener,
+    /// So many connections, or until standard input ends.
+    connections: Option<usize>,
+    notes: Option<&'a HostRuntime>,
+}
+
+/// Does `run`, or `serve` where there is a listener, over a store for each node of the plan.
+fn start_ring<
+    T: Threads
+        + Wait
+        + Clock
+        + Net<Listener = TcpListener, Stream = TcpStream>
+        + Copy
+        + Send
+        + Sync
+        + 'static,
+>(
+    rt: &HostRuntime,
+    threads: &T,
+    plan: &Plan,
+    served: Option<Served<'_>>,
+) -> Result<Finish, Finish> {
+    let alloc = rt.alloc();
+    let mut stores: Vec<Box<dyn EntryStore + Send>> = Vec::new(alloc);
+    for node in plan.nodes.iter() {
+        let store: Box<dyn EntryStore + Send> = match node.store {
+            StoreKind::Tree => Box::new(alloc, TreeStore::new(alloc))?,
+            StoreKind::List => Box::new(alloc, ListStore::new(alloc))?,
+            StoreKind::Noted => {
+                let note = Arc::new(alloc, OnceLock::new())?;
+                Box::new(alloc, NotedStore::new(alloc, note))?
+            }
+            StoreKind::Capped(limit) => Box::new(alloc, CappedStore::new(alloc, limit))?,
+        };
+        stores.push(store)?;
+    }
+    let Some(served) = served else {
+        return Ok(run(threads, alloc, plan, stores, rt.stdout()));
+    };
+    let front = Front {
+        alloc,
+        plan,
+        listener: &served.listener,
+        notes: &served.notes,
+    };
+    match served.connections {
+        Some(count) => serve(threads, &front, stores, count, &mut rt.stdout())?,
+        None => stay(threads, &front, stores, rt.stdin(), rt.stdout())?,
+    }
+    Ok(Finish::Done)
+}
+
+/// Does `serve`.
+fn start_serve<
+    T: Threads
+        + Wait
+        + Clock
+        + Net<Listener = TcpListener, Stream = TcpStream>
+        + Copy
+        + Send
+        + Sync
+        + 'static,
+>(rt: &HostRuntime, threads: &T, found: &ArgMatches) -> Result<Finish, Finish> {
+    let alloc = rt.alloc();
+    let port = found.get_str("port").unwrap_or("");
+    let Some(port) = small_number(port) else {
+        return told(rt, &no_number(alloc, "port <N>", port)?);
+    };
+    let connections = match found.get_str("connections") {
+        None => None,
+        Some(word) => match small_number(word) {
+            Some(count) => Some(count as usize),
+            None => return told(rt, &no_number(alloc, "connections <K>", word)?),
+        },
+    };
+    let notes = if found.get_flag("notes") {
+        Some(rt)
+    } else {
+        None
+    };
+    let plan = plan_of(rt, found.get_str("plan").unwrap_or(""))?;
+    let listener = listen(threads, port)?;
+    let served = Served {
+        listener,
+        connections,
+        notes,
+    };
+    start_ring(rt, threads, &plan, Some(served))
+}
+
+/// Does `run`.
+fn start_run<
+    T: Threads
+        + Wait
+        + Clock
+        + Net<Listener = TcpListener, Stream = TcpStream>
+        + Copy
+        + Send
+        + Sync
+        + 'static,
+>(rt: &HostRuntime, threads: &T, found: &ArgMatches) -> Result<Finish, Finish> {
+    let plan = plan_of(rt, found.get_str("plan").unwrap_or(""))?;
+    start_ring(rt, threads, &plan, None)
+}
+
+/// Reads the command line and does the command.
+fn start<
+    T: Threads
+        + Wait
+        + Clock
+        + Net<Listener = TcpListener, Stream = TcpStream>
+        + Copy
+        + Send
+        + Sync
+        + 'static,
+>(rt: &HostRuntime, threads: &T) -> Result<Finish, Finish> {
+    let alloc = rt.alloc();
+    let words: Vec<String> = match env::args(rt) {
+        Ok(words) => words.collect(alloc)?,
+        Err(error) if error.kind() == io::ErrorKind::OutOfMemory => return Err(Finish::OutOfMemory),
+        Err(_) => {
+            eprintln!(rt; "error: an argument is no text")?;
+            return Ok(Finish::BadCommandLine);
+        }
+    };
+    let matches = match commands(alloc)?.try_get_matches_from(words.as_slice()) {
+        Ok(matches) => matches,
+        Err(error) => return told(rt, &error),
+    };
+    match matches.subcommand() {
+        Some((name, found)) if name == "run" => start_run(rt, threads, found),
+        Some((name, found)) if name == "serve" => start_serve(rt, threads, found),
+        Some((name, found)) if name == "ask" => start_ask(rt, threads, found),
+        Some((name, found)) if name == "load" => start_load(rt, threads, found),
+        Some((_, found)) => {
+            let word = found.get_str("stores").unwrap_or(DEFAULT_STORES);
+            start_world(rt, alloc, word)
+        }
+        None => start_world(rt, alloc, DEFAULT_STORES),
+    }
+}
+
 fn main(rt: HostRuntime) -> ExitCode {
-    let finish = match start(&rt) {
+    let finish = match start(&rt, &rt) {
         Ok(finish) => finish,
         Err(finish) => finish,
     };

@@ -11,7 +11,23 @@ use std::alloc::{AllocError, Global};
 use std::fmt::Write;
 use std::test::Fail;
 
+mod asks;
+mod clients;
+mod command_lines;
+mod loads;
+mod plan_runs;
+mod plans;
+mod servers;
+mod stays;
 mod worlds;
+
+/// A store for each of two nodes, with room for so many pairs.
+fn two_stores(alloc: Global, limit: u64) -> Result<Vec<CappedStore>, AllocError> {
+    let mut stores = Vec::new(alloc);
+    stores.push(CappedStore::new(alloc, limit))?;
+    stores.push(CappedStore::new(alloc, limit))?;
+    Ok(stores)
+}
 
 /// Runs the script over these stores.
 fn runs<S: EntryStore>(
@@ -500,7 +516,7 @@ fn a_command_is_wanted(rt: HostRuntime) -> Result<(), Fail> {
     assert_eq!(rt; error.exit_code(), 2);
     let text = error.to_string(rt.alloc())?;
     let wanted =
-        "error: 'chord' requires a subcommand but one was not provided\n  [subcommands: world, help]\n\nUsage: chord <COMMAND>\n\nFor more information, try '--help'.\n";
+        "error: 'chord' requires a subcommand but one was not provided\n  [subcommands: world, run, serve, ask, load, help]\n\nUsage: chord <COMMAND>\n\nFor more information, try '--help'.\n";
     assert_eq!(rt; text.as_str(), wanted);
     Ok(())
 }

@@ -1,0 +1,9 @@
+//! The command `ask`: requests of one client, and one line out for each.
+
+pub mod command;
+pub mod group;
+pub mod input;
+pub mod line;
+pub mod link;
+pub mod outcome;
+pub mod question;

@@ -1,0 +1,43 @@
+//! Open connections.
+
+use std::alloc::{AllocError, Global};
+use std::net::{Shutdown, TcpStream};
+use std::sync::{Arc, Mutex, Wait};
+
+/// The streams of the connections that are open, each with its number.
+#[derive(Drop)]
+pub struct Clients {
+    open: Mutex<Vec<(u64, Arc<TcpStream>)>>,
+}
+
+impl Clients {
+    pub fn new(alloc: Global) -> Clients {
+        Clients {
+            open: Mutex::new(Vec::new(alloc)),
+        }
+    }
+
+    /// Adds a connection.
+    pub fn add(
+        &self,
+        rt: &impl Wait,
+        number: u64,
+        stream: &Arc<TcpStream>,
+    ) -> Result<(), AllocError> {
+        let stream = Arc::try_clone(stream)?;
+        self.open.lock(rt).push((number, stream))?;
+        Ok(())
+    }
+
+    /// Lets go of a connection.
+    pub fn forget(&self, rt: &impl Wait, number: u64) {
+        self.open.lock(rt).retain(|client| client.0 != number);
+    }
+
+    /// Ends all connections. Nothing is read or written afterwards.
+    pub fn end_all(&self, rt: &impl Wait) {
+        for (_, stream) in self.open.lock(rt).iter() {
+            let _ = stream.shutdown(Shutdown::Both).is_ok();
+        }
+    }
+}

@@ -1,0 +1,145 @@
+//! Clients of a server, over loopback.
+
+use crate::finish::Finish;
+use crate::plan::Plan;
+use crate::serve::front::Front;
+use crate::serve::server::serve;
+use crate::tests::plans::changed;
+use chord_map::{Bytes, Reply, Request};
+use chord_store::EntryStore;
+use chord_wire::{FaultCode, is_writable, write_fault, write_reply, write_request};
+use log::sink::Discard;
+use std::alloc::{AllocError, Global};
+use std::io::{self, Read, Write};
+use std::net::{OpenStream, Shutdown, TcpListener};
+use std::sync::Wait;
+use std::test::Fail;
+use std::thread::Threads;
+use std::time::Clock;
+
+/// A plan of two nodes, with so many callers.
+pub fn plan_with(alloc: Global, callers: u64) -> Result<Plan, Fail> {
+    let line = format!(in alloc; "callers = {callers}")?;
+    let text = changed(alloc, "callers = 1", line.as_str())?;
+    match Plan::parse(alloc, text.as_bytes()) {
+        Ok(plan) => Ok(plan),
+        Err(_) => Err(Fail::from("no plan")),
+    }
+}
+
+/// All requests have one key.
+pub fn insert(alloc: Global, value: &[u8]) -> Result<Request, AllocError> {
+    Ok(Request::Insert {
+        key: Bytes::from_slice(alloc, b"abc")?,
+        value: Bytes::from_slice(alloc, value)?,
+    })
+}
+
+pub fn remove(alloc: Global, value: &[u8]) -> Result<Request, AllocError> {
+    Ok(Request::Remove {
+        key: Bytes::from_slice(alloc, b"abc")?,
+        value: Bytes::from_slice(alloc, value)?,
+    })
+}
+
+pub fn retrieve(alloc: Global) -> Result<Request, AllocError> {
+    Ok(Request::Retrieve {
+        key: Bytes::from_slice(alloc, b"abc")?,
+    })
+}
+
+/// The frame of a request.
+pub fn request_frame(alloc: Global, number: u64, request: &Request) -> io::Result<Vec<u8>> {
+    match request.check() {
+        Ok(()) => Ok(write_request(alloc, number, request)?),
+        Err(_) => Err(io::Error::from(io::ErrorKind::InvalidInput)),
+    }
+}
+
+/// The frame of a reply.
+pub fn reply_frame(alloc: Global, number: u64, reply: &Reply) -> io::Result<Vec<u8>> {
+    if is_writable(reply) {
+        Ok(write_reply(alloc, number, reply)?)
+    } else {
+        Err(io::Error::from(io::ErrorKind::InvalidInput))
+    }
+}
+
+/// The frame of a fault.
+pub fn fault_frame(alloc: Global, number: u64, code: FaultCode) -> io::Result<Vec<u8>> {
+    if code == FaultCode::Memory {
+        Err(io::Error::from(io::ErrorKind::InvalidInput))
+    } else {
+        Ok(write_fault(alloc, number, code)?)
+    }
+}
+
+/// The next bytes are these.
+pub fn expect<S: Read>(alloc: Global, stream: &mut S, wanted: &[u8]) -> io::Result<()> {
+    let mut got = vec![in alloc; 0u8; wanted.len()]?;
+    stream.read_exact(&mut got)?;
+    if got.as_slice() == wanted {
+        Ok(())
+    } else {
+        Err(io::Error::from(io::ErrorKind::InvalidData))
+    }
+}
+
+/// No more bytes come.
+pub fn expect_end<S: Read>(stream: &mut S) -> io::Result<()> {
+    let mut more = [0u8; 1];
+    if stream.read(&mut more)? == 0 {
+        Ok(())
+    } else {
+        Err(io::Error::from(io::ErrorKind::InvalidData))
+    }
+}
+
+/// The request is answered by this reply.
+pub fn ask<S: Read + Write>(
+    alloc: Global,
+    stream: &mut S,
+    number: u64,
+    request: &Request,
+    reply: &Reply,
+) -> io::Result<()> {
+    stream.write_all(&request_frame(alloc, number, request)?)?;
+    expect(alloc, stream, &reply_frame(alloc, number, reply)?)
+}
+
+/// The request is answered by this fault.
+pub fn ask_in_vain<S: Read + Write>(
+    alloc: Global,
+    stream: &mut S,
+    number: u64,
+    request: &Request,
+    code: FaultCode,
+) -> io::Result<()> {
+    stream.write_all(&request_frame(alloc, number, request)?)?;
+    expect(alloc, stream, &fault_frame(alloc, number, code)?)
+}
+
+/// The client says no more, and the server closes the connection.
+pub fn leave<S: Read + OpenStream>(stream: &mut S) -> io::Result<()> {
+    stream.shutdown(Shutdown::Write)?;
+    expect_end(stream)
+}
+
+/// Serves so many connections over these stores, with no notes.
+pub fn served_by<R: Threads + Wait + Clock + Sync, S: EntryStore + Send>(
+    rt: &R,
+    alloc: Global,
+    plan: &Plan,
+    listener: &TcpListener,
+    stores: Vec<S>,
+    connections: usize,
+    written: &mut Vec<u8>,
+) -> Result<(), Finish> {
+    let front = Front {
+        alloc,
+        plan,
+        listener,
+        notes: &Discard,
+    };
+    serve(rt, &front, stores, connections, written)
+}
