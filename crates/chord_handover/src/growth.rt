@@ -1,73 +1,80 @@
 //! A refused growth leaves all as it was, and a second try succeeds. With ample memory nothing is refused; the tests are
 //! run with each growth refused in turn too.
 
-use crate::tests::{A, empty_parcel, pairs, part, taken_with};
-use crate::{Gather, GiveFault, Outbox, Part, Taken, Verdict};
+use crate::tests::{A, empty_parcel, makes, note, part, two_parts};
+use crate::{GiveFault, Outbox, Part, Taken};
 use chord_ident::{Id, Span};
 use std::alloc::{AllocError, Global};
 use std::test::Fail;
 
-/// The parts of a handover of 65 pairs.
+/// The two parts of a handover, at the second try where the first was refused.
 fn parts(alloc: Global) -> Result<(Part, Part), AllocError> {
-    let mut all = pairs(alloc, 65)?;
-    let mut rest = Vec::with_capacity(alloc, 1)?;
-    if let Some(last) = all.pop() {
-        rest.push(last)?;
+    match two_parts(alloc) {
+        Ok(parts) => Ok(parts),
+        Err(_) => two_parts(alloc),
     }
-    Ok((part(alloc, 1, all), part(alloc, 2, rest)))
-}
-
-/// Notes a part of the next handover.
-fn noted(taken: &mut Taken, part: &Part) -> Result<bool, AllocError> {
-    if taken.judge(part.from, part.number) != Verdict::Next {
-        return Ok(false);
-    }
-    taken.note(part)?;
-    Ok(true)
 }
 
 /// What it makes with what is noted, at the second try where the first was refused.
-fn made(taken: &Taken, part: &Part) -> Result<Option<Gather>, AllocError> {
-    match taken_with(taken, part) {
+fn made(taken: &Taken, part: &Part) -> Result<&'static str, AllocError> {
+    match makes(taken, part) {
         Ok(made) => Ok(made),
-        Err(_) => taken_with(taken, part),
+        Err(_) => makes(taken, part),
     }
+}
+
+/// Notes the second part, at the second try where the first was refused. Answers whether a refused one left nothing noted.
+fn note_the_second(taken: &mut Taken, (first, second): &(Part, Part)) -> Result<bool, AllocError> {
+    if note(taken, second).is_ok() {
+        return Ok(true);
+    }
+    let is_as_before = made(taken, first)? == "more";
+    note(taken, second)?;
+    Ok(is_as_before)
 }
 
 #[test]
 fn refused_notes_and_gathers(rt: HostRuntime) -> Result<(), Fail> {
-    let (first, second) = match parts(rt.alloc()) {
-        Ok(parts) => parts,
-        Err(_) => parts(rt.alloc())?,
-    };
+    let parts = parts(rt.alloc())?;
+    let mut taken = Taken::new(rt.alloc());
+    assert_eq!(rt; made(&taken, &parts.1)?, "more");
+    assert!(rt; note_the_second(&mut taken, &parts)?);
+    assert_eq!(rt; made(&taken, &parts.0)?, "whole");
+    Ok(())
+}
+
+#[test]
+fn a_refused_reserve_takes_nothing(rt: HostRuntime) -> Result<(), Fail> {
     let mut taken = Taken::new(rt.alloc());
     if taken.reserve().is_err() {
         assert_eq!(rt; taken.last(0), 0);
         taken.reserve()?;
     }
-    assert!(rt; matches!(made(&taken, &second)?, Some(Gather::More)));
-    if noted(&mut taken, &second).is_err() {
-        assert!(rt; matches!(made(&taken, &first)?, Some(Gather::More)));
-        assert!(rt; noted(&mut taken, &second)?);
-    }
-    assert!(rt; matches!(made(&taken, &first)?, Some(Gather::Whole(_))));
+    assert_eq!(rt; taken.last(0), 0);
     Ok(())
+}
+
+/// Gives an empty parcel to node 1, at the second try where the first was refused, and answers its number. It is none where
+/// the refused one did not hand the parcel back, or left something in the outbox.
+fn give(outbox: &mut Outbox, alloc: Global) -> Option<u64> {
+    let ungiven = match outbox.give(1, empty_parcel(alloc)) {
+        Ok(number) => return Some(number),
+        Err(ungiven) => ungiven,
+    };
+    let span = Span::new(Id::new(A), Id::new(A));
+    if ungiven.fault != GiveFault::Memory
+        || !outbox.is_empty()
+        || ungiven.parcelled.segment().span() != span
+    {
+        return None;
+    }
+    outbox.give(1, ungiven.parcelled).ok()
 }
 
 #[test]
 fn a_refused_give_hands_the_parcel_back(rt: HostRuntime) -> Result<(), Fail> {
-    let span = Span::new(Id::new(A), Id::new(A));
     let mut outbox = Outbox::new(rt.alloc(), 0);
-    let number = match outbox.give(1, empty_parcel(rt.alloc())) {
-        Ok(number) => number,
-        Err(ungiven) => {
-            assert_eq!(rt; ungiven.fault, GiveFault::Memory);
-            assert!(rt; outbox.is_empty());
-            assert_eq!(rt; ungiven.parcelled.segment().span(), span);
-            outbox.give(1, ungiven.parcelled).ok().ok_or("not given")?
-        }
-    };
-    assert_eq!(rt; number, 1);
+    assert_eq!(rt; give(&mut outbox, rt.alloc()), Some(1));
     if outbox.reserve().is_err() {
         assert_eq!(rt; outbox.nth(0), Some((1, 1)));
         outbox.reserve()?;
@@ -78,10 +85,7 @@ fn a_refused_give_hands_the_parcel_back(rt: HostRuntime) -> Result<(), Fail> {
 
 #[test]
 fn refused_parts_and_copies(rt: HostRuntime) -> Result<(), Fail> {
-    let (first, _) = match parts(rt.alloc()) {
-        Ok(parts) => parts,
-        Err(_) => parts(rt.alloc())?,
-    };
+    let (first, _) = parts(rt.alloc())?;
     let copy = match first.try_copy() {
         Ok(copy) => copy,
         Err(_) => first.try_copy()?,
@@ -94,19 +98,13 @@ fn refused_parts_and_copies(rt: HostRuntime) -> Result<(), Fail> {
 /// Parts that are all there and make no parcel take no memory.
 #[test]
 fn parts_of_no_parcel_are_unfit(rt: HostRuntime) -> Result<(), Fail> {
-    let (first, _) = match parts(rt.alloc()) {
-        Ok(parts) => parts,
-        Err(_) => parts(rt.alloc())?,
-    };
-    let (again, _) = match parts(rt.alloc()) {
-        Ok(parts) => parts,
-        Err(_) => parts(rt.alloc())?,
-    };
+    let (first, _) = parts(rt.alloc())?;
+    let (again, _) = parts(rt.alloc())?;
     let second = part(rt.alloc(), 2, again.pairs);
     let mut taken = Taken::new(rt.alloc());
-    if noted(&mut taken, &first).is_err() {
-        assert!(rt; noted(&mut taken, &first)?);
+    if note(&mut taken, &first).is_err() {
+        note(&mut taken, &first)?;
     }
-    assert!(rt; matches!(taken_with(&taken, &second)?, Some(Gather::Unfit)));
+    assert_eq!(rt; makes(&taken, &second)?, "unfit");
     Ok(())
 }

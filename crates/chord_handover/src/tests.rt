@@ -16,19 +16,34 @@ pub fn empty_parcel(alloc: Global) -> Parcelled {
     Parcelled::new(Segment::empty(alloc, span), Vec::new(alloc))
 }
 
-#[test]
-fn items_stay_until_got(rt: HostRuntime) -> Result<(), Fail> {
-    let mut outbox = Outbox::new(rt.alloc(), 0);
+/// Puts in an empty parcel for node 1 and answers its number.
+fn give_one(alloc: Global, outbox: &mut Outbox) -> Result<u64, Fail> {
+    let number = outbox.give(1, empty_parcel(alloc)).ok().ok_or("not given")?;
+    Ok(number)
+}
+
+/// The outbox of this node with one empty parcel for node 1.
+fn outbox_of(alloc: Global, owner: u64) -> Result<Outbox, Fail> {
+    let mut outbox = Outbox::new(alloc, owner);
     outbox.reserve()?;
-    let number = outbox
-        .give(1, empty_parcel(rt.alloc()))
-        .ok()
-        .ok_or("not given")?;
-    assert_eq!(rt; number, 1);
+    give_one(alloc, &mut outbox)?;
+    Ok(outbox)
+}
+
+#[test]
+fn items_are_shown(rt: HostRuntime) -> Result<(), Fail> {
+    let mut outbox = outbox_of(rt.alloc(), 0)?;
     assert_eq!(rt; outbox.nth(0), Some((1, 1)));
     let copy = outbox.item(1, 1).ok_or("no item")?.try_copy()?;
     assert_eq!(rt; copy.segment().span().after, Id::new(A));
     assert_eq!(rt; copy.pairs().len(), 0);
+    Ok(())
+}
+
+#[test]
+fn items_stay_until_got(rt: HostRuntime) -> Result<(), Fail> {
+    let mut outbox = outbox_of(rt.alloc(), 0)?;
+    assert!(rt; !outbox.is_empty());
     assert!(rt; outbox.got(1, 1).is_some());
     assert!(rt; outbox.got(1, 1).is_none());
     assert!(rt; outbox.is_empty());
@@ -37,16 +52,8 @@ fn items_stay_until_got(rt: HostRuntime) -> Result<(), Fail> {
 
 #[test]
 fn a_declined_item_comes_back(rt: HostRuntime) -> Result<(), Fail> {
-    let mut outbox = Outbox::new(rt.alloc(), 0);
-    outbox
-        .give(1, empty_parcel(rt.alloc()))
-        .ok()
-        .ok_or("not given")?;
-    let second = outbox
-        .give(1, empty_parcel(rt.alloc()))
-        .ok()
-        .ok_or("not given")?;
-    assert_eq!(rt; second, 2);
+    let mut outbox = outbox_of(rt.alloc(), 0)?;
+    assert_eq!(rt; give_one(rt.alloc(), &mut outbox)?, 2);
     let back = outbox.declined(1, 2).ok_or("no item")?;
     let (segment, pairs) = back.into_parts();
     assert_eq!(rt; segment.span().upto, Id::new(A));
@@ -57,15 +64,17 @@ fn a_declined_item_comes_back(rt: HostRuntime) -> Result<(), Fail> {
 
 #[test]
 fn an_item_without_pairs_has_one_part(rt: HostRuntime) -> Result<(), Fail> {
-    let mut outbox = Outbox::new(rt.alloc(), 3);
-    outbox
-        .give(1, empty_parcel(rt.alloc()))
-        .ok()
-        .ok_or("not given")?;
+    let outbox = outbox_of(rt.alloc(), 3)?;
     let part = outbox.part(1, 1, 1)?.ok_or("no part")?;
     assert_eq!(rt; (part.from, part.to, part.number), (3, 1, 1));
     assert_eq!(rt; (part.part, part.of), (1, 1));
     assert!(rt; part.segment.is_some());
+    Ok(())
+}
+
+#[test]
+fn there_is_no_further_part_or_item(rt: HostRuntime) -> Result<(), Fail> {
+    let outbox = outbox_of(rt.alloc(), 3)?;
     assert!(rt; outbox.part(1, 1, 2)?.is_none());
     assert!(rt; outbox.part(1, 2, 1)?.is_none());
     Ok(())
@@ -126,40 +135,102 @@ fn part_of(alloc: Global, i: u64, of: u64, pairs: Vec<Pair>) -> Part
     }
 }
 
-/// What it makes with what is noted, and that it is noted then.
-fn take_in(taken: &mut Taken, part: &Part) -> Result<Option<Gather>, AllocError> {
+/// What it makes with what is noted, in a word.
+pub fn makes(taken: &Taken, part: &Part) -> Result<&'static str, AllocError> {
     if taken.judge(part.from, part.number) != Verdict::Next {
-        return Ok(None);
+        return Ok("not next");
     }
-    let made = taken.whole_with(part)?;
-    taken.note(part)?;
-    Ok(Some(made))
+    Ok(match taken.whole_with(part)? {
+        Gather::More => "more",
+        Gather::Unfit => "unfit",
+        Gather::Whole(_) => "whole",
+    })
+}
+
+/// Notes a part of the next handover.
+pub fn note(taken: &mut Taken, part: &Part) -> Result<(), AllocError> {
+    if taken.judge(part.from, part.number) == Verdict::Next {
+        taken.note(part)?;
+    }
+    Ok(())
+}
+
+/// What it makes with what is noted, and that it is noted then.
+fn take_in(taken: &mut Taken, part: &Part) -> Result<&'static str, AllocError> {
+    let made = makes(taken, part)?;
+    note(taken, part)?;
+    Ok(made)
+}
+
+/// The two parts of a handover of 65 pairs.
+pub fn two_parts(alloc: Global) -> Result<(Part, Part), AllocError> {
+    let mut all = pairs(alloc, 65)?;
+    let mut rest = Vec::with_capacity(alloc, 1)?;
+    if let Some(last) = all.pop() {
+        rest.push(last)?;
+    }
+    Ok((part(alloc, 1, all), part(alloc, 2, rest)))
 }
 
 #[test]
 fn two_parts_make_it_whole(rt: HostRuntime) -> Result<(), Fail> {
-    let alloc = rt.alloc();
-    let mut all = pairs(alloc, 65)?;
-    let last = all.pop().ok_or("no pair")?;
-    let mut rest = Vec::new(alloc);
-    rest.push(last)?;
-    let first = part(alloc, 1, all);
-    let second = part(alloc, 2, rest);
-    let mut taken = Taken::new(alloc);
-    assert!(rt; matches!(take_in(&mut taken, &second)?, Some(Gather::More)));
-    assert!(rt; matches!(take_in(&mut taken, &second)?, Some(Gather::More)));
-    let Some(Gather::Whole(whole)) = take_in(&mut taken, &first)? else {
-        return Err(Fail::from("not whole"));
-    };
-    assert_eq!(rt; whole.segment().span(), Span::new(Id::new(A), Id::new(A)));
-    assert!(rt; whole.pairs() == pairs(alloc, 65)?.as_slice());
-    assert!(rt; matches!(take_in(&mut taken, &second)?, Some(Gather::Whole(_))));
+    let (first, second) = two_parts(rt.alloc())?;
+    let mut taken = Taken::new(rt.alloc());
+    for part in [&second, &second] {
+        assert_eq!(rt; take_in(&mut taken, part)?, "more");
+    }
+    for part in [&first, &second] {
+        assert_eq!(rt; take_in(&mut taken, part)?, "whole");
+    }
+    Ok(())
+}
+
+#[test]
+fn a_part_of_a_handover_that_was_taken_is_not_next(rt: HostRuntime) -> Result<(), Fail> {
+    let (_, second) = two_parts(rt.alloc())?;
+    let mut taken = Taken::new(rt.alloc());
     taken.reserve()?;
     if taken.last(0) == 0 {
         taken.mark(0);
     }
-    assert!(rt; take_in(&mut taken, &second)?.is_none());
+    assert_eq!(rt; take_in(&mut taken, &second)?, "not next");
     Ok(())
+}
+
+/// The whole that it makes with what is noted, if it makes one.
+fn gathered(taken: &Taken, part: &Part) -> Result<Option<Parcelled>, AllocError> {
+    if taken.judge(part.from, part.number) != Verdict::Next {
+        return Ok(None);
+    }
+    Ok(match taken.whole_with(part)? {
+        Gather::Whole(whole) => Some(whole),
+        _ => None,
+    })
+}
+
+#[test]
+fn what_is_whole_has_all_pairs(rt: HostRuntime) -> Result<(), Fail> {
+    let (first, second) = two_parts(rt.alloc())?;
+    let mut taken = Taken::new(rt.alloc());
+    take_in(&mut taken, &second)?;
+    let whole = gathered(&taken, &first)?.ok_or("not whole")?;
+    assert_eq!(rt; whole.segment().span(), Span::new(Id::new(A), Id::new(A)));
+    assert!(rt; whole.pairs() == pairs(rt.alloc(), 65)?.as_slice());
+    Ok(())
+}
+
+/// What part i of so many, with so many pairs, makes with what is noted.
+fn makes_with(
+    taken: &Taken,
+    alloc: Global,
+    i: u64,
+    of: u64,
+    count: u8,
+) -> Result<&'static str, AllocError>
+    requires low { 1 ≤ i }
+    requires high { i ≤ of }
+{
+    makes(taken, &part_of(alloc, i, of, pairs(alloc, count)?))
 }
 
 #[test]
@@ -167,15 +238,11 @@ fn parts_that_do_not_fit(rt: HostRuntime) -> Result<(), Fail> {
     let alloc = rt.alloc();
     let mut taken = Taken::new(alloc);
     let first = part(alloc, 1, pairs(alloc, 64)?);
-    assert!(rt; matches!(take_in(&mut taken, &first)?, Some(Gather::More)));
-    let other_count = part_of(alloc, 2, 3, pairs(alloc, 1)?);
-    assert!(rt; matches!(taken_with(&taken, &other_count)?, Some(Gather::Unfit)));
-    let again = part(alloc, 2, pairs(alloc, 1)?);
-    assert!(rt; matches!(taken_with(&taken, &again)?, Some(Gather::Unfit)));
-    let empty = part(alloc, 2, Vec::new(alloc));
-    assert!(rt; matches!(taken_with(&taken, &empty)?, Some(Gather::Unfit)));
-    let alone = part_of(alloc, 1, 1, Vec::new(alloc));
-    assert!(rt; matches!(taken_with(&taken, &alone)?, Some(Gather::Unfit)));
+    assert_eq!(rt; take_in(&mut taken, &first)?, "more");
+    assert_eq!(rt; makes_with(&taken, alloc, 2, 3, 1)?, "unfit");
+    assert_eq!(rt; makes_with(&taken, alloc, 2, 2, 1)?, "unfit");
+    assert_eq!(rt; makes_with(&taken, alloc, 2, 2, 0)?, "unfit");
+    assert_eq!(rt; makes_with(&taken, alloc, 1, 1, 0)?, "unfit");
     Ok(())
 }
 
@@ -194,29 +261,29 @@ fn pairs_from(alloc: Global, first: u64, count: u64) -> Result<Vec<Pair>, AllocE
     Ok(pairs)
 }
 
-/// What all parts of so many pairs under one key make together, where each but the last has 64.
-fn made_of(alloc: Global, count: u64) -> Result<Option<Gather>, AllocError>
-    requires some { 1 ≤ count }
-    requires few { count ≤ 1024 }
-{
-    let of = count.div_ceil(64);
+/// A receiver that has noted 15 of 16 parts, each with 64 pairs under one key.
+fn all_but_the_last(alloc: Global) -> Result<Taken, AllocError> {
     let mut taken = Taken::new(alloc);
-    for i in 1..of {
+    for i in 1..16 {
         let pairs = pairs_from(alloc, 64 * (i - 1), 64)?;
-        take_in(&mut taken, &part_of(alloc, i, of, pairs))?;
+        note(&mut taken, &part_of(alloc, i, 16, pairs))?;
     }
-    let before = 64 * (of - 1);
-    let pairs = pairs_from(alloc, before, count - before)?;
-    taken_with(&taken, &part_of(alloc, of, of, pairs))
+    Ok(taken)
+}
+
+/// The last of 16 parts, with so many pairs.
+fn last_part(alloc: Global, count: u64) -> Result<Part, AllocError>
+    requires { count ≤ 64 }
+{
+    Ok(part_of(alloc, 16, 16, pairs_from(alloc, 960, count)?))
 }
 
 #[test]
 fn a_set_of_a_parcel_has_at_most_a_thousand_values(rt: HostRuntime) -> Result<(), Fail> {
-    let Some(Gather::Whole(whole)) = made_of(rt.alloc(), 1000)? else {
-        return Err(Fail::from("not whole"));
-    };
+    let taken = all_but_the_last(rt.alloc())?;
+    let whole = gathered(&taken, &last_part(rt.alloc(), 40)?)?.ok_or("not whole")?;
     assert!(rt; whole.pairs() == pairs_from(rt.alloc(), 0, 1000)?.as_slice());
-    assert!(rt; matches!(made_of(rt.alloc(), 1001)?, Some(Gather::Unfit)));
+    assert_eq!(rt; makes(&taken, &last_part(rt.alloc(), 41)?)?, "unfit");
     Ok(())
 }
 
@@ -231,15 +298,6 @@ fn parts_are_compared(rt: HostRuntime) -> Result<(), Fail> {
     Ok(())
 }
 
-/// What it makes with what is noted.
-pub fn taken_with(taken: &Taken, part: &Part) -> Result<Option<Gather>, AllocError> {
-    if taken.judge(part.from, part.number) != Verdict::Next {
-        return Ok(None);
-    }
-    let made = taken.whole_with(part)?;
-    Ok(Some(made))
-}
-
 #[test]
 fn parts_are_noted(rt: HostRuntime) -> Result<(), Fail> {
     let ticket = Ticket {
@@ -249,9 +307,8 @@ fn parts_are_noted(rt: HostRuntime) -> Result<(), Fail> {
     };
     let part = empty_parcel(rt.alloc()).part(ticket, 1)?;
     let mut taken = Taken::new(rt.alloc());
-    if taken.judge(part.from, part.number) == Verdict::Next {
-        taken.note(&part)?;
-        taken.forget_noted();
-    }
+    note(&mut taken, &part)?;
+    taken.forget_noted();
+    assert_eq!(rt; makes(&taken, &part)?, "whole");
     Ok(())
 }

@@ -1,7 +1,7 @@
 //! A refused growth leaves all as it was, and a second try succeeds. With ample memory nothing is refused; the tests are
 //! run with each growth refused in turn too.
 
-use crate::tests::{A, B, added, one, span};
+use crate::tests::{A, B, added, cut_at_b, one, span};
 use crate::{CutFault, Done, JoinFault, Past, Segment};
 use chord_ident::Id;
 use std::alloc::{AllocError, Global};
@@ -65,32 +65,45 @@ fn a_refused_append_hands_the_call_back(rt: HostRuntime) -> Result<(), Fail> {
     Ok(())
 }
 
+/// Cuts at B, at the second try where the first was refused for memory and handed the segment back.
+fn cut(segment: Segment) -> Result<(Segment, Segment), Fail> {
+    let before = copied(&segment)?;
+    match segment.cut(Id::new(B)) {
+        Ok(parts) => Ok(parts),
+        Err(uncut) if uncut.fault == CutFault::Memory && uncut.segment.equals(&before) => {
+            cut_at_b(uncut.segment)
+        }
+        Err(_) => Err(Fail::from("not handed back")),
+    }
+}
+
+/// Joins, at the second try where the first was refused for memory and handed both back.
+fn joined(first: Segment, second: Segment) -> Result<Segment, Fail> {
+    let (front, rear) = (copied(&first)?, copied(&second)?);
+    let unjoined = match first.join(second) {
+        Ok(whole) => return Ok(whole),
+        Err(unjoined) => unjoined,
+    };
+    if unjoined.fault != JoinFault::Memory
+        || !unjoined.first.equals(&front)
+        || !unjoined.second.equals(&rear)
+    {
+        return Err(Fail::from("not handed back"));
+    }
+    let whole = unjoined
+        .first
+        .join(unjoined.second)
+        .ok()
+        .ok_or("not joined")?;
+    Ok(whole)
+}
+
 #[test]
 fn a_refused_cut_or_join_hands_all_back(rt: HostRuntime) -> Result<(), Fail> {
     let segment = kept_one(rt.alloc())?;
     let before = copied(&segment)?;
-    let (first, second) = match segment.cut(Id::new(B)) {
-        Ok(parts) => parts,
-        Err(uncut) => {
-            assert_eq!(rt; uncut.fault, CutFault::Memory);
-            assert!(rt; uncut.segment.equals(&before));
-            uncut.segment.cut(Id::new(B)).ok().ok_or("not cut")?
-        }
-    };
-    let (front, rear) = (copied(&first)?, copied(&second)?);
-    let whole = match first.join(second) {
-        Ok(whole) => whole,
-        Err(unjoined) => {
-            assert_eq!(rt; unjoined.fault, JoinFault::Memory);
-            assert!(rt; unjoined.first.equals(&front));
-            assert!(rt; unjoined.second.equals(&rear));
-            unjoined
-                .first
-                .join(unjoined.second)
-                .ok()
-                .ok_or("not joined")?
-        }
-    };
+    let (first, second) = cut(segment)?;
+    let whole = joined(first, second)?;
     assert!(rt; whole.equals(&before));
     Ok(())
 }

@@ -53,11 +53,15 @@ pub fn one(alloc: Global, span: Span, key: &[u8]) -> Result<Segment, AllocError>
     Ok(segment)
 }
 
+/// Cuts at B.
+pub fn cut_at_b(segment: Segment) -> Result<(Segment, Segment), Fail> {
+    let parts = segment.cut(Id::new(B)).ok().ok_or("not cut")?;
+    Ok(parts)
+}
+
 #[test]
 fn what_is_kept_goes_by_key(rt: HostRuntime) -> Result<(), Fail> {
-    let segment = one(rt.alloc(), span(A, A), b"abc")?;
-    assert_eq!(rt; segment.kept().len(), 1);
-    let (before, behind) = segment.cut(Id::new(B)).ok().ok_or("not cut")?;
+    let (before, behind) = cut_at_b(one(rt.alloc(), span(A, A), b"abc")?)?;
     assert_eq!(rt; before.span(), span(A, B));
     assert_eq!(rt; before.kept().len(), 0);
     assert_eq!(rt; behind.span(), span(B, A));
@@ -65,7 +69,14 @@ fn what_is_kept_goes_by_key(rt: HostRuntime) -> Result<(), Fail> {
     let whole = before.join(behind).ok().ok_or("not joined")?;
     assert_eq!(rt; whole.span(), span(A, A));
     assert_eq!(rt; whole.kept().len(), 1);
+    Ok(())
+}
+
+#[test]
+fn a_copy_is_the_same(rt: HostRuntime) -> Result<(), Fail> {
+    let whole = one(rt.alloc(), span(A, A), b"abc")?;
     let copy = whole.try_copy()?;
+    assert!(rt; copy.equals(&whole));
     assert_eq!(rt; copy.span(), span(A, A));
     assert_eq!(rt; copy.floor(0), 0);
     assert_eq!(rt; copy.kept().len(), 1);
@@ -73,9 +84,14 @@ fn what_is_kept_goes_by_key(rt: HostRuntime) -> Result<(), Fail> {
         matches!(copy.find(0, 1), Past::Kept(done) if done.request.key() == b"abc".as_slice())
     );
     assert!(rt; matches!(copy.find(0, 2), Past::New));
-    assert!(rt; copy.equals(&whole));
-    assert!(rt; !copy.equals(&one(rt.alloc(), span(A, A), b"abd")?));
-    assert!(rt; !copy.equals(&Segment::empty(rt.alloc(), span(A, A))));
+    Ok(())
+}
+
+#[test]
+fn others_are_not_the_same(rt: HostRuntime) -> Result<(), Fail> {
+    let whole = one(rt.alloc(), span(A, A), b"abc")?;
+    assert!(rt; !whole.equals(&one(rt.alloc(), span(A, A), b"abd")?));
+    assert!(rt; !whole.equals(&Segment::empty(rt.alloc(), span(A, A))));
     Ok(())
 }
 
@@ -108,18 +124,27 @@ fn refused_cuts_and_joins(rt: HostRuntime) -> Result<(), Fail> {
     Ok(())
 }
 
+/// Keeps the call of caller 0 with this number and key.
+fn keep_added(
+    segment: &mut Segment,
+    alloc: Global,
+    number: u64,
+    key: &[u8],
+    floor: u64,
+) -> Result<bool, AllocError> {
+    let done = added(alloc, 0, number, key)?;
+    Ok(keep(segment, done, floor))
+}
+
 #[test]
 fn floors_drop_what_was_taken(rt: HostRuntime) -> Result<(), Fail> {
     let mut segment = one(rt.alloc(), span(A, A), b"abc")?;
-    let second = added(rt.alloc(), 0, 2, b"b")?;
-    assert!(rt; keep(&mut segment, second, 0));
+    assert!(rt; keep_added(&mut segment, rt.alloc(), 2, b"b", 0)?);
     assert_eq!(rt; segment.kept().len(), 2);
-    let third = added(rt.alloc(), 0, 3, b"a")?;
-    assert!(rt; keep(&mut segment, third, 2));
-    assert_eq!(rt; segment.floor(0), 2);
+    assert!(rt; keep_added(&mut segment, rt.alloc(), 3, b"a", 2)?);
     assert_eq!(rt; segment.kept().len(), 1);
     assert!(rt; matches!(segment.find(0, 1), Past::Seen));
-    let (before, behind) = segment.cut(Id::new(B)).ok().ok_or("not cut")?;
+    let (before, behind) = cut_at_b(segment)?;
     assert_eq!(rt; before.floor(0), 2);
     assert_eq!(rt; behind.floor(0), 2);
     Ok(())

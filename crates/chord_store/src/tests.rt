@@ -3,7 +3,7 @@ ghost use Rattle.std.specs.Prelude.{◌≡◌, [], OnErr};
 
 use crate::{CappedStore, EntryStore, Inserted, ListStore, NotedStore, StoreFault, TreeStore};
 use chord_ident::{Id, Span};
-use chord_map::PairList;
+use chord_map::{Pair, PairList};
 use std::alloc::Global;
 use std::process::Abort;
 use std::sync::{Arc, OnceLock};
@@ -11,52 +11,83 @@ use std::test::Fail;
 
 mod growths;
 
-// A set of 1,000 values takes no more, and takes one again after one was removed.
-fn fill_a_set<S: EntryStore>(rt: &impl Abort, alloc: Global, store: &mut S) -> Result<(), Fail> {
+// Inserts the pair and compares the answer.
+fn insert<S: EntryStore>(
+    rt: &impl Abort,
+    store: &mut S,
+    key: &[u8],
+    value: &[u8],
+    expected: Result<Inserted, StoreFault>,
+) {
+    assert_eq!(rt; store.insert(key, value), expected);
+}
+
+// Puts a set of 1,000 values under `a`.
+fn fill<S: EntryStore>(rt: &impl Abort, alloc: Global, store: &mut S) -> Result<(), Fail> {
     for n in 0..1000u32 {
         let value = format!(in alloc; "{n:04}")?;
-        assert_eq!(rt;
-            store.insert(b"a", value.as_bytes()),
-            Ok(Inserted::Added),
-            "at {n}"
-        );
+        insert(rt, store, b"a", value.as_bytes(), Ok(Inserted::Added));
     }
-    assert_eq!(rt; store.insert(b"a", b"1000"), Ok(Inserted::SetFull));
-    assert_eq!(rt; store.insert(b"a", b"0999"), Ok(Inserted::Present));
-    assert!(rt; store.remove(b"a", b"0000"));
-    assert!(rt; !store.remove(b"a", b"0000"));
-    assert_eq!(rt; store.insert(b"a", b"1000"), Ok(Inserted::Added));
+    Ok(())
+}
+
+// A set of 1,000 values takes no more, and takes one again after one was removed.
+fn fill_a_set<S: EntryStore>(rt: &impl Abort, alloc: Global, store: &mut S) -> Result<(), Fail> {
+    fill(rt, alloc, store)?;
+    insert(rt, store, b"a", b"1000", Ok(Inserted::SetFull));
+    insert(rt, store, b"a", b"0999", Ok(Inserted::Present));
+    for is_there in [true, false] {
+        assert_eq!(rt; store.remove(b"a", b"0000"), is_there);
+    }
+    insert(rt, store, b"a", b"1000", Ok(Inserted::Added));
     assert_eq!(rt; store.count(), 1000);
     let values = store.values(alloc, b"a")?;
     assert_eq!(rt; values.as_slice().len(), 1000);
     assert_eq!(rt; values.as_slice()[0].as_slice(), b"0001".as_slice());
     assert_eq!(rt; values.as_slice()[999].as_slice(), b"1000".as_slice());
-    assert_eq!(rt; store.values(alloc, b"b")?.as_slice().len(), 0);
     Ok(())
 }
 
-// The identifiers of `a` and `abc` lie in (4 * 2^124, c * 2^124], that of `b` does not.
-fn move_a_span<S: EntryStore>(rt: &impl Abort, alloc: Global, store: &mut S) -> Result<(), Fail> {
-    let span = Span::new(Id::new(0x4 << 124), Id::new(0xc << 124));
+// The identifiers of `a` and `abc` lie in it, that of `b` does not.
+fn half() -> Span {
+    Span::new(Id::new(0x4 << 124), Id::new(0xc << 124))
+}
+
+// Puts in three pairs of the half and one beside it.
+fn put_four<S: EntryStore>(rt: &impl Abort, store: &mut S) {
     for (key, value) in [
         (b"b".as_slice(), b"x"),
         (b"abc", b"x"),
         (b"a", b"y"),
         (b"a", b"x"),
     ] {
-        assert_eq!(rt; store.insert(key, value), Ok(Inserted::Added));
+        insert(rt, store, key, value, Ok(Inserted::Added));
     }
-    let pairs = store.copy_span(alloc, &span)?;
-    assert_eq!(rt; pairs.len(), 3);
-    assert_eq!(rt; pairs[0].key.as_slice(), b"a".as_slice());
-    assert_eq!(rt; pairs[0].value.as_slice(), b"x".as_slice());
-    assert_eq!(rt; pairs[1].value.as_slice(), b"y".as_slice());
-    assert_eq!(rt; pairs[2].key.as_slice(), b"abc".as_slice());
-    store.take_out(&span);
+}
+
+// Of the four the one beside the half is there.
+fn has_one<S: EntryStore>(rt: &impl Abort, alloc: Global, store: &S) -> Result<(), Fail> {
     assert_eq!(rt; store.count(), 1);
-    assert_eq!(rt; store.copy_span(alloc, &span)?.len(), 0);
+    assert_eq!(rt; store.copy_span(alloc, &half())?.len(), 0);
+    assert_eq!(rt; store.values(alloc, b"a")?.as_slice().len(), 0);
     assert_eq!(rt; store.values(alloc, b"b")?.as_slice().len(), 1);
     Ok(())
+}
+
+fn is_of(pair: &Pair, key: &[u8], value: &[u8]) -> bool {
+    pair.key.as_slice() == key && pair.value.as_slice() == value
+}
+
+// What lies in the half is copied in order, and leaves the store.
+fn move_a_span<S: EntryStore>(rt: &impl Abort, alloc: Global, store: &mut S) -> Result<(), Fail> {
+    put_four(rt, store);
+    let pairs = store.copy_span(alloc, &half())?;
+    assert_eq!(rt; pairs.len(), 3);
+    assert!(rt; is_of(&pairs[0], b"a", b"x"));
+    assert!(rt; is_of(&pairs[1], b"a", b"y"));
+    assert!(rt; is_of(&pairs[2], b"abc", b"x"));
+    store.take_out(&half());
+    has_one(rt, alloc, store)
 }
 
 // What was copied of half of the circle leaves the store.
@@ -65,22 +96,11 @@ fn drop_what_was_copied<S: EntryStore>(
     alloc: Global,
     store: &mut S,
 ) -> Result<(), Fail> {
-    let span = Span::new(Id::new(0x4 << 124), Id::new(0xc << 124));
-    for (key, value) in [
-        (b"b".as_slice(), b"x"),
-        (b"abc", b"x"),
-        (b"a", b"y"),
-        (b"a", b"x"),
-    ] {
-        assert_eq!(rt; store.insert(key, value), Ok(Inserted::Added));
-    }
-    let copies = store.copy_span(alloc, &span)?;
+    put_four(rt, store);
+    let copies = store.copy_span(alloc, &half())?;
     assert_eq!(rt; copies.len(), 3);
-    store.drop_copied(&span, &copies);
-    assert_eq!(rt; store.count(), 1);
-    assert_eq!(rt; store.copy_span(alloc, &span)?.len(), 0);
-    assert_eq!(rt; store.values(alloc, b"b")?.as_slice().len(), 1);
-    Ok(())
+    store.drop_copied(&half(), &copies);
+    has_one(rt, alloc, store)
 }
 
 // The pairs come into an empty store.
@@ -139,37 +159,53 @@ fn each_kind_drops_what_was_copied(rt: HostRuntime) -> Result<(), Fail> {
     drop_what_was_copied(&rt, alloc, &mut store)
 }
 
-#[test]
-fn puts_all_pairs_or_none(rt: HostRuntime) -> Result<(), Fail> {
-    let alloc = rt.alloc();
+// Two pairs under two keys go in, or none does.
+fn put_two<S: EntryStore>(alloc: Global, store: &mut S) -> Result<Result<(), StoreFault>, Fail>
+    requires { S.content store.old ≡ [] }
+{
     let mut pairs = PairList::new(alloc);
     pairs.insert(b"a", b"x")?;
     pairs.insert(b"b", b"x")?;
+    Ok(put_list(store, &pairs))
+}
+
+#[test]
+fn puts_all_pairs(rt: HostRuntime) -> Result<(), Fail> {
+    let alloc = rt.alloc();
     let mut list = ListStore::new(alloc);
-    assert_eq!(rt; put_list(&mut list, &pairs), Ok(()));
+    assert_eq!(rt; put_two(alloc, &mut list)?, Ok(()));
     assert_eq!(rt; list.count(), 2);
     let mut tree = TreeStore::new(alloc);
-    assert_eq!(rt; put_list(&mut tree, &pairs), Ok(()));
+    assert_eq!(rt; put_two(alloc, &mut tree)?, Ok(()));
     assert_eq!(rt; tree.values(alloc, b"a")?.as_slice().len(), 1);
+    Ok(())
+}
+
+#[test]
+fn puts_all_pairs_or_none(rt: HostRuntime) -> Result<(), Fail> {
+    let alloc = rt.alloc();
     let mut capped = CappedStore::new(alloc, 1);
-    assert_eq!(rt; put_list(&mut capped, &pairs), Err(StoreFault::Full));
+    assert_eq!(rt; put_two(alloc, &mut capped)?, Err(StoreFault::Full));
     assert_eq!(rt; capped.count(), 0);
     let mut capped = CappedStore::new(alloc, 2);
-    assert_eq!(rt; put_list(&mut capped, &pairs), Ok(()));
+    assert_eq!(rt; put_two(alloc, &mut capped)?, Ok(()));
     assert_eq!(rt; capped.count(), 2);
     Ok(())
 }
 
 #[test]
-fn a_full_store_takes_what_it_has(rt: HostRuntime) -> Result<(), Fail> {
-    let alloc = rt.alloc();
-    let mut store = CappedStore::new(alloc, 1);
-    assert_eq!(rt; store.insert(b"a", b"x"), Ok(Inserted::Added));
-    assert_eq!(rt; store.insert(b"a", b"y"), Err(StoreFault::Full));
-    assert_eq!(rt; store.insert(b"a", b"x"), Ok(Inserted::Present));
+fn a_full_store_takes_what_it_has(rt: HostRuntime) {
+    let mut store = CappedStore::new(rt.alloc(), 1);
+    insert(&rt, &mut store, b"a", b"x", Ok(Inserted::Added));
+    insert(&rt, &mut store, b"a", b"y", Err(StoreFault::Full));
+    insert(&rt, &mut store, b"a", b"x", Ok(Inserted::Present));
     assert!(rt; store.remove(b"a", b"x"));
-    assert_eq!(rt; store.insert(b"a", b"y"), Ok(Inserted::Added));
-    let text = format!(in alloc; "{}; {}", StoreFault::Full, StoreFault::Memory)?;
+    insert(&rt, &mut store, b"a", b"y", Ok(Inserted::Added));
+}
+
+#[test]
+fn faults_say_what_is_wrong(rt: HostRuntime) -> Result<(), Fail> {
+    let text = format!(in rt.alloc(); "{}; {}", StoreFault::Full, StoreFault::Memory)?;
     assert_eq!(rt; text.as_str(), "the store is full; out of memory");
     Ok(())
 }
@@ -183,13 +219,23 @@ fn a_dropped_store_notes_its_count(rt: HostRuntime) -> Result<(), Fail> {
         NotedStore::new(alloc, note.clone()?),
     )?;
     for value in [b"x", b"y", b"z"] {
-        assert_eq!(rt; store.insert(b"a", value), Ok(Inserted::Added));
+        insert(&rt, &mut store, b"a", value, Ok(Inserted::Added));
     }
     assert_eq!(rt; note.get().copied(), None);
     drop(store);
     assert_eq!(rt; note.get().copied(), Some(3));
-    let empty = NotedStore::new(alloc, note.clone()?);
-    drop(empty);
-    assert_eq!(rt; note.get().copied(), Some(3));
+    Ok(())
+}
+
+#[test]
+fn the_first_dropped_store_notes_its_count(rt: HostRuntime) -> Result<(), Fail> {
+    let alloc = rt.alloc();
+    let note = Arc::new(alloc, OnceLock::new())?;
+    drop(NotedStore::new(alloc, note.clone()?));
+    assert_eq!(rt; note.get().copied(), Some(0));
+    let mut store = NotedStore::new(alloc, note.clone()?);
+    insert(&rt, &mut store, b"a", b"x", Ok(Inserted::Added));
+    drop(store);
+    assert_eq!(rt; note.get().copied(), Some(0));
     Ok(())
 }

@@ -5,14 +5,32 @@ ghost use Rattle.std.specs.Prelude.{◌≡◌, []};
 use super::put_list;
 use crate::{CappedStore, EntryStore, Inserted, ListStore, NotedStore, StoreFault, TreeStore};
 use chord_ident::{Id, Span};
-use chord_map::{Pair, PairList};
+use chord_map::{Pair, PairList, Values};
 use std::alloc::{AllocError, Global};
 use std::process::Abort;
 use std::sync::{Arc, OnceLock};
 use std::test::Fail;
 
 // The n-th pair is the value [n] under the key [n / 3], so pairs are in the order of their numbers.
-const COUNT: usize = 36;
+const COUNT: u8 = 36;
+
+// The pairs with even numbers below the one and with odd numbers below the other.
+#[derive(Clone, Copy)]
+struct There {
+    even: u8,
+    odd: u8,
+}
+
+impl There {
+    fn has(self, n: u8) -> bool {
+        n < if n % 2 == 0 { self.even } else { self.odd }
+    }
+}
+
+const ALL: There = There {
+    even: COUNT,
+    odd: COUNT,
+};
 
 // Copies of all pairs, asked for again where memory was wanting.
 fn all_pairs<S: EntryStore>(alloc: Global, store: &S) -> Result<Vec<Pair>, AllocError> {
@@ -24,71 +42,84 @@ fn all_pairs<S: EntryStore>(alloc: Global, store: &S) -> Result<Vec<Pair>, Alloc
     }
 }
 
-fn is_pair(pair: &Pair, n: u8) -> bool {
-    pair.key.as_slice() == [n / 3].as_slice() && pair.value.as_slice() == [n].as_slice()
+fn is_byte(bytes: &[u8], n: u8) -> bool {
+    bytes == [n].as_slice()
 }
 
-// Whether the store has the pairs with these numbers and no others.
-fn has_these<S: EntryStore>(alloc: Global, store: &S, there: &[bool; COUNT]) -> bool {
-    let Ok(pairs) = all_pairs(alloc, store) else {
-        return false;
-    };
+fn is_pair(pair: &Pair, n: u8) -> bool {
+    is_byte(pair.key.as_slice(), n / 3) && is_byte(pair.value.as_slice(), n)
+}
+
+// Whether these are the pairs that are there and no others.
+fn are_these(pairs: &[Pair], there: There) -> bool {
     let mut rest = pairs.iter();
-    for n in 0..COUNT as u8 {
-        if there[n as usize] && !rest.next().is_some_and(|pair| is_pair(pair, n)) {
+    for n in 0..COUNT {
+        if there.has(n) && !rest.next().is_some_and(|pair| is_pair(pair, n)) {
             return false;
         }
     }
     rest.next().is_none()
 }
 
-// Puts in the pairs with even numbers, or those with odd ones.
-fn put_every_other<S: EntryStore>(
-    rt: &impl Abort,
-    alloc: Global,
-    store: &mut S,
-    there: &mut [bool; COUNT],
-    first: usize,
-) {
-    for n in 0..COUNT as u8 {
-        if n as usize % 2 != first {
-            continue;
+// Whether the store has these pairs and no others.
+fn has_these<S: EntryStore>(alloc: Global, store: &S, there: There) -> bool {
+    match all_pairs(alloc, store) {
+        Ok(pairs) => are_these(pairs.as_slice(), there),
+        Err(_) => false,
+    }
+}
+
+// Puts in a pair, and once more where memory was wanting and the store has what it had.
+fn put<S: EntryStore>(rt: &impl Abort, alloc: Global, store: &mut S, n: u8, there: There) {
+    if let Err(fault) = store.insert(&[n / 3], &[n]) {
+        assert_eq!(rt; fault, StoreFault::Memory, "at {n}");
+        assert!(rt; has_these(alloc, store, there), "at {n}");
+        let again = store.insert(&[n / 3], &[n]);
+        assert_eq!(rt; again, Ok(Inserted::Added), "at {n}");
+    }
+}
+
+// Puts in the pairs with even numbers, and then those with odd ones.
+fn put_all_in_turn<S: EntryStore>(rt: &impl Abort, alloc: Global, store: &mut S) {
+    for i in 0..COUNT {
+        if i < COUNT / 2 {
+            let n = 2 * i;
+            put(rt, alloc, store, n, There { even: n, odd: 0 });
+        } else {
+            let n = 2 * (i - COUNT / 2) + 1;
+            put(rt, alloc, store, n, There { odd: n, ..ALL });
         }
-        if let Err(fault) = store.insert(&[n / 3], &[n]) {
-            assert_eq!(rt; fault, StoreFault::Memory, "at {n}");
-            assert!(rt; has_these(alloc, store, there), "at {n}");
-            let again = store.insert(&[n / 3], &[n]);
-            assert_eq!(rt; again, Ok(Inserted::Added), "at {n}");
-        }
-        there[n as usize] = true;
     }
 }
 
 // The values under the key [5], asked for again where memory was wanting.
-fn has_values<S: EntryStore>(alloc: Global, store: &S) -> bool {
-    let values = match store.values(alloc, &[5]) {
-        Ok(values) => values,
-        Err(_) => {
-            let Ok(values) = store.values(alloc, &[5]) else {
-                return false;
-            };
-            values
-        }
-    };
-    match values.as_slice() {
-        [a, b, c] => {
-            a.as_slice() == [15].as_slice()
-                && b.as_slice() == [16].as_slice()
-                && c.as_slice() == [17].as_slice()
-        }
-        _ => false,
+fn values<S: EntryStore>(alloc: Global, store: &S) -> Result<Values, AllocError> {
+    match store.values(alloc, &[5]) {
+        Ok(values) => Ok(values),
+        Err(_) => store.values(alloc, &[5]),
     }
+}
+
+fn has_values<S: EntryStore>(alloc: Global, store: &S) -> bool {
+    let Ok(values) = values(alloc, store) else {
+        return false;
+    };
+    let mut rest = values.as_slice().iter();
+    for n in 15..18 {
+        if !rest
+            .next()
+            .is_some_and(|value| is_byte(value.as_slice(), n))
+        {
+            return false;
+        }
+    }
+    rest.next().is_none()
 }
 
 // A list of all pairs, each put in again where memory was wanting.
 fn pair_list(alloc: Global) -> Result<PairList, AllocError> {
     let mut list = PairList::new(alloc);
-    for n in 0..COUNT as u8 {
+    for n in 0..COUNT {
         if list.insert(&[n / 3], &[n]).is_err() {
             list.insert(&[n / 3], &[n])?;
         }
@@ -96,53 +127,51 @@ fn pair_list(alloc: Global) -> Result<PairList, AllocError> {
     Ok(list)
 }
 
-// All pairs go in or none.
-fn put_all_or_none<S: EntryStore>(rt: &impl Abort, alloc: Global, store: &mut S)
+// Puts in all pairs or none, and once more where memory was wanting. Answers whether a refused call left the store empty.
+fn put_all_or_none<S: EntryStore>(alloc: Global, store: &mut S, list: &PairList) -> bool
     requires { S.content store.old ≡ [] }
 {
-    let Ok(list) = pair_list(alloc) else {
-        return;
-    };
-    if let Err(fault) = put_list(store, &list) {
-        assert_eq!(rt; fault, StoreFault::Memory);
-        assert_eq!(rt; store.count(), 0);
-        assert!(rt; has_these(alloc, store, &[false; COUNT]));
-        assert_eq!(rt; put_list(store, &list), Ok(()));
+    match put_list(store, list) {
+        Ok(()) => true,
+        Err(StoreFault::Full) => false,
+        Err(StoreFault::Memory) => {
+            let is_empty = has_these(alloc, store, There { even: 0, odd: 0 });
+            put_list(store, list).is_ok() && is_empty
+        }
     }
-    assert!(rt; has_these(alloc, store, &[true; COUNT]));
 }
 
 // What any store does where a growth is refused.
-fn refuses_growths<S: EntryStore>(rt: &impl Abort, alloc: Global, store: &mut S)
+fn refuses_growths<S: EntryStore>(rt: &impl Abort, alloc: Global, store: &mut S) -> Result<(), Fail>
     requires { S.content store.old ≡ [] }
 {
-    put_all_or_none(rt, alloc, store);
-    assert!(rt; has_values(alloc, store));
+    let list = pair_list(alloc)?;
+    assert!(rt; put_all_or_none(alloc, store, &list));
+    assert!(rt; has_these(alloc, store, ALL));
     let id = Id::new(7);
     store.take_out(&Span::new(id, id));
-    let mut there = [false; COUNT];
-    put_every_other(rt, alloc, store, &mut there, 0);
-    put_every_other(rt, alloc, store, &mut there, 1);
-    assert!(rt; has_these(alloc, store, &there));
+    put_all_in_turn(rt, alloc, store);
+    assert!(rt; has_these(alloc, store, ALL));
     assert!(rt; has_values(alloc, store));
+    Ok(())
 }
 
 #[test]
-fn a_list_refuses_growths(rt: HostRuntime) {
+fn a_list_refuses_growths(rt: HostRuntime) -> Result<(), Fail> {
     let alloc = rt.alloc();
-    refuses_growths(&rt, alloc, &mut ListStore::new(alloc));
+    refuses_growths(&rt, alloc, &mut ListStore::new(alloc))
 }
 
 #[test]
-fn a_tree_refuses_growths(rt: HostRuntime) {
+fn a_tree_refuses_growths(rt: HostRuntime) -> Result<(), Fail> {
     let alloc = rt.alloc();
-    refuses_growths(&rt, alloc, &mut TreeStore::new(alloc));
+    refuses_growths(&rt, alloc, &mut TreeStore::new(alloc))
 }
 
 #[test]
-fn a_capped_store_refuses_growths(rt: HostRuntime) {
+fn a_capped_store_refuses_growths(rt: HostRuntime) -> Result<(), Fail> {
     let alloc = rt.alloc();
-    refuses_growths(&rt, alloc, &mut CappedStore::new(alloc, COUNT as u64));
+    refuses_growths(&rt, alloc, &mut CappedStore::new(alloc, COUNT as u64))
 }
 
 #[test]
@@ -150,6 +179,5 @@ fn a_box_refuses_growths(rt: HostRuntime) -> Result<(), Fail> {
     let alloc = rt.alloc();
     let note = Arc::new(alloc, OnceLock::new())?;
     let mut store: Box<dyn EntryStore + Send> = Box::new(alloc, NotedStore::new(alloc, note))?;
-    refuses_growths(&rt, alloc, &mut store);
-    Ok(())
+    refuses_growths(&rt, alloc, &mut store)
 }
