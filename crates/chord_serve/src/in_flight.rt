@@ -1,12 +1,12 @@
 //! A client with several requests in flight.
-ghost use Rattle.std.specs.Prelude.{◌≡◌, ◌≢◌, ◌↔◌, ◌+◌, ◌*◌, ◌^◌, ◌<◌, ℕ, length, nat_le, fold, true, false, Ok, Err, IfOk, IfSome, IsSome, vec_len, vec_capacity};
+ghost use Rattle.std.specs.Prelude.{◌≡◌, ◌≢◌, ◌↔◌, ◌+◌, ◌*◌, ◌^◌, ◌<◌, ℕ, length, nat_le, fold, true, false, Ok, Err, IfOk, OnErr, IfSome, IsSome, vec_len, vec_capacity};
 ghost use Rattle.std.specs.Io.KnownBytes.{IsAtEnd};
 ghost use Rattle.chord_map.specs.Checked.{IsRequest};
 ghost use Rattle.chord_wire.specs.Spelling.{IsWireRequest};
 ghost use Rattle.chord_wire.specs.Streams.{request_frame};
 ghost use Rattle.chord_serve.specs.BytesRead.{ReadsBetween};
 ghost use Rattle.chord_serve.specs.HasWindow.{HasWindow};
-ghost use Rattle.chord_serve.specs.InFlight.{new_client, floor_under, floor_of, number_in, is_for, is_full, next_of, place_of, SendIs, AgainIs, JudgedIs, ReceiveIs};
+ghost use Rattle.chord_serve.specs.InFlight.{new_client, floor_under, floor_of, number_in, is_for, is_full, next_of, place_of, sent, SendIs, AgainIs, JudgedIs, ReceiveIs};
 
 use crate::client::{CallFault, await_answer};
 use crate::write_bytes::write_bytes;
@@ -212,20 +212,30 @@ impl Client {
         if self.last == u64::MAX {
             return Err(SendFault::NumbersSpent);
         }
-        let wire = self.next(request);
-        let number = wire.number;
-        let Ok(frame) = frame_of(*self.awaited.allocator(), &wire) else {
+        let Ok(frame) = self.enter(request) else {
             return Err(SendFault::Memory);
         };
-        if self.awaited.reserve(1).is_err() {
-            return Err(SendFault::Memory);
-        }
-        self.awaited.push_reserved(wire);
-        self.last = number;
         match write_bytes(writer, &frame) {
-            Ok(()) => Ok(number),
+            Ok(()) => Ok(self.last),
             Err(_) => Err(SendFault::Write),
         }
+    }
+
+    // The next request counts as sent. Gives its frame.
+    fn enter(&mut self, request: Request) -> Result<Vec<u8>, AllocError>
+        requires limits { IsRequest request }
+        requires room { is_full self.old ≡ false }
+        requires number { self.old.last + 1 < 2 ^ 64 }
+        ensures frame { IfOk result (λ frame. frame.items ≡ request_frame (next_of self.old request)) }
+        ensures sent { IfOk result (λ frame. self.new ≡ sent self.old request) }
+        ensures kept { OnErr result (self.new ≡ self.old) }
+    {
+        let wire = self.next(request);
+        let frame = frame_of(*self.awaited.allocator(), &wire)?;
+        self.awaited.reserve(1)?;
+        self.last = wire.number;
+        self.awaited.push_reserved(wire);
+        Ok(frame)
     }
 
     /// Sends the very same frame again, of a request that got a fault.
