@@ -1,9 +1,13 @@
 //! Rings, with threads and without. Each test ends by itself, and what it finds does not depend on the schedule.
+ghost use Rattle.std.specs.Prelude.{◌≡◌, ◌≤◌, []};
 
-use crate::{Blank, Settings};
+use crate::{Blank, Caller, Ring, Settings};
+use chord_ident::Id;
 use chord_map::{Bytes, Reply, Request};
 use chord_store::EntryStore;
+use chord_table::Naming;
 use std::alloc::{AllocError, Global};
+use std::sync::Wait;
 use std::test::Fail;
 
 mod callers;
@@ -52,6 +56,19 @@ pub fn is_one_value(reply: &Reply, value: &[u8]) -> bool {
     }
 }
 
+/// Whether the request was answered Added.
+pub fn is_added<F: Copy>(answer: Result<Reply, F>) -> bool {
+    matches!(&answer, Ok(Reply::Added))
+}
+
+/// Whether the request was answered with this value alone.
+pub fn is_told<F: Copy>(answer: Result<Reply, F>, value: &[u8]) -> bool {
+    match &answer {
+        Ok(reply) => is_one_value(reply, value),
+        Err(_) => false,
+    }
+}
+
 pub fn settings(slots: usize, callers: usize, tries: u64, wait_ms: u64) -> Settings {
     Settings {
         slots,
@@ -67,5 +84,36 @@ pub fn blank(alloc: Global, settings: Settings) -> Result<Blank, Fail> {
     match Blank::new(alloc, settings) {
         Ok(blank) => Ok(blank),
         Err(_) => Err(Fail::from("no ring")),
+    }
+}
+
+/// A ring whose node A has this store.
+pub fn founded<J: Naming, S: EntryStore, R: Wait>(
+    rt: &R,
+    blank: Blank,
+    store: S,
+) -> Result<Ring<J, S>, Fail>
+    requires name { blank ≡ J.name }
+    requires vacant { S.content store ≡ [] }
+{
+    let ring = blank.open::<J, S>()?;
+    match ring.create(rt, Id::new(A), store) {
+        Ok(_) => Ok(ring),
+        Err(_) => Err(Fail::from("no node")),
+    }
+}
+
+/// A caller of the ring.
+pub fn opened<'a, J: Naming, S: EntryStore, R: Wait>(
+    rt: &R,
+    ring: &'a Ring<J, S>,
+    window: u64,
+) -> Result<Caller<'a, J, S>, Fail>
+    requires some { 1 ≤ window }
+    requires small { window ≤ 16 }
+{
+    match ring.open_caller(rt, window) {
+        Ok(caller) => Ok(caller),
+        Err(_) => Err(Fail::from("no caller")),
     }
 }

@@ -1,13 +1,12 @@
 //! Callers of a ring of one node.
 ghost use Rattle.std.specs.Prelude.{◌≡◌, []};
 
-use super::{A, Store, blank, insert, is_one_value, remove, retrieve, settings};
+use super::{Store, blank, founded, insert, is_added, is_told, opened, remove, retrieve, settings};
 use crate::{AskFault, Blank, Caller, CollectFault, LeaveFault, Open, Ring};
-use chord_ident::Id;
 use chord_map::Reply;
 use chord_store::{CappedStore, EntryStore};
 use chord_table::Naming;
-use std::alloc::Global;
+use std::alloc::{AllocError, Global};
 use std::marker::Brand;
 use std::process::Abort;
 use std::sync::Wait;
@@ -46,8 +45,7 @@ fn capped<J: Naming + Send + Sync, S: EntryStore + Send, R: Threads + Wait + Clo
     requires name { blank ≡ J.name }
     requires vacant { S.content store ≡ [] }
 {
-    let ring = blank.open::<J, S>()?;
-    assert!(rt; ring.create(rt, Id::new(A), store).is_ok());
+    let ring = founded::<J, S, R>(rt, blank, store)?;
     let ring = &ring;
     let (ended, done) = thread::join(
         rt,
@@ -68,55 +66,47 @@ fn use_the_ring<J: Naming, S: EntryStore, R: Wait + Clock + Abort>(
     alloc: Global,
     ring: &Ring<J, S>,
 ) -> Result<(), Fail> {
-    let Ok(mut zero) = ring.open_caller(rt, 4) else {
-        return Err(Fail::from("no caller"));
-    };
-    let Ok(mut one) = ring.open_caller(rt, 4) else {
-        return Err(Fail::from("no caller"));
-    };
+    let mut zero = opened(rt, ring, 4)?;
+    let mut one = opened(rt, ring, 4)?;
     fill(rt, alloc, &mut zero, &mut one)?;
-    let Ok(mut two) = ring.open_caller(rt, 2) else {
-        return Err(Fail::from("no caller"));
-    };
+    make_room(rt, alloc, &mut zero, &mut one)?;
+    let mut two = opened(rt, ring, 2)?;
     collect_turned(rt, alloc, &mut two)?;
-    tell(rt, alloc, &mut zero, &mut one)?;
-    assert!(rt; ring.crash(rt, 0).is_ok() && ring.crash(rt, 0).is_ok());
-    assert_eq!(rt; ring.leave(rt, 0), Err(LeaveFault::NotStaying));
-    assert_eq!(rt; ring.tick(rt, 0), Ok(()));
-    let unheard = zero.ask(rt, 0, retrieve(alloc, b"a")?);
-    assert!(rt; matches!(&unheard, Err(AskFault::NoAnswer)));
+    assert!(rt; tell(&mut zero, &mut one)?);
+    crash(rt, alloc, ring, &mut zero)?;
     Ok(())
 }
 
-/// A full store answers Full until there is room.
+/// A full store answers Full.
 fn fill<J: Naming, S: EntryStore, R: Wait + Clock + Abort>(
     rt: &R,
     alloc: Global,
     zero: &mut Caller<'_, J, S>,
     one: &mut Caller<'_, J, S>,
-) -> Result<(), Fail> {
-    assert!(rt;
-        matches!(
-            &zero.ask(rt, 0, insert(alloc, b"a", b"x")?),
-            Ok(Reply::Added)
-        )
-    );
-    assert!(rt;
-        matches!(
-            &one.ask(rt, 0, insert(alloc, b"a", b"y")?),
-            Err(AskFault::Full)
-        )
-    );
+) -> Result<(), AllocError> {
+    let first = zero.ask(rt, 0, insert(alloc, b"a", b"x")?);
+    assert!(rt; is_added(first));
+    let full = one.ask(rt, 0, insert(alloc, b"a", b"y")?).err();
+    assert_eq!(rt; full, Some(AskFault::Full));
     assert!(rt; one.is_pending(1));
-    assert!(rt;
-        matches!(
-            &zero.ask(rt, 0, remove(alloc, b"a", b"x")?),
-            Ok(Reply::Removed)
-        )
+    Ok(())
+}
+
+/// The same request is answered once there is room.
+fn make_room<J: Naming, S: EntryStore, R: Wait + Clock + Abort>(
+    rt: &R,
+    alloc: Global,
+    zero: &mut Caller<'_, J, S>,
+    one: &mut Caller<'_, J, S>,
+) -> Result<(), AllocError> {
+    let removed = zero.ask(rt, 0, remove(alloc, b"a", b"x")?);
+    assert!(rt; matches!(&removed, Ok(Reply::Removed)));
+    assert!(rt; is_added(one.retry(rt, 0, 1)));
+    assert!(rt; is_added(one.collect(rt, 1)));
+    assert_eq!(rt;
+        (zero.mine().len(), zero.floor(), one.mine().len()),
+        (2, 2, 1)
     );
-    assert!(rt; matches!(&one.retry(rt, 0, 1), Ok(Reply::Added)));
-    assert!(rt; matches!(&one.collect(rt, 1), Ok(Reply::Added)));
-    assert!(rt; zero.mine().len() == 2 && zero.floor() == 2 && one.mine().len() == 1);
     Ok(())
 }
 
@@ -125,33 +115,50 @@ fn collect_turned<J: Naming, S: EntryStore, R: Wait + Clock + Abort>(
     rt: &R,
     alloc: Global,
     two: &mut Caller<'_, J, S>,
-) -> Result<(), Fail> {
-    assert_eq!(rt; two.begin(rt, 0, retrieve(alloc, b"a")?), Ok(1));
-    assert_eq!(rt; two.begin(rt, 0, retrieve(alloc, b"a")?), Ok(2));
-    assert!(rt; matches!(&two.collect(rt, 2), Ok(reply) if is_one_value(reply, b"y")));
-    assert!(rt; matches!(&two.collect(rt, 1), Ok(reply) if is_one_value(reply, b"y")));
-    assert!(rt; matches!(&two.collect(rt, 3), Err(CollectFault::NotBegun)));
+) -> Result<(), AllocError> {
+    for number in [1, 2] {
+        assert_eq!(rt; two.begin(rt, 0, retrieve(alloc, b"a")?), Ok(number));
+    }
+    collects(rt, two);
     let called = two.call(rt, 0, retrieve(alloc, b"a")?);
-    assert!(rt; matches!(&called, Ok(reply) if is_one_value(reply, b"y")));
+    assert!(rt; is_told(called, b"y"));
     Ok(())
 }
 
+/// Requests 2 and 1 were begun, and no other.
+fn collects<J: Naming, S: EntryStore, R: Wait + Clock + Abort>(rt: &R, two: &mut Caller<'_, J, S>) {
+    assert!(rt; is_told(two.collect(rt, 2), b"y"));
+    assert!(rt; is_told(two.collect(rt, 1), b"y"));
+    assert_eq!(rt; two.collect(rt, 3).err(), Some(CollectFault::NotBegun));
+}
+
 /// Caller 1 shows what it knows, and caller 0 meets it.
-fn tell<J: Naming, S: EntryStore, R: Wait + Clock + Abort>(
-    rt: &R,
-    alloc: Global,
+fn tell<J: Naming, S: EntryStore>(
     zero: &mut Caller<'_, J, S>,
     one: &mut Caller<'_, J, S>,
-) -> Result<(), Fail> {
-    let Ok(note) = one.show() else {
-        return Err(Fail::from("no note"));
-    };
-    assert!(rt; zero.meet(note).is_ok());
-    assert!(rt;
-        matches!(zero.told(), [done] if done.caller == 1 && done.number == 1 && done.reply == Reply::Added)
-    );
+) -> Result<bool, AllocError> {
+    let note = one.show()?;
+    zero.meet(note)?;
+    match zero.told() {
+        [done] => Ok((done.caller, done.number) == (1, 1) && done.reply == Reply::Added),
+        _ => Ok(false),
+    }
+}
+
+/// A caller that was told is answered, and not any more once the node has crashed.
+fn crash<J: Naming, S: EntryStore, R: Wait + Clock + Abort>(
+    rt: &R,
+    alloc: Global,
+    ring: &Ring<J, S>,
+    zero: &mut Caller<'_, J, S>,
+) -> Result<(), AllocError> {
     let seen = zero.ask(rt, 0, retrieve(alloc, b"a")?);
-    assert!(rt; matches!(&seen, Ok(reply) if is_one_value(reply, b"y")));
+    assert!(rt; is_told(seen, b"y"));
     zero.look();
+    assert_eq!(rt; (ring.crash(rt, 0), ring.crash(rt, 0)), (Ok(()), Ok(())));
+    assert_eq!(rt; ring.leave(rt, 0), Err(LeaveFault::NotStaying));
+    assert_eq!(rt; ring.tick(rt, 0), Ok(()));
+    let unheard = zero.ask(rt, 0, retrieve(alloc, b"a")?).err();
+    assert_eq!(rt; unheard, Some(AskFault::NoAnswer));
     Ok(())
 }

@@ -72,19 +72,23 @@ fn a_call_is_answered_to_its_caller(rt: HostRuntime) -> Result<(), Fail> {
     };
     assert_eq!(rt; (told.caller, told.number), (7, 1));
     assert!(rt; told.reply == Reply::Added);
+    Ok(())
+}
+
+/// Whether the second call of caller 7 is answered Full to it.
+fn is_full(dealt: Option<(Target, Message)>) -> bool {
+    match dealt {
+        Some((Target::Caller(7), Message::Full { caller, number })) => (caller, number) == (7, 2),
+        _ => false,
+    }
+}
+
+#[test]
+fn a_full_store_is_told_to_its_caller(rt: HostRuntime) -> Result<(), Fail> {
+    let mut node = founder(rt.alloc(), 1)?;
+    dealt_ask(&mut node, ask(rt.alloc(), 1, b"abc")?)?;
     let full = dealt_ask(&mut node, ask(rt.alloc(), 2, b"b")?)?;
-    assert!(rt;
-        matches!(
-            &full,
-            Some((
-                Target::Caller(7),
-                Message::Full {
-                    caller: 7,
-                    number: 2
-                }
-            ))
-        )
-    );
+    assert!(rt; is_full(full));
     Ok(())
 }
 

@@ -2,7 +2,7 @@
 //! refused; the tests are run with each growth refused in turn too.
 ghost use Rattle.std.specs.Prelude.{◌≡◌, []};
 
-use super::{A, C, insert, is_one_value, retrieve, settings};
+use super::{A, C, insert, is_told, opened, retrieve, settings};
 use crate::{
     AskFault, BeginFault, Blank, Caller, CollectFault, CreateFault, JoinFault, NewFault, Open,
     RetryFault, Ring, TickFault,
@@ -115,16 +115,23 @@ fn use_the_ring<J: Naming, S: EntryStore, R: Wait + Clock + Abort>(
     alloc: Global,
     ring: &Ring<J, S>,
 ) -> Result<(), Fail> {
-    let Ok(mut zero) = ring.open_caller(rt, 4) else {
-        return Err(Fail::from("no caller"));
-    };
-    let Ok(mut one) = ring.open_caller(rt, 4) else {
-        return Err(Fail::from("no caller"));
-    };
+    let mut zero = opened(rt, ring, 4)?;
+    let mut one = opened(rt, ring, 4)?;
     assert!(rt; asked(rt, &mut zero, insert_x(alloc)?, insert_x(alloc)?));
     assert!(rt; begun_and_collected(rt, &mut one, retrieve_b(alloc)?, retrieve_b(alloc)?));
     assert!(rt; told(&mut zero, &mut one));
     Ok(())
+}
+
+/// Sends the pending request again, twice where it was out of memory.
+fn retried<J: Naming, S: EntryStore, R: Wait + Clock>(
+    rt: &R,
+    caller: &mut Caller<'_, J, S>,
+) -> Result<Reply, RetryFault> {
+    match caller.retry(rt, 0, 1) {
+        Err(RetryFault::Memory) => caller.retry(rt, 0, 1),
+        answered => answered,
+    }
 }
 
 /// Asks until the insert is executed; a request that is pending after a refused growth is sent again.
@@ -135,19 +142,11 @@ fn asked<J: Naming, S: EntryStore, R: Wait + Clock>(
     again: Request,
 ) -> bool {
     let answered = match caller.ask(rt, 0, request) {
-        Ok(reply) => Ok(reply),
-        Err(AskFault::Memory) if caller.is_pending(1) => match caller.retry(rt, 0, 1) {
-            Ok(reply) => Ok(reply),
-            Err(RetryFault::Memory) => caller.retry(rt, 0, 1),
-            Err(fault) => Err(fault),
-        },
-        Err(AskFault::Memory) => match caller.ask(rt, 0, again) {
-            Ok(reply) => Ok(reply),
-            Err(_) => Err(RetryFault::NoAnswer),
-        },
-        Err(_) => Err(RetryFault::NoAnswer),
+        Err(AskFault::Memory) if caller.is_pending(1) => retried(rt, caller).ok(),
+        Err(AskFault::Memory) => caller.ask(rt, 0, again).ok(),
+        answered => answered.ok(),
     };
-    matches!(&answered, Ok(Reply::Added)) && caller.floor() == 1
+    matches!(&answered, Some(Reply::Added)) && caller.floor() == 1
 }
 
 /// Begins a retrieve and collects it.
@@ -161,17 +160,21 @@ fn begun_and_collected<J: Naming, S: EntryStore, R: Wait + Clock>(
         Err(BeginFault::Memory) => caller.begin(rt, 0, again),
         begun => begun,
     };
-    if begun != Ok(1) {
-        return false;
-    }
-    let collected = match caller.collect(rt, 1) {
+    begun == Ok(1) && is_told(collected(rt, caller), b"x")
+}
+
+/// Collects the reply to the first request, which is sent again where it was lost.
+fn collected<J: Naming, S: EntryStore, R: Wait + Clock>(
+    rt: &R,
+    caller: &mut Caller<'_, J, S>,
+) -> Result<Reply, CollectFault> {
+    match caller.collect(rt, 1) {
         Err(CollectFault::NoAnswer) | Err(CollectFault::Memory) => match caller.retry(rt, 0, 1) {
             Ok(reply) => Ok(reply),
             Err(_) => caller.collect(rt, 1),
         },
         collected => collected,
-    };
-    matches!(&collected, Ok(reply) if is_one_value(reply, b"x"))
+    }
 }
 
 /// Shows what one caller knows until the other has met it.

@@ -1,17 +1,17 @@
 //! Which calls are refused, and in which order.
 ghost use Rattle.std.specs.Prelude.{◌≡◌};
 
-use super::{A, B, C, blank, insert, retrieve, settings};
+use super::{A, B, C, blank, founded, insert, is_added, opened, retrieve, settings};
 use crate::{
-    AskFault, BeginFault, Blank, CollectFault, CreateFault, JoinFault, LeaveFault, NewFault,
-    NoSuchNode, Open, OpenFault, RetireFault, RetryFault, Ring, Settings, TickFault,
+    AskFault, BeginFault, Blank, Caller, CollectFault, CreateFault, JoinFault, LeaveFault,
+    NewFault, NoSuchNode, Open, OpenFault, RetireFault, RetryFault, Ring, Settings, TickFault,
 };
 use chord_ident::Id;
 use chord_links::Peer;
-use chord_map::{Reply, RequestFault};
+use chord_map::RequestFault;
 use chord_store::{CappedStore, EntryStore, Inserted};
 use chord_table::Naming;
-use std::alloc::Global;
+use std::alloc::{AllocError, Global};
 use std::marker::Brand;
 use std::process::Abort;
 use std::sync::Wait;
@@ -24,20 +24,39 @@ fn are_bad(alloc: Global, settings: Settings) -> bool {
 }
 
 #[test]
-fn settings_have_limits(rt: HostRuntime) -> Result<(), Fail> {
-    let alloc = rt.alloc();
-    assert!(rt; are_bad(alloc, settings(0, 1, 1, 1)) && are_bad(alloc, settings(65, 1, 1, 1)));
-    assert!(rt; are_bad(alloc, settings(1, 65, 1, 1)) && are_bad(alloc, settings(1, 1, 0, 1)));
-    assert!(rt; are_bad(alloc, settings(1, 1, 1_001, 1)) && are_bad(alloc, settings(1, 1, 1, 0)));
-    assert!(rt; are_bad(alloc, settings(1, 1, 1, 60_001)));
-    let mut few = settings(1, 1, 1, 1);
-    few.successors = 1;
-    let mut many = settings(1, 1, 1, 1);
-    many.successors = 17;
-    assert!(rt; are_bad(alloc, few) && are_bad(alloc, many));
-    assert!(rt; Blank::new(alloc, settings(1, 0, 1, 1)).is_ok());
-    assert!(rt; Blank::new(alloc, settings(64, 64, 1_000, 60_000)).is_ok());
-    Ok(())
+fn settings_have_limits(rt: HostRuntime) {
+    for (slots, callers, tries, wait_ms) in [
+        (0, 1, 1, 1),
+        (65, 1, 1, 1),
+        (1, 65, 1, 1),
+        (1, 1, 0, 1),
+        (1, 1, 1_001, 1),
+        (1, 1, 1, 0),
+        (1, 1, 1, 60_001),
+    ] {
+        let limits = settings(slots, callers, tries, wait_ms);
+        assert!(rt;
+            are_bad(rt.alloc(), limits),
+            "{slots}, {callers}, {tries}, {wait_ms}"
+        );
+    }
+}
+
+#[test]
+fn lists_have_limits(rt: HostRuntime) {
+    for successors in [1, 17] {
+        let mut limits = settings(1, 1, 1, 1);
+        limits.successors = successors;
+        assert!(rt; are_bad(rt.alloc(), limits), "{successors}");
+    }
+}
+
+#[test]
+fn settings_at_their_limits_are_good(rt: HostRuntime) {
+    for (slots, callers, tries, wait_ms) in [(1, 0, 1, 1), (64, 64, 1_000, 60_000)] {
+        let limits = settings(slots, callers, tries, wait_ms);
+        assert!(rt; Blank::new(rt.alloc(), limits).is_ok(), "{slots} slots");
+    }
 }
 
 /// Whether the store is one with room for a single pair, and empty.
@@ -68,48 +87,88 @@ fn refusals<J: Naming, R: Wait + Clock + Abort>(
     requires { blank ≡ J.name }
 {
     let ring = blank.open::<J, CappedStore>()?;
+    has_no_node(rt, &ring);
+    is_created_once(rt, alloc, &ring);
+    fills_its_slots(rt, alloc, &ring);
+    knows_its_nodes(rt, &ring);
+    departures(rt, &ring);
+    ring.stop();
+    is_stopped(rt, alloc, &ring);
+    Ok(())
+}
+
+/// There is no node 0 yet.
+fn has_no_node<J: Naming, R: Wait + Clock + Abort>(rt: &R, ring: &Ring<J, CappedStore>) {
     assert_eq!(rt; ring.tick(rt, 0), Err(TickFault::NoSuchNode));
     assert_eq!(rt; ring.crash(rt, 0), Err(NoSuchNode));
     assert_eq!(rt; ring.work(rt, 0, &Open), Err(NoSuchNode));
-    assert!(rt;
-        matches!(&ring.create(rt, Id::new(A), CappedStore::new(alloc, 1)), Ok(peer) if peer.no == 0 && peer.id == Id::new(A))
-    );
+}
+
+/// Whether it is the node of this number and identifier.
+fn is_node<F: Copy>(entered: Result<Peer, (F, CappedStore)>, no: u64, id: u128) -> bool {
+    match entered {
+        Ok(peer) => peer.no == no && peer.id == Id::new(id),
+        Err(_) => false,
+    }
+}
+
+/// The first node is node 0, and there is no other first one.
+fn is_created_once<J: Naming, R: Wait + Clock + Abort>(
+    rt: &R,
+    alloc: Global,
+    ring: &Ring<J, CappedStore>,
+) {
+    let first = ring.create(rt, Id::new(A), CappedStore::new(alloc, 1));
+    assert!(rt; is_node(first, 0, A));
     let again = ring.create(rt, Id::new(A), CappedStore::new(alloc, 1));
     assert!(rt; is_refused(again, CreateFault::AlreadyCreated));
+}
+
+/// A second node joins by the first, under an identifier of its own; there is no place for a third.
+fn fills_its_slots<J: Naming, R: Wait + Clock + Abort>(
+    rt: &R,
+    alloc: Global,
+    ring: &Ring<J, CappedStore>,
+) {
     let taken = ring.join(rt, Id::new(A), 0, CappedStore::new(alloc, 1));
     assert!(rt; is_refused(taken, JoinFault::IdTaken));
     let nowhere = ring.join(rt, Id::new(C), 5, CappedStore::new(alloc, 1));
     assert!(rt; is_refused(nowhere, JoinFault::NoSuchNode));
     let joined = ring.join(rt, Id::new(C), 0, CappedStore::new(alloc, 1));
-    assert!(rt; matches!(&joined, Ok(peer) if peer.no == 1 && peer.id == Id::new(C)));
+    assert!(rt; is_node(joined, 1, C));
     let full = ring.join(rt, Id::new(B), 0, CappedStore::new(alloc, 1));
     assert!(rt; is_refused(full, JoinFault::NoSlot));
-    departures(rt, &ring)?;
-    ring.stop();
-    let late = ring.join(rt, Id::new(B), 0, CappedStore::new(alloc, 1));
-    assert!(rt; is_refused(late, JoinFault::Stopped));
-    let late = ring.create(rt, Id::new(B), CappedStore::new(alloc, 1));
-    assert!(rt; is_refused(late, CreateFault::Stopped));
-    assert_eq!(rt; ring.tick(rt, 0), Err(TickFault::Stopped));
-    assert!(rt; matches!(&ring.open_caller(rt, 1), Err(OpenFault::Stopped)));
-    Ok(())
 }
 
-/// A node that holds nothing leaves and retires; one that holds the circle does not.
-fn departures<J: Naming, R: Wait + Clock + Abort>(
-    rt: &R,
-    ring: &Ring<J, CappedStore>,
-) -> Result<(), Fail> {
+/// There is a node 0 to tick, and no node 2 to leave.
+fn knows_its_nodes<J: Naming, R: Wait + Clock + Abort>(rt: &R, ring: &Ring<J, CappedStore>) {
     assert_eq!(rt; ring.tick(rt, 0), Ok(()));
     assert_eq!(rt; ring.leave(rt, 2), Err(LeaveFault::NoSuchNode));
     assert_eq!(rt; ring.retire(rt, 2), Err(RetireFault::NoSuchNode));
+}
+
+/// A node that holds nothing leaves and retires; one that holds the circle does not.
+fn departures<J: Naming, R: Wait + Clock + Abort>(rt: &R, ring: &Ring<J, CappedStore>) {
     assert_eq!(rt; ring.retire(rt, 0), Err(RetireFault::NotLeaving));
     assert_eq!(rt; ring.leave(rt, 1), Ok(()));
     assert_eq!(rt; ring.leave(rt, 1), Err(LeaveFault::NotStaying));
     assert_eq!(rt; ring.retire(rt, 1), Ok(()));
     assert_eq!(rt; ring.leave(rt, 0), Ok(()));
     assert_eq!(rt; ring.retire(rt, 0), Err(RetireFault::NotEmpty));
-    Ok(())
+}
+
+/// Nothing enters a stopped ring.
+fn is_stopped<J: Naming, R: Wait + Clock + Abort>(
+    rt: &R,
+    alloc: Global,
+    ring: &Ring<J, CappedStore>,
+) {
+    let late = ring.join(rt, Id::new(B), 0, CappedStore::new(alloc, 1));
+    assert!(rt; is_refused(late, JoinFault::Stopped));
+    let late = ring.create(rt, Id::new(B), CappedStore::new(alloc, 1));
+    assert!(rt; is_refused(late, CreateFault::Stopped));
+    assert_eq!(rt; ring.tick(rt, 0), Err(TickFault::Stopped));
+    assert!(rt; matches!(&ring.open_caller(rt, 1), Err(OpenFault::Stopped)));
 }
 
 #[test]
@@ -125,45 +184,77 @@ fn caller_refusals<J: Naming, R: Wait + Clock + Abort>(
 ) -> Result<(), Fail>
     requires { blank ≡ J.name }
 {
-    let ring = blank.open::<J, CappedStore>()?;
-    assert!(rt;
-        ring.create(rt, Id::new(A), CappedStore::new(alloc, 1))
-            .is_ok()
-    );
-    let Ok(mut caller) = ring.open_caller(rt, 1) else {
-        return Err(Fail::from("no caller"));
-    };
+    let ring = founded::<J, CappedStore, R>(rt, blank, CappedStore::new(alloc, 1))?;
+    let mut caller = opened(rt, &ring, 1)?;
     assert!(rt; matches!(&ring.open_caller(rt, 1), Err(OpenFault::CallersSpent)));
+    bad_requests(rt, alloc, &mut caller)?;
+    unknown_nodes(rt, alloc, &mut caller)?;
+    nothing_pending(rt, &mut caller);
+    a_full_window(rt, alloc, &mut caller)?;
+    no_answers(rt, &mut caller);
+    Ok(())
+}
+
+/// A request with an empty key is refused, whatever the node.
+fn bad_requests<J: Naming, R: Wait + Clock + Abort>(
+    rt: &R,
+    alloc: Global,
+    caller: &mut Caller<'_, J, CappedStore>,
+) -> Result<(), AllocError> {
     let empty = caller.begin(rt, 5, retrieve(alloc, b"")?);
     assert_eq!(rt; empty, Err(BeginFault::Bad(RequestFault::KeyEmpty)));
-    let empty = caller.ask(rt, 5, retrieve(alloc, b"")?);
-    assert!(rt; matches!(&empty, Err(AskFault::Bad(RequestFault::KeyEmpty))));
+    let empty = caller.ask(rt, 5, retrieve(alloc, b"")?).err();
+    assert_eq!(rt; empty, Some(AskFault::Bad(RequestFault::KeyEmpty)));
+    Ok(())
+}
+
+/// There is no node 5.
+fn unknown_nodes<J: Naming, R: Wait + Clock + Abort>(
+    rt: &R,
+    alloc: Global,
+    caller: &mut Caller<'_, J, CappedStore>,
+) -> Result<(), AllocError> {
     let nowhere = caller.begin(rt, 5, retrieve(alloc, b"a")?);
     assert_eq!(rt; nowhere, Err(BeginFault::NoSuchNode));
-    assert!(rt;
-        matches!(
-            &caller.call(rt, 5, retrieve(alloc, b"a")?),
-            Err(AskFault::NoSuchNode)
-        )
-    );
+    let nowhere = caller.call(rt, 5, retrieve(alloc, b"a")?).err();
+    assert_eq!(rt; nowhere, Some(AskFault::NoSuchNode));
+    Ok(())
+}
+
+/// Nothing was sent so far.
+fn nothing_pending<J: Naming, R: Wait + Clock + Abort>(
+    rt: &R,
+    caller: &mut Caller<'_, J, CappedStore>,
+) {
     assert_eq!(rt; caller.pending(), None);
-    assert!(rt; matches!(&caller.collect(rt, 1), Err(CollectFault::NotBegun)));
-    assert!(rt; matches!(&caller.retry(rt, 0, 1), Err(RetryFault::Idle)));
+    assert_eq!(rt; caller.collect(rt, 1).err(), Some(CollectFault::NotBegun));
+    assert_eq!(rt; caller.retry(rt, 0, 1).err(), Some(RetryFault::Idle));
+}
+
+/// One request fills the window, and a second one is refused before its node is looked for.
+fn a_full_window<J: Naming, R: Wait + Clock + Abort>(
+    rt: &R,
+    alloc: Global,
+    caller: &mut Caller<'_, J, CappedStore>,
+) -> Result<(), AllocError> {
     assert_eq!(rt; caller.begin(rt, 0, retrieve(alloc, b"a")?), Ok(1));
-    assert!(rt; caller.is_pending(1) && caller.pending() == Some(1) && caller.floor() == 0);
+    assert_eq!(rt;
+        (caller.is_pending(1), caller.pending(), caller.floor()),
+        (true, Some(1), 0)
+    );
     let more = caller.begin(rt, 5, retrieve(alloc, b"a")?);
     assert_eq!(rt; more, Err(BeginFault::WindowFull));
-    assert!(rt;
-        matches!(
-            &caller.ask(rt, 5, retrieve(alloc, b"a")?),
-            Err(AskFault::WindowFull)
-        )
-    );
-    assert!(rt; matches!(&caller.retry(rt, 5, 1), Err(RetryFault::NoSuchNode)));
-    assert!(rt; matches!(&caller.retry(rt, 0, 1), Err(RetryFault::NoAnswer)));
-    assert!(rt; matches!(&caller.collect(rt, 1), Err(CollectFault::NoAnswer)));
-    assert!(rt; caller.is_pending(1));
+    let more = caller.ask(rt, 5, retrieve(alloc, b"a")?).err();
+    assert_eq!(rt; more, Some(AskFault::WindowFull));
     Ok(())
+}
+
+/// The request that was sent waits, since nobody works for node 0.
+fn no_answers<J: Naming, R: Wait + Clock + Abort>(rt: &R, caller: &mut Caller<'_, J, CappedStore>) {
+    assert_eq!(rt; caller.retry(rt, 5, 1).err(), Some(RetryFault::NoSuchNode));
+    assert_eq!(rt; caller.retry(rt, 0, 1).err(), Some(RetryFault::NoAnswer));
+    assert_eq!(rt; caller.collect(rt, 1).err(), Some(CollectFault::NoAnswer));
+    assert!(rt; caller.is_pending(1));
 }
 
 #[test]
@@ -179,20 +270,14 @@ fn stopped<J: Naming, R: Wait + Clock + Abort>(
 ) -> Result<(), Fail>
     requires { blank ≡ J.name }
 {
-    let ring = blank.open::<J, CappedStore>()?;
-    assert!(rt;
-        ring.create(rt, Id::new(A), CappedStore::new(alloc, 1))
-            .is_ok()
-    );
-    let Ok(mut caller) = ring.open_caller(rt, 2) else {
-        return Err(Fail::from("no caller"));
-    };
+    let ring = founded::<J, CappedStore, R>(rt, blank, CappedStore::new(alloc, 1))?;
+    let mut caller = opened(rt, &ring, 2)?;
     let called = caller.call(rt, 0, insert(alloc, b"abc", b"x")?);
-    assert!(rt; matches!(&called, Ok(Reply::Added)));
+    assert!(rt; is_added(called));
     ring.stop();
     ring.stop();
-    let unheard = caller.ask(rt, 0, retrieve(alloc, b"abc")?);
-    assert!(rt; matches!(&unheard, Err(AskFault::NoAnswer)));
+    let unheard = caller.ask(rt, 0, retrieve(alloc, b"abc")?).err();
+    assert_eq!(rt; unheard, Some(AskFault::NoAnswer));
     assert!(rt; caller.is_pending(2));
     Ok(())
 }

@@ -1,10 +1,10 @@
 //! Two nodes with a worker each, and rounds of ticks.
 ghost use Rattle.std.specs.Prelude.{◌≡◌};
 
-use super::{A, C, blank, insert, is_one_value, retrieve, settings};
+use super::{C, blank, founded, insert, is_added, is_told, opened, retrieve, settings};
 use crate::{Blank, Gate, Open, Ring};
 use chord_ident::Id;
-use chord_map::Reply;
+use chord_map::Request;
 use chord_store::{CappedStore, EntryStore};
 use chord_table::Naming;
 use std::alloc::Global;
@@ -81,11 +81,7 @@ fn two_nodes<J: Naming + Send + Sync, R: Threads + Wait + Clock + Abort + Sync>(
 ) -> Result<(), Fail>
     requires { blank ≡ J.name }
 {
-    let ring = blank.open::<J, CappedStore>()?;
-    assert!(rt;
-        ring.create(rt, Id::new(A), CappedStore::new(alloc, 4))
-            .is_ok()
-    );
+    let ring = founded::<J, CappedStore, R>(rt, blank, CappedStore::new(alloc, 4))?;
     assert!(rt;
         ring.join(rt, Id::new(C), 0, CappedStore::new(alloc, 4))
             .is_ok()
@@ -136,14 +132,14 @@ fn settle_and_then<
 }
 
 /// Whether a caller of its own is answered Added.
-fn is_added<J: Naming, S: EntryStore, R: Wait + Clock>(
+fn adds<J: Naming, S: EntryStore, R: Wait + Clock>(
     rt: &R,
     ring: &Ring<J, S>,
     via: u64,
-    request: chord_map::Request,
+    request: Request,
 ) -> bool {
     match ring.open_caller(rt, 4) {
-        Ok(mut caller) => matches!(&caller.ask(rt, via, request), Ok(Reply::Added)),
+        Ok(mut caller) => is_added(caller.ask(rt, via, request)),
         Err(_) => false,
     }
 }
@@ -160,14 +156,14 @@ fn two_locks<
     let second = insert(alloc, b"abc", b"x")?;
     let (zero, one) = thread::join(
         rt,
-        move || is_added(rt, ring, 0, first),
+        move || adds(rt, ring, 0, first),
         move || {
             for _ in 0..10_000u64 {
                 if !gate.stands.load(Ordering::SeqCst) {
                     thread::sleep(rt, Duration::from_millis(1));
                 }
             }
-            let answered = gate.stands.load(Ordering::SeqCst) && is_added(rt, ring, 1, second);
+            let answered = gate.stands.load(Ordering::SeqCst) && adds(rt, ring, 1, second);
             let held = !gate.spent.load(Ordering::SeqCst);
             gate.opened.store(true, Ordering::SeqCst);
             answered && held
@@ -183,19 +179,13 @@ fn crash<J: Naming, S: EntryStore, R: Wait + Clock + Abort>(
     alloc: Global,
     ring: &Ring<J, S>,
 ) -> Result<(), Fail> {
-    let Ok(mut caller) = ring.open_caller(rt, 1) else {
-        return Err(Fail::from("no caller"));
-    };
-    assert!(rt;
-        matches!(
-            &caller.ask(rt, 0, insert(alloc, b"abc", b"x")?),
-            Ok(Reply::Added)
-        )
-    );
-    assert!(rt; ring.crash(rt, 0).is_ok());
+    let mut caller = opened(rt, ring, 1)?;
+    let added = caller.ask(rt, 0, insert(alloc, b"abc", b"x")?);
+    assert!(rt; is_added(added));
+    assert_eq!(rt; ring.crash(rt, 0), Ok(()));
     assert_eq!(rt; ring.tick(rt, 1), Ok(()));
     let seen = caller.ask(rt, 1, retrieve(alloc, b"abc")?);
-    assert!(rt; matches!(&seen, Ok(reply) if is_one_value(reply, b"x")));
+    assert!(rt; is_told(seen, b"x"));
     Ok(())
 }
 
@@ -205,35 +195,41 @@ fn leave<J: Naming, S: EntryStore, R: Wait + Clock + Abort>(
     alloc: Global,
     ring: &Ring<J, S>,
 ) -> Result<(), Fail> {
-    let Ok(mut caller) = ring.open_caller(rt, 1) else {
-        return Err(Fail::from("no caller"));
-    };
-    assert!(rt;
-        matches!(
-            &caller.ask(rt, 0, insert(alloc, b"abc", b"x")?),
-            Ok(Reply::Added)
-        )
-    );
+    let mut caller = opened(rt, ring, 1)?;
+    let added = caller.ask(rt, 0, insert(alloc, b"abc", b"x")?);
+    assert!(rt; is_added(added));
     let called = caller.call(rt, 0, retrieve(alloc, b"abc")?);
-    assert!(rt; matches!(&called, Ok(reply) if is_one_value(reply, b"x")));
+    assert!(rt; is_told(called, b"x"));
+    retires(rt, ring);
+    forgets(rt, ring)?;
+    let seen = caller.ask(rt, 0, retrieve(alloc, b"abc")?);
+    assert!(rt; is_told(seen, b"x"));
+    Ok(())
+}
+
+/// Node 1 leaves, and retires once node 0 holds all that it held.
+fn retires<J: Naming, S: EntryStore, R: Wait + Clock + Abort>(rt: &R, ring: &Ring<J, S>) {
     assert_eq!(rt; ring.leave(rt, 1), Ok(()));
     let mut left = false;
     for _ in 0..1_000u64 {
         if !left {
-            assert!(rt; ring.tick(rt, 0).is_ok() && ring.tick(rt, 1).is_ok());
+            assert_eq!(rt; (ring.tick(rt, 0), ring.tick(rt, 1)), (Ok(()), Ok(())));
             thread::sleep(rt, Duration::from_millis(1));
             left = ring.retire(rt, 1).is_ok();
         }
     }
     assert!(rt; left);
+}
+
+/// At its next tick node 0 has no finger at node 1 any more.
+fn forgets<J: Naming, S: EntryStore, R: Wait + Clock + Abort>(
+    rt: &R,
+    ring: &Ring<J, S>,
+) -> Result<(), Fail> {
     assert_eq!(rt; ring.tick(rt, 0), Ok(()));
-    let Some(links) = ring.links_of(rt, 0) else {
-        return Err(Fail::from("no links"));
-    };
+    let links = ring.links_of(rt, 0).ok_or("no links")?;
     for finger in 1..129 {
         assert!(rt; !matches!(links.fingers().get(finger), Some(peer) if peer.no == 1));
     }
-    let seen = caller.ask(rt, 0, retrieve(alloc, b"abc")?);
-    assert!(rt; matches!(&seen, Ok(reply) if is_one_value(reply, b"x")));
     Ok(())
 }
