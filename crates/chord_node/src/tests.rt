@@ -8,7 +8,7 @@ mod handovers;
 mod leaving;
 mod parts;
 
-use crate::{Back, Given, Node, laws};
+use crate::{Answered, Back, Given, Node, laws};
 use chord_caller::Ask;
 use chord_handover::{Declined, Got, Part, Ticket};
 use chord_ident::{Id, Span};
@@ -53,6 +53,21 @@ pub fn insert(alloc: Global, key: &[u8], value: &[u8]) -> Result<Request, AllocE
     })
 }
 
+/// What the node answers to the insert of this value under this key, as this call of caller 0.
+pub fn inserted<S: EntryStore>(
+    alloc: Global,
+    node: &mut Node<S>,
+    number: u64,
+    key: &[u8],
+    value: &[u8],
+) -> Option<Answered>
+    requires some { 0 < number }
+    requires near { number ≤ 16 }
+{
+    let request = insert(alloc, key, value).ok()?;
+    node.on_ask(&ask(number, 0, request)).ok()
+}
+
 /// Node 0, at A, which holds the whole circle.
 pub fn found<S: EntryStore>(alloc: Global, store: S) -> Option<Node<S>> {
     if store.count() != 0 {
@@ -77,8 +92,7 @@ pub fn newborn(alloc: Global, limit: u64) -> Node<CappedStore> {
 /// Node 0 at A with room for so many pairs, after it gave (A, C], with x under `abc`, to node 1; and the part of it.
 pub fn given_away(alloc: Global, limit: u64) -> Option<(Node<CappedStore>, Part)> {
     let mut node = found(alloc, CappedStore::new(alloc, limit))?;
-    let request = insert(alloc, b"abc", b"x").ok()?;
-    node.on_ask(&ask(1, 0, request)).ok()?;
+    inserted(alloc, &mut node, 1, b"abc", b"x")?;
     node.cut_at(0, Id::new(C)).ok()?;
     let part = node.give(0, 1).ok()?;
     Some((node, part))
@@ -112,6 +126,11 @@ pub fn handed<S: EntryStore>(node: &mut Node<S>, part: &Part) -> Result<Option<G
     Ok(Some(node.on_give(part)?))
 }
 
+/// What the node answers to a part, where there is memory for it.
+pub fn given<S: EntryStore>(node: &mut Node<S>, part: &Part) -> Option<Given> {
+    handed(node, part).ok()?
+}
+
 /// Whether an item that the node gave left the outbox.
 pub fn freed<S: EntryStore>(node: &mut Node<S>, got: Got) -> Option<bool> {
     if got.from != node.number() {
@@ -129,6 +148,11 @@ pub fn taken_back<S: EntryStore>(
         return Ok(None);
     }
     Ok(Some(node.on_declined(&declined)?))
+}
+
+/// The same where there is memory for it.
+pub fn back<S: EntryStore>(node: &mut Node<S>, declined: Declined) -> Option<Back> {
+    taken_back(node, declined).ok()?
 }
 
 #[test]

@@ -2,16 +2,16 @@
 //! are run with each growth refused in turn too.
 
 use super::{
-    A, B, C, ask, first_part, found, given_away, handed, insert, newborn, span, taken_back, ticket,
+    A, B, C, ask, back, first_part, found, given, given_away, handed, insert, newborn, span,
+    taken_back, ticket,
 };
 use crate::{Answered, Back, CutAtFault, GiveFault, Given, MergeFault, Node, ResendFault};
 use chord_caller::Ask;
 use chord_handover::Part;
-use chord_ident::Id;
+use chord_ident::{Id, Span};
 use chord_map::Reply;
 use chord_store::CappedStore;
 use std::alloc::{AllocError, Global};
-use std::test::Fail;
 
 /// Node 0, which holds the whole circle, made again where memory was wanting.
 fn founder(alloc: Global) -> Option<Node<CappedStore>> {
@@ -37,111 +37,158 @@ fn insert_x(alloc: Global) -> Result<Ask, AllocError> {
     }
 }
 
-#[test]
-fn a_refused_call_is_not_executed(rt: HostRuntime) -> Result<(), Fail> {
-    let mut node = founder(rt.alloc()).ok_or("no node")?;
-    let call = insert_x(rt.alloc())?;
-    let answered = match node.on_ask(&call) {
-        Ok(answered) => answered,
-        Err(_) => node.on_ask(&call)?,
-    };
-    assert!(rt; matches!(&answered, Answered::Told(told) if told.reply == Reply::Added));
-    Ok(())
-}
-
-#[test]
-fn a_refused_cut_and_a_refused_merge(rt: HostRuntime) -> Result<(), Fail> {
-    let mut node = founder(rt.alloc()).ok_or("no node")?;
-    let mut cut = node.cut_at(0, Id::new(B));
-    if cut == Err(CutAtFault::Memory) {
-        assert_eq!(rt; node.span(0), Some(span(A, A)));
-        cut = node.cut_at(0, Id::new(B));
+/// What the node answers to the call, which comes again where memory was wanting.
+fn answered(node: &mut Node<CappedStore>, call: &Ask) -> Result<Answered, AllocError> {
+    match node.on_ask(call) {
+        Ok(answered) => Ok(answered),
+        Err(_) => node.on_ask(call),
     }
-    assert_eq!(rt; cut, Ok(()));
-    let mut merged = node.merge(0, 1);
-    if merged == Err(MergeFault::Memory) {
-        assert_eq!(rt;
-            (node.span(0), node.span(1)),
-            (Some(span(A, B)), Some(span(B, A)))
-        );
-        merged = node.merge(0, 1);
+}
+
+/// Whether a call is told Added.
+fn executes(alloc: Global) -> Option<bool> {
+    let mut node = founder(alloc)?;
+    let call = insert_x(alloc).ok()?;
+    let answered = answered(&mut node, &call).ok()?;
+    Some(matches!(&answered, Answered::Told(told) if told.reply == Reply::Added))
+}
+
+#[test]
+fn a_refused_call_is_not_executed(rt: HostRuntime) {
+    assert_eq!(rt; executes(rt.alloc()), Some(true));
+}
+
+/// Cuts at B, again where memory was wanting: the node holds the circle in one piece then.
+fn cut(node: &mut Node<CappedStore>) -> Result<(), CutAtFault> {
+    match node.cut_at(0, Id::new(B)) {
+        Err(CutAtFault::Memory) if node.span(0) == Some(span(A, A)) => node.cut_at(0, Id::new(B)),
+        cut => cut,
     }
-    assert_eq!(rt; merged, Ok(()));
-    Ok(())
+}
+
+/// Merges what was cut at B, again where memory was wanting: the node holds it in two pieces then.
+fn merge(node: &mut Node<CappedStore>) -> Result<(), MergeFault> {
+    let pieces = (Some(span(A, B)), Some(span(B, A)));
+    match node.merge(0, 1) {
+        Err(MergeFault::Memory) if (node.span(0), node.span(1)) == pieces => node.merge(0, 1),
+        merged => merged,
+    }
+}
+
+/// How a cut and a merge end.
+fn cuts_and_merges(alloc: Global) -> Option<(Result<(), CutAtFault>, Result<(), MergeFault>)> {
+    let mut node = founder(alloc)?;
+    let cut = cut(&mut node);
+    Some((cut, merge(&mut node)))
 }
 
 #[test]
-fn a_refused_give_keeps_the_segment(rt: HostRuntime) -> Result<(), Fail> {
-    let mut node = founder(rt.alloc()).ok_or("no node")?;
-    let part = match node.give(0, 1) {
-        Ok(part) => part,
-        Err(fault) => {
-            assert_eq!(rt; fault, GiveFault::Memory);
-            assert_eq!(rt; node.span(0), Some(span(A, A)));
-            assert_eq!(rt; node.kept_count(), 0);
-            node.give(0, 1).ok().ok_or("not given")?
-        }
-    };
-    assert_eq!(rt; part.number, 1);
-    assert_eq!(rt; node.kept(0), Some((1, 1, span(A, A))));
-    Ok(())
+fn a_refused_cut_and_a_refused_merge(rt: HostRuntime) {
+    assert_eq!(rt; cuts_and_merges(rt.alloc()), Some((Ok(()), Ok(()))));
+}
+
+/// Whether the node holds the whole circle and keeps nothing that it gave.
+fn holds_all(node: &Node<CappedStore>) -> bool {
+    node.span(0) == Some(span(A, A)) && node.kept_count() == 0
+}
+
+/// Gives to node 1 what it holds, again where memory was wanting: it holds the circle then.
+fn give(node: &mut Node<CappedStore>) -> Result<Part, GiveFault> {
+    match node.give(0, 1) {
+        Err(GiveFault::Memory) if holds_all(node) => node.give(0, 1),
+        given => given,
+    }
+}
+
+/// The number of a part that was given, and the item that is kept.
+fn gives(alloc: Global) -> Option<(u64, Option<(u64, u64, Span)>)> {
+    let mut node = founder(alloc)?;
+    let part = give(&mut node).ok()?;
+    Some((part.number, node.kept(0)))
 }
 
 #[test]
-fn a_refused_resend(rt: HostRuntime) -> Result<(), Fail> {
-    let (node, first) = giver(rt.alloc()).ok_or("not given")?;
-    let again = match node.resend_part(1, 1, 1) {
-        Ok(part) => part,
-        Err(fault) => {
-            assert_eq!(rt; fault, ResendFault::Memory);
-            node.resend_part(1, 1, 1).ok().ok_or("no part")?
-        }
-    };
-    assert!(rt; again.pairs.as_slice() == first.pairs.as_slice());
-    Ok(())
+fn a_refused_give_keeps_the_segment(rt: HostRuntime) {
+    assert_eq!(rt; gives(rt.alloc()), Some((1, Some((1, 1, span(A, A))))));
+}
+
+/// The part that was given to node 1, asked for again where memory was wanting.
+fn resent(node: &Node<CappedStore>) -> Result<Part, ResendFault> {
+    match node.resend_part(1, 1, 1) {
+        Err(ResendFault::Memory) => node.resend_part(1, 1, 1),
+        part => part,
+    }
+}
+
+/// Whether a part that goes again has the same pairs.
+fn resends(alloc: Global) -> Option<bool> {
+    let (node, first) = giver(alloc)?;
+    let again = resent(&node).ok()?;
+    Some(again.pairs.as_slice() == first.pairs.as_slice())
 }
 
 #[test]
-fn a_refused_handover_is_not_held(rt: HostRuntime) -> Result<(), Fail> {
-    let (_, part) = giver(rt.alloc()).ok_or("not given")?;
-    let mut next = newborn(rt.alloc(), 1);
-    let given = match handed(&mut next, &part) {
+fn a_refused_resend(rt: HostRuntime) {
+    assert_eq!(rt; resends(rt.alloc()), Some(true));
+}
+
+/// What node 1 answers to a part, which comes again where memory was wanting: it took and holds nothing then.
+fn taken(node: &mut Node<CappedStore>, part: &Part) -> Option<Given> {
+    match handed(node, part) {
         Ok(given) => given,
-        Err(_) => {
-            assert_eq!(rt; (next.last_taken(0), next.held_count()), (0, 0));
-            handed(&mut next, &part)?
-        }
-    };
-    assert_eq!(rt; given, Some(Given::Got));
-    assert_eq!(rt; next.span(0), Some(span(A, C)));
-    Ok(())
+        Err(_) if (node.last_taken(0), node.held_count()) == (0, 0) => given(node, part),
+        Err(_) => None,
+    }
+}
+
+/// What node 1 answers to a handover, and what it holds.
+fn holds(alloc: Global) -> Option<(Given, Option<Span>)> {
+    let (_, part) = giver(alloc)?;
+    let mut next = newborn(alloc, 1);
+    let given = taken(&mut next, &part)?;
+    Some((given, next.span(0)))
 }
 
 #[test]
-fn a_refused_part_is_not_noted(rt: HostRuntime) -> Result<(), Fail> {
-    let part = first_part(rt.alloc(), ticket(0, 1, 1), span(A, C), 2);
-    let mut node = newborn(rt.alloc(), 1);
-    let given = match handed(&mut node, &part) {
-        Ok(given) => given,
-        Err(_) => handed(&mut node, &part)?,
-    };
-    assert_eq!(rt; given, Some(Given::Part));
-    assert_eq!(rt; node.held_count(), 0);
-    Ok(())
+fn a_refused_handover_is_not_held(rt: HostRuntime) {
+    assert_eq!(rt; holds(rt.alloc()), Some((Given::Got, Some(span(A, C)))));
+}
+
+/// What node 1 answers to a part of two, and how many segments it holds.
+fn notes(alloc: Global) -> Option<(Given, usize)> {
+    let part = first_part(alloc, ticket(0, 1, 1), span(A, C), 2);
+    let mut node = newborn(alloc, 1);
+    let given = taken(&mut node, &part)?;
+    Some((given, node.held_count()))
 }
 
 #[test]
-fn a_refused_return_keeps_the_item(rt: HostRuntime) -> Result<(), Fail> {
-    let (mut node, _) = giver(rt.alloc()).ok_or("not given")?;
-    let back = match taken_back(&mut node, ticket(0, 1, 1)) {
+fn a_refused_part_is_not_noted(rt: HostRuntime) {
+    assert_eq!(rt; notes(rt.alloc()), Some((Given::Part, 0)));
+}
+
+/// Whether the node keeps what it gave to node 1, and holds the rest.
+fn keeps(node: &Node<CappedStore>) -> bool {
+    node.kept(0) == Some((1, 1, span(A, C))) && node.held_count() == 1
+}
+
+/// What comes of an item that node 1 declines, again where memory was wanting: the node keeps it then.
+fn returned(node: &mut Node<CappedStore>) -> Option<Back> {
+    match taken_back(node, ticket(0, 1, 1)) {
         Ok(back) => back,
-        Err(_) => {
-            assert_eq!(rt; node.kept(0), Some((1, 1, span(A, C))));
-            assert_eq!(rt; node.held_count(), 1);
-            taken_back(&mut node, ticket(0, 1, 1))?
-        }
-    };
-    assert_eq!(rt; back, Some(Back::Held));
-    assert_eq!(rt; node.kept_count(), 0);
-    Ok(())
+        Err(_) if keeps(node) => back(node, ticket(0, 1, 1)),
+        Err(_) => None,
+    }
+}
+
+/// What comes of it, and how many items are kept.
+fn takes_back(alloc: Global) -> Option<(Back, usize)> {
+    let (mut node, _) = giver(alloc)?;
+    let back = returned(&mut node)?;
+    Some((back, node.kept_count()))
+}
+
+#[test]
+fn a_refused_return_keeps_the_item(rt: HostRuntime) {
+    assert_eq!(rt; takes_back(rt.alloc()), Some((Back::Held, 0)));
 }

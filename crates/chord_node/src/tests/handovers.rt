@@ -1,138 +1,245 @@
 //! What a node cuts, merges, gives and takes back.
 
-use super::{
-    A, B, C, ask, empty_part, found, given_away, handed, insert, newborn, span, taken_back, ticket,
-};
-use crate::{Back, CutAtFault, GiveFault, Given, MergeFault, Phase, ResendFault};
-use chord_ident::Id;
+use super::{A, B, C, back, empty_part, found, given, given_away, inserted, newborn, span, ticket};
+use crate::{Back, CutAtFault, GiveFault, Given, MergeFault, Node, Phase, ResendFault};
+use chord_handover::Part;
+use chord_ident::{Id, Span};
 use chord_store::{CappedStore, EntryStore, Inserted, StoreFault};
+use std::alloc::Global;
 use std::test::Fail;
 
-#[test]
-fn cuts_and_merges(rt: HostRuntime) -> Result<(), Fail> {
-    let alloc = rt.alloc();
-    let mut node = found(alloc, CappedStore::new(alloc, 1)).ok_or("no node")?;
-    assert_eq!(rt; node.cut_at(0, Id::new(B)), Ok(()));
-    assert_eq!(rt; node.span(0), Some(span(A, B)));
-    assert_eq!(rt; node.span(1), Some(span(B, A)));
-    assert_eq!(rt; node.merge(0, 1), Ok(()));
-    assert_eq!(rt; node.span(0), Some(span(A, A)));
-    assert_eq!(rt; node.span(1), None);
-    Ok(())
+/// Node 0, with room for one pair, which holds the whole circle.
+fn founder(alloc: Global) -> Option<Node<CappedStore>> {
+    found(alloc, CappedStore::new(alloc, 1))
+}
+
+/// What a node holds.
+type Spans = (Option<Span>, Option<Span>);
+
+fn spans(node: &Node<CappedStore>) -> Spans {
+    (node.span(0), node.span(1))
+}
+
+/// What node 0 holds after a cut at B, and after a merge of the two.
+fn cut_and_merged(alloc: Global) -> Option<(Spans, Spans)> {
+    let mut node = founder(alloc)?;
+    node.cut_at(0, Id::new(B)).ok()?;
+    let cut = spans(&node);
+    node.merge(0, 1).ok()?;
+    Some((cut, spans(&node)))
 }
 
 #[test]
-fn refuses_cuts(rt: HostRuntime) -> Result<(), Fail> {
-    let alloc = rt.alloc();
-    let mut node = found(alloc, CappedStore::new(alloc, 1)).ok_or("no node")?;
-    assert_eq!(rt; node.cut_at(1, Id::new(B)), Err(CutAtFault::NoSegment));
-    assert_eq!(rt; node.cut_at(0, Id::new(A)), Err(CutAtFault::NotInside));
-    assert_eq!(rt; node.held_count(), 1);
-    Ok(())
+fn cuts_and_merges(rt: HostRuntime) {
+    let cut = (Some(span(A, B)), Some(span(B, A)));
+    let merged = (Some(span(A, A)), None);
+    assert_eq!(rt; cut_and_merged(rt.alloc()), Some((cut, merged)));
+}
+
+/// How a cut of nothing and one at an end go, and how many segments are held then.
+fn refused_cuts(alloc: Global) -> Option<(Result<(), CutAtFault>, Result<(), CutAtFault>, usize)> {
+    let mut node = founder(alloc)?;
+    let nothing = node.cut_at(1, Id::new(B));
+    let outside = node.cut_at(0, Id::new(A));
+    Some((nothing, outside, node.held_count()))
 }
 
 #[test]
-fn refuses_merges(rt: HostRuntime) -> Result<(), Fail> {
-    let alloc = rt.alloc();
-    let mut node = found(alloc, CappedStore::new(alloc, 1)).ok_or("no node")?;
-    assert_eq!(rt; node.cut_at(0, Id::new(C)), Ok(()));
-    assert_eq!(rt; node.cut_at(0, Id::new(B)), Ok(()));
-    assert_eq!(rt; node.merge(0, 0), Err(MergeFault::NoSegment));
-    assert_eq!(rt; node.merge(0, 3), Err(MergeFault::NoSegment));
-    assert_eq!(rt; node.merge(0, 2), Err(MergeFault::NotAdjacent));
-    assert_eq!(rt; node.held_count(), 3);
-    Ok(())
+fn refuses_cuts(rt: HostRuntime) {
+    let (nothing, outside) = (Err(CutAtFault::NoSegment), Err(CutAtFault::NotInside));
+    assert_eq!(rt; refused_cuts(rt.alloc()), Some((nothing, outside, 1)));
+}
+
+/// Node 0, which holds (A, B], (B, C] and (C, A].
+fn cut_twice(alloc: Global) -> Option<Node<CappedStore>> {
+    let mut node = founder(alloc)?;
+    node.cut_at(0, Id::new(C)).ok()?;
+    node.cut_at(0, Id::new(B)).ok()?;
+    Some(node)
+}
+
+/// How the merge of the first segment with this one is refused, and how many are held then.
+fn refused_merge(alloc: Global, other: usize) -> Option<(MergeFault, usize)> {
+    let mut node = cut_twice(alloc)?;
+    let fault = node.merge(0, other).err()?;
+    Some((fault, node.held_count()))
+}
+
+#[test]
+fn refuses_merges(rt: HostRuntime) {
+    for (other, fault) in [
+        (0, MergeFault::NoSegment),
+        (3, MergeFault::NoSegment),
+        (2, MergeFault::NotAdjacent),
+    ] {
+        let refused = refused_merge(rt.alloc(), other);
+        assert_eq!(rt; refused, Some((fault, 3)), "at {other}");
+    }
+}
+
+/// How the merge of two segments with the same call is refused, and what the second one is then.
+fn kept_twice(alloc: Global) -> Option<(Result<(), MergeFault>, Option<Span>)> {
+    let mut node = found(alloc, CappedStore::new(alloc, 2))?;
+    node.cut_at(0, Id::new(C)).ok()?;
+    inserted(alloc, &mut node, 1, b"abc", b"x")?;
+    inserted(alloc, &mut node, 1, b"b", b"x")?;
+    Some((node.merge(0, 1), node.span(1)))
 }
 
 /// The same call under two keys, each in a segment of its own.
 #[test]
-fn no_call_is_kept_twice(rt: HostRuntime) -> Result<(), Fail> {
-    let alloc = rt.alloc();
-    let mut node = found(alloc, CappedStore::new(alloc, 2)).ok_or("no node")?;
-    assert_eq!(rt; node.cut_at(0, Id::new(C)), Ok(()));
-    node.on_ask(&ask(1, 0, insert(alloc, b"abc", b"x")?))?;
-    node.on_ask(&ask(1, 0, insert(alloc, b"b", b"x")?))?;
-    assert_eq!(rt; node.merge(0, 1), Err(MergeFault::Twice));
-    assert_eq!(rt; node.span(1), Some(span(C, A)));
-    Ok(())
+fn no_call_is_kept_twice(rt: HostRuntime) {
+    let twice = (Err(MergeFault::Twice), Some(span(C, A)));
+    assert_eq!(rt; kept_twice(rt.alloc()), Some(twice));
+}
+
+/// How the giving of a segment that is not held is refused.
+fn gives_nothing(alloc: Global) -> Option<(Result<(), GiveFault>, Option<GiveFault>)> {
+    let mut node = founder(alloc)?;
+    Some((node.may_give(1, 1), node.give(1, 1).err()))
 }
 
 #[test]
-fn gives_what_it_holds(rt: HostRuntime) -> Result<(), Fail> {
-    let alloc = rt.alloc();
-    let mut node = found(alloc, CappedStore::new(alloc, 1)).ok_or("no node")?;
-    assert_eq!(rt; node.may_give(1, 1), Err(GiveFault::NoSegment));
-    assert_eq!(rt; node.give(1, 1).err(), Some(GiveFault::NoSegment));
-    assert_eq!(rt; node.may_give(0, 1), Ok(()));
-    assert!(rt; node.holds(Id::new(0)));
-    let part = node.give(0, 1).ok().ok_or("not given")?;
-    assert_eq!(rt; (part.from, part.to, part.number), (0, 1, 1));
-    assert_eq!(rt; (part.part, part.of), (1, 1));
-    assert!(rt; !node.holds(Id::new(0)));
-    Ok(())
+fn gives_no_segment_that_it_does_not_hold(rt: HostRuntime) {
+    let fault = GiveFault::NoSegment;
+    assert_eq!(rt; gives_nothing(rt.alloc()), Some((Err(fault), Some(fault))));
+}
+
+/// Whether a node may give all to node 1, and whether it holds identifier 0.
+fn may_give(alloc: Global) -> Option<(Result<(), GiveFault>, bool)> {
+    let node = founder(alloc)?;
+    Some((node.may_give(0, 1), node.holds(Id::new(0))))
+}
+
+/// From whom a part goes to whom, the number of its handover, and which part it is of how many.
+fn names(part: &Part) -> (u64, u64, u64, u64, u64) {
+    (part.from, part.to, part.number, part.part, part.of)
+}
+
+/// The names of the part that is given, and whether the node holds identifier 0 then.
+fn gives(alloc: Global) -> Option<((u64, u64, u64, u64, u64), bool)> {
+    let mut node = founder(alloc)?;
+    let part = node.give(0, 1).ok()?;
+    Some((names(&part), node.holds(Id::new(0))))
 }
 
 #[test]
-fn a_part_goes_again(rt: HostRuntime) -> Result<(), Fail> {
-    let (node, first) = given_away(rt.alloc(), 1).ok_or("not given")?;
-    assert_eq!(rt; node.kept(0), Some((1, 1, span(A, C))));
-    assert_eq!(rt; node.kept(1), None);
-    let again = node.resend_part(1, 1, 1).ok().ok_or("no part")?;
-    assert_eq!(rt; (again.from, again.to, again.number), (0, 1, 1));
-    assert_eq!(rt; (again.part, again.of), (1, 1));
-    let first_segment = first.segment.as_ref().ok_or("no segment")?;
-    assert!(rt;
-        again
-            .segment
-            .is_some_and(|segment| segment.equals(first_segment))
-    );
-    assert_eq!(rt; again.pairs.len(), 1);
-    assert!(rt; again.pairs.as_slice() == first.pairs.as_slice());
+fn gives_what_it_holds(rt: HostRuntime) {
+    assert_eq!(rt; may_give(rt.alloc()), Some((Ok(()), true)));
+    assert_eq!(rt; gives(rt.alloc()), Some(((0, 1, 1, 1, 1), false)));
+}
+
+/// The first item that is kept of what was given, and a second one.
+fn kept(alloc: Global) -> Option<(Option<(u64, u64, Span)>, Option<(u64, u64, Span)>)> {
+    let (node, _) = given_away(alloc, 1)?;
+    Some((node.kept(0), node.kept(1)))
+}
+
+#[test]
+fn what_is_given_is_kept(rt: HostRuntime) {
+    let item = (1, 1, span(A, C));
+    assert_eq!(rt; kept(rt.alloc()), Some((Some(item), None)));
+}
+
+/// Whether the parts have the same segment and the same pairs, of which there is one.
+fn have_the_same(part: &Part, other: &Part) -> Option<(bool, usize, bool)> {
+    let segment = part.segment.as_ref()?.equals(other.segment.as_ref()?);
+    let pairs = part.pairs.as_slice() == other.pairs.as_slice();
+    Some((segment, part.pairs.len(), pairs))
+}
+
+/// The names of the part that goes again, and what it has of the first.
+fn resent(alloc: Global) -> Option<((u64, u64, u64, u64, u64), Option<(bool, usize, bool)>)> {
+    let (node, first) = given_away(alloc, 1)?;
+    let again = node.resend_part(1, 1, 1).ok()?;
+    Some((names(&again), have_the_same(&again, &first)))
+}
+
+#[test]
+fn a_part_goes_again(rt: HostRuntime) {
+    let same = Some((true, 1, true));
+    assert_eq!(rt; resent(rt.alloc()), Some(((0, 1, 1, 1, 1), same)));
+}
+
+#[test]
+fn no_other_part_goes_again(rt: HostRuntime) -> Result<(), Fail> {
+    let (node, _) = given_away(rt.alloc(), 1).ok_or("not given")?;
     for (to, number, part) in [(1, 1, 0), (1, 1, 2), (1, 2, 1), (2, 1, 1)] {
-        assert_eq!(rt;
-            node.resend_part(to, number, part).err(),
-            Some(ResendFault::NoPart)
-        );
+        let fault = node.resend_part(to, number, part).err();
+        assert_eq!(rt; fault, Some(ResendFault::NoPart));
     }
     Ok(())
 }
 
+/// How many segments a node holds, and how many items it keeps of what it gave.
+fn counts(node: &Node<CappedStore>) -> (usize, usize) {
+    (node.held_count(), node.kept_count())
+}
+
+/// What comes of an item that was not given and is declined, and the counts before.
+fn unknown(alloc: Global) -> Option<((usize, usize), Back)> {
+    let (mut node, _) = given_away(alloc, 1)?;
+    let before = counts(&node);
+    Some((before, back(&mut node, ticket(0, 1, 2))?))
+}
+
+/// What comes of the item that was given, where it stands then, and how many items are kept.
+fn held_again(alloc: Global) -> Option<(Back, Option<Span>, usize)> {
+    let (mut node, _) = given_away(alloc, 1)?;
+    back(&mut node, ticket(0, 1, 2))?;
+    let held = back(&mut node, ticket(0, 1, 1))?;
+    Some((held, node.span(1), node.kept_count()))
+}
+
 #[test]
-fn what_is_declined_is_held_again(rt: HostRuntime) -> Result<(), Fail> {
-    let (mut node, _) = given_away(rt.alloc(), 1).ok_or("not given")?;
-    assert_eq!(rt; (node.held_count(), node.kept_count()), (1, 1));
-    assert_eq!(rt;
-        taken_back(&mut node, ticket(0, 1, 2))?,
-        Some(Back::Unknown)
-    );
-    assert_eq!(rt; taken_back(&mut node, ticket(0, 1, 1))?, Some(Back::Held));
-    assert_eq!(rt; node.span(1), Some(span(A, C)));
-    assert_eq!(rt; node.kept_count(), 0);
-    Ok(())
+fn what_is_declined_is_held_again(rt: HostRuntime) {
+    assert_eq!(rt; unknown(rt.alloc()), Some(((1, 1), Back::Unknown)));
+    let held = (Back::Held, Some(span(A, C)), 0);
+    assert_eq!(rt; held_again(rt.alloc()), Some(held));
+}
+
+/// What comes of an item that is declined to a full store, and what is kept and held then.
+fn back_to_a_full_store(alloc: Global) -> Option<(Back, Option<(u64, u64, Span)>, usize)> {
+    let (mut node, _) = given_away(alloc, 1)?;
+    inserted(alloc, &mut node, 2, b"b", b"x")?;
+    let full = back(&mut node, ticket(0, 1, 1))?;
+    Some((full, node.kept(0), node.held_count()))
 }
 
 /// What is declined comes to a full store: the item stays.
 #[test]
-fn a_full_store_takes_nothing_back(rt: HostRuntime) -> Result<(), Fail> {
-    let alloc = rt.alloc();
-    let (mut node, _) = given_away(alloc, 1).ok_or("not given")?;
-    node.on_ask(&ask(2, 0, insert(alloc, b"b", b"x")?))?;
-    assert_eq!(rt; taken_back(&mut node, ticket(0, 1, 1))?, Some(Back::Full));
-    assert_eq!(rt; node.kept(0), Some((1, 1, span(A, C))));
-    assert_eq!(rt; node.held_count(), 1);
-    Ok(())
+fn a_full_store_takes_nothing_back(rt: HostRuntime) {
+    let full = (Back::Full, Some((1, 1, span(A, C))), 1);
+    assert_eq!(rt; back_to_a_full_store(rt.alloc()), Some(full));
+}
+
+/// What a node answers to a handover of a part of what it gave, what comes of the item that is declined, and what is kept.
+fn back_to_another(alloc: Global) -> Option<(Given, Back, Option<(u64, u64, Span)>)> {
+    let (mut node, _) = given_away(alloc, 1)?;
+    let part = empty_part(alloc, ticket(2, 0, 1), span(A, B));
+    let got = given(&mut node, &part)?;
+    let clash = back(&mut node, ticket(0, 1, 1))?;
+    Some((got, clash, node.kept(0)))
 }
 
 /// A handover made by hand meets what was given away.
 #[test]
-fn what_is_held_again_meets_nothing(rt: HostRuntime) -> Result<(), Fail> {
-    let alloc = rt.alloc();
-    let (mut node, _) = given_away(alloc, 1).ok_or("not given")?;
-    let part = empty_part(alloc, ticket(2, 0, 1), span(A, B));
-    assert_eq!(rt; handed(&mut node, &part)?, Some(Given::Got));
-    assert_eq!(rt; taken_back(&mut node, ticket(0, 1, 1))?, Some(Back::Clash));
-    assert_eq!(rt; node.kept(0), Some((1, 1, span(A, C))));
-    Ok(())
+fn what_is_held_again_meets_nothing(rt: HostRuntime) {
+    let clash = (Given::Got, Back::Clash, Some((1, 1, span(A, C))));
+    assert_eq!(rt; back_to_another(rt.alloc()), Some(clash));
+}
+
+/// How many pairs a store has, and how the insert of a pair and of another one end.
+fn stores(
+    mut store: CappedStore,
+) -> (
+    u64,
+    Result<Inserted, StoreFault>,
+    Result<Inserted, StoreFault>,
+) {
+    let count = store.count();
+    let first = store.insert(b"a", b"x");
+    (count, first, store.insert(b"a", b"y"))
 }
 
 /// A node that was not admitted gives its store back, with its limit.
@@ -142,9 +249,7 @@ fn a_store_comes_back(rt: HostRuntime) -> Result<(), Fail> {
     if node.phase() == Phase::Gone {
         return Err(Fail::from("gone"));
     }
-    let mut store = node.into_store();
-    assert_eq!(rt; store.count(), 0);
-    assert_eq!(rt; store.insert(b"a", b"x"), Ok(Inserted::Added));
-    assert_eq!(rt; store.insert(b"a", b"y"), Err(StoreFault::Full));
+    let one = (0, Ok(Inserted::Added), Err(StoreFault::Full));
+    assert_eq!(rt; stores(node.into_store()), one);
     Ok(())
 }
