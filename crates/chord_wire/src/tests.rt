@@ -63,6 +63,28 @@ fn answer_of(alloc: Global, bytes: &[u8]) -> Result<Option<Answer>, WireFault> {
     answers.next()
 }
 
+/// Feeds the bytes one at a time, and tells whether the stream kept each and gave nothing before the last.
+fn keeps_pieces(frames: &mut Frames, bytes: &[u8]) -> Result<bool, WireFault> {
+    for (place, byte) in bytes.iter().enumerate() {
+        if frames.left() != place || frames.next()?.is_some() {
+            return Ok(false);
+        }
+        frames.feed(&[*byte])?;
+    }
+    Ok(true)
+}
+
+/// Answers that were fed whole, byte by byte, and whole again.
+fn answers_in_pieces(alloc: Global) -> Result<Answers, WireFault> {
+    let mut answers = Answers::new(alloc);
+    answers.feed(&ADDED)?;
+    for byte in &ONE_VALUE {
+        answers.feed(&[*byte])?;
+    }
+    answers.feed(&TWO_VALUES)?;
+    Ok(answers)
+}
+
 /// The bytes with another byte at a place.
 fn changed(alloc: Global, bytes: &[u8], place: usize, byte: u8) -> Result<Vec<u8>, AllocError> {
     let mut copy = Vec::from_slice(alloc, bytes)?;
@@ -70,6 +92,12 @@ fn changed(alloc: Global, bytes: &[u8], place: usize, byte: u8) -> Result<Vec<u8
         *old = byte;
     }
     Ok(copy)
+}
+
+/// The frame of a fault of request 1 with this code.
+fn fault_frame(alloc: Global, code: u8) -> Result<Vec<u8>, AllocError> {
+    let bytes = changed(alloc, &ADDED, 5, 0xff)?;
+    changed(alloc, &bytes, 14, code)
 }
 
 fn is_insert(alloc: Global, wire: &WireRequest, version: u8) -> Result<bool, AllocError> {
@@ -87,46 +115,70 @@ fn is_reply(answer: &Answer, wanted: u64, reply: &Reply) -> bool {
     }
 }
 
+/// The number and the code of a fault.
+fn fault_in(answer: &Answer) -> Option<(u64, FaultCode)> {
+    match answer {
+        Answer::Fault { number, code } => Some((*number, *code)),
+        Answer::Reply { .. } => None,
+    }
+}
+
 #[test]
-fn writes_the_vectors(rt: HostRuntime) -> Result<(), Fail> {
+fn writes_requests(rt: HostRuntime) -> Result<(), Fail> {
     let alloc = rt.alloc();
     let request = insert(alloc, b"a", b"x")?;
     assert!(rt; request.check().is_ok());
-    assert_eq!(rt;
-        write_request(alloc, 1, &request)?.as_slice(),
-        INSERT.as_slice()
-    );
-    assert_eq!(rt;
-        write_request_2(alloc, 1, 0, &request)?.as_slice(),
-        INSERT_2.as_slice()
-    );
-    assert_eq!(rt;
-        write_reply(alloc, 1, &Reply::Added)?.as_slice(),
-        ADDED.as_slice()
-    );
+    let frame = write_request(alloc, 1, &request)?;
+    assert_eq!(rt; frame.as_slice(), INSERT.as_slice());
+    let frame = write_request_2(alloc, 1, 0, &request)?;
+    assert_eq!(rt; frame.as_slice(), INSERT_2.as_slice());
+    Ok(())
+}
+
+#[test]
+fn writes_replies(rt: HostRuntime) -> Result<(), Fail> {
+    let alloc = rt.alloc();
+    let frame = write_reply(alloc, 1, &Reply::Added)?;
+    assert_eq!(rt; frame.as_slice(), ADDED.as_slice());
     let reply = values(alloc, &[b"x".as_slice()])?;
     assert!(rt; is_writable(&reply));
-    assert_eq!(rt;
-        write_reply(alloc, 2, &reply)?.as_slice(),
-        ONE_VALUE.as_slice()
-    );
-    assert_eq!(rt;
-        write_fault(alloc, 0, FaultCode::BadVersion)?.as_slice(),
-        [0, 0, 0, 0x0b, 1, 0xff, 0, 0, 0, 0, 0, 0, 0, 0, 2].as_slice()
-    );
+    let frame = write_reply(alloc, 2, &reply)?;
+    assert_eq!(rt; frame.as_slice(), ONE_VALUE.as_slice());
+    Ok(())
+}
+
+#[test]
+fn writes_faults(rt: HostRuntime) -> Result<(), Fail> {
+    let frame = write_fault(rt.alloc(), 0, FaultCode::BadVersion)?;
+    let wanted = [0, 0, 0, 0x0b, 1, 0xff, 0, 0, 0, 0, 0, 0, 0, 0, 2];
+    assert_eq!(rt; frame.as_slice(), wanted.as_slice());
     Ok(())
 }
 
 #[test]
 fn tells_what_has_a_frame(rt: HostRuntime) -> Result<(), Fail> {
-    let alloc = rt.alloc();
     let long = [7u8; 4097];
     assert!(rt; is_writable(&Reply::Absent));
-    assert!(rt; is_writable(&values(alloc, &[])?));
-    assert!(rt; is_writable(&values(alloc, &[&long[..4096]])?));
-    assert!(rt; !is_writable(&values(alloc, &[&long])?));
-    assert!(rt; !is_writable(&values(alloc, &[b"x".as_slice(), b"x".as_slice()])?));
-    assert!(rt; !is_writable(&values(alloc, &[b"y".as_slice(), b"x".as_slice()])?));
+    for (all, wanted) in [
+        ([].as_slice(), true),
+        ([&long[..4096]].as_slice(), true),
+        ([long.as_slice()].as_slice(), false),
+        ([b"x".as_slice(), b"x".as_slice()].as_slice(), false),
+        ([b"y".as_slice(), b"x".as_slice()].as_slice(), false),
+    ] {
+        let reply = values(rt.alloc(), all)?;
+        assert_eq!(rt; is_writable(&reply), wanted);
+    }
+    Ok(())
+}
+
+#[test]
+fn reads_whole_requests(rt: HostRuntime) -> Result<(), Fail> {
+    let alloc = rt.alloc();
+    for (bytes, version) in [(INSERT.as_slice(), 1), (INSERT_2.as_slice(), 2)] {
+        let whole = request_of(alloc, bytes)?.ok_or("not whole")?;
+        assert!(rt; is_insert(alloc, &whole, version)?);
+    }
     Ok(())
 }
 
@@ -134,14 +186,8 @@ fn tells_what_has_a_frame(rt: HostRuntime) -> Result<(), Fail> {
 fn reads_requests_in_any_pieces(rt: HostRuntime) -> Result<(), Fail> {
     let alloc = rt.alloc();
     for (bytes, version) in [(INSERT.as_slice(), 1), (INSERT_2.as_slice(), 2)] {
-        let whole = request_of(alloc, bytes)?.ok_or("not whole")?;
-        assert!(rt; is_insert(alloc, &whole, version)?);
         let mut frames = Frames::new(alloc);
-        for (place, byte) in bytes.iter().enumerate() {
-            assert_eq!(rt; frames.left(), place);
-            assert!(rt; frames.next()?.is_none());
-            frames.feed(&[*byte])?;
-        }
+        assert!(rt; keeps_pieces(&mut frames, bytes)?);
         let pieced = frames.next()?.ok_or("not whole")?;
         assert!(rt; is_insert(alloc, &pieced, version)?);
         assert_eq!(rt; frames.left(), 0);
@@ -152,21 +198,27 @@ fn reads_requests_in_any_pieces(rt: HostRuntime) -> Result<(), Fail> {
 #[test]
 fn reads_answers_in_any_pieces(rt: HostRuntime) -> Result<(), Fail> {
     let alloc = rt.alloc();
-    let mut answers = Answers::new(alloc);
-    answers.feed(&ADDED)?;
-    for byte in &ONE_VALUE {
-        answers.feed(&[*byte])?;
-    }
-    answers.feed(&TWO_VALUES)?;
+    let mut answers = answers_in_pieces(alloc)?;
     assert_eq!(rt; answers.left(), 60);
     let first = answers.next()?.ok_or("no reply")?;
     assert!(rt; is_reply(&first, 1, &Reply::Added));
-    let second = answers.next()?.ok_or("no reply")?;
-    assert!(rt; is_reply(&second, 2, &values(alloc, &[b"x".as_slice()])?));
-    assert_eq!(rt; answers.left(), 24);
-    let third = answers.next()?.ok_or("no reply")?;
-    let both = values(alloc, &[b"x".as_slice(), b"y".as_slice()])?;
-    assert!(rt; is_reply(&third, 2, &both));
+    assert_eq!(rt; answers.left(), 45);
+    Ok(())
+}
+
+#[test]
+fn reads_values_in_any_pieces(rt: HostRuntime) -> Result<(), Fail> {
+    let alloc = rt.alloc();
+    let mut answers = answers_in_pieces(alloc)?;
+    answers.next()?.ok_or("no reply")?;
+    for (all, left) in [
+        ([b"x".as_slice()].as_slice(), 24),
+        ([b"x".as_slice(), b"y".as_slice()].as_slice(), 0),
+    ] {
+        let answer = answers.next()?.ok_or("no reply")?;
+        assert!(rt; is_reply(&answer, 2, &values(alloc, all)?));
+        assert_eq!(rt; answers.left(), left);
+    }
     assert!(rt; answers.next()?.is_none());
     Ok(())
 }
@@ -279,24 +331,36 @@ fn each_field_of_an_answer_has_its_faults(rt: HostRuntime) -> Result<(), Fail> {
 
 #[test]
 fn faults_are_read_back(rt: HostRuntime) -> Result<(), Fail> {
-    let alloc = rt.alloc();
-    for code in 0..=13 {
-        let bytes = changed(alloc, &ADDED, 5, 0xff)?;
-        let bytes = changed(alloc, &bytes, 14, code)?;
-        match (FaultCode::from_number(code), answer_of(alloc, &bytes)) {
-            (Some(known), Ok(Some(Answer::Fault { number, code: told }))) => {
-                assert_eq!(rt; known, told);
-                assert_eq!(rt; known.to_number(), code);
-                assert_eq!(rt; number, 1);
-                assert_ne!(rt; known, FaultCode::Memory);
-                assert_eq!(rt; write_fault(alloc, 1, known)?.as_slice(), bytes.as_slice());
-            }
-            (None, Err(fault)) => {
-                assert!(rt; code == 0 || code == 7 || code == 13);
-                assert_eq!(rt; fault.code, FaultCode::BadValue);
-            }
-            _ => return Err("not the same".into()),
-        }
+    for number in [1, 2, 3, 4, 5, 6, 8, 9, 10, 11, 12] {
+        let code = FaultCode::from_number(number).ok_or("no fault")?;
+        assert_eq!(rt; code.to_number(), number);
+        assert_ne!(rt; code, FaultCode::Memory);
+        let frame = fault_frame(rt.alloc(), number)?;
+        let answer = answer_of(rt.alloc(), &frame)?.ok_or("not whole")?;
+        assert_eq!(rt; fault_in(&answer), Some((1, code)));
+    }
+    Ok(())
+}
+
+#[test]
+fn faults_are_written(rt: HostRuntime) -> Result<(), Fail> {
+    for number in [1, 2, 3, 4, 5, 6, 8, 9, 10, 11, 12] {
+        let code = FaultCode::from_number(number).ok_or("no fault")?;
+        assert_ne!(rt; code, FaultCode::Memory);
+        let frame = fault_frame(rt.alloc(), number)?;
+        let written = write_fault(rt.alloc(), 1, code)?;
+        assert_eq!(rt; written.as_slice(), frame.as_slice());
+    }
+    Ok(())
+}
+
+#[test]
+fn no_other_code_is_a_fault(rt: HostRuntime) -> Result<(), Fail> {
+    for number in [0, 7, 13] {
+        assert_eq!(rt; FaultCode::from_number(number), None);
+        let frame = fault_frame(rt.alloc(), number)?;
+        let fault = answer_of(rt.alloc(), &frame).err().ok_or("no fault")?;
+        assert_eq!(rt; fault.code, FaultCode::BadValue);
     }
     Ok(())
 }

@@ -90,30 +90,36 @@ fn requests_are_read_where_growths_are_refused(rt: HostRuntime) -> Result<(), Fa
     Ok(())
 }
 
-#[test]
-fn answers_are_read_where_growths_are_refused(rt: HostRuntime) -> Result<(), Fail> {
-    let alloc = rt.alloc();
-    let one = reply(alloc, &[b"x".as_slice()])?;
-    let two = reply(alloc, &[b"x".as_slice(), b"y".as_slice()])?;
+/// Answers of which the first was fed byte by byte and the second whole.
+fn fed_answers(rt: &impl Abort, alloc: Global) -> Result<Answers, Fail> {
     let mut answers = Answers::new(alloc);
     for byte in &ONE_VALUE {
         assert!(rt; matches!(answers.next(), Ok(None)));
-        feeds_answers(&rt, &mut answers, &[*byte])?;
+        feeds_answers(rt, &mut answers, &[*byte])?;
     }
-    feeds_answers(&rt, &mut answers, &TWO_VALUES)?;
-    assert!(rt; is_reply(&next_answer(&rt, &mut answers)?, 2, &one));
-    assert!(rt; is_reply(&next_answer(&rt, &mut answers)?, 2, &two));
+    feeds_answers(rt, &mut answers, &TWO_VALUES)?;
+    Ok(answers)
+}
+
+#[test]
+fn answers_are_read_where_growths_are_refused(rt: HostRuntime) -> Result<(), Fail> {
+    let mut answers = fed_answers(&rt, rt.alloc())?;
+    for all in [
+        [b"x".as_slice()].as_slice(),
+        [b"x".as_slice(), b"y".as_slice()].as_slice(),
+    ] {
+        let wanted = reply(rt.alloc(), all)?;
+        assert!(rt; is_reply(&next_answer(&rt, &mut answers)?, 2, &wanted));
+    }
     assert_eq!(rt; answers.left(), 0);
     Ok(())
 }
 
 #[test]
-fn frames_are_written_where_growths_are_refused(rt: HostRuntime) -> Result<(), Fail> {
+fn requests_are_written_where_growths_are_refused(rt: HostRuntime) -> Result<(), Fail> {
     let alloc = rt.alloc();
     let asked = request(alloc)?;
     assert!(rt; asked.check().is_ok());
-    let told = reply(alloc, &[b"x".as_slice()])?;
-    assert!(rt; is_writable(&told));
     let frame = match write_request(alloc, 1, &asked) {
         Ok(frame) => frame,
         Err(_) => write_request(alloc, 1, &asked)?,
@@ -124,11 +130,25 @@ fn frames_are_written_where_growths_are_refused(rt: HostRuntime) -> Result<(), F
         Err(_) => write_request_2(alloc, 1, 0, &asked)?,
     };
     assert_eq!(rt; frame.as_slice(), INSERT_2.as_slice());
+    Ok(())
+}
+
+#[test]
+fn replies_are_written_where_growths_are_refused(rt: HostRuntime) -> Result<(), Fail> {
+    let alloc = rt.alloc();
+    let told = reply(alloc, &[b"x".as_slice()])?;
+    assert!(rt; is_writable(&told));
     let frame = match write_reply(alloc, 2, &told) {
         Ok(frame) => frame,
         Err(_) => write_reply(alloc, 2, &told)?,
     };
     assert_eq!(rt; frame.as_slice(), ONE_VALUE.as_slice());
+    Ok(())
+}
+
+#[test]
+fn faults_are_written_where_growths_are_refused(rt: HostRuntime) -> Result<(), Fail> {
+    let alloc = rt.alloc();
     let mut full = ADDED;
     full[5] = 0xff;
     full[14] = 10;
