@@ -2,8 +2,8 @@
 // With ample memory nothing is refused.
 
 use super::askers::MapAsker;
-use super::sessions::{ADDED, INSERT, INSERT_2, insert, is_added, three};
-use crate::{CallFault, Client, SendFault, Served, call, call_2, serve};
+use super::sessions::{ADDED, INSERT, INSERT_2, calls, insert, is_added, three};
+use crate::{CallFault, Client, SendFault, Served, serve};
 use chord_map::Request;
 use chord_wire::{Answer, Answers};
 use std::alloc::{AllocError, Global};
@@ -51,7 +51,8 @@ fn is_refused(rt: &impl Abort, fault: CallFault, written: &[u8], frame: &[u8]) {
     assert!(rt; written.is_empty() || written == frame);
 }
 
-fn calls(
+/// A call with ample turns, whose answer is there.
+fn answered(
     alloc: Global,
     version: u8,
     written: &mut Vec<u8>,
@@ -59,14 +60,7 @@ fn calls(
     request: &Request,
 ) -> Result<Answer, CallFault> {
     let mut reader = ADDED.as_slice();
-    if request.check().is_err() {
-        return Err(CallFault::Ended);
-    }
-    if version == 1 {
-        call(alloc, &mut reader, written, answers, 1, request, 10)
-    } else {
-        call_2(alloc, &mut reader, written, answers, 1, 0, request, 10)
-    }
+    calls(alloc, (&mut reader, written), answers, version, request, 10)
 }
 
 #[test]
@@ -76,12 +70,12 @@ fn a_call_made_again_is_answered(rt: HostRuntime) -> Result<(), Fail> {
     for (version, frame) in [(1, INSERT.as_slice()), (2, INSERT_2.as_slice())] {
         let mut written = roomy(alloc)?;
         let mut answers = Answers::new(alloc);
-        let answer = match calls(alloc, version, &mut written, &mut answers, &request) {
+        let answer = match answered(alloc, version, &mut written, &mut answers, &request) {
             Ok(answer) => answer,
             Err(fault) => {
                 is_refused(&rt, fault, &written, frame);
                 written.clear();
-                calls(alloc, version, &mut written, &mut answers, &request)
+                answered(alloc, version, &mut written, &mut answers, &request)
                     .ok()
                     .ok_or("no answer")?
             }

@@ -4,6 +4,7 @@ use crate::{Asker, CallFault, Served, call, call_2, laws, serve};
 use chord_map::{Bytes, Reply, Request};
 use chord_wire::{Answer, Answers, FaultCode};
 use std::alloc::{AllocError, Global};
+use std::io::{Read, Write};
 use std::test::Fail;
 
 // Insert x under a, number 1.
@@ -129,72 +130,78 @@ fn refused_numbers_and_floors(rt: HostRuntime) -> Result<(), Fail> {
 }
 
 #[test]
-fn short_and_faulty_sessions(rt: HostRuntime) -> Result<(), Fail> {
+fn short_sessions(rt: HostRuntime) -> Result<(), Fail> {
     let alloc = rt.alloc();
-    let mut bad_version = RETRIEVE;
-    bad_version[4] = 9;
-    let mut bad_operation = RETRIEVE;
-    bad_operation[5] = 4;
-    let mut bad_key = RETRIEVE;
-    bad_key[14] = 0;
-    let mut bad_value = INSERT;
-    bad_value[17] = 2;
-    let mut trailing = INSERT;
-    trailing[17] = 0;
-    let mut bad_floor = INSERT_2;
-    bad_floor[21] = 1;
-    let mixed = joined(alloc, &[&INSERT_2, &INSERT])?;
-    let mixed_out = joined(alloc, &[&ADDED, &fault(0, 2)])?;
     for (input, end, output) in [
         ([].as_slice(), Served::Ended, [].as_slice()),
         ([0u8, 0, 0].as_slice(), Served::Truncated, [].as_slice()),
         (INSERT.as_slice(), Served::Ended, ADDED.as_slice()),
         (INSERT_2.as_slice(), Served::Ended, ADDED.as_slice()),
-        (
-            [0, 0, 0x11, 0x15].as_slice(),
-            Served::Malformed(FaultCode::BadLength),
-            fault(0, 1).as_slice(),
-        ),
-        (
-            bad_version.as_slice(),
-            Served::Malformed(FaultCode::BadVersion),
-            fault(0, 2).as_slice(),
-        ),
-        (
-            bad_operation.as_slice(),
-            Served::Malformed(FaultCode::BadOperation),
-            fault(0, 3).as_slice(),
-        ),
-        (
-            bad_key.as_slice(),
-            Served::Malformed(FaultCode::BadKey),
-            fault(2, 4).as_slice(),
-        ),
-        (
-            bad_value.as_slice(),
-            Served::Malformed(FaultCode::BadValue),
-            fault(1, 5).as_slice(),
-        ),
-        (
-            trailing.as_slice(),
-            Served::Malformed(FaultCode::Trailing),
-            fault(1, 6).as_slice(),
-        ),
-        (
-            bad_floor.as_slice(),
-            Served::Malformed(FaultCode::BadFloor),
-            fault(1, 12).as_slice(),
-        ),
-        (
-            mixed.as_slice(),
-            Served::Malformed(FaultCode::BadVersion),
-            mixed_out.as_slice(),
-        ),
     ] {
         let (served, written) = session(alloc, input, &mut MapAsker::new(alloc));
         assert_eq!(rt; served, end);
         assert_eq!(rt; written.as_slice(), output);
     }
+    Ok(())
+}
+
+/// A frame with another byte at a place ends the session with its fault.
+#[test]
+fn faulty_sessions(rt: HostRuntime) -> Result<(), Fail> {
+    let alloc = rt.alloc();
+    for (frame, place, byte, code, output) in [
+        (
+            RETRIEVE.as_slice(),
+            4,
+            9,
+            FaultCode::BadVersion,
+            fault(0, 2),
+        ),
+        (
+            RETRIEVE.as_slice(),
+            5,
+            4,
+            FaultCode::BadOperation,
+            fault(0, 3),
+        ),
+        (RETRIEVE.as_slice(), 14, 0, FaultCode::BadKey, fault(2, 4)),
+        (INSERT.as_slice(), 17, 2, FaultCode::BadValue, fault(1, 5)),
+        (INSERT.as_slice(), 17, 0, FaultCode::Trailing, fault(1, 6)),
+        (
+            INSERT_2.as_slice(),
+            21,
+            1,
+            FaultCode::BadFloor,
+            fault(1, 12),
+        ),
+    ] {
+        let mut input = Vec::from_slice(alloc, frame)?;
+        if let Some(old) = input.get_mut(place) {
+            *old = byte;
+        }
+        let (served, written) = session(alloc, &input, &mut MapAsker::new(alloc));
+        assert_eq!(rt; served, Served::Malformed(code));
+        assert_eq!(rt; written.as_slice(), output.as_slice());
+    }
+    Ok(())
+}
+
+#[test]
+fn a_bad_length_ends_a_session(rt: HostRuntime) {
+    let alloc = rt.alloc();
+    let (served, written) = session(alloc, &[0, 0, 0x11, 0x15], &mut MapAsker::new(alloc));
+    assert_eq!(rt; served, Served::Malformed(FaultCode::BadLength));
+    assert_eq!(rt; written.as_slice(), fault(0, 1).as_slice());
+}
+
+#[test]
+fn a_session_keeps_its_version(rt: HostRuntime) -> Result<(), Fail> {
+    let alloc = rt.alloc();
+    let mixed = joined(alloc, &[&INSERT_2, &INSERT])?;
+    let output = joined(alloc, &[&ADDED, &fault(0, 2)])?;
+    let (served, written) = session(alloc, &mixed, &mut MapAsker::new(alloc));
+    assert_eq!(rt; served, Served::Malformed(FaultCode::BadVersion));
+    assert_eq!(rt; written.as_slice(), output.as_slice());
     Ok(())
 }
 
@@ -279,7 +286,13 @@ fn a_writer_fails_at_each_call(rt: HostRuntime) -> Result<(), Fail> {
             output.get(..written).unwrap_or(&[])
         );
     }
-    // A writer that takes no byte.
+    Ok(())
+}
+
+#[test]
+fn a_writer_takes_no_byte(rt: HostRuntime) -> Result<(), Fail> {
+    let alloc = rt.alloc();
+    let (input, _) = three(alloc)?;
     let mut writer = Limited {
         inner: Vec::new(alloc),
         step: 0,
@@ -335,39 +348,38 @@ pub fn is_added(answer: &Answer) -> bool {
     )
 }
 
+/// Call number 1 in this version, with floor 0.
+pub fn calls<R: Read, W: Write>(
+    alloc: Global,
+    (reader, writer): (&mut R, &mut W),
+    answers: &mut Answers,
+    version: u8,
+    request: &Request,
+    turns: u64,
+) -> Result<Answer, CallFault> {
+    if request.check().is_err() {
+        return Err(CallFault::Ended);
+    }
+    if version == 1 {
+        call(alloc, reader, writer, answers, 1, request, turns)
+    } else {
+        call_2(alloc, reader, writer, answers, 1, 0, request, turns)
+    }
+}
+
 #[test]
 fn one_call_over_memory(rt: HostRuntime) -> Result<(), Fail> {
     let alloc = rt.alloc();
     let request = insert(alloc)?;
-    assert!(rt; request.check().is_ok());
     let mut answers = Answers::new(alloc);
-    let mut written: Vec<u8> = Vec::new(alloc);
-    let mut reader = ADDED.as_slice();
-    let answer = call(
-        alloc,
-        &mut reader,
-        &mut written,
-        &mut answers,
-        1,
-        &request,
-        10,
-    );
-    assert!(rt; is_added(&answer.ok().ok_or("no answer")?));
-    assert_eq!(rt; written.as_slice(), INSERT.as_slice());
-    let mut written: Vec<u8> = Vec::new(alloc);
-    let mut reader = ADDED.as_slice();
-    let answer = call_2(
-        alloc,
-        &mut reader,
-        &mut written,
-        &mut answers,
-        1,
-        0,
-        &request,
-        10,
-    );
-    assert!(rt; is_added(&answer.ok().ok_or("no answer")?));
-    assert_eq!(rt; written.as_slice(), INSERT_2.as_slice());
+    for (version, frame) in [(1, INSERT.as_slice()), (2, INSERT_2.as_slice())] {
+        let mut written: Vec<u8> = Vec::new(alloc);
+        let mut reader = ADDED.as_slice();
+        let devices = (&mut reader, &mut written);
+        let answer = calls(alloc, devices, &mut answers, version, &request, 10);
+        assert!(rt; answer.is_ok_and(|answer| is_added(&answer)));
+        assert_eq!(rt; written.as_slice(), frame);
+    }
     Ok(())
 }
 
@@ -378,11 +390,8 @@ fn fault_of(
     input: &[u8],
     (reads, writes): (u64, u64),
     turns: u64,
-) -> Result<(Option<CallFault>, u64), Fail> {
+) -> Result<(Option<CallFault>, u64), AllocError> {
     let request = insert(alloc)?;
-    if request.check().is_err() {
-        return Err("not a request".into());
-    }
     let mut reader = Limited {
         inner: input,
         step: 7,
@@ -394,30 +403,13 @@ fn fault_of(
         calls: writes,
     };
     let mut answers = Answers::new(alloc);
-    let answer = if version == 1 {
-        call(
-            alloc,
-            &mut reader,
-            &mut writer,
-            &mut answers,
-            1,
-            &request,
-            turns,
-        )
-    } else {
-        call_2(
-            alloc,
-            &mut reader,
-            &mut writer,
-            &mut answers,
-            1,
-            0,
-            &request,
-            turns,
-        )
-    };
+    let devices = (&mut reader, &mut writer);
+    let answer = calls(alloc, devices, &mut answers, version, &request, turns);
     Ok((answer.err(), reads.saturating_sub(reader.calls)))
 }
+
+// A request takes three writes in version 1 and four in version 2, and an answer three reads.
+const VERSIONS: [(u8, u64); 2] = [(1, 3), (2, 4)];
 
 #[test]
 fn calls_without_an_answer(rt: HostRuntime) -> Result<(), Fail> {
@@ -425,8 +417,7 @@ fn calls_without_an_answer(rt: HostRuntime) -> Result<(), Fail> {
     let mut wrong = ADDED;
     wrong[4] = 2;
     let bad_version = CallFault::Malformed(FaultCode::BadVersion);
-    // A request takes three writes in version 1 and four in version 2, and an answer three reads.
-    for (version, writes) in [(1, 3), (2, 4)] {
+    for (version, writes) in VERSIONS {
         for (input, devices, turns, why, made) in [
             ([].as_slice(), (9, writes), 9, CallFault::Ended, 1),
             (ADDED.as_slice(), (1, writes), 9, CallFault::Read, 1),
@@ -437,13 +428,18 @@ fn calls_without_an_answer(rt: HostRuntime) -> Result<(), Fail> {
             (ADDED.as_slice(), (9, writes), 0, CallFault::TurnsSpent, 0),
             (wrong.as_slice(), (9, writes), 9, bad_version, 3),
         ] {
-            let (fault, reads) = fault_of(alloc, version, input, devices, turns)?;
-            assert_eq!(rt; fault, Some(why));
-            assert_eq!(rt; reads, made);
+            let told = fault_of(alloc, version, input, devices, turns)?;
+            assert_eq!(rt; told, (Some(why), made));
         }
-        let (fault, reads) = fault_of(alloc, version, &ADDED, (9, writes), 3)?;
-        assert_eq!(rt; fault, None);
-        assert_eq!(rt; reads, 3);
+    }
+    Ok(())
+}
+
+#[test]
+fn calls_with_the_least_turns(rt: HostRuntime) -> Result<(), Fail> {
+    for (version, writes) in VERSIONS {
+        let told = fault_of(rt.alloc(), version, &ADDED, (9, writes), 3)?;
+        assert_eq!(rt; told, (None, 3));
     }
     Ok(())
 }

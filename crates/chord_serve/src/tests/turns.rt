@@ -54,10 +54,15 @@ fn one_write_a_turn(rt: HostRuntime) -> Result<(), Fail> {
         assert_eq!(rt; outcome.written.as_slice(), output.as_slice());
         assert_eq!(rt; outcome.writes, writes, "at {step}");
     }
+    Ok(())
+}
+
+#[test]
+fn half_a_frame_writes_nothing(rt: HostRuntime) {
+    let alloc = rt.alloc();
     let outcome = session(alloc, (&INSERT[..18], 4096), &mut MapAsker::new(alloc), 100);
     assert_eq!(rt; outcome.end, Served::Truncated);
     assert_eq!(rt; outcome.writes, 0);
-    Ok(())
 }
 
 #[test]
@@ -81,46 +86,67 @@ fn each_write_of_a_turn_fails(rt: HostRuntime) -> Result<(), Fail> {
     Ok(())
 }
 
+/// Two equal inserts, a frame of no operation and an insert.
+fn with_a_bad_frame(alloc: Global) -> Result<Vec<u8>, AllocError> {
+    let mut bad = RETRIEVE;
+    bad[5] = 4;
+    joined(alloc, &[&INSERT, &INSERT, &bad, &INSERT])
+}
+
 #[test]
 fn a_refused_frame_goes_out_with_those_before(rt: HostRuntime) -> Result<(), Fail> {
     let alloc = rt.alloc();
-    let mut bad = RETRIEVE;
-    bad[5] = 4;
-    let input = joined(alloc, &[&INSERT, &INSERT, &bad, &INSERT])?;
+    let input = with_a_bad_frame(alloc)?;
     let output = joined(alloc, &[&ADDED, &ADDED, &fault(0, 3)])?;
     let outcome = session(alloc, (&input, 4096), &mut MapAsker::new(alloc), 100);
     assert_eq!(rt; outcome.end, Served::Malformed(FaultCode::BadOperation));
     assert_eq!(rt; outcome.written.as_slice(), output.as_slice());
     assert_eq!(rt; outcome.writes, 1);
+    Ok(())
+}
+
+#[test]
+fn a_refused_frame_is_not_written(rt: HostRuntime) -> Result<(), Fail> {
+    let alloc = rt.alloc();
+    let input = with_a_bad_frame(alloc)?;
     let outcome = session(alloc, (&input, 4096), &mut MapAsker::new(alloc), 0);
     assert_eq!(rt; outcome.end, Served::Write);
     assert_eq!(rt; outcome.written.len(), 0);
     Ok(())
 }
 
-#[test]
-fn what_is_due_is_written_before_memory_ends(rt: HostRuntime) -> Result<(), Fail> {
-    let alloc = rt.alloc();
+/// Inserts with the numbers 1, 2 and 3.
+fn three_inserts(alloc: Global) -> Result<Vec<u8>, AllocError> {
     let mut second = INSERT;
     second[13] = 2;
     let mut third = INSERT;
     third[13] = 3;
+    joined(alloc, &[&INSERT, &second, &third])
+}
+
+#[test]
+fn what_is_due_is_written_before_memory_ends(rt: HostRuntime) -> Result<(), Fail> {
+    let alloc = rt.alloc();
+    let input = three_inserts(alloc)?;
     let mut added = ADDED;
     added[13] = 2;
-    let input = joined(alloc, &[&INSERT, &second, &third])?;
     let output = joined(alloc, &[&ADDED, &added])?;
     for (number, answered, writes) in [(1, 0, 0), (2, 15, 1), (3, 30, 1)] {
         let mut asker = OutOfMemoryAt::new(alloc, number);
         let outcome = session(alloc, (&input, 4096), &mut asker, 100);
         assert_eq!(rt; outcome.end, Served::Memory);
-        assert_eq!(rt;
-            outcome.written.as_slice(),
-            output.get(..answered).unwrap_or(&[])
-        );
+        let wanted = output.get(..answered).unwrap_or(&[]);
+        assert_eq!(rt; outcome.written.as_slice(), wanted);
         assert_eq!(rt; outcome.writes, writes);
         assert_eq!(rt; asker.requests.len(), number);
     }
-    // Memory ends it and the write fails.
+    Ok(())
+}
+
+#[test]
+fn memory_ends_and_a_write_fails(rt: HostRuntime) -> Result<(), Fail> {
+    let alloc = rt.alloc();
+    let input = three_inserts(alloc)?;
     let mut asker = OutOfMemoryAt::new(alloc, 3);
     let outcome = session(alloc, (&input, 4096), &mut asker, 0);
     assert_eq!(rt; outcome.end, Served::Write);
@@ -167,7 +193,14 @@ fn more_than_64_kib_are_written_at_once(rt: HostRuntime) -> Result<(), Fail> {
         assert_eq!(rt; outcome.written.len(), 3 * reply);
         assert_eq!(rt; outcome.writes, writes, "of {count}");
     }
-    // The second write fails: the first reply was written.
+    Ok(())
+}
+
+/// The second write fails: the first reply was written.
+#[test]
+fn the_second_of_two_writes_fails(rt: HostRuntime) -> Result<(), Fail> {
+    let alloc = rt.alloc();
+    let input = retrieves(alloc)?;
     let mut asker = map_of(alloc, 16)?;
     let outcome = session(alloc, (&input, 4096), &mut asker, 1);
     assert_eq!(rt; outcome.end, Served::Write);
