@@ -7,9 +7,10 @@ ghost use Rattle.chord_map.specs.declared.pair.Pair.{Pair};
 use crate::{Answer, Outcome, PartFault, Refusal, Step, World, run};
 use chord_ident::Id;
 use chord_links::Peer;
-use chord_map::{Bytes, Reply, Request};
+use chord_map::Reply;
 use chord_node::Message;
 use chord_store::ListStore;
+use scripts::{A, Asks, deliver_all, resend, submit};
 use std::alloc::{AllocError, Global};
 use std::test::Fail;
 
@@ -20,25 +21,15 @@ mod scripts;
 
 /// A caller inserts x under abc, and the call is delivered twice.
 fn script(alloc: Global) -> Result<Vec<Step>, AllocError> {
+    let id = Id::new(A);
     let mut steps = Vec::new(alloc);
-    let id = Id::new(0x40000000000000000000000000000000);
     steps.push(Step::Deliver { message: 0 })?;
     steps.push(Step::Create { id })?;
     steps.push(Step::Create { id })?;
     steps.push(Step::OpenCaller { window: 17 })?;
     steps.push(Step::OpenCaller { window: 1 })?;
-    let request = Request::Insert {
-        key: Bytes::from_slice(alloc, b"abc")?,
-        value: Bytes::from_slice(alloc, b"x")?,
-    };
-    steps.push(Step::Submit {
-        caller: 0,
-        via: 0,
-        request,
-    })?;
-    for message in [0, 1, 0, 2, 3] {
-        steps.push(Step::Deliver { message })?;
-    }
+    steps.push(submit(alloc, 0, 0, Asks::Insert, b"abc", b"x")?)?;
+    deliver_all(&mut steps, &[0, 1, 0, 2, 3])?;
     Ok(steps)
 }
 
@@ -51,13 +42,21 @@ fn one_list(alloc: Global) -> Result<Vec<ListStore>, AllocError>
     Ok(stores)
 }
 
+/// A world that did the steps over one list, and what came of each.
+fn world_after(
+    alloc: Global,
+    steps: &[Step],
+) -> Result<(World<ListStore>, Vec<Answer>), AllocError> {
+    let mut stores = one_list(alloc)?;
+    let mut world = World::new(alloc, 3);
+    let answers = run(alloc, &mut world, &mut stores, steps)?;
+    Ok((world, answers))
+}
+
 #[test]
 fn a_repeated_call_acts_once(rt: HostRuntime) -> Result<(), Fail> {
-    let alloc = rt.alloc();
-    let mut stores = one_list(alloc)?;
-    let steps = script(alloc)?;
-    let mut world = World::new(alloc, 3);
-    let answers = run(alloc, &mut world, &mut stores, &steps)?;
+    let steps = script(rt.alloc())?;
+    let (world, answers) = world_after(rt.alloc(), &steps)?;
     let wanted = [
         Answer::Refused(Refusal::NotCreated),
         Answer::Did(Outcome::Node(0)),
@@ -73,11 +72,18 @@ fn a_repeated_call_acts_once(rt: HostRuntime) -> Result<(), Fail> {
     ];
     assert_eq!(rt; answers.as_slice(), wanted.as_slice());
     assert_eq!(rt; world.history().len(), 1);
+    world.headline();
+    Ok(())
+}
+
+#[test]
+fn a_repeated_call_is_told_once(rt: HostRuntime) -> Result<(), Fail> {
+    let steps = script(rt.alloc())?;
+    let (world, _) = world_after(rt.alloc(), &steps)?;
     assert_eq!(rt; world.mine(0).map(|mine| mine.len()), Some(1));
     assert!(rt; world.mine(1).is_none());
     assert!(rt; matches!(world.message(0), Some(Message::Ask(_))));
     assert!(rt; world.message(3).is_none());
-    world.headline();
     Ok(())
 }
 
@@ -97,49 +103,28 @@ fn script_of_two(alloc: Global) -> Result<Vec<Step>, AllocError> {
     steps.push(Step::Create { id: Id::new(7) })?;
     steps.push(Step::OpenCaller { window: 1 })?;
     steps.push(Step::OpenCaller { window: 1 })?;
-    let request = Request::Insert {
-        key: Bytes::from_slice(alloc, b"abc")?,
-        value: Bytes::from_slice(alloc, b"x")?,
-    };
-    steps.push(Step::Submit {
-        caller: 1,
-        via: 0,
-        request,
-    })?;
-    steps.push(Step::Deliver { message: 0 })?;
-    steps.push(Step::Deliver { message: 1 })?;
+    steps.push(submit(alloc, 1, 0, Asks::Insert, b"abc", b"x")?)?;
+    deliver_all(&mut steps, &[0, 1])?;
     steps.push(Step::Show { caller: 1 })?;
+    ask_after_a_note(alloc, &mut steps)?;
+    Ok(steps)
+}
+
+/// Caller 0 meets the note and asks for abc, twice.
+fn ask_after_a_note(alloc: Global, steps: &mut Vec<Step>) -> Result<(), AllocError> {
     steps.push(Step::Meet {
         caller: 0,
         message: 2,
     })?;
-    let request = Request::Retrieve {
-        key: Bytes::from_slice(alloc, b"abc")?,
-    };
-    steps.push(Step::Submit {
-        caller: 0,
-        via: 0,
-        request,
-    })?;
-    steps.push(Step::Resend {
-        caller: 0,
-        via: 0,
-        number: None,
-    })?;
-    for message in [4, 3, 5, 2] {
-        steps.push(Step::Deliver { message })?;
-    }
-    Ok(steps)
+    steps.push(submit(alloc, 0, 0, Asks::Retrieve, b"abc", b"")?)?;
+    steps.push(resend(0, None))?;
+    deliver_all(steps, &[4, 3, 5, 2])
 }
 
-/// What a caller was told of stands in the history before what it asks then.
 #[test]
 fn notes_are_met(rt: HostRuntime) -> Result<(), Fail> {
-    let alloc = rt.alloc();
-    let mut stores = one_list(alloc)?;
-    let steps = script_of_two(alloc)?;
-    let mut world = World::new(alloc, 3);
-    let answers = run(alloc, &mut world, &mut stores, &steps)?;
+    let steps = script_of_two(rt.alloc())?;
+    let (_, answers) = world_after(rt.alloc(), &steps)?;
     let wanted = [
         Answer::Did(Outcome::Node(0)),
         Answer::Did(Outcome::Caller(0)),
@@ -157,13 +142,26 @@ fn notes_are_met(rt: HostRuntime) -> Result<(), Fail> {
         Answer::Refused(Refusal::Part(PartFault::NeedsMeet)),
     ];
     assert_eq!(rt; answers.as_slice(), wanted.as_slice());
+    Ok(())
+}
+
+/// What a caller was told of stands in the history before what it asks then.
+#[test]
+fn a_note_stands_before_what_is_asked_then(rt: HostRuntime) -> Result<(), Fail> {
+    let steps = script_of_two(rt.alloc())?;
+    let (world, _) = world_after(rt.alloc(), &steps)?;
     let history = world.history();
     assert_eq!(rt; history.len(), 2);
     assert_eq!(rt; history.first().map(|done| done.caller), Some(1));
     assert_eq!(rt; history.last().map(|done| done.caller), Some(0));
-    let Some(told) = world.told(0) else {
-        return Err(Fail::from("no caller 0"));
-    };
+    Ok(())
+}
+
+#[test]
+fn a_caller_knows_what_it_was_told_of(rt: HostRuntime) -> Result<(), Fail> {
+    let steps = script_of_two(rt.alloc())?;
+    let (world, _) = world_after(rt.alloc(), &steps)?;
+    let told = world.told(0).ok_or("no caller 0")?;
     assert_eq!(rt; told.len(), 1);
     assert!(rt; told.first().is_some_and(|done| done.reply == Reply::Added));
     assert_eq!(rt; world.told(1).map(|told| told.len()), Some(0));
@@ -171,36 +169,26 @@ fn notes_are_met(rt: HostRuntime) -> Result<(), Fail> {
     Ok(())
 }
 
-/// Pending requests go out again; none is left in the end.
-#[test]
-fn a_request_goes_out_again(rt: HostRuntime) -> Result<(), Fail> {
-    let alloc = rt.alloc();
-    let mut stores = one_list(alloc)?;
+/// The call that is delivered twice, with requests that go out again before it and behind it.
+fn script_with_resends(alloc: Global) -> Result<Vec<Step>, AllocError> {
     let mut steps = Vec::new(alloc);
-    for number in [None, Some(1)] {
-        steps.push(Step::Resend {
-            caller: 0,
-            via: 0,
-            number,
-        })?;
-    }
+    steps.push(resend(0, None))?;
+    steps.push(resend(0, Some(1)))?;
     steps.append(&mut script(alloc)?)?;
-    steps.push(Step::Resend {
-        caller: 0,
-        via: 0,
-        number: Some(1),
-    })?;
-    steps.push(Step::Resend {
-        caller: 0,
-        via: 0,
-        number: None,
-    })?;
+    steps.push(resend(0, Some(1)))?;
+    steps.push(resend(0, None))?;
     steps.push(Step::Meet {
         caller: 0,
         message: 1,
     })?;
-    let mut world = World::new(alloc, 3);
-    let answers = run(alloc, &mut world, &mut stores, &steps)?;
+    Ok(steps)
+}
+
+/// Pending requests go out again; none is left in the end.
+#[test]
+fn a_request_goes_out_again(rt: HostRuntime) -> Result<(), Fail> {
+    let steps = script_with_resends(rt.alloc())?;
+    let (_, answers) = world_after(rt.alloc(), &steps)?;
     let wanted = [
         Answer::Refused(Refusal::NotCreated),
         Answer::Refused(Refusal::NotCreated),
@@ -215,13 +203,10 @@ fn a_request_goes_out_again(rt: HostRuntime) -> Result<(), Fail> {
     Ok(())
 }
 
-#[test]
-fn fingers_are_set(rt: HostRuntime) -> Result<(), Fail> {
-    let alloc = rt.alloc();
-    let mut stores = one_list(alloc)?;
-    let id = Id::new(7);
+/// A node is created, and its fingers are to go to nodes that there are and are not.
+fn script_of_fingers(alloc: Global) -> Result<Vec<Step>, AllocError> {
     let mut steps = Vec::new(alloc);
-    steps.push(Step::Create { id })?;
+    steps.push(Step::Create { id: Id::new(7) })?;
     for (finger, to) in [(129, 7), (129, 0), (1, 0)] {
         steps.push(Step::Finger {
             node: 0,
@@ -229,8 +214,13 @@ fn fingers_are_set(rt: HostRuntime) -> Result<(), Fail> {
             to,
         })?;
     }
-    let mut world = World::new(alloc, 3);
-    let answers = run(alloc, &mut world, &mut stores, &steps)?;
+    Ok(steps)
+}
+
+#[test]
+fn fingers_are_set(rt: HostRuntime) -> Result<(), Fail> {
+    let steps = script_of_fingers(rt.alloc())?;
+    let (world, answers) = world_after(rt.alloc(), &steps)?;
     let wanted = [
         Answer::Did(Outcome::Node(0)),
         Answer::Refused(Refusal::NoSuchNode),
@@ -238,9 +228,8 @@ fn fingers_are_set(rt: HostRuntime) -> Result<(), Fail> {
         Answer::Did(Outcome::Done),
     ];
     assert_eq!(rt; answers.as_slice(), wanted.as_slice());
-    let Some(links) = world.links(0) else {
-        return Err(Fail::from("no node 0"));
-    };
+    let links = world.links(0).ok_or("no node 0")?;
+    let id = Id::new(7);
     assert_eq!(rt; links.fingers().get(1), Some(Peer { no: 0, id }));
     assert_eq!(rt; links.fingers().get(2), None);
     assert!(rt; world.links(1).is_none());

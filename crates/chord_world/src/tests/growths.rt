@@ -4,10 +4,10 @@ ghost use Rattle.std.specs.Prelude.{◌≡◌, [], IfOk};
 ghost use Rattle.std.specs.List.{All};
 
 use crate::tests::disturbed::two_stores;
-use crate::tests::scripts::{A, B, C, moving_key};
+use crate::tests::scripts::{A, Asks, B, C, moving_key, resend, submit};
 use crate::{Outcome, PartFault, Refusal, Step, World};
 use chord_ident::Id;
-use chord_map::{Bytes, Reply, Request};
+use chord_map::Reply;
 use chord_node::Holder;
 use chord_store::{CappedStore, EntryStore};
 use std::alloc::{AllocError, Global};
@@ -27,6 +27,16 @@ fn alone<S: EntryStore>(alloc: Global, store: S) -> Result<Vec<S>, AllocError>
     Ok(stores)
 }
 
+/// Two stores with room for so many pairs, at the second try where the first was out of memory.
+fn stores_at_last(alloc: Global, room: u64) -> Result<Vec<CappedStore>, AllocError>
+    ensures { IfOk result (λ stores. All (λ s. s.pairs ≡ []) stores.items) }
+{
+    match two_stores(alloc, room) {
+        Ok(stores) => Ok(stores),
+        Err(_) => two_stores(alloc, room),
+    }
+}
+
 /// Does the step, and again where it was out of memory.
 fn at_last<S: EntryStore>(
     world: &mut World<S>,
@@ -42,60 +52,62 @@ fn at_last<S: EntryStore>(
     }
 }
 
+/// Caller 0 or 1 inserts a value under a.
 fn insert(alloc: Global, caller: u64, value: &[u8]) -> Result<Step, AllocError> {
-    let key = Bytes::from_slice(alloc, b"a")?;
-    let value = Bytes::from_slice(alloc, value)?;
-    let request = Request::Insert { key, value };
-    Ok(Step::Submit {
-        caller,
-        via: 0,
-        request,
-    })
+    submit(alloc, caller, 0, Asks::Insert, b"a", value)
 }
 
+/// Caller 0 or 1 removes a value from a.
 fn remove(alloc: Global, caller: u64, value: &[u8]) -> Result<Step, AllocError> {
-    let key = Bytes::from_slice(alloc, b"a")?;
-    let value = Bytes::from_slice(alloc, value)?;
-    let request = Request::Remove { key, value };
-    Ok(Step::Submit {
-        caller,
-        via: 0,
-        request,
-    })
+    submit(alloc, caller, 0, Asks::Remove, b"a", value)
 }
 
-/// A call that a full store refuses goes out again after there is room, with what each step does.
-fn script(alloc: Global) -> Result<Vec<Wanted>, AllocError> {
-    let mut steps = Vec::new(alloc);
-    let id = Id::new(A);
-    steps.push((Step::Create { id }, Ok(Outcome::Node(0))))?;
+/// Messages are delivered, each with what comes of it.
+fn deliver_each(steps: &mut Vec<Wanted>, deliveries: &[(u64, Outcome)]) -> Result<(), AllocError> {
+    for (message, outcome) in deliveries {
+        steps.push((Step::Deliver { message: *message }, Ok(*outcome)))?;
+    }
+    Ok(())
+}
+
+/// A store takes one value and refuses another.
+fn fill(alloc: Global, steps: &mut Vec<Wanted>) -> Result<(), AllocError> {
+    steps.push((Step::Create { id: Id::new(A) }, Ok(Outcome::Node(0))))?;
     steps.push((Step::OpenCaller { window: 1 }, Ok(Outcome::Caller(0))))?;
     steps.push((Step::OpenCaller { window: 1 }, Ok(Outcome::Caller(1))))?;
     steps.push((insert(alloc, 0, b"x")?, Ok(Outcome::Message(0))))?;
-    steps.push((Step::Deliver { message: 0 }, Ok(Outcome::Told(1))))?;
-    steps.push((Step::Deliver { message: 1 }, Ok(Outcome::Fresh(0))))?;
+    deliver_each(steps, &[(0, Outcome::Told(1)), (1, Outcome::Fresh(0))])?;
     steps.push((insert(alloc, 1, b"y")?, Ok(Outcome::Message(2))))?;
-    steps.push((Step::Deliver { message: 2 }, Ok(Outcome::Full(3))))?;
-    steps.push((Step::Deliver { message: 3 }, Ok(Outcome::HeardFull)))?;
+    deliver_each(steps, &[(2, Outcome::Full(3)), (3, Outcome::HeardFull)])
+}
+
+/// The value is removed, so that there is room.
+fn make_room(alloc: Global, steps: &mut Vec<Wanted>) -> Result<(), AllocError> {
     let full = Err(Refusal::Part(PartFault::WindowFull));
     steps.push((remove(alloc, 1, b"y")?, full))?;
     steps.push((remove(alloc, 0, b"x")?, Ok(Outcome::Message(4))))?;
-    steps.push((Step::Deliver { message: 4 }, Ok(Outcome::Told(5))))?;
-    steps.push((Step::Deliver { message: 5 }, Ok(Outcome::Fresh(0))))?;
-    let again = Step::Resend {
-        caller: 1,
-        via: 0,
-        number: None,
-    };
-    steps.push((again, Ok(Outcome::Message(6))))?;
-    steps.push((Step::Deliver { message: 6 }, Ok(Outcome::Told(7))))?;
-    steps.push((Step::Deliver { message: 7 }, Ok(Outcome::Fresh(1))))?;
+    deliver_each(steps, &[(4, Outcome::Told(5)), (5, Outcome::Fresh(0))])
+}
+
+/// The refused call goes out again, and its caller shows what it knows.
+fn retry(steps: &mut Vec<Wanted>) -> Result<(), AllocError> {
+    steps.push((resend(1, None), Ok(Outcome::Message(6))))?;
+    deliver_each(steps, &[(6, Outcome::Told(7)), (7, Outcome::Fresh(1))])?;
     steps.push((Step::Show { caller: 1 }, Ok(Outcome::Message(8))))?;
     let meet = Step::Meet {
         caller: 0,
         message: 8,
     };
     steps.push((meet, Ok(Outcome::Met)))?;
+    Ok(())
+}
+
+/// A call that a full store refuses goes out again after there is room, with what each step does.
+fn script(alloc: Global) -> Result<Vec<Wanted>, AllocError> {
+    let mut steps = Vec::new(alloc);
+    fill(alloc, &mut steps)?;
+    make_room(alloc, &mut steps)?;
+    retry(&mut steps)?;
     Ok(steps)
 }
 
@@ -143,10 +155,7 @@ fn does_each<S: EntryStore>(world: &mut World<S>, stores: &mut Vec<S>, steps: &[
 fn a_key_moves_all_the_same(rt: HostRuntime) -> Result<(), Fail> {
     let alloc = rt.alloc();
     let steps = moving_key(alloc).or_else(|_| moving_key(alloc))?;
-    let mut stores = match two_stores(alloc, 9) {
-        Ok(stores) => stores,
-        Err(_) => two_stores(alloc, 9)?,
-    };
+    let mut stores = stores_at_last(alloc, 9)?;
     let mut world = World::new(alloc, 3);
     does_each(&mut world, &mut stores, &steps);
     assert_eq!(rt; world.history().len(), 4);
@@ -186,15 +195,13 @@ fn send_part(part: u64) -> Step {
 /// A new node is given half of the circle; the first part comes twice.
 fn first_part(alloc: Global) -> Result<Vec<Wanted>, AllocError> {
     let mut steps = Vec::new(alloc);
-    let join = Step::Join {
-        id: Id::new(C),
-        behind: 0,
-    };
+    let at = Id::new(C);
+    let join = Step::Join { id: at, behind: 0 };
     steps.push((join, Ok(Outcome::Node(1))))?;
     let cut = Step::Cut {
         node: 0,
         place: 0,
-        at: Id::new(C),
+        at,
     };
     steps.push((cut, Ok(Outcome::Done)))?;
     let give = Step::Give {
@@ -203,9 +210,7 @@ fn first_part(alloc: Global) -> Result<Vec<Wanted>, AllocError> {
         to: 1,
     };
     steps.push((give, Ok(Outcome::Message(130))))?;
-    for message in [130, 130] {
-        steps.push((Step::Deliver { message }, Ok(Outcome::Noted)))?;
-    }
+    deliver_each(&mut steps, &[(130, Outcome::Noted), (130, Outcome::Noted)])?;
     Ok(steps)
 }
 
@@ -215,8 +220,10 @@ fn second_part(alloc: Global) -> Result<Vec<Wanted>, AllocError> {
     let no_part = Err(Refusal::Part(PartFault::NoPart));
     steps.push((send_part(3), no_part))?;
     steps.push((send_part(2), Ok(Outcome::Message(131))))?;
-    steps.push((Step::Deliver { message: 131 }, Ok(Outcome::Got(132))))?;
-    steps.push((Step::Deliver { message: 130 }, Ok(Outcome::Got(133))))?;
+    deliver_each(
+        &mut steps,
+        &[(131, Outcome::Got(132)), (130, Outcome::Got(133))],
+    )?;
     Ok(steps)
 }
 
@@ -229,32 +236,46 @@ fn confirmation(alloc: Global) -> Result<Vec<Wanted>, AllocError> {
     Ok(steps)
 }
 
+/// How far the handover has come.
+#[derive(Clone, Copy)]
+enum Stage {
+    Filled,
+    Begun,
+    Whole,
+    Confirmed,
+}
+
+/// The steps that lead to the stage from the one before.
+fn steps_to(alloc: Global, stage: Stage) -> Result<Vec<Wanted>, AllocError> {
+    match stage {
+        Stage::Filled => many_values(alloc),
+        Stage::Begun => first_part(alloc),
+        Stage::Whole => second_part(alloc),
+        Stage::Confirmed => confirmation(alloc),
+    }
+}
+
 /// A handover goes in two parts, whichever growth is refused.
 #[test]
 fn a_handover_in_two_parts(rt: HostRuntime) -> Result<(), Fail> {
     let alloc = rt.alloc();
-    let many_values = many_values(alloc).or_else(|_| many_values(alloc))?;
-    let first_part = first_part(alloc).or_else(|_| first_part(alloc))?;
-    let second_part = second_part(alloc).or_else(|_| second_part(alloc))?;
-    let confirmation = confirmation(alloc).or_else(|_| confirmation(alloc))?;
-    let mut stores = match two_stores(alloc, 65) {
-        Ok(stores) => stores,
-        Err(_) => two_stores(alloc, 65)?,
-    };
-    let between = Id::new(B);
+    let mut stores = stores_at_last(alloc, 65)?;
+    let mut world = World::new(alloc, 3);
     let under_way = Holder::UnderWay {
         from: 0,
         to: 1,
         number: 1,
     };
-    let mut world = World::new(alloc, 3);
-    assert!(rt; does_all(&mut world, &mut stores, &many_values));
-    assert!(rt; does_all(&mut world, &mut stores, &first_part));
-    assert_eq!(rt; world.holder(between), Some(under_way));
-    assert!(rt; does_all(&mut world, &mut stores, &second_part));
-    assert_eq!(rt; world.holder(between), Some(Holder::Node(1)));
-    assert!(rt; does_all(&mut world, &mut stores, &confirmation));
-    assert_eq!(rt; world.holder(between), Some(Holder::Node(1)));
+    for (stage, holder) in [
+        (Stage::Filled, Holder::Node(0)),
+        (Stage::Begun, under_way),
+        (Stage::Whole, Holder::Node(1)),
+        (Stage::Confirmed, Holder::Node(1)),
+    ] {
+        let steps = steps_to(alloc, stage).or_else(|_| steps_to(alloc, stage))?;
+        assert!(rt; does_all(&mut world, &mut stores, &steps));
+        assert_eq!(rt; world.holder(Id::new(B)), Some(holder));
+    }
     assert_eq!(rt; world.history().len(), 65);
     Ok(())
 }

@@ -33,42 +33,41 @@ fn two_lists(alloc: Global) -> Result<Vec<ListStore>, AllocError>
 }
 
 /// C joins behind A, which takes it as its first entry; then C crashes.
-fn script(alloc: Global) -> Result<Vec<Step>, AllocError> {
-    let mut steps = Vec::new(alloc);
-    steps.push(Step::Join { id: A, behind: 0 })?;
-    steps.push(Step::Create { id: A })?;
-    steps.push(Step::Join { id: C, behind: 1 })?;
-    steps.push(Step::Join { id: C, behind: 0 })?;
-    steps.push(Step::Join { id: C, behind: 0 })?;
-    steps.push(Step::Join { id: B, behind: 1 })?;
-    steps.push(Step::Rectify {
-        node: 0,
-        notifier: 1,
-    })?;
-    steps.push(Step::Stabilise { node: 0, head: 0 })?;
-    steps.push(Step::Candidate { node: 0, peer: 1 })?;
-    steps.push(Step::DropDead { node: 0 })?;
-    steps.push(Step::Crash { node: 0 })?;
-    steps.push(Step::Crash { node: 1 })?;
-    steps.push(Step::Crash { node: 1 })?;
-    steps.push(Step::Finger {
-        node: 1,
-        finger: 1,
-        to: 0,
-    })?;
-    steps.push(Step::Stabilise { node: 0, head: 1 })?;
-    steps.push(Step::DropDead { node: 0 })?;
-    steps.push(Step::Stabilise { node: 0, head: 0 })?;
-    Ok(steps)
+fn script() -> [Step; 17] {
+    [
+        Step::Join { id: A, behind: 0 },
+        Step::Create { id: A },
+        Step::Join { id: C, behind: 1 },
+        Step::Join { id: C, behind: 0 },
+        Step::Join { id: C, behind: 0 },
+        Step::Join { id: B, behind: 1 },
+        Step::Rectify {
+            node: 0,
+            notifier: 1,
+        },
+        Step::Stabilise { node: 0, head: 0 },
+        Step::Candidate { node: 0, peer: 1 },
+        Step::DropDead { node: 0 },
+        Step::Crash { node: 0 },
+        Step::Crash { node: 1 },
+        Step::Crash { node: 1 },
+        Step::Finger {
+            node: 1,
+            finger: 1,
+            to: 0,
+        },
+        Step::Stabilise { node: 0, head: 1 },
+        Step::DropDead { node: 0 },
+        Step::Stabilise { node: 0, head: 0 },
+    ]
 }
 
 #[test]
 fn a_ring_of_two_is_kept_up(rt: HostRuntime) -> Result<(), Fail> {
     let alloc = rt.alloc();
     let mut stores = two_lists(alloc)?;
-    let steps = script(alloc)?;
     let mut world = World::new(alloc, 3);
-    let answers = run(alloc, &mut world, &mut stores, &steps)?;
+    let answers = run(alloc, &mut world, &mut stores, &script())?;
     let wanted = [
         Answer::Refused(Refusal::NotCreated),
         Answer::Did(Outcome::Node(0)),

@@ -13,14 +13,14 @@ pub const C: u128 = 0xc0000000000000000000000000000000;
 
 /// What a step of a script asks.
 #[derive(Clone, Copy)]
-enum Asks {
+pub enum Asks {
     Insert,
     Retrieve,
     Remove,
 }
 
-/// A step in which caller 0 or 1 submits a request for a key, with the value x or y where it has one.
-fn submit(
+/// A step in which a caller submits a request for a key, with the value where it has one.
+pub fn submit(
     alloc: Global,
     caller: u64,
     via: u64,
@@ -42,28 +42,52 @@ fn submit(
     })
 }
 
-fn deliver_all(steps: &mut Vec<Step>, messages: &[u64]) -> Result<(), AllocError> {
+/// A step in which a caller sends a pending request again, through node 0.
+pub fn resend(caller: u64, number: Option<u64>) -> Step {
+    Step::Resend {
+        caller,
+        via: 0,
+        number,
+    }
+}
+
+pub fn deliver_all(steps: &mut Vec<Step>, messages: &[u64]) -> Result<(), AllocError> {
     for message in messages {
         steps.push(Step::Deliver { message: *message })?;
     }
     Ok(())
 }
 
+/// Caller 0 submits a request for abc, with the value x where it has one, and the messages are delivered.
+fn ask_and_deliver(
+    alloc: Global,
+    steps: &mut Vec<Step>,
+    via: u64,
+    asks: Asks,
+    messages: &[u64],
+) -> Result<(), AllocError> {
+    steps.push(submit(alloc, 0, via, asks, b"abc", b"x")?)?;
+    deliver_all(steps, messages)
+}
+
 /// A key moves to a node that joins, while its caller waits for a reply; both nodes leave then, if they may.
 pub fn moving_key(alloc: Global) -> Result<Vec<Step>, AllocError> {
+    let mut steps = created(alloc)?;
+    ask_and_deliver(alloc, &mut steps, 0, Asks::Retrieve, &[0, 1])?;
+    ask_and_deliver(alloc, &mut steps, 0, Asks::Insert, &[2, 3])?;
+    give_to_a_new_node(&mut steps)?;
+    let late = [5, 4, 6, 8, 4, 2, 10, 3, 7, 9];
+    ask_and_deliver(alloc, &mut steps, 0, Asks::Retrieve, &late)?;
+    give_back(&mut steps)?;
+    ask_and_deliver(alloc, &mut steps, 1, Asks::Retrieve, &[14, 15, 16])?;
+    Ok(steps)
+}
+
+/// Node 0 is created, and caller 0 opens.
+fn created(alloc: Global) -> Result<Vec<Step>, AllocError> {
     let mut steps = Vec::new(alloc);
     steps.push(Step::Create { id: Id::new(A) })?;
     steps.push(Step::OpenCaller { window: 1 })?;
-    steps.push(submit(alloc, 0, 0, Asks::Retrieve, b"abc", b"")?)?;
-    deliver_all(&mut steps, [0, 1].as_slice())?;
-    steps.push(submit(alloc, 0, 0, Asks::Insert, b"abc", b"x")?)?;
-    deliver_all(&mut steps, [2, 3].as_slice())?;
-    give_to_a_new_node(&mut steps)?;
-    steps.push(submit(alloc, 0, 0, Asks::Retrieve, b"abc", b"")?)?;
-    deliver_all(&mut steps, [5, 4, 6, 8, 4, 2, 10, 3, 7, 9].as_slice())?;
-    give_back(&mut steps)?;
-    steps.push(submit(alloc, 0, 1, Asks::Retrieve, b"abc", b"")?)?;
-    deliver_all(&mut steps, [14, 15, 16].as_slice())?;
     Ok(steps)
 }
 
@@ -100,9 +124,9 @@ fn give_back(steps: &mut Vec<Step>) -> Result<(), AllocError> {
         place: 0,
         to: 0,
     })?;
-    deliver_all(steps, [11, 12].as_slice())?;
+    deliver_all(steps, &[11, 12])?;
     steps.push(Step::Retire { node: 1 })?;
-    deliver_all(steps, [4].as_slice())?;
+    deliver_all(steps, &[4])?;
     steps.push(Step::Leave { node: 0 })?;
     steps.push(Step::Retire { node: 0 })?;
     Ok(())
@@ -110,22 +134,26 @@ fn give_back(steps: &mut Vec<Step>) -> Result<(), AllocError> {
 
 /// A call that a full store refuses goes out again after there is room.
 pub fn full_store_and_a_retry(alloc: Global) -> Result<Vec<Step>, AllocError> {
-    let mut steps = Vec::new(alloc);
-    steps.push(Step::Create { id: Id::new(A) })?;
+    let mut steps = created(alloc)?;
     steps.push(Step::OpenCaller { window: 1 })?;
-    steps.push(Step::OpenCaller { window: 1 })?;
+    fill_the_store(alloc, &mut steps)?;
+    make_room(alloc, &mut steps)?;
+    steps.push(resend(1, None))?;
+    deliver_all(&mut steps, &[6, 7])?;
+    Ok(steps)
+}
+
+/// Caller 0 inserts the value that the store has room for, and caller 1 another one.
+fn fill_the_store(alloc: Global, steps: &mut Vec<Step>) -> Result<(), AllocError> {
     steps.push(submit(alloc, 0, 0, Asks::Insert, b"a", b"x")?)?;
-    deliver_all(&mut steps, [0, 1].as_slice())?;
+    deliver_all(steps, &[0, 1])?;
     steps.push(submit(alloc, 1, 0, Asks::Insert, b"a", b"y")?)?;
-    deliver_all(&mut steps, [2, 3].as_slice())?;
+    deliver_all(steps, &[2, 3])
+}
+
+/// Caller 1 asks on while its request is pending, and caller 0 removes its value.
+fn make_room(alloc: Global, steps: &mut Vec<Step>) -> Result<(), AllocError> {
     steps.push(submit(alloc, 1, 0, Asks::Retrieve, b"a", b"")?)?;
     steps.push(submit(alloc, 0, 0, Asks::Remove, b"a", b"x")?)?;
-    deliver_all(&mut steps, [4, 5].as_slice())?;
-    steps.push(Step::Resend {
-        caller: 1,
-        via: 0,
-        number: None,
-    })?;
-    deliver_all(&mut steps, [6, 7].as_slice())?;
-    Ok(steps)
+    deliver_all(steps, &[4, 5])
 }
