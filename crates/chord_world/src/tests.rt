@@ -76,13 +76,33 @@ fn a_repeated_call_acts_once(rt: HostRuntime) -> Result<(), Fail> {
     Ok(())
 }
 
+/// The world after the steps.
+fn world_of(alloc: Global, steps: &[Step]) -> Result<World<ListStore>, AllocError> {
+    let (world, _) = world_after(alloc, steps)?;
+    Ok(world)
+}
+
+/// What came of each of the steps.
+fn answers_to(alloc: Global, steps: &[Step]) -> Result<Vec<Answer>, AllocError> {
+    let (_, answers) = world_after(alloc, steps)?;
+    Ok(answers)
+}
+
+/// How many replies the caller took, where there is one.
+fn count_taken(world: &World<ListStore>, caller: u64) -> Option<usize> {
+    Some(world.mine(caller)?.len())
+}
+
+fn is_ask(world: &World<ListStore>, message: u64) -> bool {
+    matches!(world.message(message), Some(Message::Ask(_)))
+}
+
 #[test]
 fn a_repeated_call_is_told_once(rt: HostRuntime) -> Result<(), Fail> {
-    let steps = script(rt.alloc())?;
-    let (world, _) = world_after(rt.alloc(), &steps)?;
-    assert_eq!(rt; world.mine(0).map(|mine| mine.len()), Some(1));
-    assert!(rt; world.mine(1).is_none());
-    assert!(rt; matches!(world.message(0), Some(Message::Ask(_))));
+    let world = world_of(rt.alloc(), &script(rt.alloc())?)?;
+    assert_eq!(rt; count_taken(&world, 0), Some(1));
+    assert_eq!(rt; count_taken(&world, 1), None);
+    assert!(rt; is_ask(&world, 0));
     assert!(rt; world.message(3).is_none());
     Ok(())
 }
@@ -123,8 +143,7 @@ fn ask_after_a_note(alloc: Global, steps: &mut Vec<Step>) -> Result<(), AllocErr
 
 #[test]
 fn notes_are_met(rt: HostRuntime) -> Result<(), Fail> {
-    let steps = script_of_two(rt.alloc())?;
-    let (_, answers) = world_after(rt.alloc(), &steps)?;
+    let answers = answers_to(rt.alloc(), &script_of_two(rt.alloc())?)?;
     let wanted = [
         Answer::Did(Outcome::Node(0)),
         Answer::Did(Outcome::Caller(0)),
@@ -148,24 +167,31 @@ fn notes_are_met(rt: HostRuntime) -> Result<(), Fail> {
 /// What a caller was told of stands in the history before what it asks then.
 #[test]
 fn a_note_stands_before_what_is_asked_then(rt: HostRuntime) -> Result<(), Fail> {
-    let steps = script_of_two(rt.alloc())?;
-    let (world, _) = world_after(rt.alloc(), &steps)?;
+    let world = world_of(rt.alloc(), &script_of_two(rt.alloc())?)?;
     let history = world.history();
     assert_eq!(rt; history.len(), 2);
-    assert_eq!(rt; history.first().map(|done| done.caller), Some(1));
-    assert_eq!(rt; history.last().map(|done| done.caller), Some(0));
+    assert_eq!(rt; (history[0].caller, history[1].caller), (1, 0));
     Ok(())
+}
+
+/// How many calls the caller was told of, where there is one.
+fn count_told(world: &World<ListStore>, caller: u64) -> Option<usize> {
+    Some(world.told(caller)?.len())
+}
+
+/// Whether the first call that the caller was told of added a value.
+fn was_told_of_an_insert(world: &World<ListStore>, caller: u64) -> Option<bool> {
+    let first = world.told(caller)?.first()?;
+    Some(first.reply == Reply::Added)
 }
 
 #[test]
 fn a_caller_knows_what_it_was_told_of(rt: HostRuntime) -> Result<(), Fail> {
-    let steps = script_of_two(rt.alloc())?;
-    let (world, _) = world_after(rt.alloc(), &steps)?;
-    let told = world.told(0).ok_or("no caller 0")?;
-    assert_eq!(rt; told.len(), 1);
-    assert!(rt; told.first().is_some_and(|done| done.reply == Reply::Added));
-    assert_eq!(rt; world.told(1).map(|told| told.len()), Some(0));
-    assert!(rt; world.told(2).is_none());
+    let world = world_of(rt.alloc(), &script_of_two(rt.alloc())?)?;
+    assert_eq!(rt; count_told(&world, 0), Some(1));
+    assert_eq!(rt; was_told_of_an_insert(&world, 0), Some(true));
+    assert_eq!(rt; count_told(&world, 1), Some(0));
+    assert_eq!(rt; count_told(&world, 2), None);
     Ok(())
 }
 
@@ -187,8 +213,7 @@ fn script_with_resends(alloc: Global) -> Result<Vec<Step>, AllocError> {
 /// Pending requests go out again; none is left in the end.
 #[test]
 fn a_request_goes_out_again(rt: HostRuntime) -> Result<(), Fail> {
-    let steps = script_with_resends(rt.alloc())?;
-    let (_, answers) = world_after(rt.alloc(), &steps)?;
+    let answers = answers_to(rt.alloc(), &script_with_resends(rt.alloc())?)?;
     let wanted = [
         Answer::Refused(Refusal::NotCreated),
         Answer::Refused(Refusal::NotCreated),
