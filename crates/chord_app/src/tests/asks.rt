@@ -7,12 +7,11 @@ use crate::ask::link::Manner;
 use crate::ask::outcome::Outcome;
 use crate::console::words::LineFault;
 use crate::finish::{Fault, Finish};
-use crate::plan::Plan;
-use crate::tests::clients::served_by;
-use crate::tests::plans::changed;
+use crate::tests::clients::{plan_with, served_by};
+use crate::tests::command_lines::words;
 use crate::tests::two_stores;
-use chord_map::{Bytes, Reply, Request};
-use chord_wire::{FaultCode, write_reply};
+use chord_map::{Reply, Request};
+use chord_wire::FaultCode;
 use std::alloc::{AllocError, Global};
 use std::io::{self, Read, Write};
 use std::net::{Net, TcpListener, TcpStream};
@@ -72,10 +71,7 @@ fn asks_a_ring<R: Threads + Wait + Clock + Net<Listener = TcpListener, Stream = 
     how: (u8, u64, u32),
     input: &str,
 ) -> Result<Asked, Fail> {
-    let three = changed(alloc, "callers = 1", "callers = 3")?;
-    let Ok(plan) = Plan::parse(alloc, three.as_bytes()) else {
-        return Err(Fail::from("no plan"));
-    };
+    let plan = plan_with(alloc, 3)?;
     let stores = two_stores(alloc, room)?;
     let listener = TcpListener::bind(rt, "127.0.0.1:0")?;
     let (version, window, tries) = how;
@@ -115,32 +111,37 @@ fn a_line_outside_the_grammar(rt: HostRuntime) -> Result<(), Fail> {
     Ok(())
 }
 
-/// A full store refuses at each try. What comes then goes over another connection.
+/// A full store refuses at each try. What comes then goes over another connection, where the window is 1.
 #[test]
 fn a_full_store(rt: HostRuntime) -> Result<(), Fail> {
-    let alloc = rt.alloc();
     let input = "insert abc x\nretrieve abc\n";
-    for version in [1, 2] {
-        let (finish, written) = asks_a_ring(&rt, alloc, 0, 2, (version, 1, 2), input)?;
+    for (connections, how) in [(2, (1, 1, 2)), (2, (2, 1, 2)), (1, (2, 16, 2))] {
+        let (finish, written) = asks_a_ring(&rt, rt.alloc(), 0, connections, how, input)?;
         assert_eq!(rt; finish, Ok(Finish::Fault(Fault::Unanswered(1))));
         assert!(rt; written.as_slice() == b"full\nvalues 0\n".as_slice());
     }
-    let (finish, written) = asks_a_ring(&rt, alloc, 0, 1, (2, 16, 2), input)?;
-    assert_eq!(rt; finish, Ok(Finish::Fault(Fault::Unanswered(1))));
-    assert!(rt; written.as_slice() == b"full\nvalues 0\n".as_slice());
     Ok(())
+}
+
+/// A port at which nobody listens.
+fn free_port<R: Net<Listener = TcpListener, Stream = TcpStream>>(rt: &R) -> io::Result<u16> {
+    let listener = TcpListener::bind(rt, "127.0.0.1:0")?;
+    Ok(listener.local_addr()?.port())
 }
 
 #[test]
 fn nobody_listens(rt: HostRuntime) -> Result<(), Fail> {
-    let alloc = rt.alloc();
-    let listener = TcpListener::bind(&rt, "127.0.0.1:0")?;
-    let port = listener.local_addr()?.port();
-    drop(listener);
-    let (finish, written) = asks(&rt, alloc, manner(port, 2, 1, 3), "insert abc x\n");
+    let manner = manner(free_port(&rt)?, 2, 1, 3);
+    let (finish, written) = asks(&rt, rt.alloc(), manner, "insert abc x\n");
     assert_eq!(rt; finish, Err(Finish::Fault(Fault::Connect)));
     assert!(rt; written.is_empty());
-    let (finish, written) = asks_one(&rt, alloc, manner(port, 1, 1, 1), &["retrieve", "abc"]);
+    Ok(())
+}
+
+#[test]
+fn nobody_listens_to_one_request(rt: HostRuntime) -> Result<(), Fail> {
+    let manner = manner(free_port(&rt)?, 1, 1, 1);
+    let (finish, written) = asks_one(&rt, rt.alloc(), manner, &["retrieve", "abc"]);
     assert_eq!(rt; finish, Err(Finish::Fault(Fault::Connect)));
     assert!(rt; written.is_empty());
     Ok(())
@@ -161,51 +162,60 @@ fn ends_early(listener: &TcpListener, connections: usize, answer: &[u8]) -> io::
 
 #[test]
 fn one_request(rt: HostRuntime) -> Result<(), Fail> {
-    let alloc = rt.alloc();
-    let added = write_reply(alloc, 1, &Reply::Added)?;
     let listener = TcpListener::bind(&rt, "127.0.0.1:0")?;
     let manner = manner(listener.local_addr()?.port(), 1, 1, 1);
     let (server, asked) = thread::join(
         &rt,
-        || ends_early(&listener, 1, added.as_slice()),
-        || asks_one(&rt, alloc, manner, &["insert", "a b", ""]),
+        || ends_early(&listener, 1, ADDED.as_slice()),
+        || asks_one(&rt, rt.alloc(), manner, &["insert", "a b", ""]),
     );
     assert!(rt; server.is_ok());
-    assert_eq!(rt; asked.0, Ok(Finish::Done));
-    assert!(rt; asked.1.as_slice() == b"added\n".as_slice());
+    let (finish, written) = asked;
+    assert_eq!(rt; finish, Ok(Finish::Done));
+    assert!(rt; written.as_slice() == b"added\n".as_slice());
     Ok(())
 }
+
+/// Asks in so many tries one that ends so many connections, the last one with this answer.
+fn asks_one_that_ends<R: Threads + Net<Listener = TcpListener, Stream = TcpStream> + Sync>(
+    rt: &R,
+    alloc: Global,
+    tries: u32,
+    input: &str,
+    ended: usize,
+    answer: &[u8],
+) -> Result<Asked, Fail> {
+    let listener = TcpListener::bind(rt, "127.0.0.1:0")?;
+    let manner = manner(listener.local_addr()?.port(), 2, 1, tries);
+    let (server, asked) = thread::join(
+        rt,
+        || ends_early(&listener, ended, answer),
+        || asks(rt, alloc, manner, input),
+    );
+    if server.is_err() {
+        return Err(Fail::from("not served"));
+    }
+    Ok(asked)
+}
+
+// Added, number 1.
+const ADDED: [u8; 15] = [0, 0, 0, 0x0b, 1, 0x81, 0, 0, 0, 0, 0, 0, 0, 1, 1];
 
 /// An insert whose connection ended is lost and not sent again. The next request goes over another connection.
 #[test]
 fn a_lost_connection(rt: HostRuntime) -> Result<(), Fail> {
-    let alloc = rt.alloc();
-    let added = write_reply(alloc, 1, &Reply::Added)?;
-    for (input, ended, wanted, finish) in [
+    for (input, ended, answer, wanted) in [
         (
             "insert abc x\ninsert abc y\n",
             2,
+            ADDED.as_slice(),
             "lost\nadded\n",
-            Finish::Fault(Fault::Unanswered(1)),
         ),
-        (
-            "remove abc x\n",
-            1,
-            "lost\n",
-            Finish::Fault(Fault::Unanswered(1)),
-        ),
+        ("remove abc x\n", 1, [].as_slice(), "lost\n"),
     ] {
-        let listener = TcpListener::bind(&rt, "127.0.0.1:0")?;
-        let manner = manner(listener.local_addr()?.port(), 2, 1, 3);
-        let answer = if ended == 2 { added.as_slice() } else { &[] };
-        let (server, asked) = thread::join(
-            &rt,
-            || ends_early(&listener, ended, answer),
-            || asks(&rt, alloc, manner, input),
-        );
-        assert!(rt; server.is_ok());
-        assert!(rt; asked.1.as_slice() == wanted.as_bytes());
-        assert_eq!(rt; asked.0, Ok(finish));
+        let (finish, written) = asks_one_that_ends(&rt, rt.alloc(), 3, input, ended, answer)?;
+        assert!(rt; written.as_slice() == wanted.as_bytes());
+        assert_eq!(rt; finish, Ok(Finish::Fault(Fault::Unanswered(1))));
     }
     Ok(())
 }
@@ -213,43 +223,27 @@ fn a_lost_connection(rt: HostRuntime) -> Result<(), Fail> {
 /// A retrieve whose connection ended is asked again over another one, so many times at most.
 #[test]
 fn a_retrieve_is_asked_again(rt: HostRuntime) -> Result<(), Fail> {
-    let alloc = rt.alloc();
     let empty = [0u8, 0, 0, 0x0e, 1, 0x82, 0, 0, 0, 0, 0, 0, 0, 1, 0, 0, 0, 0];
-    for (tries, ended, answer, wanted, finish) in [
-        (3, 3, empty.as_slice(), "values 0\n", Finish::Done),
-        (
-            2,
-            2,
-            [].as_slice(),
-            "lost\n",
-            Finish::Fault(Fault::Unanswered(1)),
-        ),
-        // An answer of another number, and one of another kind, end a connection.
-        (
-            1,
-            1,
-            [0, 0, 0, 0x0b, 1, 0x81, 0, 0, 0, 0, 0, 0, 0, 1, 1].as_slice(),
-            "lost\n",
-            Finish::Fault(Fault::Unanswered(1)),
-        ),
-        (
-            1,
-            1,
-            [0, 0, 0, 0x0b, 1, 0xff, 0, 0, 0, 0, 0, 0, 0, 1, 9].as_slice(),
-            "fault 9\n",
-            Finish::Fault(Fault::Unanswered(1)),
-        ),
+    let bad_number = [0, 0, 0, 0x0b, 1, 0xff, 0, 0, 0, 0, 0, 0, 0, 1, 9];
+    let unanswered = Finish::Fault(Fault::Unanswered(1));
+    for (tries, answer, wanted, finish) in [
+        (3, empty.as_slice(), "values 0\n", Finish::Done),
+        (2, [].as_slice(), "lost\n", unanswered),
+        // An answer of another kind ends a connection, and so does a fault.
+        (1, ADDED.as_slice(), "lost\n", unanswered),
+        (1, bad_number.as_slice(), "fault 9\n", unanswered),
     ] {
-        let listener = TcpListener::bind(&rt, "127.0.0.1:0")?;
-        let manner = manner(listener.local_addr()?.port(), 2, 1, tries);
-        let (server, asked) = thread::join(
+        let ended = tries as usize;
+        let (told, written) = asks_one_that_ends(
             &rt,
-            || ends_early(&listener, ended, answer),
-            || asks(&rt, alloc, manner, "retrieve abc\n"),
-        );
-        assert!(rt; server.is_ok());
-        assert!(rt; asked.1.as_slice() == wanted.as_bytes());
-        assert_eq!(rt; asked.0, Ok(finish));
+            rt.alloc(),
+            tries,
+            "retrieve abc\n",
+            ended,
+            answer,
+        )?;
+        assert!(rt; written.as_slice() == wanted.as_bytes());
+        assert_eq!(rt; told, Ok(finish));
     }
     Ok(())
 }
@@ -270,30 +264,33 @@ fn words_of_requests(rt: HostRuntime) {
     assert!(rt; is_insert(&line, &[10, 255], b""));
     let words = read_words(alloc, &["insert", "a b", ""]);
     assert!(rt; is_insert(&words, b"a b", b""));
-    for line in [
-        "",
-        "insert",
-        "insert a",
-        "insert a b c",
-        "retrieve",
-        "retrieve a b",
-        "remove a",
-        "Insert a b",
-        "insert  a b",
-        "retrieve x:-",
-        "retrieve x:",
-        "retrieve x:0",
-        "retrieve x:0g",
-        "retrieve ",
-    ] {
-        let read = read_line(alloc, line.as_bytes());
-        assert!(rt; matches!(read, Err(LineFault::Grammar)));
-    }
     let read = read_line(alloc, b"insert a ");
     assert!(rt; is_insert(&read, b"a", b""));
-    let read = read_line(alloc, &[0xff, 0x20]);
-    assert!(rt; matches!(read, Err(LineFault::Grammar)));
-    let read = read_words(alloc, &[]);
+}
+
+#[test]
+fn words_that_are_no_request(rt: HostRuntime) {
+    for line in [
+        b"".as_slice(),
+        b"insert",
+        b"insert a",
+        b"insert a b c",
+        b"retrieve",
+        b"retrieve a b",
+        b"remove a",
+        b"Insert a b",
+        b"insert  a b",
+        b"retrieve x:-",
+        b"retrieve x:",
+        b"retrieve x:0",
+        b"retrieve x:0g",
+        b"retrieve ",
+        b"\xff ",
+    ] {
+        let read = read_line(rt.alloc(), line);
+        assert!(rt; matches!(read, Err(LineFault::Grammar)));
+    }
+    let read = read_words(rt.alloc(), &[]);
     assert!(rt; matches!(read, Err(LineFault::Grammar)));
 }
 
@@ -321,32 +318,32 @@ fn outcomes_as_lines(rt: HostRuntime) -> Result<(), Fail> {
     Ok(())
 }
 
-/// What the options say, and which are refused.
 #[test]
 fn options_of_ask(rt: HostRuntime) -> Result<(), Fail> {
-    let alloc = rt.alloc();
-    let words = ["ask", "--port", "7001", "insert", "a", "-b"];
-    let Ok(found) = ask_command(alloc)?.try_get_matches_from(words.as_slice()) else {
-        return Err(Fail::from("refused"));
-    };
+    let words = words(rt.alloc(), "ask --port 7001 insert a -b")?;
+    let found = ask_command(rt.alloc())?.try_get_matches_from(words.as_slice())?;
     let manner = manner_of(&found);
     assert_eq!(rt; (manner.port, manner.version), (7001, 2));
     assert_eq!(rt; (manner.window, manner.tries), (1, 3));
     assert_eq!(rt; found.get_strs("request").map(|words| words.len()), Some(3));
-    for (option, value) in [
-        ("--port", "0"),
-        ("--port", "65536"),
-        ("--window", "0"),
-        ("--window", "17"),
-        ("--protocol", "3"),
-        ("--tries", "1001"),
-        ("--tries", "x"),
+    Ok(())
+}
+
+#[test]
+fn refused_options_of_ask(rt: HostRuntime) -> Result<(), Fail> {
+    for line in [
+        "ask --port 0",
+        "ask --port 65536",
+        "ask --window 0",
+        "ask --window 17",
+        "ask --protocol 3",
+        "ask --tries 1001",
+        "ask --tries x",
     ] {
-        let words = ["ask", option, value];
-        let Err(error) = ask_command(alloc)?.try_get_matches_from(words.as_slice()) else {
-            return Err(Fail::from("no fault"));
-        };
-        assert_eq!(rt; error.exit_code(), 2, "{option} {value}");
+        let words = words(rt.alloc(), line)?;
+        let found = ask_command(rt.alloc())?.try_get_matches_from(words.as_slice());
+        let error = found.err().ok_or("no fault")?;
+        assert_eq!(rt; error.exit_code(), 2, "{line}");
     }
     Ok(())
 }

@@ -5,26 +5,31 @@ use crate::plan::Plan;
 use crate::serve::front::Front;
 use crate::serve::server::serve;
 use crate::tests::plans::changed;
-use chord_map::{Bytes, Reply, Request};
+use chord_map::{Bytes, Reply, Request, Values};
 use chord_store::EntryStore;
 use chord_wire::{FaultCode, is_writable, write_fault, write_reply, write_request};
 use log::sink::Discard;
 use std::alloc::{AllocError, Global};
 use std::io::{self, Read, Write};
-use std::net::{OpenStream, Shutdown, TcpListener};
+use std::net::{OpenStream, Shutdown, SocketAddr, TcpListener};
 use std::sync::Wait;
 use std::test::Fail;
 use std::thread::Threads;
 use std::time::Clock;
 
-/// A plan of two nodes, with so many callers.
-pub fn plan_with(alloc: Global, callers: u64) -> Result<Plan, Fail> {
-    let line = format!(in alloc; "callers = {callers}")?;
-    let text = changed(alloc, "callers = 1", line.as_str())?;
+/// The plan of a text.
+pub fn plan_of(alloc: Global, text: &str) -> Result<Plan, Fail> {
     match Plan::parse(alloc, text.as_bytes()) {
         Ok(plan) => Ok(plan),
         Err(_) => Err(Fail::from("no plan")),
     }
+}
+
+/// A plan of two nodes, with so many callers.
+pub fn plan_with(alloc: Global, callers: u64) -> Result<Plan, Fail> {
+    let line = format!(in alloc; "callers = {callers}")?;
+    let text = changed(alloc, "callers = 1", line.as_str())?;
+    plan_of(alloc, text.as_str())
 }
 
 /// All requests have one key.
@@ -117,6 +122,50 @@ pub fn ask_in_vain<S: Read + Write>(
 ) -> io::Result<()> {
     stream.write_all(&request_frame(alloc, number, request)?)?;
     expect(alloc, stream, &fault_frame(alloc, number, code)?)
+}
+
+/// An insert of this value is answered by this reply.
+pub fn ask_insert<S: Read + Write>(
+    alloc: Global,
+    stream: &mut S,
+    number: u64,
+    value: &[u8],
+    reply: &Reply,
+) -> io::Result<()> {
+    let request = insert(alloc, value)?;
+    ask(alloc, stream, number, &request, reply)
+}
+
+/// A remove of this value is answered by this reply.
+pub fn ask_remove<S: Read + Write>(
+    alloc: Global,
+    stream: &mut S,
+    number: u64,
+    value: &[u8],
+    reply: &Reply,
+) -> io::Result<()> {
+    let request = remove(alloc, value)?;
+    ask(alloc, stream, number, &request, reply)
+}
+
+/// A retrieve is answered by these values.
+pub fn ask_retrieve<S: Read + Write>(
+    alloc: Global,
+    stream: &mut S,
+    number: u64,
+    all: &[&[u8]],
+) -> io::Result<()> {
+    let mut values = Values::new(alloc);
+    for value in all {
+        values.push(Bytes::from_slice(alloc, value)?)?;
+    }
+    let request = retrieve(alloc)?;
+    ask(alloc, stream, number, &request, &Reply::Values(values))
+}
+
+/// What a server writes: its address, and then these lines.
+pub fn lines(alloc: Global, address: SocketAddr, rest: &str) -> Result<String, AllocError> {
+    format!(in alloc; "listening on {address}\n{rest}")
 }
 
 /// The client says no more, and the server closes the connection.

@@ -5,6 +5,7 @@ use crate::plan::fault::PlanFault;
 use crate::plan::node::{PlanNode, StoreKind};
 use crate::plan::settings::PlanSettings;
 use crate::plan::{PLAN_BYTES, Plan};
+use crate::tests::clients::{insert, plan_of, remove, retrieve};
 use chord_ident::Id;
 use chord_map::Request;
 use std::alloc::{AllocError, Global};
@@ -12,34 +13,12 @@ use std::test::Fail;
 
 /// The plan of `plans/two-nodes.toml`.
 pub const TWO_NODES: &str = concat!(
-    "slots = 2\n",
-    "callers = 1\n",
-    "successors = 3\n",
-    "tries = 100\n",
-    "wait = 100\n",
-    "[[node]]\n",
-    "id = \"40000000000000000000000000000000\"\n",
-    "store = \"tree\"\n",
-    "[[node]]\n",
-    "id = \"c0000000000000000000000000000000\"\n",
-    "store = \"list\"\n",
-    "[[ask]]\n",
-    "caller = 0\n",
-    "via = 0\n",
-    "do = \"insert\"\n",
-    "key = \"abc\"\n",
-    "value = \"x\"\n",
-    "[[ask]]\n",
-    "caller = 0\n",
-    "via = 1\n",
-    "do = \"retrieve\"\n",
-    "key = \"abc\"\n",
-    "[[ask]]\n",
-    "caller = 0\n",
-    "via = 0\n",
-    "do = \"remove\"\n",
-    "key = \"abc\"\n",
-    "value = \"y\"\n",
+    "slots = 2\ncallers = 1\nsuccessors = 3\ntries = 100\nwait = 100\n[[node]]\n",
+    "id = \"40000000000000000000000000000000\"\nstore = \"tree\"\n[[node]]\n",
+    "id = \"c0000000000000000000000000000000\"\nstore = \"list\"\n[[ask]]\ncaller = 0\n",
+    "via = 0\ndo = \"insert\"\nkey = \"abc\"\nvalue = \"x\"\n[[ask]]\ncaller = 0\nvia = 1\n",
+    "do = \"retrieve\"\nkey = \"abc\"\n[[ask]]\ncaller = 0\nvia = 0\ndo = \"remove\"\n",
+    "key = \"abc\"\nvalue = \"y\"\n",
 );
 
 /// The plan with the first such piece replaced, or as it is where there is none.
@@ -54,8 +33,24 @@ fn is_ask(ask: &PlanAsk, caller: usize, via: usize, request: &Request) -> bool {
     ask.caller == caller && ask.via == via && ask.request == *request
 }
 
-fn bytes(alloc: Global, text: &str) -> Result<chord_map::Bytes, AllocError> {
-    chord_map::Bytes::from_slice(alloc, text.as_bytes())
+/// Whether the plan asks what that of two nodes does.
+fn has_the_asks(alloc: Global, plan: &Plan) -> Result<bool, AllocError> {
+    let inserted = insert(alloc, b"x")?;
+    let retrieved = retrieve(alloc)?;
+    let removed = remove(alloc, b"y")?;
+    Ok(match plan.asks.as_slice() {
+        [first, second, third] => {
+            is_ask(first, 0, 0, &inserted)
+                && is_ask(second, 0, 1, &retrieved)
+                && is_ask(third, 0, 0, &removed)
+        }
+        _ => false,
+    })
+}
+
+fn node(id: u128, store: StoreKind) -> PlanNode {
+    let id = Id::new(id);
+    PlanNode { id, store }
 }
 
 /// Whether it is the plan of two nodes.
@@ -68,35 +63,11 @@ fn is_two_nodes(alloc: Global, plan: &Plan) -> Result<bool, AllocError> {
         wait_ms: 100,
     };
     let nodes = [
-        PlanNode {
-            id: Id::new(0x4000_0000_0000_0000_0000_0000_0000_0000),
-            store: StoreKind::Tree,
-        },
-        PlanNode {
-            id: Id::new(0xc000_0000_0000_0000_0000_0000_0000_0000),
-            store: StoreKind::List,
-        },
+        node(0x4000_0000_0000_0000_0000_0000_0000_0000, StoreKind::Tree),
+        node(0xc000_0000_0000_0000_0000_0000_0000_0000, StoreKind::List),
     ];
-    let key = bytes(alloc, "abc")?;
-    let value = bytes(alloc, "x")?;
-    let insert = Request::Insert { key, value };
-    let key = bytes(alloc, "abc")?;
-    let retrieve = Request::Retrieve { key };
-    let key = bytes(alloc, "abc")?;
-    let value = bytes(alloc, "y")?;
-    let remove = Request::Remove { key, value };
-    Ok(
-        plan.settings == settings
-            && plan.nodes.as_slice() == nodes.as_slice()
-            && match plan.asks.as_slice() {
-                [first, second, third] => {
-                    is_ask(first, 0, 0, &insert)
-                        && is_ask(second, 0, 1, &retrieve)
-                        && is_ask(third, 0, 0, &remove)
-                }
-                _ => false,
-            },
-    )
+    let same = plan.settings == settings && plan.nodes.as_slice() == nodes.as_slice();
+    Ok(has_the_asks(alloc, plan)? && same)
 }
 
 #[test]
@@ -107,9 +78,7 @@ fn two_nodes(rt: HostRuntime) -> Result<(), Fail> {
         // A growth was refused.
         Err(fault) => {
             assert!(rt; matches!(fault, PlanFault::OutOfMemory));
-            Plan::parse(alloc, TWO_NODES.as_bytes())
-                .ok()
-                .ok_or("refused")?
+            plan_of(alloc, TWO_NODES)?
         }
     };
     let same = match is_two_nodes(alloc, &plan) {
@@ -120,17 +89,17 @@ fn two_nodes(rt: HostRuntime) -> Result<(), Fail> {
     Ok(())
 }
 
+/// Other keys, a store of each kind, an upper case identifier, no asks, and numbers at their limits.
+const OTHER_PLAN: &str = concat!(
+    "slots = 64\ncallers = 64\nsuccessors = 16\ntries = 1000\nwait = 60000\nname = 3\n[other]\nslots = 9\n",
+    "[[node]]\nid = \"C0000000000000000000000000000001\"\nstore = \"noted\"\nlimit = \"none\"\n",
+    "[[node]]\nid = \"00000000000000000000000000000000\"\nstore = \"capped\"\nlimit = 0\n",
+    "[[node]]\nid = \"00000000000000000000000000000001\"\nstore = \"capped\"\nlimit = 9223372036854775807\n",
+);
+
 #[test]
-fn other_plans(rt: HostRuntime) -> Result<(), Fail> {
-    let alloc = rt.alloc();
-    // Other keys, a store of each kind, an upper case identifier, no asks, and numbers at their limits.
-    let text = concat!(
-        "slots = 64\ncallers = 64\nsuccessors = 16\ntries = 1000\nwait = 60000\nname = 3\n[other]\nslots = 9\n",
-        "[[node]]\nid = \"C0000000000000000000000000000001\"\nstore = \"noted\"\nlimit = \"none\"\n",
-        "[[node]]\nid = \"00000000000000000000000000000000\"\nstore = \"capped\"\nlimit = 0\n",
-        "[[node]]\nid = \"00000000000000000000000000000001\"\nstore = \"capped\"\nlimit = 9223372036854775807\n",
-    );
-    let plan = Plan::parse(alloc, text.as_bytes()).ok().ok_or("refused")?;
+fn another_plan(rt: HostRuntime) -> Result<(), Fail> {
+    let plan = plan_of(rt.alloc(), OTHER_PLAN)?;
     let settings = PlanSettings {
         slots: 64,
         callers: 64,
@@ -139,30 +108,24 @@ fn other_plans(rt: HostRuntime) -> Result<(), Fail> {
         wait_ms: 60_000,
     };
     assert_eq!(rt; plan.settings, settings);
+    let most = 9_223_372_036_854_775_807;
     let nodes = [
-        PlanNode {
-            id: Id::new(0xc000_0000_0000_0000_0000_0000_0000_0001),
-            store: StoreKind::Noted,
-        },
-        PlanNode {
-            id: Id::new(0),
-            store: StoreKind::Capped(0),
-        },
-        PlanNode {
-            id: Id::new(1),
-            store: StoreKind::Capped(9_223_372_036_854_775_807),
-        },
+        node(0xc000_0000_0000_0000_0000_0000_0000_0001, StoreKind::Noted),
+        node(0, StoreKind::Capped(0)),
+        node(1, StoreKind::Capped(most)),
     ];
     assert_eq!(rt; plan.nodes.as_slice(), nodes.as_slice());
     assert!(rt; plan.asks.is_empty());
-    // A retrieve's value is not looked at.
-    let text = changed(
-        alloc,
-        "key = \"abc\"\n[[ask]]",
-        "key = \"abc\"\nvalue = 3\n[[ask]]",
-    )?;
-    let plan = Plan::parse(alloc, text.as_bytes()).ok().ok_or("refused")?;
-    assert!(rt; is_two_nodes(alloc, &plan)?);
+    Ok(())
+}
+
+#[test]
+fn a_value_of_a_retrieve_is_not_looked_at(rt: HostRuntime) -> Result<(), Fail> {
+    let asks = "key = \"abc\"\n[[ask]]";
+    let with_a_value = "key = \"abc\"\nvalue = 3\n[[ask]]";
+    let text = changed(rt.alloc(), asks, with_a_value)?;
+    let plan = plan_of(rt.alloc(), text.as_str())?;
+    assert!(rt; is_two_nodes(rt.alloc(), &plan)?);
     Ok(())
 }
 
@@ -172,9 +135,14 @@ fn told(alloc: Global, document: &[u8]) -> Result<String, Fail> {
     Ok(fault.to_string(alloc)?)
 }
 
+/// Whether the plan with the first such piece replaced is refused with this text.
+fn is_refused(alloc: Global, old: &str, new: &str, text: &str) -> Result<bool, Fail> {
+    let told = told(alloc, changed(alloc, old, new)?.as_bytes())?;
+    Ok(told.strip_prefix("fault plan\n") == Some(text))
+}
+
 #[test]
 fn faults_of_numbers(rt: HostRuntime) -> Result<(), Fail> {
-    let alloc = rt.alloc();
     for (old, new, text) in [
         ("slots = 2\n", "", "slots: missing"),
         ("slots = 2", "slots = \"2\"", "slots: no whole number"),
@@ -185,16 +153,8 @@ fn faults_of_numbers(rt: HostRuntime) -> Result<(), Fail> {
         ("callers = 1", "callers = -1", "callers: not from 0 to 64"),
         ("callers = 1", "callers = 65", "callers: not from 0 to 64"),
         ("successors = 3\n", "", "successors: missing"),
-        (
-            "successors = 3",
-            "successors = 1",
-            "successors: not from 2 to 16",
-        ),
-        (
-            "successors = 3",
-            "successors = 17",
-            "successors: not from 2 to 16",
-        ),
+        ("rs = 3", "rs = 1", "successors: not from 2 to 16"),
+        ("rs = 3", "rs = 17", "successors: not from 2 to 16"),
         ("tries = 100\n", "", "tries: missing"),
         ("tries = 100", "tries = 0", "tries: not from 1 to 1000"),
         ("tries = 100", "tries = 1001", "tries: not from 1 to 1000"),
@@ -202,9 +162,7 @@ fn faults_of_numbers(rt: HostRuntime) -> Result<(), Fail> {
         ("wait = 100", "wait = 0", "wait: not from 1 to 60000"),
         ("wait = 100", "wait = 60001", "wait: not from 1 to 60000"),
     ] {
-        let told = told(alloc, changed(alloc, old, new)?.as_bytes())?;
-        let wanted = format!(in alloc; "fault plan\n{text}")?;
-        assert_eq!(rt; told, wanted);
+        assert!(rt; is_refused(rt.alloc(), old, new, text)?, "{new}: {text}");
     }
     Ok(())
 }
@@ -215,63 +173,53 @@ const NO_NODES: &str = "slots = 1\ncallers = 0\nsuccessors = 3\ntries = 100\nwai
 
 #[test]
 fn faults_of_nodes(rt: HostRuntime) -> Result<(), Fail> {
-    let alloc = rt.alloc();
+    let list = "store = \"list\"";
+    let no_hex = "node 1: id: not 32 hexadecimal digits";
     for (old, new, text) in [
         ("slots = 2", "slots = 1", "node: not from 1 to 1 tables"),
         ("id = \"4", "name = \"4", "node 0: id: missing"),
+        ("id = \"4", "id = 4 # \"", "node 0: id: no text"),
+        ("id = \"c0", "id = \"c", no_hex),
+        ("id = \"c0", "id = \"g0", no_hex),
+        (list, "", "node 1: store: missing"),
         (
-            "id = \"40000000000000000000000000000000\"",
-            "id = 4",
-            "node 0: id: no text",
-        ),
-        (
-            "id = \"c0",
-            "id = \"c",
-            "node 1: id: not 32 hexadecimal digits",
-        ),
-        (
-            "id = \"c0",
-            "id = \"g0",
-            "node 1: id: not 32 hexadecimal digits",
-        ),
-        ("store = \"list\"", "", "node 1: store: missing"),
-        (
-            "store = \"list\"",
+            list,
             "store = \"tre\"",
             "node 1: store: unknown kind \"tre\"",
         ),
+        (list, "store = \"capped\"", "node 1: limit: missing"),
         (
-            "store = \"list\"",
-            "store = \"capped\"",
-            "node 1: limit: missing",
-        ),
-        (
-            "store = \"list\"",
+            list,
             "store = \"capped\"\nlimit = -1",
             "node 1: limit: not from 0 to 9223372036854775807",
         ),
     ] {
-        let told = told(alloc, changed(alloc, old, new)?.as_bytes())?;
-        let wanted = format!(in alloc; "fault plan\n{text}")?;
-        assert_eq!(rt; told, wanted);
+        assert!(rt; is_refused(rt.alloc(), old, new, text)?, "{new}: {text}");
     }
-    for (nodes, text) in [
-        ("", "node: not from 1 to 1 tables"),
-        ("node = []", "node: not from 1 to 1 tables"),
-        ("node = 3", "node: no tables"),
-        ("node = [3]", "node: no tables"),
+    Ok(())
+}
+
+/// Documents with no tables where some are to be.
+#[test]
+fn faults_of_tables(rt: HostRuntime) -> Result<(), Fail> {
+    for (rest, nodes, wanted) in [
+        ("", "", "fault plan\nnode: not from 1 to 1 tables"),
+        ("node = []", "", "fault plan\nnode: not from 1 to 1 tables"),
+        ("node = 3", "", "fault plan\nnode: no tables"),
+        ("node = [3]", "", "fault plan\nnode: no tables"),
+        ("ask = 3\n", ONE_NODE, "fault plan\nask: no tables"),
+        ("ask = [3]\n", ONE_NODE, "fault plan\nask: no tables"),
     ] {
-        let document = format!(in alloc; "{NO_NODES}{nodes}")?;
-        let told = told(alloc, document.as_bytes())?;
-        let wanted = format!(in alloc; "fault plan\n{text}")?;
-        assert_eq!(rt; told, wanted);
+        let document = format!(in rt.alloc(); "{NO_NODES}{rest}{nodes}")?;
+        let told = told(rt.alloc(), document.as_bytes())?;
+        assert_eq!(rt; told.as_str(), wanted);
     }
     Ok(())
 }
 
 #[test]
 fn faults_of_asks(rt: HostRuntime) -> Result<(), Fail> {
-    let alloc = rt.alloc();
+    let key = "key = \"abc\"";
     for (old, new, text) in [
         ("caller = 0\n", "", "ask 0: caller: missing"),
         ("caller = 0", "caller = 1", "ask 0: caller: not below 1"),
@@ -279,28 +227,16 @@ fn faults_of_asks(rt: HostRuntime) -> Result<(), Fail> {
         ("via = 1", "via = 2", "ask 1: via: not below 2"),
         ("do = \"insert\"\n", "", "ask 0: do: missing"),
         (
-            "do = \"remove\"",
-            "do = \"put\"",
+            "\"remove\"",
+            "\"put\"",
             "ask 2: do: unknown operation \"put\"",
         ),
         ("key = \"abc\"\n", "", "ask 0: key: missing"),
-        ("key = \"abc\"", "key = 3", "ask 0: key: no text"),
-        (
-            "key = \"abc\"",
-            "key = \"\"",
-            "ask 0: key: the key is empty",
-        ),
+        (key, "key = 3", "ask 0: key: no text"),
+        (key, "key = \"\"", "ask 0: key: the key is empty"),
         ("value = \"y\"\n", "", "ask 2: value: missing"),
     ] {
-        let document = changed(alloc, old, new)?;
-        let told = told(alloc, document.as_bytes())?;
-        let wanted = format!(in alloc; "fault plan\n{text}")?;
-        assert_eq!(rt; told, wanted);
-    }
-    for asks in ["ask = 3", "ask = [3]"] {
-        let document = format!(in alloc; "{NO_NODES}{asks}\n{ONE_NODE}")?;
-        let told = told(alloc, document.as_bytes())?;
-        assert_eq!(rt; told.as_str(), "fault plan\nask: no tables");
+        assert!(rt; is_refused(rt.alloc(), old, new, text)?, "{new}: {text}");
     }
     Ok(())
 }
@@ -341,22 +277,32 @@ fn limits_of_requests(rt: HostRuntime) -> Result<(), Fail> {
     Ok(())
 }
 
+/// The line of a document that is no TOML is told.
 #[test]
 fn faults_of_documents(rt: HostRuntime) -> Result<(), Fail> {
+    let text = changed(rt.alloc(), "tries = 100", "tries =")?;
+    for (document, wanted) in [
+        (text.as_bytes(), "fault plan\nline 4: "),
+        (
+            b"slots = 2\nname = \"\xff\"\n".as_slice(),
+            "fault plan\nline 2: ",
+        ),
+    ] {
+        let told = told(rt.alloc(), document)?;
+        assert!(rt; told.as_str().starts_with(wanted));
+    }
+    Ok(())
+}
+
+/// As many bytes as there may be, and one more.
+#[test]
+fn lengths_of_documents(rt: HostRuntime) -> Result<(), Fail> {
     let alloc = rt.alloc();
-    let text = changed(alloc, "tries = 100", "tries =")?;
-    let told_of_it = told(alloc, text.as_bytes())?;
-    assert!(rt; told_of_it.as_str().starts_with("fault plan\nline 4: "));
-    let told_of_bytes = told(alloc, b"slots = 2\nname = \"\xff\"\n")?;
-    assert!(rt; told_of_bytes.as_str().starts_with("fault plan\nline 2: "));
-    // As many bytes as there may be, and one more.
     let mut document = Vec::from_slice(alloc, TWO_NODES.as_bytes())?;
     document.resize(PLAN_BYTES, b'\n')?;
     assert!(rt; Plan::parse(alloc, &document).is_ok());
     document.push(b'\n')?;
-    assert_eq!(rt;
-        told(alloc, &document)?.as_str(),
-        "fault plan\nmore than 1048576 bytes"
-    );
+    let told = told(alloc, &document)?;
+    assert_eq!(rt; told.as_str(), "fault plan\nmore than 1048576 bytes");
     Ok(())
 }

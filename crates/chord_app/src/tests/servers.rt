@@ -5,8 +5,8 @@ use crate::plan::Plan;
 use crate::serve::front::{Front, listen};
 use crate::serve::server::serve;
 use crate::tests::clients::{
-    ask, expect, expect_end, fault_frame, insert, leave, plan_with, remove, reply_frame,
-    request_frame, retrieve,
+    ask, ask_insert, ask_remove, expect, expect_end, fault_frame, insert, leave, lines, plan_of,
+    plan_with, reply_frame, request_frame, retrieve,
 };
 use crate::tests::plans::changed;
 use crate::tests::two_stores;
@@ -50,8 +50,32 @@ fn four_clients<R: Net>(rt: &R, alloc: Global, address: SocketAddr) -> io::Resul
     answered(rt, alloc, address, b"", b"")
 }
 
+/// Who asks a server.
+#[derive(Clone, Copy)]
+enum Clients {
+    Four,
+    Hostile,
+    TwoVersions,
+    SixtyFour,
+    HalfAFrame,
+    NeverReads,
+}
+
+impl Clients {
+    fn ask<R: Net>(self, rt: &R, alloc: Global, address: SocketAddr) -> io::Result<()> {
+        match self {
+            Clients::Four => four_clients(rt, alloc, address),
+            Clients::Hostile => hostile_clients(rt, alloc, address),
+            Clients::TwoVersions => two_versions(rt, alloc, address),
+            Clients::SixtyFour => many_clients(rt, alloc, address, 64),
+            Clients::HalfAFrame => half_a_frame(rt, alloc, address),
+            Clients::NeverReads => never_reads(rt, alloc, address),
+        }
+    }
+}
+
 /// Serves so many connections over two stores with room, and gives what was written.
-fn served_and_noted<R: Threads + Wait + Clock + Sync, L: Log + Sync>(
+fn served<R: Threads + Wait + Clock + Sync, L: Log + Sync>(
     rt: &R,
     alloc: Global,
     plan: &Plan,
@@ -71,46 +95,76 @@ fn served_and_noted<R: Threads + Wait + Clock + Sync, L: Log + Sync>(
     Ok(written)
 }
 
-/// The same with no notes.
-fn served<R: Threads + Wait + Clock + Sync>(
+/// Whether the clients are answered, and these lines written, by a server with so many callers that serves so many
+/// connections.
+fn writes<
+    R: Threads + Wait + Clock + Net<Listener = TcpListener, Stream = TcpStream> + Sync,
+    L: Log + Sync,
+>(
     rt: &R,
     alloc: Global,
-    plan: &Plan,
-    listener: &TcpListener,
-    connections: usize,
-) -> Result<Vec<u8>, Finish> {
-    served_and_noted(rt, alloc, plan, listener, connections, &Discard)
-}
-
-/// What a server writes: its address, and then these lines.
-fn lines(alloc: Global, address: SocketAddr, rest: &str) -> Result<String, AllocError> {
-    format!(in alloc; "listening on {address}\n{rest}")
+    (callers, connections): (u64, usize),
+    notes: &L,
+    clients: Clients,
+    wanted: &str,
+) -> Result<bool, Fail> {
+    let plan = plan_with(alloc, callers)?;
+    let listener = TcpListener::bind(rt, "127.0.0.1:0")?;
+    let address = listener.local_addr()?;
+    let (written, answered) = thread::join(
+        rt,
+        || served(rt, alloc, &plan, &listener, connections, notes),
+        || clients.ask(rt, alloc, address),
+    );
+    answered?;
+    let wanted = lines(alloc, address, wanted)?;
+    match written {
+        Ok(written) => Ok(written.as_slice() == wanted.as_bytes()),
+        Err(_) => Ok(false),
+    }
 }
 
 /// Also how the notes look.
 #[test]
 fn loopback_server(rt: HostRuntime) -> Result<(), Fail> {
     let alloc = rt.alloc();
-    let plan = plan_with(alloc, 3)?;
-    let listener = TcpListener::bind(&rt, "127.0.0.1:0")?;
-    let address = listener.local_addr()?;
     let notes = Locked::new(rt, Vec::new(alloc));
-    let (written, answered) = thread::join(
-        &rt,
-        || served_and_noted(&rt, alloc, &plan, &listener, 4, &notes),
-        || four_clients(&rt, alloc, address),
-    );
-    answered?;
-    let wanted = lines(
-        alloc,
-        address,
-        "connection 0 ended\nconnection 1 truncated\nconnection 2 malformed 1\nconnection 3 callersspent\n",
-    )?;
-    assert!(rt; written?.as_slice() == wanted.as_bytes());
+    let wanted =
+        "connection 0 ended\nconnection 1 truncated\nconnection 2 malformed 1\nconnection 3 callersspent\n";
+    assert!(rt; writes(&rt, alloc, (3, 4), &notes, Clients::Four, wanted)?);
     let noted: Vec<u8> = notes.into_inner();
     let wanted =
         "[INFO  chord] connection 0 ended\n[INFO  chord] connection 1 truncated\n[INFO  chord] connection 2 malformed 1\n[INFO  chord] connection 3 callersspent\n";
     assert!(rt; noted.as_slice() == wanted.as_bytes());
+    Ok(())
+}
+
+/// Refused bytes, another version, half of a frame that waits, and a client that never reads.
+#[test]
+fn faulty_clients(rt: HostRuntime) -> Result<(), Fail> {
+    for (counts, clients, wanted) in [
+        (
+            (8, 8),
+            Clients::Hostile,
+            "connection 0 ended\nconnection 1 malformed 1\nconnection 2 malformed 2\nconnection 3 malformed 3\nconnection 4 malformed 12\nconnection 5 malformed 4\nconnection 6 malformed 5\nconnection 7 malformed 6\n",
+        ),
+        ((1, 1), Clients::TwoVersions, "connection 0 malformed 2\n"),
+        (
+            (2, 2),
+            Clients::HalfAFrame,
+            "connection 0 truncated\nconnection 1 ended\n",
+        ),
+        (
+            (2, 2),
+            Clients::NeverReads,
+            "connection 0 write\nconnection 1 ended\n",
+        ),
+    ] {
+        assert!(rt;
+            writes(&rt, rt.alloc(), counts, &Discard, clients, wanted)?,
+            "{wanted}"
+        );
+    }
     Ok(())
 }
 
@@ -169,37 +223,11 @@ fn hostile_clients<R: Net>(rt: &R, alloc: Global, address: SocketAddr) -> io::Re
     let request = insert(alloc, b"x")?;
     ask(alloc, &mut stream, 1, &request, &Reply::Added)?;
     for (bytes, code, number) in HOSTILE {
-        hostile(
-            rt,
-            alloc,
-            address,
-            bytes,
-            &fault_frame(alloc, number, code)?,
-        )?;
+        let answer = fault_frame(alloc, number, code)?;
+        hostile(rt, alloc, address, bytes, &answer)?;
     }
     ask(alloc, &mut stream, 2, &request, &Reply::Present)?;
     leave(&mut stream)
-}
-
-#[test]
-fn hostile_bytes(rt: HostRuntime) -> Result<(), Fail> {
-    let alloc = rt.alloc();
-    let plan = plan_with(alloc, 8)?;
-    let listener = TcpListener::bind(&rt, "127.0.0.1:0")?;
-    let address = listener.local_addr()?;
-    let (written, answered) = thread::join(
-        &rt,
-        || served(&rt, alloc, &plan, &listener, 8),
-        || hostile_clients(&rt, alloc, address),
-    );
-    answered?;
-    let wanted = lines(
-        alloc,
-        address,
-        "connection 0 ended\nconnection 1 malformed 1\nconnection 2 malformed 2\nconnection 3 malformed 3\nconnection 4 malformed 12\nconnection 5 malformed 4\nconnection 6 malformed 5\nconnection 7 malformed 6\n",
-    )?;
-    assert!(rt; written?.as_slice() == wanted.as_bytes());
-    Ok(())
 }
 
 /// Request 2 of version 2 with floor 1: the set of `a` is asked for.
@@ -212,51 +240,46 @@ fn two_versions<R: Net>(rt: &R, alloc: Global, address: SocketAddr) -> io::Resul
     let request = insert(alloc, b"x")?;
     ask(alloc, &mut stream, 1, &request, &Reply::Added)?;
     stream.write_all(VERSION_2)?;
-    expect(
-        alloc,
-        &mut stream,
-        &fault_frame(alloc, 0, FaultCode::BadVersion)?,
-    )?;
+    let refused = fault_frame(alloc, 0, FaultCode::BadVersion)?;
+    expect(alloc, &mut stream, &refused)?;
     expect_end(&mut stream)
 }
 
-#[test]
-fn another_version(rt: HostRuntime) -> Result<(), Fail> {
-    let alloc = rt.alloc();
-    let plan = plan_with(alloc, 1)?;
-    let listener = TcpListener::bind(&rt, "127.0.0.1:0")?;
-    let address = listener.local_addr()?;
-    let (written, answered) = thread::join(
-        &rt,
-        || served(&rt, alloc, &plan, &listener, 1),
-        || two_versions(&rt, alloc, address),
-    );
-    answered?;
-    let wanted = lines(alloc, address, "connection 0 malformed 2\n")?;
-    assert!(rt; written?.as_slice() == wanted.as_bytes());
-    Ok(())
+/// The text of a number of two digits.
+fn two_digits(alloc: Global, number: u64) -> Result<String, AllocError> {
+    format!(in alloc; "{number:02}")
 }
 
 /// Values of two digits, from 00 on.
 fn values(alloc: Global, count: u64) -> Result<Reply, AllocError> {
     let mut values = Values::new(alloc);
     for number in 0..count {
-        let text = format!(in alloc; "{number:02}")?;
+        let text = two_digits(alloc, number)?;
         values.push(Bytes::from_slice(alloc, text.as_bytes())?)?;
     }
     Ok(Reply::Values(values))
 }
 
-/// So many connections are open at once, and each adds a value. Then the first sees all of them.
-fn many_clients<R: Net>(rt: &R, alloc: Global, address: SocketAddr, count: u64) -> io::Result<()> {
+/// So many connections are open at once, and each has sent a value.
+fn open_connections<R: Net>(
+    rt: &R,
+    alloc: Global,
+    address: SocketAddr,
+    count: u64,
+) -> io::Result<Vec<R::Stream>> {
     let mut streams = Vec::new(alloc);
     for number in 0..count {
         let mut stream = TcpStream::connect(rt, address)?;
-        let text = format!(in alloc; "{number:02}")?;
-        let request = insert(alloc, text.as_bytes())?;
+        let request = insert(alloc, two_digits(alloc, number)?.as_bytes())?;
         stream.write_all(&request_frame(alloc, 1, &request)?)?;
         streams.push(stream)?;
     }
+    Ok(streams)
+}
+
+/// So many connections are open at once, and each adds a value. Then each sees all of them.
+fn many_clients<R: Net>(rt: &R, alloc: Global, address: SocketAddr, count: u64) -> io::Result<()> {
+    let mut streams = open_connections(rt, alloc, address, count)?;
     let added = reply_frame(alloc, 1, &Reply::Added)?;
     for stream in streams.iter_mut() {
         expect(alloc, stream, &added)?;
@@ -273,21 +296,20 @@ fn many_clients<R: Net>(rt: &R, alloc: Global, address: SocketAddr, count: u64) 
 #[test]
 fn sixty_four_at_once(rt: HostRuntime) -> Result<(), Fail> {
     let alloc = rt.alloc();
-    let plan = plan_with(alloc, 64)?;
-    let listener = TcpListener::bind(&rt, "127.0.0.1:0")?;
-    let address = listener.local_addr()?;
-    let (written, answered) = thread::join(
-        &rt,
-        || served(&rt, alloc, &plan, &listener, 64),
-        || many_clients(&rt, alloc, address, 64),
-    );
-    answered?;
     let mut ends = String::new(alloc);
     for number in 0..64u32 {
         writeln!(ends, "connection {number} ended")?;
     }
-    let wanted = lines(alloc, address, ends.as_str())?;
-    assert!(rt; written?.as_slice() == wanted.as_bytes());
+    assert!(rt;
+        writes(
+            &rt,
+            alloc,
+            (64, 64),
+            &Discard,
+            Clients::SixtyFour,
+            ends.as_str()
+        )?
+    );
     Ok(())
 }
 
@@ -303,81 +325,36 @@ fn half_a_frame<R: Net>(rt: &R, alloc: Global, address: SocketAddr) -> io::Resul
     leave(&mut slow)
 }
 
-#[test]
-fn half_a_frame_waits(rt: HostRuntime) -> Result<(), Fail> {
-    let alloc = rt.alloc();
-    let plan = plan_with(alloc, 2)?;
-    let listener = TcpListener::bind(&rt, "127.0.0.1:0")?;
-    let address = listener.local_addr()?;
-    let (written, answered) = thread::join(
-        &rt,
-        || served(&rt, alloc, &plan, &listener, 2),
-        || half_a_frame(&rt, alloc, address),
-    );
-    answered?;
-    let wanted = lines(
-        alloc,
-        address,
-        "connection 0 truncated\nconnection 1 ended\n",
-    )?;
-    assert!(rt; written?.as_slice() == wanted.as_bytes());
+/// 32 values of 4,096 bytes are added, which fill 128 KiB.
+fn fill<S: Read + Write>(alloc: Global, stream: &mut S) -> io::Result<()> {
+    for number in 0..32u8 {
+        let value = vec![in alloc; number; 4_096]?;
+        ask_insert(alloc, stream, number as u64 + 1, &value, &Reply::Added)?;
+    }
     Ok(())
 }
 
-/// Values that fill 128 KiB, which are asked for 4,096 times and never read. Another client is served meanwhile.
+/// They are asked for 4,096 times and never read. Another client is served meanwhile.
 fn never_reads<R: Net>(rt: &R, alloc: Global, address: SocketAddr) -> io::Result<()> {
     let mut greedy = TcpStream::connect(rt, address)?;
-    for number in 0..32u8 {
-        let value = vec![in alloc; number; 4_096]?;
-        let request = insert(alloc, &value)?;
-        ask(
-            alloc,
-            &mut greedy,
-            number as u64 + 1,
-            &request,
-            &Reply::Added,
-        )?;
-    }
+    fill(alloc, &mut greedy)?;
     let request = retrieve(alloc)?;
     for number in 33..4_129u64 {
         greedy.write_all(&request_frame(alloc, number, &request)?)?;
     }
     let mut stream = TcpStream::connect(rt, address)?;
-    let request = remove(alloc, b"x")?;
-    ask(alloc, &mut stream, 1, &request, &Reply::Absent)?;
+    ask_remove(alloc, &mut stream, 1, b"x", &Reply::Absent)?;
     leave(&mut stream)
-}
-
-#[test]
-fn a_reader_that_never_reads(rt: HostRuntime) -> Result<(), Fail> {
-    let alloc = rt.alloc();
-    let plan = plan_with(alloc, 2)?;
-    let listener = TcpListener::bind(&rt, "127.0.0.1:0")?;
-    let address = listener.local_addr()?;
-    let (written, answered) = thread::join(
-        &rt,
-        || served(&rt, alloc, &plan, &listener, 2),
-        || never_reads(&rt, alloc, address),
-    );
-    answered?;
-    let wanted = lines(alloc, address, "connection 0 write\nconnection 1 ended\n")?;
-    assert!(rt; written?.as_slice() == wanted.as_bytes());
-    Ok(())
 }
 
 /// A node that the ring refuses ends the command before it listens.
 #[test]
 fn served_refused_node(rt: HostRuntime) -> Result<(), Fail> {
-    let alloc = rt.alloc();
-    let twice = changed(alloc, "id = \"c0", "id = \"40")?;
-    let Ok(plan) = Plan::parse(alloc, twice.as_bytes()) else {
-        return Err(Fail::from("no plan"));
-    };
+    let twice = changed(rt.alloc(), "id = \"c0", "id = \"40")?;
+    let plan = plan_of(rt.alloc(), twice.as_str())?;
     let listener = TcpListener::bind(&rt, "127.0.0.1:0")?;
-    match served(&rt, alloc, &plan, &listener, 1) {
-        Err(finish) => assert_eq!(rt; finish, Finish::Fault(Fault::Node(1))),
-        Ok(_) => return Err(Fail::from("served")),
-    }
+    let served = served(&rt, rt.alloc(), &plan, &listener, 1, &Discard);
+    assert_eq!(rt; served.err(), Some(Finish::Fault(Fault::Node(1))));
     Ok(())
 }
 
@@ -385,10 +362,8 @@ fn served_refused_node(rt: HostRuntime) -> Result<(), Fail> {
 fn a_port_that_is_taken(rt: HostRuntime) -> Result<(), Fail> {
     let listener = TcpListener::bind(&rt, "127.0.0.1:0")?;
     let port = listener.local_addr()?.port();
-    match listen(&rt, port) {
-        Err(finish) => assert_eq!(rt; finish, Finish::Fault(Fault::Listen)),
-        Ok(_) => return Err(Fail::from("listened twice")),
-    }
+    let listened = listen(&rt, port);
+    assert_eq!(rt; listened.err(), Some(Finish::Fault(Fault::Listen)));
     drop(listener);
     assert!(rt; listen(&rt, port).is_ok());
     Ok(())

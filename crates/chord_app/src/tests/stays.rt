@@ -5,15 +5,15 @@ use crate::plan::Plan;
 use crate::serve::front::Front;
 use crate::serve::stay::stay;
 use crate::tests::clients::{
-    ask, ask_in_vain, expect_end, insert, leave, plan_with, remove, retrieve,
+    ask_in_vain, ask_insert, ask_remove, ask_retrieve, expect_end, insert, leave, lines, plan_with,
 };
 use crate::tests::two_stores;
-use chord_map::{Bytes, Reply, Values};
+use chord_map::Reply;
 use chord_wire::FaultCode;
 use log::Log;
 use log::sink::{Discard, Locked};
-use std::alloc::{AllocError, Global};
-use std::io::{self, PipeReader, PipeWriter, Write};
+use std::alloc::Global;
+use std::io::{self, PipeReader, PipeWriter, Read, Write};
 use std::net::{Net, SocketAddr, TcpListener, TcpStream};
 use std::sync::Wait;
 use std::test::Fail;
@@ -100,16 +100,90 @@ fn stayed_in_32_bytes<
     stay_over(rt, alloc, plan, listener, 4, input, &Discard, written)
 }
 
-/// What a server writes: its address, and then these lines.
-fn lines(alloc: Global, address: SocketAddr, rest: &str) -> Result<String, AllocError> {
-    format!(in alloc; "listening on {address}\n{rest}")
+/// Who asks a server that stays.
+#[derive(Clone, Copy)]
+enum Clients {
+    InTurn,
+    Crowded,
+    FullAndAgain,
 }
 
-/// The reply with this value alone.
-fn one_value(alloc: Global, value: &[u8]) -> Result<Reply, AllocError> {
-    let mut values = Values::new(alloc);
-    values.push(Bytes::from_slice(alloc, value)?)?;
-    Ok(Reply::Values(values))
+impl Clients {
+    fn ask<R: Net>(
+        self,
+        rt: &R,
+        alloc: Global,
+        address: SocketAddr,
+        input: PipeWriter,
+    ) -> io::Result<()> {
+        match self {
+            Clients::InTurn => in_turn(rt, alloc, address, input),
+            Clients::Crowded => crowded(rt, alloc, address, input),
+            Clients::FullAndAgain => full_and_again(rt, alloc, address, input),
+        }
+    }
+}
+
+/// Whether the clients are answered, and these lines written, by a server with so many callers and room for so many
+/// pairs.
+fn writes<
+    R: Threads
+        + Wait
+        + Clock
+        + Net<Listener = TcpListener, Stream = TcpStream>
+        + Copy
+        + Send
+        + Sync
+        + 'static,
+    L: Log + Sync,
+>(
+    rt: &R,
+    alloc: Global,
+    (callers, limit): (u64, u64),
+    (reader, writer): (PipeReader, PipeWriter),
+    notes: &L,
+    clients: Clients,
+    wanted: &str,
+) -> Result<bool, Fail> {
+    let plan = plan_with(alloc, callers)?;
+    let listener = TcpListener::bind(rt, "127.0.0.1:0")?;
+    let address = listener.local_addr()?;
+    let (written, answered) = thread::join(
+        rt,
+        || stayed_and_noted(rt, alloc, &plan, &listener, limit, reader, notes),
+        || clients.ask(rt, alloc, address, writer),
+    );
+    answered?;
+    let wanted = lines(alloc, address, wanted)?;
+    match written {
+        Ok(written) => Ok(written.as_slice() == wanted.as_bytes()),
+        Err(_) => Ok(false),
+    }
+}
+
+/// A client adds a value twice.
+fn adds_twice<R: Net>(rt: &R, alloc: Global, address: SocketAddr) -> io::Result<()> {
+    let mut stream = TcpStream::connect(rt, address)?;
+    ask_insert(alloc, &mut stream, 1, b"x", &Reply::Added)?;
+    ask_insert(alloc, &mut stream, 2, b"x", &Reply::Present)?;
+    leave(&mut stream)
+}
+
+/// A client sees the value, and leaves out a number.
+fn leaves_out_a_number<R: Net>(rt: &R, alloc: Global, address: SocketAddr) -> io::Result<()> {
+    let mut stream = TcpStream::connect(rt, address)?;
+    ask_retrieve(alloc, &mut stream, 1, &[b"x".as_slice()])?;
+    let request = insert(alloc, b"x")?;
+    ask_in_vain(alloc, &mut stream, 3, &request, FaultCode::BadNumber)?;
+    leave(&mut stream)
+}
+
+/// A client removes the value, under one number twice.
+fn removes_once<R: Net>(rt: &R, alloc: Global, address: SocketAddr) -> io::Result<()> {
+    let mut stream = TcpStream::connect(rt, address)?;
+    ask_remove(alloc, &mut stream, 1, b"x", &Reply::Removed)?;
+    ask_remove(alloc, &mut stream, 1, b"x", &Reply::Removed)?;
+    leave(&mut stream)
 }
 
 /// Three clients, one after another, each with numbers from 1 on. A fourth stays, and the input ends.
@@ -119,23 +193,11 @@ fn in_turn<R: Net>(
     address: SocketAddr,
     input: PipeWriter,
 ) -> io::Result<()> {
-    let added = insert(alloc, b"x")?;
-    let mut first = TcpStream::connect(rt, address)?;
-    ask(alloc, &mut first, 1, &added, &Reply::Added)?;
-    ask(alloc, &mut first, 2, &added, &Reply::Present)?;
-    leave(&mut first)?;
-    let mut second = TcpStream::connect(rt, address)?;
-    let all = one_value(alloc, b"x")?;
-    ask(alloc, &mut second, 1, &retrieve(alloc)?, &all)?;
-    ask_in_vain(alloc, &mut second, 3, &added, FaultCode::BadNumber)?;
-    leave(&mut second)?;
-    let mut third = TcpStream::connect(rt, address)?;
-    let removed = remove(alloc, b"x")?;
-    ask(alloc, &mut third, 1, &removed, &Reply::Removed)?;
-    ask(alloc, &mut third, 1, &removed, &Reply::Removed)?;
-    leave(&mut third)?;
+    adds_twice(rt, alloc, address)?;
+    leaves_out_a_number(rt, alloc, address)?;
+    removes_once(rt, alloc, address)?;
     let mut fourth = TcpStream::connect(rt, address)?;
-    ask(alloc, &mut fourth, 1, &removed, &Reply::Absent)?;
+    ask_remove(alloc, &mut fourth, 1, b"x", &Reply::Absent)?;
     drop(input);
     expect_end(&mut fourth)
 }
@@ -143,24 +205,26 @@ fn in_turn<R: Net>(
 /// One caller serves all connections in turn. That which is open at the end is ended.
 #[test]
 fn one_caller_for_all(rt: HostRuntime) -> Result<(), Fail> {
-    let alloc = rt.alloc();
-    let plan = plan_with(alloc, 1)?;
-    let listener = TcpListener::bind(&rt, "127.0.0.1:0")?;
-    let address = listener.local_addr()?;
-    let (reader, writer) = io::pipe(&rt)?;
-    let (written, answered) = thread::join(
-        &rt,
-        || stayed_and_noted(&rt, alloc, &plan, &listener, 4, reader, &Discard),
-        || in_turn(&rt, alloc, address, writer),
+    let wanted = "connection 0 ended\nconnection 1 ended\nconnection 2 ended\nconnection 3 ended\n";
+    let pipe = io::pipe(&rt)?;
+    assert!(rt;
+        writes(
+            &rt,
+            rt.alloc(),
+            (1, 4),
+            pipe,
+            &Discard,
+            Clients::InTurn,
+            wanted
+        )?
     );
-    answered?;
-    let wanted = lines(
-        alloc,
-        address,
-        "connection 0 ended\nconnection 1 ended\nconnection 2 ended\nconnection 3 ended\n",
-    )?;
-    assert!(rt; written?.as_slice() == wanted.as_bytes());
     Ok(())
+}
+
+/// A client finds no caller, and is closed.
+fn is_closed<R: Net>(rt: &R, address: SocketAddr) -> io::Result<()> {
+    let mut stream = TcpStream::connect(rt, address)?;
+    expect_end(&mut stream)
 }
 
 /// The one caller is taken, so another client is closed. Once it is free, the next is served.
@@ -170,14 +234,12 @@ fn crowded<R: Net>(
     address: SocketAddr,
     input: PipeWriter,
 ) -> io::Result<()> {
-    let request = insert(alloc, b"x")?;
     let mut first = TcpStream::connect(rt, address)?;
-    ask(alloc, &mut first, 1, &request, &Reply::Added)?;
-    let mut second = TcpStream::connect(rt, address)?;
-    expect_end(&mut second)?;
+    ask_insert(alloc, &mut first, 1, b"x", &Reply::Added)?;
+    is_closed(rt, address)?;
     leave(&mut first)?;
     let mut third = TcpStream::connect(rt, address)?;
-    ask(alloc, &mut third, 1, &request, &Reply::Present)?;
+    ask_insert(alloc, &mut third, 1, b"x", &Reply::Present)?;
     leave(&mut third)?;
     drop(input);
     Ok(())
@@ -187,28 +249,41 @@ fn crowded<R: Net>(
 #[test]
 fn a_caller_that_is_taken(rt: HostRuntime) -> Result<(), Fail> {
     let alloc = rt.alloc();
-    let plan = plan_with(alloc, 1)?;
-    let listener = TcpListener::bind(&rt, "127.0.0.1:0")?;
-    let address = listener.local_addr()?;
-    let (reader, writer) = io::pipe(&rt)?;
     let notes = Locked::new(rt, Vec::new(alloc));
-    let (written, answered) = thread::join(
-        &rt,
-        || stayed_and_noted(&rt, alloc, &plan, &listener, 4, reader, &notes),
-        || crowded(&rt, alloc, address, writer),
-    );
-    answered?;
-    let wanted = lines(
-        alloc,
-        address,
-        "connection 1 callersspent\nconnection 0 ended\nconnection 2 ended\n",
-    )?;
-    assert!(rt; written?.as_slice() == wanted.as_bytes());
+    let wanted = "connection 1 callersspent\nconnection 0 ended\nconnection 2 ended\n";
+    let pipe = io::pipe(&rt)?;
+    assert!(rt; writes(&rt, alloc, (1, 4), pipe, &notes, Clients::Crowded, wanted)?);
     let noted: Vec<u8> = notes.into_inner();
     let wanted =
         "[INFO  chord] connection 1 callersspent\n[INFO  chord] connection 0 ended\n[INFO  chord] connection 2 ended\n";
     assert!(rt; noted.as_slice() == wanted.as_bytes());
     Ok(())
+}
+
+/// A client leaves with a request that found the store full.
+fn leaves_a_request<R: Net>(rt: &R, alloc: Global, address: SocketAddr) -> io::Result<()> {
+    let mut stream = TcpStream::connect(rt, address)?;
+    ask_insert(alloc, &mut stream, 1, b"x", &Reply::Added)?;
+    let request = insert(alloc, b"y")?;
+    ask_in_vain(alloc, &mut stream, 2, &request, FaultCode::Full)?;
+    leave(&mut stream)
+}
+
+/// A client makes room while no caller is free for another one, and stays.
+fn makes_room<R: Net>(rt: &R, alloc: Global, address: SocketAddr) -> io::Result<R::Stream> {
+    let mut stream = TcpStream::connect(rt, address)?;
+    ask_insert(alloc, &mut stream, 1, b"x", &Reply::Present)?;
+    is_closed(rt, address)?;
+    ask_remove(alloc, &mut stream, 2, b"x", &Reply::Removed)?;
+    Ok(stream)
+}
+
+/// A client sees the value that took the room, and finds the store full, twice.
+fn finds_it_full<S: Read + Write>(alloc: Global, stream: &mut S) -> io::Result<()> {
+    ask_retrieve(alloc, stream, 1, &[b"y".as_slice()])?;
+    let request = insert(alloc, b"z")?;
+    ask_in_vain(alloc, stream, 2, &request, FaultCode::Full)?;
+    ask_in_vain(alloc, stream, 2, &request, FaultCode::Full)
 }
 
 /// A client leaves with a request that found the store full. Another makes room, and then the caller serves again.
@@ -218,27 +293,12 @@ fn full_and_again<R: Net>(
     address: SocketAddr,
     input: PipeWriter,
 ) -> io::Result<()> {
-    let x = insert(alloc, b"x")?;
-    let y = insert(alloc, b"y")?;
-    let z = insert(alloc, b"z")?;
-    let mut first = TcpStream::connect(rt, address)?;
-    ask(alloc, &mut first, 1, &x, &Reply::Added)?;
-    ask_in_vain(alloc, &mut first, 2, &y, FaultCode::Full)?;
-    leave(&mut first)?;
-    let mut second = TcpStream::connect(rt, address)?;
-    ask(alloc, &mut second, 1, &x, &Reply::Present)?;
-    let mut third = TcpStream::connect(rt, address)?;
-    expect_end(&mut third)?;
-    let without_x = remove(alloc, b"x")?;
-    ask(alloc, &mut second, 2, &without_x, &Reply::Removed)?;
+    leaves_a_request(rt, alloc, address)?;
+    let mut second = makes_room(rt, alloc, address)?;
     let mut fourth = TcpStream::connect(rt, address)?;
-    let all = one_value(alloc, b"y")?;
-    ask(alloc, &mut fourth, 1, &retrieve(alloc)?, &all)?;
-    ask_in_vain(alloc, &mut fourth, 2, &z, FaultCode::Full)?;
-    ask_in_vain(alloc, &mut fourth, 2, &z, FaultCode::Full)?;
-    let without_y = remove(alloc, b"y")?;
-    ask(alloc, &mut second, 3, &without_y, &Reply::Removed)?;
-    ask(alloc, &mut fourth, 2, &z, &Reply::Added)?;
+    finds_it_full(alloc, &mut fourth)?;
+    ask_remove(alloc, &mut second, 3, b"y", &Reply::Removed)?;
+    ask_insert(alloc, &mut fourth, 2, b"z", &Reply::Added)?;
     leave(&mut fourth)?;
     leave(&mut second)?;
     drop(input);
@@ -248,23 +308,11 @@ fn full_and_again<R: Net>(
 /// A caller with a pending request serves only once that is answered.
 #[test]
 fn a_pending_request(rt: HostRuntime) -> Result<(), Fail> {
-    let alloc = rt.alloc();
-    let plan = plan_with(alloc, 2)?;
-    let listener = TcpListener::bind(&rt, "127.0.0.1:0")?;
-    let address = listener.local_addr()?;
-    let (reader, writer) = io::pipe(&rt)?;
-    let (written, answered) = thread::join(
-        &rt,
-        || stayed_and_noted(&rt, alloc, &plan, &listener, 1, reader, &Discard),
-        || full_and_again(&rt, alloc, address, writer),
-    );
-    answered?;
-    let wanted = lines(
-        alloc,
-        address,
-        "connection 0 ended\nconnection 2 callersspent\nconnection 3 ended\nconnection 1 ended\n",
-    )?;
-    assert!(rt; written?.as_slice() == wanted.as_bytes());
+    let wanted =
+        "connection 0 ended\nconnection 2 callersspent\nconnection 3 ended\nconnection 1 ended\n";
+    let pipe = io::pipe(&rt)?;
+    let clients = Clients::FullAndAgain;
+    assert!(rt; writes(&rt, rt.alloc(), (2, 1), pipe, &Discard, clients, wanted)?);
     Ok(())
 }
 

@@ -4,586 +4,198 @@ ghost use Rattle.std.specs.List.{All};
 
 use crate::finish::Finish;
 use crate::stores::add_store;
-use crate::tests::runs;
+use crate::tests::{Ran, runs};
 use chord_store::CappedStore;
 use std::alloc::{AllocError, Global};
 use std::fmt::Write;
 use std::test::Fail;
 
 /// Runs the script over two stores, the second of which has room for so many pairs.
-fn over_two(
-    alloc: Global,
-    room: u64,
-    script: &str,
-    wanted: &str,
-) -> Result<(Finish, bool), AllocError> {
+fn over_two(alloc: Global, room: u64, script: &str, wanted: &str) -> Result<Ran, AllocError> {
     let mut stores = Vec::new(alloc);
     add_store(&mut stores, CappedStore::new(alloc, u64::MAX))?;
     add_store(&mut stores, CappedStore::new(alloc, room))?;
     runs(alloc, stores, script, wanted)
 }
 
+/// A key moves to a node that joins, while its caller waits for a reply.
 const MOVING_KEY: &str = concat!(
-    "create 40000000000000000000000000000000\n",
-    "caller\n",
-    "retrieve 0 0 616263\n",
-    "deliver 0\n",
-    "deliver 1\n",
-    "insert 0 0 616263 78\n",
-    "deliver 2\n",
-    "deliver 3\n",
-    "join c0000000000000000000000000000000 0\n",
-    "rectify 0 1\n",
-    "candidate 0 1\n",
-    "cut 0 0 c0000000000000000000000000000000\n",
-    "give 0 0 1\n",
-    "retrieve 0 0 616263\n",
-    "deliver 5\n",
-    "deliver 4\n",
-    "deliver 6\n",
-    "deliver 8\n",
-    "deliver 4\n",
-    "deliver 2\n",
-    "deliver 10\n",
-    "deliver 3\n",
-    "deliver 7\n",
-    "deliver 9\n",
-    "holder a9993e364706816aba3e25717850c26c\n",
-    "history\n",
-    "leave 1\n",
-    "retire 1\n",
-    "give 1 0 0\n",
-    "deliver 11\n",
-    "deliver 12\n",
-    "retire 1\n",
-    "deliver 4\n",
-    "leave 0\n",
-    "retire 0\n",
-    "retrieve 0 1 616263\n",
-    "deliver 14\n",
-    "deliver 15\n",
-    "deliver 16\n",
+    "create 40000000000000000000000000000000\ncaller\nretrieve 0 0 616263\ndeliver 0\n",
+    "deliver 1\ninsert 0 0 616263 78\ndeliver 2\ndeliver 3\n",
+    "join c0000000000000000000000000000000 0\nrectify 0 1\ncandidate 0 1\n",
+    "cut 0 0 c0000000000000000000000000000000\ngive 0 0 1\nretrieve 0 0 616263\ndeliver 5\n",
+    "deliver 4\ndeliver 6\ndeliver 8\ndeliver 4\ndeliver 2\ndeliver 10\ndeliver 3\ndeliver 7\n",
+    "deliver 9\nholder a9993e364706816aba3e25717850c26c\nhistory\nleave 1\nretire 1\n",
+    "give 1 0 0\ndeliver 11\ndeliver 12\nretire 1\ndeliver 4\nleave 0\nretire 0\n",
+    "retrieve 0 1 616263\ndeliver 14\ndeliver 15\ndeliver 16\n",
 );
 
 const MOVING_KEY_WRITES: &str = concat!(
-    "node 0\n",
-    "caller 0\n",
-    "message 0\n",
-    "told 1\n",
-    "fresh values 0\n",
-    "message 2\n",
-    "told 3\n",
-    "fresh added\n",
-    "node 1\n",
-    "ok\n",
-    "ok\n",
-    "ok\n",
-    "message 4\n",
-    "message 5\n",
-    "forward 6\n",
-    "got 7\n",
-    "told 8\n",
-    "fresh values 1 78\n",
-    "got 9\n",
-    "forward 10\n",
-    "dropped\n",
-    "known\n",
-    "freed\n",
-    "unknown\n",
-    "node 1\n",
-    "history 3\n",
-    "ok\n",
-    "refused 9 NotEmpty\n",
-    "message 11\n",
-    "got 12\n",
-    "freed\n",
-    "ok\n",
-    "got 13\n",
-    "ok\n",
-    "refused 8 Unsafe\n",
-    "message 14\n",
-    "forward 15\n",
-    "told 16\n",
-    "fresh values 1 78\n",
+    "node 0\ncaller 0\nmessage 0\ntold 1\nfresh values 0\nmessage 2\ntold 3\nfresh added\n",
+    "node 1\nok\nok\nok\nmessage 4\nmessage 5\nforward 6\ngot 7\ntold 8\nfresh values 1 78\n",
+    "got 9\nforward 10\ndropped\nknown\nfreed\nunknown\nnode 1\nhistory 3\nok\n",
+    "refused 9 NotEmpty\nmessage 11\ngot 12\nfreed\nok\ngot 13\nok\nrefused 8 Unsafe\n",
+    "message 14\nforward 15\ntold 16\nfresh values 1 78\n",
 );
 
+/// The confirmation of a handover is lost, and its receiver leaves before the part comes again.
 const LOST_CONFIRMATION: &str = concat!(
-    "create 40000000000000000000000000000000\n",
-    "caller\n",
-    "retrieve 0 0 616263\n",
-    "deliver 0\n",
-    "deliver 1\n",
-    "insert 0 0 616263 78\n",
-    "deliver 2\n",
-    "deliver 3\n",
-    "join c0000000000000000000000000000000 0\n",
-    "rectify 0 1\n",
-    "candidate 0 1\n",
-    "cut 0 0 c0000000000000000000000000000000\n",
-    "give 0 0 1\n",
-    "retrieve 0 0 616263\n",
-    "deliver 5\n",
-    "deliver 4\n",
-    "deliver 6\n",
-    "deliver 8\n",
-    "deliver 4\n",
-    "deliver 2\n",
-    "deliver 10\n",
-    "deliver 3\n",
-    "holder a9993e364706816aba3e25717850c26c\n",
-    "history\n",
-    "leave 1\n",
-    "retire 1\n",
-    "give 1 0 0\n",
-    "deliver 11\n",
-    "deliver 12\n",
-    "retire 1\n",
-    "deliver 4\n",
-    "deliver 13\n",
-    "leave 0\n",
-    "retire 0\n",
-    "retrieve 0 1 616263\n",
-    "deliver 14\n",
-    "deliver 15\n",
-    "deliver 16\n",
+    "create 40000000000000000000000000000000\ncaller\nretrieve 0 0 616263\ndeliver 0\n",
+    "deliver 1\ninsert 0 0 616263 78\ndeliver 2\ndeliver 3\n",
+    "join c0000000000000000000000000000000 0\nrectify 0 1\ncandidate 0 1\n",
+    "cut 0 0 c0000000000000000000000000000000\ngive 0 0 1\nretrieve 0 0 616263\ndeliver 5\n",
+    "deliver 4\ndeliver 6\ndeliver 8\ndeliver 4\ndeliver 2\ndeliver 10\ndeliver 3\n",
+    "holder a9993e364706816aba3e25717850c26c\nhistory\nleave 1\nretire 1\ngive 1 0 0\n",
+    "deliver 11\ndeliver 12\nretire 1\ndeliver 4\ndeliver 13\nleave 0\nretire 0\n",
+    "retrieve 0 1 616263\ndeliver 14\ndeliver 15\ndeliver 16\n",
 );
 
 const LOST_CONFIRMATION_WRITES: &str = concat!(
-    "node 0\n",
-    "caller 0\n",
-    "message 0\n",
-    "told 1\n",
-    "fresh values 0\n",
-    "message 2\n",
-    "told 3\n",
-    "fresh added\n",
-    "node 1\n",
-    "ok\n",
-    "ok\n",
-    "ok\n",
-    "message 4\n",
-    "message 5\n",
-    "forward 6\n",
-    "got 7\n",
-    "told 8\n",
-    "fresh values 1 78\n",
-    "got 9\n",
-    "forward 10\n",
-    "dropped\n",
-    "known\n",
-    "node 1\n",
-    "history 3\n",
-    "ok\n",
-    "refused 9 NotEmpty\n",
-    "message 11\n",
-    "got 12\n",
-    "freed\n",
-    "ok\n",
-    "got 13\n",
-    "freed\n",
-    "ok\n",
-    "refused 8 Unsafe\n",
-    "message 14\n",
-    "forward 15\n",
-    "told 16\n",
-    "fresh values 1 78\n",
+    "node 0\ncaller 0\nmessage 0\ntold 1\nfresh values 0\nmessage 2\ntold 3\nfresh added\n",
+    "node 1\nok\nok\nok\nmessage 4\nmessage 5\nforward 6\ngot 7\ntold 8\nfresh values 1 78\n",
+    "got 9\nforward 10\ndropped\nknown\nnode 1\nhistory 3\nok\nrefused 9 NotEmpty\n",
+    "message 11\ngot 12\nfreed\nok\ngot 13\nfreed\nok\nrefused 8 Unsafe\nmessage 14\n",
+    "forward 15\ntold 16\nfresh values 1 78\n",
 );
 
+/// A node that is gone declines what it did not take, and the giver holds it again.
 const DECLINED_HANDOVER: &str = concat!(
-    "create 40000000000000000000000000000000\n",
-    "join c0000000000000000000000000000000 0\n",
-    "leave 1\n",
-    "retire 1\n",
-    "give 0 0 1\n",
-    "deliver 0\n",
-    "deliver 1\n",
-    "deliver 1\n",
+    "create 40000000000000000000000000000000\njoin c0000000000000000000000000000000 0\n",
+    "leave 1\nretire 1\ngive 0 0 1\ndeliver 0\ndeliver 1\ndeliver 1\n",
     "holder 40000000000000000000000000000000\n",
 );
 
 const DECLINED_HANDOVER_WRITES: &str = concat!(
-    "node 0\n",
-    "node 1\n",
-    "ok\n",
-    "ok\n",
-    "message 0\n",
-    "declined 1\n",
-    "held\n",
-    "unknown\n",
-    "node 0\n",
+    "node 0\nnode 1\nok\nok\nmessage 0\ndeclined 1\nheld\nunknown\nnode 0\n",
 );
 
+/// The second handover of a sender comes before the first.
 const HANDOVERS_OUT_OF_ORDER: &str = concat!(
-    "create 40000000000000000000000000000000\n",
-    "join c0000000000000000000000000000000 0\n",
-    "cut 0 0 c0000000000000000000000000000000\n",
-    "cut 0 0 80000000000000000000000000000000\n",
-    "give 0 0 1\n",
-    "give 0 0 1\n",
-    "holder 80000000000000000000000000000000\n",
-    "deliver 1\n",
-    "deliver 0\n",
-    "deliver 1\n",
-    "holder 80000000000000000000000000000000\n",
-    "merge 1 0 1\n",
-    "merge 1 0 1\n",
+    "create 40000000000000000000000000000000\njoin c0000000000000000000000000000000 0\n",
+    "cut 0 0 c0000000000000000000000000000000\ncut 0 0 80000000000000000000000000000000\n",
+    "give 0 0 1\ngive 0 0 1\nholder 80000000000000000000000000000000\ndeliver 1\ndeliver 0\n",
+    "deliver 1\nholder 80000000000000000000000000000000\nmerge 1 0 1\nmerge 1 0 1\n",
 );
 
 const HANDOVERS_OUT_OF_ORDER_WRITES: &str = concat!(
-    "node 0\n",
-    "node 1\n",
-    "ok\n",
-    "ok\n",
-    "message 0\n",
-    "message 1\n",
-    "underway 0 1 1\n",
-    "early\n",
-    "got 2\n",
-    "got 3\n",
-    "node 1\n",
-    "ok\n",
-    "refused 9 NoSegment\n",
+    "node 0\nnode 1\nok\nok\nmessage 0\nmessage 1\nunderway 0 1 1\nearly\ngot 2\ngot 3\n",
+    "node 1\nok\nrefused 9 NoSegment\n",
 );
 
+/// A call comes to a node that gave its key away.
 const INSERT_AFTER_A_HANDOVER: &str = concat!(
-    "create 40000000000000000000000000000000\n",
-    "caller\n",
-    "join c0000000000000000000000000000000 0\n",
-    "cut 0 0 c0000000000000000000000000000000\n",
-    "give 0 0 1\n",
-    "deliver 0\n",
-    "insert 0 1 616263 78\n",
-    "deliver 2\n",
-    "deliver 3\n",
-    "deliver 1\n",
+    "create 40000000000000000000000000000000\ncaller\n",
+    "join c0000000000000000000000000000000 0\ncut 0 0 c0000000000000000000000000000000\n",
+    "give 0 0 1\ndeliver 0\ninsert 0 1 616263 78\ndeliver 2\ndeliver 3\ndeliver 1\n",
     "holder 80000000000000000000000000000000\n",
 );
 
 const INSERT_AFTER_A_HANDOVER_WRITES: &str = concat!(
-    "node 0\n",
-    "caller 0\n",
-    "node 1\n",
-    "ok\n",
-    "message 0\n",
-    "got 1\n",
-    "message 2\n",
-    "told 3\n",
-    "fresh added\n",
-    "freed\n",
+    "node 0\ncaller 0\nnode 1\nok\nmessage 0\ngot 1\nmessage 2\ntold 3\nfresh added\nfreed\n",
     "node 1\n",
 );
 
+/// The new holder answers a repeated call again, and does not execute it.
 const REPEATS_AFTER_A_HANDOVER: &str = concat!(
-    "create 40000000000000000000000000000000\n",
-    "caller\n",
-    "join c0000000000000000000000000000000 0\n",
-    "rectify 0 1\n",
-    "candidate 0 1\n",
-    "cut 0 0 c0000000000000000000000000000000\n",
-    "insert 0 0 616263 78\n",
-    "deliver 0\n",
-    "give 0 0 1\n",
-    "deliver 2\n",
-    "deliver 0\n",
-    "deliver 4\n",
-    "deliver 5\n",
-    "deliver 1\n",
+    "create 40000000000000000000000000000000\ncaller\n",
+    "join c0000000000000000000000000000000 0\nrectify 0 1\ncandidate 0 1\n",
+    "cut 0 0 c0000000000000000000000000000000\ninsert 0 0 616263 78\ndeliver 0\ngive 0 0 1\n",
+    "deliver 2\ndeliver 0\ndeliver 4\ndeliver 5\ndeliver 1\n",
 );
 
 const REPEATS_AFTER_A_HANDOVER_WRITES: &str = concat!(
-    "node 0\n",
-    "caller 0\n",
-    "node 1\n",
-    "ok\n",
-    "ok\n",
-    "ok\n",
-    "message 0\n",
-    "told 1\n",
-    "message 2\n",
-    "got 3\n",
-    "forward 4\n",
-    "told 5\n",
-    "fresh added\n",
-    "known\n",
+    "node 0\ncaller 0\nnode 1\nok\nok\nok\nmessage 0\ntold 1\nmessage 2\ngot 3\nforward 4\n",
+    "told 5\nfresh added\nknown\n",
 );
 
+/// After a cut both parts know what their callers have seen.
 const FLOORS_AFTER_A_CUT: &str = concat!(
-    "create 40000000000000000000000000000000\n",
-    "caller\n",
-    "insert 0 0 61 78\n",
-    "deliver 0\n",
-    "deliver 1\n",
-    "remove 0 0 61 78\n",
-    "deliver 2\n",
-    "deliver 3\n",
-    "retrieve 0 0 616263\n",
-    "deliver 4\n",
-    "deliver 5\n",
-    "cut 0 0 90000000000000000000000000000000\n",
-    "deliver 0\n",
-    "deliver 2\n",
+    "create 40000000000000000000000000000000\ncaller\ninsert 0 0 61 78\ndeliver 0\ndeliver 1\n",
+    "remove 0 0 61 78\ndeliver 2\ndeliver 3\nretrieve 0 0 616263\ndeliver 4\ndeliver 5\n",
+    "cut 0 0 90000000000000000000000000000000\ndeliver 0\ndeliver 2\n",
 );
 
 const FLOORS_AFTER_A_CUT_WRITES: &str = concat!(
-    "node 0\n",
-    "caller 0\n",
-    "message 0\n",
-    "told 1\n",
-    "fresh added\n",
-    "message 2\n",
-    "told 3\n",
-    "fresh removed\n",
-    "message 4\n",
-    "told 5\n",
-    "fresh values 0\n",
-    "ok\n",
-    "dropped\n",
-    "dropped\n",
+    "node 0\ncaller 0\nmessage 0\ntold 1\nfresh added\nmessage 2\ntold 3\nfresh removed\n",
+    "message 4\ntold 5\nfresh values 0\nok\ndropped\ndropped\n",
 );
 
+/// A node that crashed stays the holder of what it held.
 const CRASHED_HOLDER: &str = concat!(
-    "create 40000000000000000000000000000000\n",
-    "caller\n",
-    "join c0000000000000000000000000000000 0\n",
-    "cut 0 0 c0000000000000000000000000000000\n",
-    "give 0 0 1\n",
-    "deliver 0\n",
-    "insert 0 1 616263 78\n",
-    "deliver 2\n",
-    "crash 0\n",
-    "crash 1\n",
-    "crash 1\n",
-    "deliver 2\n",
-    "deliver 3\n",
-    "retrieve 0 0 616263\n",
-    "deliver 4\n",
-    "holder 80000000000000000000000000000000\n",
-    "history\n",
+    "create 40000000000000000000000000000000\ncaller\n",
+    "join c0000000000000000000000000000000 0\ncut 0 0 c0000000000000000000000000000000\n",
+    "give 0 0 1\ndeliver 0\ninsert 0 1 616263 78\ndeliver 2\ncrash 0\ncrash 1\ncrash 1\n",
+    "deliver 2\ndeliver 3\nretrieve 0 0 616263\ndeliver 4\n",
+    "holder 80000000000000000000000000000000\nhistory\n",
 );
 
 const CRASHED_HOLDER_WRITES: &str = concat!(
-    "node 0\n",
-    "caller 0\n",
-    "node 1\n",
-    "ok\n",
-    "message 0\n",
-    "got 1\n",
-    "message 2\n",
-    "told 3\n",
-    "refused 8 Unsafe\n",
-    "ok\n",
-    "refused 3 NoSuchNode\n",
-    "refused 9 Crashed\n",
-    "fresh added\n",
-    "message 4\n",
-    "dropped\n",
-    "node 1\n",
+    "node 0\ncaller 0\nnode 1\nok\nmessage 0\ngot 1\nmessage 2\ntold 3\nrefused 8 Unsafe\nok\n",
+    "refused 3 NoSuchNode\nrefused 9 Crashed\nfresh added\nmessage 4\ndropped\nnode 1\n",
     "history 1\n",
 );
 
 const RECEIVER_WITH_A_FULL_STORE: &str = concat!(
-    "create 40000000000000000000000000000000\n",
-    "caller\n",
-    "insert 0 0 61 78\n",
-    "deliver 0\n",
-    "deliver 1\n",
-    "insert 0 0 61 79\n",
-    "deliver 2\n",
-    "deliver 3\n",
-    "join c0000000000000000000000000000000 0\n",
-    "cut 0 0 c0000000000000000000000000000000\n",
-    "give 0 0 1\n",
-    "deliver 4\n",
-    "holder 80000000000000000000000000000000\n",
-    "leave 1\n",
-    "retire 1\n",
-    "deliver 4\n",
-    "deliver 5\n",
+    "create 40000000000000000000000000000000\ncaller\ninsert 0 0 61 78\ndeliver 0\ndeliver 1\n",
+    "insert 0 0 61 79\ndeliver 2\ndeliver 3\njoin c0000000000000000000000000000000 0\n",
+    "cut 0 0 c0000000000000000000000000000000\ngive 0 0 1\ndeliver 4\n",
+    "holder 80000000000000000000000000000000\nleave 1\nretire 1\ndeliver 4\ndeliver 5\n",
     "holder 80000000000000000000000000000000\n",
 );
 
 const RECEIVER_WITH_A_FULL_STORE_WRITES: &str = concat!(
-    "node 0\n",
-    "caller 0\n",
-    "message 0\n",
-    "told 1\n",
-    "fresh added\n",
-    "message 2\n",
-    "told 3\n",
-    "fresh added\n",
-    "node 1\n",
-    "ok\n",
-    "message 4\n",
-    "full\n",
-    "underway 0 1 1\n",
-    "ok\n",
-    "ok\n",
-    "declined 5\n",
-    "held\n",
-    "node 0\n",
+    "node 0\ncaller 0\nmessage 0\ntold 1\nfresh added\nmessage 2\ntold 3\nfresh added\n",
+    "node 1\nok\nmessage 4\nfull\nunderway 0 1 1\nok\nok\ndeclined 5\nheld\nnode 0\n",
 );
 
 const FLOORS_AFTER_ANOTHER_CUT: &str = concat!(
-    "create 40000000000000000000000000000000\n",
-    "caller\n",
-    "insert 0 0 61 78\n",
-    "deliver 0\n",
-    "deliver 1\n",
-    "remove 0 0 61 78\n",
-    "deliver 2\n",
-    "deliver 3\n",
-    "retrieve 0 0 616263\n",
-    "deliver 4\n",
-    "deliver 5\n",
-    "cut 0 0 50000000000000000000000000000000\n",
-    "deliver 0\n",
-    "deliver 2\n",
+    "create 40000000000000000000000000000000\ncaller\ninsert 0 0 61 78\ndeliver 0\ndeliver 1\n",
+    "remove 0 0 61 78\ndeliver 2\ndeliver 3\nretrieve 0 0 616263\ndeliver 4\ndeliver 5\n",
+    "cut 0 0 50000000000000000000000000000000\ndeliver 0\ndeliver 2\n",
 );
 
-/// A key moves to a node that joins, while its caller waits for a reply.
+/// Each session is done, and writes its lines.
 #[test]
-fn moving_key(rt: HostRuntime) -> Result<(), Fail> {
-    let ran = over_two(rt.alloc(), u64::MAX, MOVING_KEY, MOVING_KEY_WRITES)?;
-    assert_eq!(rt; ran, (Finish::Done, true));
-    Ok(())
-}
-
-/// The confirmation of a handover is lost, and its receiver leaves before the part comes again.
-#[test]
-fn lost_confirmation(rt: HostRuntime) -> Result<(), Fail> {
-    let ran = over_two(
-        rt.alloc(),
-        u64::MAX,
-        LOST_CONFIRMATION,
-        LOST_CONFIRMATION_WRITES,
-    )?;
-    assert_eq!(rt; ran, (Finish::Done, true));
-    Ok(())
-}
-
-/// A node that is gone declines what it did not take, and the giver holds it again.
-#[test]
-fn declined_handover(rt: HostRuntime) -> Result<(), Fail> {
-    let ran = over_two(
-        rt.alloc(),
-        u64::MAX,
-        DECLINED_HANDOVER,
-        DECLINED_HANDOVER_WRITES,
-    )?;
-    assert_eq!(rt; ran, (Finish::Done, true));
-    Ok(())
-}
-
-/// The second handover of a sender comes before the first.
-#[test]
-fn handovers_out_of_order(rt: HostRuntime) -> Result<(), Fail> {
-    let ran = over_two(
-        rt.alloc(),
-        u64::MAX,
-        HANDOVERS_OUT_OF_ORDER,
-        HANDOVERS_OUT_OF_ORDER_WRITES,
-    )?;
-    assert_eq!(rt; ran, (Finish::Done, true));
-    Ok(())
-}
-
-/// A call comes to a node that gave its key away.
-#[test]
-fn insert_after_a_handover(rt: HostRuntime) -> Result<(), Fail> {
-    let ran = over_two(
-        rt.alloc(),
-        u64::MAX,
-        INSERT_AFTER_A_HANDOVER,
-        INSERT_AFTER_A_HANDOVER_WRITES,
-    )?;
-    assert_eq!(rt; ran, (Finish::Done, true));
-    Ok(())
-}
-
-/// The new holder answers a repeated call again, and does not execute it.
-#[test]
-fn repeats_after_a_handover(rt: HostRuntime) -> Result<(), Fail> {
-    let ran = over_two(
-        rt.alloc(),
-        u64::MAX,
-        REPEATS_AFTER_A_HANDOVER,
-        REPEATS_AFTER_A_HANDOVER_WRITES,
-    )?;
-    assert_eq!(rt; ran, (Finish::Done, true));
-    Ok(())
-}
-
-/// After a cut both parts know what their callers have seen.
-#[test]
-fn floors_after_a_cut(rt: HostRuntime) -> Result<(), Fail> {
-    let ran = over_two(
-        rt.alloc(),
-        u64::MAX,
-        FLOORS_AFTER_A_CUT,
-        FLOORS_AFTER_A_CUT_WRITES,
-    )?;
-    assert_eq!(rt; ran, (Finish::Done, true));
-    let ran = over_two(
-        rt.alloc(),
-        u64::MAX,
-        FLOORS_AFTER_ANOTHER_CUT,
-        FLOORS_AFTER_A_CUT_WRITES,
-    )?;
-    assert_eq!(rt; ran, (Finish::Done, true));
-    Ok(())
-}
-
-/// A node that crashed stays the holder of what it held.
-#[test]
-fn crashed_holder(rt: HostRuntime) -> Result<(), Fail> {
-    let ran = over_two(rt.alloc(), u64::MAX, CRASHED_HOLDER, CRASHED_HOLDER_WRITES)?;
-    assert_eq!(rt; ran, (Finish::Done, true));
+fn sessions_of_two_nodes(rt: HostRuntime) -> Result<(), Fail> {
+    for (script, wanted) in [
+        (MOVING_KEY, MOVING_KEY_WRITES),
+        (LOST_CONFIRMATION, LOST_CONFIRMATION_WRITES),
+        (DECLINED_HANDOVER, DECLINED_HANDOVER_WRITES),
+        (HANDOVERS_OUT_OF_ORDER, HANDOVERS_OUT_OF_ORDER_WRITES),
+        (INSERT_AFTER_A_HANDOVER, INSERT_AFTER_A_HANDOVER_WRITES),
+        (REPEATS_AFTER_A_HANDOVER, REPEATS_AFTER_A_HANDOVER_WRITES),
+        (FLOORS_AFTER_A_CUT, FLOORS_AFTER_A_CUT_WRITES),
+        (FLOORS_AFTER_ANOTHER_CUT, FLOORS_AFTER_A_CUT_WRITES),
+        (CRASHED_HOLDER, CRASHED_HOLDER_WRITES),
+    ] {
+        let ran = over_two(rt.alloc(), u64::MAX, script, wanted)?;
+        assert_eq!(rt; ran, (Finish::Done, true), "{script}");
+    }
     Ok(())
 }
 
 /// A receiver with a full store takes a handover once there is room.
 #[test]
 fn receiver_with_a_full_store(rt: HostRuntime) -> Result<(), Fail> {
-    let ran = over_two(
-        rt.alloc(),
-        1,
+    let (script, wanted) = (
         RECEIVER_WITH_A_FULL_STORE,
         RECEIVER_WITH_A_FULL_STORE_WRITES,
-    )?;
+    );
+    let ran = over_two(rt.alloc(), 1, script, wanted)?;
     assert_eq!(rt; ran, (Finish::Done, true));
     Ok(())
 }
 
 const IN_TWO_PARTS: &str = concat!(
-    "join c0000000000000000000000000000000 0\n",
-    "cut 0 0 c0000000000000000000000000000000\n",
-    "give 0 0 1\n",
-    "deliver 130\n",
-    "deliver 130\n",
-    "holder 80000000000000000000000000000000\n",
-    "part 0 1 1 3\n",
-    "part 0 1 1 2\n",
-    "deliver 131\n",
-    "deliver 130\n",
-    "holder 80000000000000000000000000000000\n",
-    "deliver 132\n",
-    "part 0 1 1 1\n",
+    "join c0000000000000000000000000000000 0\ncut 0 0 c0000000000000000000000000000000\n",
+    "give 0 0 1\ndeliver 130\ndeliver 130\nholder 80000000000000000000000000000000\n",
+    "part 0 1 1 3\npart 0 1 1 2\ndeliver 131\ndeliver 130\n",
+    "holder 80000000000000000000000000000000\ndeliver 132\npart 0 1 1 1\n",
 );
 
 const IN_TWO_PARTS_WRITES: &str = concat!(
-    "node 1\n",
-    "ok\n",
-    "message 130\n",
-    "part\n",
-    "part\n",
-    "underway 0 1 1\n",
-    "refused 9 NoPart\n",
-    "message 131\n",
-    "got 132\n",
-    "got 133\n",
-    "node 1\n",
-    "freed\n",
-    "refused 9 NoPart\n",
+    "node 1\nok\nmessage 130\npart\npart\nunderway 0 1 1\nrefused 9 NoPart\nmessage 131\n",
+    "got 132\ngot 133\nnode 1\nfreed\nrefused 9 NoPart\n",
 );
 
 /// A node with 65 values under one key, and what is written.
