@@ -11,7 +11,6 @@ use chord_map::Reply;
 use chord_node::{Message, Node};
 use chord_store::CappedStore;
 use std::alloc::{AllocError, Global};
-use std::test::Fail;
 
 const ZERO: Peer = Peer {
     no: 0,
@@ -38,64 +37,77 @@ fn ask(alloc: Global, number: u64, key: &[u8]) -> Result<Ask, AllocError>
 }
 
 /// Node 0 alone, which holds the circle, with room for so many pairs.
-fn founder(alloc: Global, limit: u64) -> Result<Node<CappedStore>, Fail> {
-    match Node::found(alloc, ZERO, 3, CappedStore::new(alloc, limit)) {
-        Ok(node) => Ok(node),
-        Err(_) => Err(Fail::from("no node")),
-    }
+fn founder(alloc: Global, limit: u64) -> Option<Node<CappedStore>> {
+    Node::found(alloc, ZERO, 3, CappedStore::new(alloc, limit)).ok()
 }
 
-/// What the node sends for a call.
-fn dealt_ask(
+/// What a node alone does at a tick, at the next one, and once it leaves.
+fn tidies(alloc: Global) -> Option<(Tidied, Tidied, Tidied)> {
+    let mut node = founder(alloc, 4)?;
+    let first = tidy(&mut node, Id::new(C)).ok()?;
+    let second = tidy(&mut node, Id::new(C)).ok()?;
+    node.begin_leave().ok()?;
+    let third = tidy(&mut node, Id::new(C)).ok()?;
+    Some((first, second, third))
+}
+
+#[test]
+fn a_node_alone_tidies(rt: HostRuntime) {
+    let steps = (Tidied::Cut, Tidied::Give(0), Tidied::Nothing);
+    assert_eq!(rt; tidies(rt.alloc()), Some(steps));
+}
+
+/// What the node sends for the call of this number under this key.
+fn dealt(
+    alloc: Global,
     node: &mut Node<CappedStore>,
-    ask: Ask,
-) -> Result<Option<(Target, Message)>, AllocError> {
-    deal(node, Message::Ask(ask))
+    number: u64,
+    key: &[u8],
+) -> Result<Option<(Target, Message)>, AllocError>
+    requires some { 1 ≤ number }
+    requires near { number ≤ 16 }
+{
+    deal(node, Message::Ask(ask(alloc, number, key)?))
 }
 
-#[test]
-fn a_node_alone_tidies(rt: HostRuntime) -> Result<(), Fail> {
-    let mut node = founder(rt.alloc(), 4)?;
-    assert!(rt; matches!(&tidy(&mut node, Id::new(C)), Ok(Tidied::Cut)));
-    assert!(rt; matches!(&tidy(&mut node, Id::new(C)), Ok(Tidied::Give(0))));
-    node.begin_leave()?;
-    assert!(rt; matches!(&tidy(&mut node, Id::new(C)), Ok(Tidied::Nothing)));
-    Ok(())
-}
-
-#[test]
-fn a_call_is_answered_to_its_caller(rt: HostRuntime) -> Result<(), Fail> {
-    let mut node = founder(rt.alloc(), 1)?;
-    let told = dealt_ask(&mut node, ask(rt.alloc(), 1, b"abc")?)?;
-    let Some((Target::Caller(7), Message::Told(told))) = told else {
-        return Err(Fail::from("no reply"));
-    };
-    assert_eq!(rt; (told.caller, told.number), (7, 1));
-    assert!(rt; told.reply == Reply::Added);
-    Ok(())
-}
-
-/// Whether the second call of caller 7 is answered Full to it.
-fn is_full(dealt: Option<(Target, Message)>) -> bool {
+/// Whether the first call of caller 7 is answered Added to it.
+fn is_added(dealt: &Option<(Target, Message)>) -> bool {
     match dealt {
-        Some((Target::Caller(7), Message::Full { caller, number })) => (caller, number) == (7, 2),
+        Some((Target::Caller(7), Message::Told(told))) => {
+            (told.caller, told.number) == (7, 1) && told.reply == Reply::Added
+        }
         _ => false,
     }
 }
 
-#[test]
-fn a_full_store_is_told_to_its_caller(rt: HostRuntime) -> Result<(), Fail> {
-    let mut node = founder(rt.alloc(), 1)?;
-    dealt_ask(&mut node, ask(rt.alloc(), 1, b"abc")?)?;
-    let full = dealt_ask(&mut node, ask(rt.alloc(), 2, b"b")?)?;
-    assert!(rt; is_full(full));
-    Ok(())
+/// Whether the second one is answered Full.
+fn is_full(dealt: &Option<(Target, Message)>) -> bool {
+    match dealt {
+        Some((Target::Caller(7), Message::Full { caller, number })) => (*caller, *number) == (7, 2),
+        _ => false,
+    }
+}
+
+/// Whether a node with room for one pair answers the first call with Added and the second with Full.
+fn answers(alloc: Global) -> Option<(bool, bool)> {
+    let mut node = founder(alloc, 1)?;
+    let told = is_added(&dealt(alloc, &mut node, 1, b"abc").ok()?);
+    let full = is_full(&dealt(alloc, &mut node, 2, b"b").ok()?);
+    Some((told, full))
 }
 
 #[test]
-fn a_newborn_node_drops_a_call(rt: HostRuntime) -> Result<(), Fail> {
-    let alloc = rt.alloc();
+fn a_call_is_answered_to_its_caller(rt: HostRuntime) {
+    assert_eq!(rt; answers(rt.alloc()), Some((true, true)));
+}
+
+/// Whether a node that holds nothing and knows no other sends nothing for a call.
+fn drops(alloc: Global) -> Option<bool> {
     let mut node = Node::newborn(alloc, Links::alone(ONE, 3), CappedStore::new(alloc, 4));
-    assert!(rt; dealt_ask(&mut node, ask(alloc, 1, b"abc")?)?.is_none());
-    Ok(())
+    Some(dealt(alloc, &mut node, 1, b"abc").ok()?.is_none())
+}
+
+#[test]
+fn a_newborn_node_drops_a_call(rt: HostRuntime) {
+    assert_eq!(rt; drops(rt.alloc()), Some(true));
 }
