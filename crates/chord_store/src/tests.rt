@@ -97,9 +97,10 @@ fn drop_what_was_copied<S: EntryStore>(
     store: &mut S,
 ) -> Result<(), Fail> {
     put_four(rt, store);
-    let copies = store.copy_span(alloc, &half())?;
+    let half = half();
+    let copies = store.copy_span(alloc, &half)?;
     assert_eq!(rt; copies.len(), 3);
-    store.drop_copied(&half(), &copies);
+    store.drop_copied(&half, &copies);
     has_one(rt, alloc, store)
 }
 

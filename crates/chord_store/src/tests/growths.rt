@@ -21,12 +21,6 @@ struct There {
     odd: u8,
 }
 
-impl There {
-    fn has(self, n: u8) -> bool {
-        n < if n % 2 == 0 { self.even } else { self.odd }
-    }
-}
-
 const ALL: There = There {
     even: COUNT,
     odd: COUNT,
@@ -50,23 +44,19 @@ fn is_pair(pair: &Pair, n: u8) -> bool {
     is_byte(pair.key.as_slice(), n / 3) && is_byte(pair.value.as_slice(), n)
 }
 
-// Whether these are the pairs that are there and no others.
-fn are_these(pairs: &[Pair], there: There) -> bool {
+// Whether the store has these pairs and no others.
+fn has_these<S: EntryStore>(alloc: Global, store: &S, there: There) -> bool {
+    let Ok(pairs) = all_pairs(alloc, store) else {
+        return false;
+    };
     let mut rest = pairs.iter();
     for n in 0..COUNT {
-        if there.has(n) && !rest.next().is_some_and(|pair| is_pair(pair, n)) {
+        let end = if n % 2 == 0 { there.even } else { there.odd };
+        if n < end && !rest.next().is_some_and(|pair| is_pair(pair, n)) {
             return false;
         }
     }
     rest.next().is_none()
-}
-
-// Whether the store has these pairs and no others.
-fn has_these<S: EntryStore>(alloc: Global, store: &S, there: There) -> bool {
-    match all_pairs(alloc, store) {
-        Ok(pairs) => are_these(pairs.as_slice(), there),
-        Err(_) => false,
-    }
 }
 
 // Puts in a pair, and once more where memory was wanting and the store has what it had.
