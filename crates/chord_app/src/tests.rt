@@ -18,6 +18,7 @@ mod command_lines;
 mod loads;
 mod plan_runs;
 mod plans;
+mod rings;
 mod servers;
 mod stays;
 mod worlds;

@@ -47,6 +47,3 @@ pub use ring::Ring;
 pub use settings::Settings;
 pub use target::Target;
 pub use tidying::{Tidied, tidy};
-
-#[cfg(test)]
-mod tests;

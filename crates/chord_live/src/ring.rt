@@ -70,8 +70,8 @@ impl<J: Naming, S: EntryStore> Ring<J, S> {
         self.stopped.store(true, Ordering::SeqCst);
     }
 
-    /// The links of a node, if it is there.
-    pub(crate) fn links_of(&self, rt: &impl Wait, no: u64) -> Option<Links> {
+    /// The links of a node, if it is there: what its upkeep knows of the ring at this moment.
+    pub fn links_of(&self, rt: &impl Wait, no: u64) -> Option<Links> {
         let slot = self.slots.get(no as usize)?;
         match &*slot.place.lock(rt) {
             Place::Here(locked) => Some(*locked.links()),

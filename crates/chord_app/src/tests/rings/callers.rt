@@ -2,7 +2,7 @@
 ghost use Rattle.std.specs.Prelude.{◌≡◌, []};
 
 use super::{Store, blank, founded, insert, is_added, is_told, opened, remove, retrieve, settings};
-use crate::{AskFault, Blank, Caller, CollectFault, LeaveFault, Open, Ring};
+use chord_live::{AskFault, Blank, Caller, CollectFault, LeaveFault, Open, Ring};
 use chord_map::Reply;
 use chord_store::{CappedStore, EntryStore};
 use chord_table::Naming;

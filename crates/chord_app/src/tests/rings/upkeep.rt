@@ -2,8 +2,8 @@
 ghost use Rattle.std.specs.Prelude.{◌≡◌};
 
 use super::{C, blank, founded, insert, is_added, is_told, opened, retrieve, settings};
-use crate::{Blank, Gate, Open, Ring};
 use chord_ident::Id;
+use chord_live::{Blank, Gate, Open, Ring};
 use chord_map::Request;
 use chord_store::{CappedStore, EntryStore};
 use chord_table::Naming;

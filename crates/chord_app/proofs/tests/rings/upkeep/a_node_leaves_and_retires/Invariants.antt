@@ -1,4 +1,4 @@
-use Rattle.chord_live.proofs.tests.upkeep.a_node_leaves_and_retires.Given as goal
+use Rattle.chord_app.proofs.tests.rings.upkeep.a_node_leaves_and_retires.Given as goal
 
 -- the ring that was just made
 abbrev pub ghosts-two_nodes : goal.ghosts-two_nodes

@@ -1,8 +1,8 @@
 //! Rings, with threads and without. Each test ends by itself, and what it finds does not depend on the schedule.
 ghost use Rattle.std.specs.Prelude.{◌≡◌, ◌≤◌, []};
 
-use crate::{Blank, Caller, Ring, Settings};
 use chord_ident::Id;
+use chord_live::{Blank, Caller, Ring, Settings};
 use chord_map::{Bytes, Reply, Request};
 use chord_store::EntryStore;
 use chord_table::Naming;

@@ -1,4 +1,4 @@
-use Rattle.chord_live.proofs.tests.growths.refused_growths_of_a_ring.Given as goal
+use Rattle.chord_app.proofs.tests.rings.upkeep.two_locks_at_once.Given as goal
 
 -- the ring that was just made
 abbrev pub ghosts-two_nodes : goal.ghosts-two_nodes

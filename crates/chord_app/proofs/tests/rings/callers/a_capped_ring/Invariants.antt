@@ -1,4 +1,4 @@
-use Rattle.chord_live.proofs.tests.callers.a_capped_ring.Given as goal
+use Rattle.chord_app.proofs.tests.rings.callers.a_capped_ring.Given as goal
 
 -- the ring that was just made
 abbrev pub ghosts-capped_boxed : goal.ghosts-capped_boxed

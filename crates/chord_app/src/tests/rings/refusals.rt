@@ -2,12 +2,12 @@
 ghost use Rattle.std.specs.Prelude.{◌≡◌};
 
 use super::{A, B, C, blank, founded, insert, is_added, opened, retrieve, settings};
-use crate::{
+use chord_ident::Id;
+use chord_links::Peer;
+use chord_live::{
     AskFault, BeginFault, Blank, Caller, CollectFault, CreateFault, JoinFault, LeaveFault,
     NewFault, NoSuchNode, Open, OpenFault, RetireFault, RetryFault, Ring, Settings, TickFault,
 };
-use chord_ident::Id;
-use chord_links::Peer;
 use chord_map::RequestFault;
 use chord_store::{CappedStore, EntryStore, Inserted};
 use chord_table::Naming;

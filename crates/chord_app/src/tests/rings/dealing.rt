@@ -2,11 +2,11 @@
 ghost use Rattle.std.specs.Prelude.{◌≤◌};
 
 use super::{A, C, insert};
-use crate::{Target, Tidied, deal, tidy};
 use chord_caller::{Ask, Told};
 use chord_handover::Ticket;
 use chord_ident::Id;
 use chord_links::{Links, Peer};
+use chord_live::{Target, Tidied, deal, tidy};
 use chord_map::Reply;
 use chord_node::{Message, Node};
 use chord_store::CappedStore;

@@ -3,11 +3,11 @@
 ghost use Rattle.std.specs.Prelude.{◌≡◌, []};
 
 use super::{A, C, insert, is_told, opened, retrieve, settings};
-use crate::{
+use chord_ident::Id;
+use chord_live::{
     AskFault, BeginFault, Blank, Caller, CollectFault, CreateFault, JoinFault, NewFault, Open,
     RetryFault, Ring, TickFault,
 };
-use chord_ident::Id;
 use chord_map::{Reply, Request};
 use chord_store::{CappedStore, EntryStore};
 use chord_table::Naming;

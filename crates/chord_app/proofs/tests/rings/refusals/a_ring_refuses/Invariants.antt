@@ -1,4 +1,4 @@
-use Rattle.chord_live.proofs.tests.refusals.a_ring_refuses.Given as goal
+use Rattle.chord_app.proofs.tests.rings.refusals.a_ring_refuses.Given as goal
 
 -- the ring that was just made
 abbrev pub ghosts-refusals : goal.ghosts-refusals
