@@ -205,11 +205,11 @@ fn a_world_with_no_stores(rt: HostRuntime) -> Result<(), Fail> {
     Ok(())
 }
 
-/// A set of so many values of two bytes, which are added one by one, and what is written.
-fn set_of(alloc: Global, values: u32) -> Result<(String, String), AllocError> {
+/// A set of 1,000 values of two bytes, which are added one by one, and what is written.
+fn full_set(alloc: Global) -> Result<(String, String), AllocError> {
     let mut script = String::from_str(alloc, "create 40000000000000000000000000000000\ncaller\n")?;
     let mut wanted = String::from_str(alloc, "node 0\ncaller 0\n")?;
-    for value in 0..values {
+    for value in 0..1000u32 {
         let asked = 2 * value;
         let told = 2 * value + 1;
         write!(
@@ -276,7 +276,7 @@ const AT_THE_LIMIT_WRITES: &str =
 
 #[test]
 fn full_sets(rt: HostRuntime) -> Result<(), Fail> {
-    let (mut script, mut wanted) = set_of(rt.alloc(), 1000)?;
+    let (mut script, mut wanted) = full_set(rt.alloc())?;
     script.push_str(AT_THE_LIMIT)?;
     wanted.push_str(AT_THE_LIMIT_WRITES)?;
     let ran = over_a_list(rt.alloc(), script.as_str(), wanted.as_str())?;
