@@ -69,6 +69,7 @@ fn what_is_kept_goes_by_key(rt: HostRuntime) -> Result<(), Fail> {
     let whole = before.join(behind).ok().ok_or("not joined")?;
     assert_eq!(rt; whole.span(), span(A, A));
     assert_eq!(rt; whole.kept().len(), 1);
+    assert!(rt; matches!(whole.find(0, 1), Past::Kept(_)));
     Ok(())
 }
 
@@ -142,6 +143,7 @@ fn floors_drop_what_was_taken(rt: HostRuntime) -> Result<(), Fail> {
     assert!(rt; keep_added(&mut segment, rt.alloc(), 2, b"b", 0)?);
     assert_eq!(rt; segment.kept().len(), 2);
     assert!(rt; keep_added(&mut segment, rt.alloc(), 3, b"a", 2)?);
+    assert_eq!(rt; segment.floor(0), 2);
     assert_eq!(rt; segment.kept().len(), 1);
     assert!(rt; matches!(segment.find(0, 1), Past::Seen));
     let (before, behind) = cut_at_b(segment)?;

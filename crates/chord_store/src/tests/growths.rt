@@ -125,7 +125,8 @@ fn put_all_or_none<S: EntryStore>(alloc: Global, store: &mut S, list: &PairList)
         Ok(()) => true,
         Err(StoreFault::Full) => false,
         Err(StoreFault::Memory) => {
-            let is_empty = has_these(alloc, store, There { even: 0, odd: 0 });
+            let none = There { even: 0, odd: 0 };
+            let is_empty = has_these(alloc, store, none) && store.count() == 0;
             put_list(store, list).is_ok() && is_empty
         }
     }
