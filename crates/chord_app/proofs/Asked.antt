@@ -10,7 +10,7 @@ use Rattle.chord_map.specs.Map.{fits}
 use Rattle.chord_map.specs.declared.reply.Reply.{Reply}
 use Rattle.chord_map.specs.declared.request.Request.{Request}
 use Rattle.chord_map.proofs.Lists.{by_test}
-use Rattle.chord_node.specs.Headline.{request_with}
+use Rattle.chord_model.specs.Headline.{request_with}
 use Rattle.chord_serve.specs.Question.{Retry, IsHeard, IsReplyTo, request_at}
 use Rattle.chord_serve.specs.declared.asker.Asked.{Asked}
 use Rattle.chord_serve.specs.declared.asker.Asked.TheVariants as asked

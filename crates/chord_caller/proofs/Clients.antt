@@ -4,9 +4,9 @@ use Rattle.std.proofs.lemmas.Bool.{true≢false, cases_lt, ne_eqb}
 use Rattle.std.proofs.lemmas.List.{append_assoc, length-replicate}
 use Rattle.std.proofs.lemmas.Option.{none-some, slice_get_past}
 use Rattle.chord_map.specs.declared.request.Request.{Request}
-use Rattle.chord_segment.specs.declared.done.Done.{Done}
-use Rattle.chord_segment.specs.History.{done_at}
-use Rattle.chord_segment.proofs.MarkLemmas.{same_or_not, eqb_same}
+use Rattle.chord_map.specs.declared.done.Done.{Done}
+use Rattle.chord_map.specs.History.{done_at}
+use Rattle.chord_map.proofs.Equal.{same_or_not, eqb_same}
 use Rattle.chord_caller.specs.declared.slot.Slot.{Slot}
 use Rattle.chord_caller.specs.declared.slot.Slot.TheVariants.{Waiting, Over}
 use Rattle.chord_caller.specs.declared.told.Told.{Told}

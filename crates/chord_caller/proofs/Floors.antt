@@ -4,10 +4,10 @@ use Rattle.std.proofs.lemmas.Bool.{true≢false, and_from, cases_lt}
 use Rattle.std.proofs.lemmas.Bool.Decides.{eqb_tells}
 use Rattle.std.proofs.lemmas.List.{length-map}
 use Rattle.chord_map.proofs.Lists.{by_option, has_got, place_of, finds}
-use Rattle.chord_segment.specs.declared.done.Done.{Done}
-use Rattle.chord_segment.specs.History.{done_at}
-use Rattle.chord_segment.proofs.MarkLemmas.{eqb_same}
-use Rattle.chord_segment.proofs.HistoryLemmas.{done_is}
+use Rattle.chord_map.specs.declared.done.Done.{Done}
+use Rattle.chord_map.specs.History.{done_at}
+use Rattle.chord_map.proofs.Equal.{eqb_same}
+use Rattle.chord_map.proofs.HistoryLemmas.{done_is}
 use Rattle.chord_caller.specs.declared.submitted.Progress.{Progress}
 use Rattle.chord_caller.specs.declared.submitted.Progress.TheVariants.{Pending, Taken}
 use Rattle.chord_caller.specs.declared.submitted.Submitted.{Submitted}

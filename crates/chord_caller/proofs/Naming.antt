@@ -6,9 +6,9 @@ use Rattle.std.specs.BTreeMap.{is_at}
 use Rattle.std.specs.BTreeSet.{BTreeSet, IsEmpty, Updates}
 use Rattle.std.proofs.lemmas.Bool.Decides.{nat_tests}
 use Rattle.std.proofs.lemmas.List.{take_more}
-use Rattle.chord_segment.specs.declared.done.Done.{Done}
-use Rattle.chord_segment.specs.History.{done_at}
-use Rattle.chord_segment.proofs.MarkLemmas.{eqb_same}
+use Rattle.chord_map.specs.declared.done.Done.{Done}
+use Rattle.chord_map.specs.History.{done_at}
+use Rattle.chord_map.proofs.Equal.{eqb_same}
 use Rattle.chord_caller.specs.Names.{name_cmp, has_name}
 use Rattle.chord_caller.specs.Unknown.{not_in}
 use Rattle.chord_caller.proofs.Places.{either_is, filter_more_yes, filter_more_no}

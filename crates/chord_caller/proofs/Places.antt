@@ -5,9 +5,9 @@ use Rattle.std.proofs.lemmas.Bool.{cond-true, cond-false}
 use Rattle.std.proofs.lemmas.List.{take_more}
 use Rattle.std.proofs.lemmas.List.Elements.{filter-append}
 use Rattle.chord_map.proofs.Lists.{by_option}
-use Rattle.chord_segment.specs.declared.done.Done.{Done}
-use Rattle.chord_segment.specs.History.{done_at}
-use Rattle.chord_segment.proofs.HistoryLemmas.{done_left, done_right}
+use Rattle.chord_map.specs.declared.done.Done.{Done}
+use Rattle.chord_map.specs.History.{done_at}
+use Rattle.chord_map.proofs.HistoryLemmas.{done_left, done_right}
 use Rattle.std.proofs.lemmas.Option.{none-some, same_Some}
 
 pub got_left : {A : Type 0} (xs more : List A) (place : ℕ) (x : A) → slice_get xs place ≡ Some x → slice_get (xs ++ more) place ≡ Some x

@@ -3,8 +3,8 @@ use Rattle.std.proofs.Common.{◌≡◌, ◌≢◌, ℕ, zero, suc, ◌<◌, ◌
 use Rattle.std.proofs.lemmas.Bool.{true≢false, cases_lt}
 use Rattle.std.proofs.lemmas.Option.{none-some}
 use Rattle.chord_map.specs.declared.request.Request.{Request}
-use Rattle.chord_segment.specs.declared.done.Done.{Done}
-use Rattle.chord_segment.proofs.MarkLemmas.{same_or_not}
+use Rattle.chord_map.specs.declared.done.Done.{Done}
+use Rattle.chord_map.proofs.Equal.{same_or_not}
 use Rattle.chord_caller.specs.declared.submitted.Progress.{Progress}
 use Rattle.chord_caller.specs.declared.submitted.Progress.TheVariants.{Pending, Taken}
 use Rattle.chord_caller.specs.declared.submitted.Submitted.{Submitted}

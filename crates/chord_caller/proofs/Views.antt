@@ -6,9 +6,9 @@ use Rattle.std.proofs.lemmas.List.{length-map}
 use Rattle.std.proofs.lemmas.Bool.{cond-true, cond-false, and_from, true≢false, cases_lt}
 use Rattle.std.proofs.lemmas.Option.{none-some, slice_get_within}
 use Rattle.chord_map.specs.Map.{fits}
-use Rattle.chord_segment.specs.declared.done.Done.{Done}
-use Rattle.chord_segment.specs.History.{done_at}
-use Rattle.chord_segment.proofs.MarkLemmas.{eqb_same}
+use Rattle.chord_map.specs.declared.done.Done.{Done}
+use Rattle.chord_map.specs.History.{done_at}
+use Rattle.chord_map.proofs.Equal.{eqb_same}
 use Rattle.chord_caller.specs.declared.told.Told.{Told}
 use Rattle.chord_caller.specs.declared.submitted.Submitted.{Submitted}
 use Rattle.chord_caller.specs.Caller.{Submission, Caller, submission_at, is_taken, floor_of, next_number, with_request, fitting, fresh_for}

@@ -2,7 +2,7 @@
 use Rattle.std.proofs.Common.{◌≡◌, ℕ, zero, suc, ◌+◌, ◌<◌, ◌≤◌, Bool, true, false, not, ◌&&◌, Option, None, Some, List, [], ◌∷◌, map, length, slice_get, is_some, option_map, ⊎_elim, refl, sym, ◌∙◌, ap, ap₂, arith}
 use Rattle.std.proofs.lemmas.Bool.{true≢false, cases_lt}
 use Rattle.std.proofs.lemmas.Option.{slice_get-map}
-use Rattle.chord_segment.specs.declared.done.Done.{Done}
+use Rattle.chord_map.specs.declared.done.Done.{Done}
 use Rattle.chord_caller.specs.declared.submitted.Progress.{Progress}
 use Rattle.chord_caller.specs.declared.submitted.Progress.TheVariants.{Pending, Taken}
 use Rattle.chord_caller.specs.declared.submitted.Submitted.{Submitted}

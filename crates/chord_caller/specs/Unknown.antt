@@ -1,7 +1,7 @@
 -- Calls that are not among others.
 use Rattle.std.specs.Prelude.{not, is_some, List, filter}
-use Rattle.chord_segment.specs.declared.done.Done.{Done}
-use Rattle.chord_segment.specs.History.{done_at}
+use Rattle.chord_map.specs.declared.done.Done.{Done}
+use Rattle.chord_map.specs.History.{done_at}
 
 -- those of the calls that do not stand in the list
 abbrev pub not_in : List Done → List Done → List Done

@@ -1,7 +1,7 @@
 //! The core of a caller.
 ghost use Rattle.std.specs.Prelude.{◌≡◌, ◌≤◌, ◌++◌, None, Some, is_some, true, IfOk, OnOk, OnErr};
 ghost use Rattle.std.specs.Option.{option_copied};
-ghost use Rattle.chord_segment.specs.History.{done_at};
+ghost use Rattle.chord_map.specs.History.{done_at};
 ghost use Rattle.chord_caller.specs.Caller.{floor_of, known, unknown, submission_at, AskLetter, ToldLetter, NoteLetter, CallerStep};
 ghost use Rattle.chord_caller.specs.Answers.{new_caller, is_pending, PendingIs, RefusalIs, SubmitIs, ResendIs, TakeIs};
 
@@ -11,8 +11,7 @@ use crate::heard::Heard;
 use crate::note::{Note, copy_unknown};
 use crate::submitted::{Progress, Submitted, done_in, raise_floor, settle, submission};
 use crate::told::Told;
-use chord_map::Request;
-use chord_segment::{Done, copy_dones};
+use chord_map::{Done, Request, copy_dones};
 use std::alloc::{AllocError, Global};
 use std::marker::Model;
 

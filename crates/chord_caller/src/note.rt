@@ -1,10 +1,10 @@
 //! What a caller shows to others.
 ghost use Rattle.std.specs.Prelude.{◌≡◌, ◌++◌, ◌&&◌, ℕ, not, is_some, IfOk};
-ghost use Rattle.chord_segment.specs.History.{done_at};
+ghost use Rattle.chord_map.specs.History.{done_at};
 ghost use Rattle.chord_caller.specs.Names.{has_name};
 ghost use Rattle.chord_caller.specs.Unknown.{not_in};
 
-use chord_segment::Done;
+use chord_map::Done;
 use std::alloc::{AllocError, Global};
 use std::collections::BTreeSet;
 use std::marker::Model;

@@ -5,8 +5,7 @@ ghost use Rattle.std.specs.Vec.{vec_len, vec_capacity};
 ghost use Rattle.chord_caller.specs.Submitted.{submitted_at, IsFloor, AreTaken, IsPending, Settles};
 
 use crate::told::Told;
-use chord_map::Request;
-use chord_segment::Done;
+use chord_map::{Done, Request};
 use std::mem::replace;
 
 /// How far a submitted request has come.

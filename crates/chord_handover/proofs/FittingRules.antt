@@ -5,7 +5,7 @@ use Rattle.std.proofs.lemmas.List.{take_all, length-drop, length-take}
 use Rattle.std.proofs.Math.Seq.{take-append_seam, drop-append_seam}
 use Rattle.chord_map.proofs.Lists.{by_test, Has, has_pushed, has_filter, each_all, all_each, finds, found}
 use Rattle.chord_map.specs.declared.pair.Pair.{Pair}
-use Rattle.chord_segment.proofs.MarkLemmas.{eqb_same, eqb_is}
+use Rattle.chord_map.proofs.Equal.{eqb_same, eqb_is}
 use Rattle.chord_segment.specs.Segment.{Segment}
 use Rattle.chord_handover.specs.Gather.{AreOf, AreAllThere, IsFitting, part_in, segment_of, pairs_of, pairs_upto}
 use Rattle.chord_handover.specs.Handover.{Part, IsPart, IsFilled, parts_in, chunk, part_at, gathered, ticket_of_part}

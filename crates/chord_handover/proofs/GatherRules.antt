@@ -12,7 +12,7 @@ use Rattle.std.proofs.Math.Seq.{take-add}
 use Rattle.chord_ident.proofs.Spans.{one_if}
 use Rattle.chord_map.proofs.Lists.{by_test, Has, has_left, has_last, has_pushed, has_filter, has_filter_back, has_contained, contains_has, all_each, each_all, found, finds}
 use Rattle.chord_map.specs.declared.pair.Pair.{Pair}
-use Rattle.chord_segment.proofs.MarkLemmas.{eqb_same, eqb_is}
+use Rattle.chord_map.proofs.Equal.{eqb_same, eqb_is}
 use Rattle.chord_segment.specs.Segment.{Segment}
 use Rattle.chord_handover.specs.Gather.{AreOf, AreAllThere, AreWhole, MakeNone, part_in, segment_of, pairs_of, pairs_upto}
 use Rattle.chord_handover.specs.declared.ticket.Ticket.{Ticket}

@@ -4,10 +4,10 @@ use Rattle.std.proofs.lemmas.List.Elements.{Contains-push}
 use Rattle.chord_caller.specs.Caller.{Caller, CallerStep, Letter}
 use Rattle.chord_live.specs.Dealt.{message_in}
 use Rattle.chord_live.specs.declared.target.Target.{Target}
-use Rattle.chord_node.specs.Letters.{message_of}
-use Rattle.chord_node.specs.Node.{Node, NodeStep}
-use Rattle.chord_node.specs.declared.message.Message.{Message}
-use Rattle.chord_segment.specs.declared.done.Done.{Done}
+use Rattle.chord_model.specs.Letters.{message_of}
+use Rattle.chord_model.specs.Node.{Node, NodeStep}
+use Rattle.chord_model.specs.declared.message.Message.{Message}
+use Rattle.chord_map.specs.declared.done.Done.{Done}
 use Rattle.chord_table.specs.Views.{NodeSight, CallerSight, MayAct, MayCall}
 
 pub came : (old new : NodeSight) (parcel message : Message) → new ≡ record old { messages = old.messages ++ parcel ∷ [] } → message ≡ parcel → Contains new.messages message

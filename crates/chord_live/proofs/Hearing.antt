@@ -20,10 +20,10 @@ use Rattle.chord_live.specs.declared.fault.WaitFault.TheVariants as wait
 use Rattle.chord_map.specs.declared.reply.Reply.{Reply}
 use Rattle.chord_map.specs.declared.request.Request.{Request}
 use Rattle.chord_map.proofs.Lists.{by_option, by_test}
-use Rattle.chord_node.proofs.CallerLemmas.{is_taken_from}
-use Rattle.chord_segment.specs.History.{done_at}
-use Rattle.chord_segment.specs.declared.done.Done.{Done}
-use Rattle.chord_segment.proofs.HistoryLemmas.{done_right, done_alone, is_call}
+use Rattle.chord_model.proofs.CallerLemmas.{is_taken_from}
+use Rattle.chord_map.specs.History.{done_at}
+use Rattle.chord_map.specs.declared.done.Done.{Done}
+use Rattle.chord_map.proofs.HistoryLemmas.{done_right, done_alone, is_call}
 
 none_more : (caller : Caller) → caller ≡ record caller { mine = caller.mine ++ [] }
 none_more caller = ap (λ mine. record caller { mine = mine }) (sym (append-nil caller.mine))

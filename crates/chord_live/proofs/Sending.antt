@@ -1,15 +1,15 @@
 -- An answer to a call sends its message.
 use Rattle.std.proofs.Common.{◌≡◌, ◌∙◌, refl, sym, ap, subst, Option, Some, Ok}
 use Rattle.chord_caller.specs.declared.ask.Ask.{Ask}
-use Rattle.chord_segment.specs.declared.done.Done.{Done}
+use Rattle.chord_map.specs.declared.done.Done.{Done}
 use Rattle.chord_live.specs.Dealt.{answer_to, message_in}
 use Rattle.chord_live.specs.declared.target.Target.{Target}
 use Rattle.chord_node.specs.Asked.{AskSteps, ask_done, sent_by}
-use Rattle.chord_node.specs.Node.{Node, NodeStep}
+use Rattle.chord_model.specs.Node.{Node, NodeStep}
 use Rattle.chord_node.specs.declared.asks.answered.Answered.{Answered}
 use Rattle.chord_node.specs.declared.asks.answered.Answered.TheVariants as answered
-use Rattle.chord_node.specs.declared.message.Message.{Message}
-use Rattle.chord_node.specs.declared.message.Message.TheVariants.{Ask as AskMessage}
+use Rattle.chord_model.specs.declared.message.Message.{Message}
+use Rattle.chord_model.specs.declared.message.Message.TheVariants.{Ask as AskMessage}
 
 same_message : (ask : Ask) (answer : Answered) → message_in (answer_to ask answer) ≡ sent_by ask answer
 same_message ask (answered.Told told) = refl

@@ -18,8 +18,8 @@ use Rattle.chord_live.specs.declared.heard.Heard.TheVariants as heard
 use Rattle.chord_map.specs.Checked.{IsRequest}
 use Rattle.chord_map.specs.declared.request.Request.{Request}
 use Rattle.chord_map.specs.declared.reply.Reply.{Reply}
-use Rattle.chord_segment.specs.History.{done_at}
-use Rattle.chord_segment.specs.declared.done.Done.{Done}
+use Rattle.chord_map.specs.History.{done_at}
+use Rattle.chord_map.specs.declared.done.Done.{Done}
 
 -- the caller took replies, none or more, and nothing else of it changed
 abbrev pub TookReplies : Caller → Caller → Type 0

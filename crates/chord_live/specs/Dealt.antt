@@ -3,19 +3,19 @@ use Rattle.std.specs.Prelude.{◌≡◌, ℕ, Bool, Option, None, Some, Result, 
 use Rattle.std.specs.declared.alloc.AllocError.{AllocError}
 use Rattle.chord_caller.specs.declared.ask.Ask.{Ask}
 use Rattle.chord_handover.specs.Handover.{Part, ticket_of_part}
-use Rattle.chord_segment.specs.declared.done.Done.{Done}
+use Rattle.chord_map.specs.declared.done.Done.{Done}
 use Rattle.chord_live.specs.declared.target.Target.{Target}
 use Rattle.chord_live.specs.declared.target.Target.TheVariants.{Node as ToNode, Caller as ToCaller}
 use Rattle.chord_node.specs.Asked.{AskIs}
-use Rattle.chord_node.specs.Node.{Node, NodeStep}
+use Rattle.chord_model.specs.Node.{Node, NodeStep}
 use Rattle.chord_node.specs.Received.{PartIs, GotIs, BackIs}
 use Rattle.chord_node.specs.declared.asks.answered.Answered.{Answered}
 use Rattle.chord_node.specs.declared.asks.answered.Answered.TheVariants as answered
 use Rattle.chord_node.specs.declared.handovers.given.Given.{Given}
 use Rattle.chord_node.specs.declared.handovers.given.Given.TheVariants as given
 use Rattle.chord_node.specs.declared.handovers.given.Back.{Back}
-use Rattle.chord_node.specs.declared.message.Message.{Message}
-use Rattle.chord_node.specs.declared.message.Message.TheVariants.{Ask as AskMessage, Told as ToldMessage, Full as FullMessage, Part as PartMessage, Got as GotMessage, Declined as DeclinedMessage}
+use Rattle.chord_model.specs.declared.message.Message.{Message}
+use Rattle.chord_model.specs.declared.message.Message.TheVariants.{Ask as AskMessage, Told as ToldMessage, Full as FullMessage, Part as PartMessage, Got as GotMessage, Declined as DeclinedMessage}
 
 -- the message is for the node of this number: any call is, and what comes of its own handovers
 abbrev pub IsFor : Message → ℕ → Type 0

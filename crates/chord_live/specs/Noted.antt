@@ -1,8 +1,8 @@
 -- Notes among messages.
 use Rattle.std.specs.Prelude.{[]}
 use Rattle.chord_caller.specs.Caller.{Note}
-use Rattle.chord_node.specs.declared.message.Message.{Message}
-use Rattle.chord_node.specs.declared.message.Message.TheVariants.{Note as NoteMessage}
+use Rattle.chord_model.specs.declared.message.Message.{Message}
+use Rattle.chord_model.specs.declared.message.Message.TheVariants.{Note as NoteMessage}
 
 -- the note that a message is
 abbrev pub note_in : Message → Note

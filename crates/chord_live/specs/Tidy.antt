@@ -7,8 +7,8 @@ use Rattle.chord_ident.specs.declared.span.Span.{Span}
 use Rattle.chord_live.specs.declared.tidying.Tidied.{Tidied}
 use Rattle.chord_live.specs.declared.tidying.Tidied.TheVariants as tidied
 use Rattle.chord_node.specs.Moves.{with_held}
-use Rattle.chord_node.specs.Node.{Node, NodeStep, cut_held}
-use Rattle.chord_node.specs.declared.phase.Phase.TheVariants.{Staying}
+use Rattle.chord_model.specs.Node.{Node, NodeStep, cut_held}
+use Rattle.chord_model.specs.declared.phase.Phase.TheVariants.{Staying}
 use Rattle.chord_segment.specs.Segment.{Segment}
 
 -- the span lies inside another: neither end of that cuts it, and its own end lies there

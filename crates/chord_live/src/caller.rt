@@ -3,7 +3,7 @@ ghost use Rattle.std.specs.Prelude.{◌≡◌, ◌≤◌, ◌++◌, [], ◌∷�
 ghost use Rattle.chord_caller.specs.Answers.{PendingIs, is_pending, new_caller};
 ghost use Rattle.chord_caller.specs.Caller.{floor_of, known};
 ghost use Rattle.chord_live.specs.Asking.{AskIs, BeginIs, CollectIs, HeardIs, MeetIs, RetryIs, WaitIs};
-ghost use Rattle.chord_node.specs.declared.message.Message.TheVariants.{Note as NoteMessage};
+ghost use Rattle.chord_model.specs.declared.message.Message.TheVariants.{Note as NoteMessage};
 ghost use Rattle.chord_table.specs.Shown.{CallerShown};
 
 use crate::fault::{AskFault, BeginFault, CollectFault, OpenFault, RetryFault, WaitFault};

@@ -1,6 +1,6 @@
 //! Notes under way.
 ghost use Rattle.std.specs.Prelude.{◌≡◌};
-ghost use Rattle.chord_node.specs.declared.message.Message.TheVariants.{Note as NoteMessage};
+ghost use Rattle.chord_model.specs.declared.message.Message.TheVariants.{Note as NoteMessage};
 ghost use Rattle.chord_live.specs.Noted.{note_in};
 
 use chord_table::{Naming, Parcel};
@@ -15,7 +15,7 @@ pub struct NoteParcel<J: Naming> {
 impl<J: Naming> Model for NoteParcel<J> {
     ghost use Rattle.std.specs.Prelude.{◌≡◌};
     ghost use Rattle.chord_caller.specs.Caller.{Note};
-    ghost use Rattle.chord_node.specs.declared.message.Message.TheVariants.{Note as NoteMessage};
+    ghost use Rattle.chord_model.specs.declared.message.Message.TheVariants.{Note as NoteMessage};
     ghost use Rattle.chord_live.specs.Noted.{note_in};
 
     ghost Value = { Note };

@@ -3,9 +3,9 @@ ghost use Rattle.std.specs.Prelude.{◌≡◌, ◌++◌, [], ◌∷◌, Contains
 ghost use Rattle.chord_caller.specs.Answers.{SubmitIs, RefusalIs, TakeIs, PendingIs, is_pending};
 ghost use Rattle.chord_caller.specs.Caller.{known, floor_of, submission_at};
 ghost use Rattle.chord_caller.specs.declared.ask.Ask.{Ask as AskOf};
-ghost use Rattle.chord_node.specs.declared.message.Message.TheVariants.{Ask as AskMessage, Note as NoteMessage, Told as ToldMessage};
+ghost use Rattle.chord_model.specs.declared.message.Message.TheVariants.{Ask as AskMessage, Note as NoteMessage, Told as ToldMessage};
 ghost use Rattle.chord_live.specs.Asking.{HeardIs, IsTaken, MeetIs};
-ghost use Rattle.chord_segment.specs.History.{done_at};
+ghost use Rattle.chord_map.specs.History.{done_at};
 ghost use Rattle.chord_table.specs.Shown.{CallerShown};
 
 use crate::heard::Heard;

@@ -4,7 +4,7 @@ ghost use Rattle.chord_caller.specs.Answers.{SubmitIs, RefusalIs, PendingIs, is_
 ghost use Rattle.chord_caller.specs.Caller.{floor_of};
 ghost use Rattle.chord_caller.specs.Client.{IsCoreOf};
 ghost use Rattle.chord_caller.specs.declared.ask.Ask.{Ask as AskOf};
-ghost use Rattle.chord_node.specs.declared.message.Message.TheVariants.{Ask as AskMessage, Told as ToldMessage};
+ghost use Rattle.chord_model.specs.declared.message.Message.TheVariants.{Ask as AskMessage, Told as ToldMessage};
 ghost use Rattle.chord_live.specs.Calling.{AwaitIs};
 ghost use Rattle.chord_table.specs.Shown.{CallerShown};
 

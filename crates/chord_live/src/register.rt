@@ -3,7 +3,7 @@ ghost use Rattle.std.specs.Prelude.{◌≡◌, ◌+◌, ◌<◌, ◌≤◌, [], 
 ghost use Rattle.chord_caller.specs.Answers.{new_caller};
 ghost use Rattle.chord_links.specs.NodeLinks.{alone};
 ghost use Rattle.chord_live.specs.declared.fault.OpenClientFault.TheVariants.{CallersSpent, Memory};
-ghost use Rattle.chord_node.specs.Node.{founder, newborn};
+ghost use Rattle.chord_model.specs.Node.{founder, newborn};
 
 use crate::fault::OpenClientFault;
 use crate::locked::Locked;

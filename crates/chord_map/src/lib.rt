@@ -8,6 +8,7 @@
 #![tactic(auto)]
 
 mod bytes;
+mod done;
 pub mod limits;
 mod pair;
 mod pair_list;
@@ -19,6 +20,7 @@ mod samples;
 mod values;
 
 pub use bytes::Bytes;
+pub use done::{Done, copy_dones, find_done};
 pub use pair::Pair;
 pub use pair_list::PairList;
 pub use plain_map::PlainMap;

@@ -12,17 +12,17 @@ use Rattle.chord_map.specs.declared.pair.Pair.{Pair}
 use Rattle.chord_map.specs.declared.reply.Reply.{Reply}
 use Rattle.chord_map.specs.declared.reply.Reply.TheVariants as reply
 use Rattle.chord_map.specs.Map.{reply_to}
-use Rattle.chord_segment.specs.declared.done.Done.{Done}
+use Rattle.chord_map.specs.declared.done.Done.{Done}
 use Rattle.chord_segment.specs.Segment.{Segment, RoomySegment, Past, id_of, past_at, append}
 use Rattle.chord_segment.specs.Segment.Past.{New, Kept, Seen}
 use Rattle.chord_caller.specs.declared.ask.Ask.{Ask}
 use Rattle.chord_node.specs.declared.asks.answered.Answered.{Answered}
 use Rattle.chord_node.specs.declared.asks.answered.Answered.TheVariants as answer
-use Rattle.chord_node.specs.declared.message.Message.TheVariants.{Ask as AskMessage}
-use Rattle.chord_node.specs.Node.{Node, NodeStep, segment_with, append_at, done_of, told_of}
-use Rattle.chord_node.specs.Node.NodeStep.{Tells_again, Drops_seen, Executes, Answers_full, Forwards, Drops}
+use Rattle.chord_model.specs.declared.message.Message.TheVariants.{Ask as AskMessage}
+use Rattle.chord_model.specs.Node.{Node, NodeStep, segment_with, append_at, done_of, told_of}
+use Rattle.chord_model.specs.Node.NodeStep.{Tells_again, Drops_seen, Executes, Answers_full, Forwards, Drops}
 use Rattle.chord_node.specs.View.{knowns}
-use Rattle.chord_segment.proofs.MarkLemmas.{eqb_same}
+use Rattle.chord_map.proofs.Equal.{eqb_same}
 use Rattle.chord_node.specs.Passed.{peer_of, PassesOn}
 use Rattle.chord_node.specs.Asked.{adds, is_full_for, past_answer, past_done, segment_after, entries_after, AnswersIn, done_in, ask_done, after_done, sent_by, note_of, AnswersBy, TakesMemory, AsksMemory, AskIs, AskNotes, AskSteps, AskStepsNoting}
 

@@ -5,7 +5,7 @@ use Rattle.chord_ident.proofs.Spans.{in_span_is}
 use Rattle.chord_ident.specs.declared.span.Span.{Span}
 use Rattle.chord_ident.specs.Circle.{in_span, Meet}
 use Rattle.chord_map.proofs.Lists.{Has, by_test, has_contained, contains_has}
-use Rattle.chord_node.specs.Rules.{holds, IsClash, IsClear}
+use Rattle.chord_model.specs.Stock.{holds, IsClash, IsClear}
 use Rattle.chord_node.specs.View.{knowns}
 use Rattle.chord_segment.specs.Segment.{RoomySegment}
 

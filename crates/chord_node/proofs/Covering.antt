@@ -2,14 +2,14 @@
 use Rattle.std.proofs.Common.{◌≡◌, ℕ, ◌<◌, ◌^◌, Some, Result, Ok, Err, List, ◌∙◌, ap, subst}
 use Rattle.std.specs.Prelude.{slice_get}
 use Rattle.chord_ident.specs.declared.id.Id.{Id}
-use Rattle.chord_node.proofs.Events.{count-cut, count-join}
-use Rattle.chord_node.proofs.Stocking.{holds_same}
+use Rattle.chord_model.proofs.Events.{count-cut, count-join}
+use Rattle.chord_model.proofs.Stocking.{holds_same}
 use Rattle.chord_node.specs.declared.fault.CutAtFault.{CutAtFault}
 use Rattle.chord_node.specs.declared.fault.CutAtFault.TheVariants as cut
 use Rattle.chord_node.specs.declared.fault.MergeFault.{MergeFault}
 use Rattle.chord_node.specs.declared.fault.MergeFault.TheVariants as merge
 use Rattle.chord_node.specs.Moves.{CutHeld, MergeHeld}
-use Rattle.chord_node.specs.Rules.{IsOnCircle, holds}
+use Rattle.chord_model.specs.Stock.{IsOnCircle, holds}
 use Rattle.chord_segment.specs.Segment.{Segment}
 
 -- the ends of the segment at the place lie on the circle

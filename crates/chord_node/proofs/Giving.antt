@@ -7,13 +7,13 @@ use Rattle.chord_handover.specs.Parcelled.{Parcelled, IsParcelled, handed}
 use Rattle.chord_ident.specs.declared.span.Span.{Span}
 use Rattle.chord_map.specs.declared.pair.Pair.{Pair}
 use Rattle.chord_node.proofs.Moving.{knowns_get, knowns_length, knowns_remove, same_at}
-use Rattle.chord_node.proofs.Stocking.{stocked_less, parcel_taken}
+use Rattle.chord_model.proofs.Stocking.{stocked_less, parcel_taken}
 use Rattle.chord_node.specs.declared.fault.GiveFault.{GiveFault}
 use Rattle.chord_node.specs.declared.fault.GiveFault.TheVariants as give
 use Rattle.chord_node.specs.Moves.{GiveIs, SendSteps}
-use Rattle.chord_node.specs.Node.{Node}
-use Rattle.chord_node.specs.Node.NodeStep.{Gives}
-use Rattle.chord_node.specs.Rules.{IsStocked}
+use Rattle.chord_model.specs.Node.{Node}
+use Rattle.chord_model.specs.Node.NodeStep.{Gives}
+use Rattle.chord_model.specs.Stock.{IsStocked}
 use Rattle.chord_node.specs.View.{knowns}
 use Rattle.chord_segment.specs.declared.mark.Mark.{Mark}
 use Rattle.chord_segment.specs.Marks.{mark_of, raise}

@@ -2,8 +2,8 @@
 use Rattle.std.proofs.Common.{◌≡◌, None, sym, ap, ◌∙◌, subst}
 use Rattle.chord_links.specs.NodeLinks.{NodeLinks}
 use Rattle.chord_links.specs.declared.peer.Peer.{Peer}
-use Rattle.chord_node.specs.Node.{Node, NodeStep}
-use Rattle.chord_node.specs.Node.NodeStep.{Links_change}
+use Rattle.chord_model.specs.Node.{Node, NodeStep}
+use Rattle.chord_model.specs.Node.NodeStep.{Links_change}
 
 pub links_set : (view old : Node) (links : NodeLinks) → view ≡ old → view.number ≡ view.links.me.no → links.me ≡ old.links.me
     → ◌≡◌ {A = Node} (record view { number = links.me.no; links = links }) (record old { links = links })

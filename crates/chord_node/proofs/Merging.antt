@@ -7,8 +7,8 @@ use Rattle.chord_segment.specs.Segment.{Segment, RoomySegment}
 use Rattle.chord_segment.specs.Join.{JoinRefused, JoinIs}
 use Rattle.chord_node.specs.declared.fault.MergeFault.{MergeFault}
 use Rattle.chord_node.specs.declared.fault.MergeFault.TheVariants as merge
-use Rattle.chord_node.specs.Node.{Node, NodeStep, joined_held}
-use Rattle.chord_node.specs.Node.NodeStep.{Joins}
+use Rattle.chord_model.specs.Node.{Node, NodeStep, joined_held}
+use Rattle.chord_model.specs.Node.NodeStep.{Joins}
 use Rattle.chord_node.specs.View.{knowns}
 use Rattle.chord_node.specs.Moves.{MoveSteps, merge_fault_of, MergeHeld, MergeIs, with_held}
 use Rattle.chord_node.proofs.Moving.{no_place, knowns_get, knowns_set, knowns_remove}

@@ -16,12 +16,12 @@ use Rattle.chord_node.specs.declared.fault.CutAtFault.TheVariants as cut
 use Rattle.chord_node.specs.declared.fault.NotStaying.{NotStaying}
 use Rattle.chord_node.specs.declared.fault.ResendFault.{ResendFault}
 use Rattle.chord_node.specs.declared.fault.RetireFault.{RetireFault}
-use Rattle.chord_node.specs.declared.message.Message.TheVariants.{Part as PartMessage, Got as GotMessage}
-use Rattle.chord_node.specs.declared.phase.Phase.{Phase}
-use Rattle.chord_node.specs.declared.phase.Phase.TheVariants.{Leaving, Gone}
+use Rattle.chord_model.specs.declared.message.Message.TheVariants.{Part as PartMessage, Got as GotMessage}
+use Rattle.chord_model.specs.declared.phase.Phase.{Phase}
+use Rattle.chord_model.specs.declared.phase.Phase.TheVariants.{Leaving, Gone}
 use Rattle.chord_node.specs.Moves.{MoveSteps, SendSteps, ResendIs, LeaveIs, RetireIs, CutHeld, with_held, CutAtIs}
-use Rattle.chord_node.specs.Node.{Node, NodeStep, cut_held}
-use Rattle.chord_node.specs.Node.NodeStep.{Cuts, Gives_again, Frees, Leaves, Retires}
+use Rattle.chord_model.specs.Node.{Node, NodeStep, cut_held}
+use Rattle.chord_model.specs.Node.NodeStep.{Cuts, Gives_again, Frees, Leaves, Retires}
 use Rattle.chord_node.specs.Rules.{HasStoreFor}
 use Rattle.chord_node.specs.Received.{GotIs}
 use Rattle.chord_node.specs.View.{knowns}

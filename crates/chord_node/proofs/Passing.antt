@@ -1,7 +1,7 @@
 -- Calls that are passed on.
 use Rattle.std.proofs.Common.{◌≡◌, ◌≢◌, ℕ, ◌+◌, ◌-◌, ◌<◌, ◌≤◌, ◌||◌, ◌==◌, false, cond, refl, sym, ◌∙◌, ap, subst}
 use Rattle.std.proofs.Math.Bridge.{le_prop}
-use Rattle.chord_segment.proofs.MarkLemmas.{eqb_other}
+use Rattle.chord_map.proofs.Equal.{eqb_other}
 use Rattle.chord_segment.specs.Segment.{id_of}
 use Rattle.chord_links.specs.declared.peer.Peer.{Peer}
 use Rattle.chord_links.specs.NodeLinks.{NodeLinks}

@@ -5,7 +5,7 @@ use Rattle.chord_ident.specs.declared.span.Span.{Span}
 use Rattle.chord_map.specs.declared.pair.Pair.{Pair}
 use Rattle.chord_map.specs.Map.{put_all}
 use Rattle.chord_node.specs.declared.handovers.hold.PutFault.TheVariants as put
-use Rattle.chord_node.specs.Rules.{IsClear}
+use Rattle.chord_model.specs.Stock.{IsClear}
 use Rattle.chord_node.specs.Received.{PutIs}
 use Rattle.chord_segment.specs.Segment.{Segment}
 use Rattle.chord_store.specs.declared.outcome.StoreFault.TheVariants.{Full, Memory}

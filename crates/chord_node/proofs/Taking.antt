@@ -13,17 +13,17 @@ use Rattle.chord_handover.specs.Parcelled.{Parcelled, IsParcelled, handed}
 use Rattle.chord_handover.specs.Taken.{Taken, marked, is_noted}
 use Rattle.chord_map.specs.declared.pair.Pair.{Pair}
 use Rattle.chord_map.specs.Map.{put_all}
-use Rattle.chord_node.proofs.Stocking.{vacant, parcel_inside, all_inside}
+use Rattle.chord_model.proofs.Stocking.{vacant, parcel_inside, all_inside}
 use Rattle.chord_node.specs.declared.handovers.given.Given.{Given}
 use Rattle.chord_node.specs.declared.handovers.given.Given.TheVariants as given
 use Rattle.chord_node.specs.declared.handovers.given.Back.{Back}
 use Rattle.chord_node.specs.declared.handovers.given.Back.TheVariants as back
-use Rattle.chord_node.specs.declared.message.Message.TheVariants.{Part as PartMessage, Declined as DeclinedMessage}
-use Rattle.chord_node.specs.Node.{Node, NodeStep}
-use Rattle.chord_node.specs.Node.NodeStep.{Got_again, Declines, Notes, Takes, Waits, Takes_back, Keeps}
-use Rattle.chord_node.specs.Rules.{IsClear, IsStocked}
+use Rattle.chord_model.specs.declared.message.Message.TheVariants.{Part as PartMessage, Declined as DeclinedMessage}
+use Rattle.chord_model.specs.Node.{Node, NodeStep}
+use Rattle.chord_model.specs.Node.NodeStep.{Got_again, Declines, Notes, Takes, Waits, Takes_back, Keeps}
+use Rattle.chord_model.specs.Stock.{IsClear, IsStocked}
 use Rattle.chord_node.specs.Received.{BackIs, BackSteps, NextIs, WholeIs, PartIs, PartSteps, sent_for}
-use Rattle.chord_node.specs.declared.phase.Phase.TheVariants.{Gone}
+use Rattle.chord_model.specs.declared.phase.Phase.TheVariants.{Gone}
 use Rattle.chord_segment.specs.declared.mark.Mark.{Mark}
 use Rattle.chord_segment.specs.Marks.{mark_of, raise}
 use Rattle.chord_segment.specs.Segment.{Segment}

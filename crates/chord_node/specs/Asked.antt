@@ -8,17 +8,17 @@ use Rattle.chord_map.specs.declared.reply.Reply.TheVariants as reply
 use Rattle.chord_map.specs.Map.{reply_to, pairs_after}
 use Rattle.chord_store.specs.declared.outcome.StoreFault.{StoreFault}
 use Rattle.chord_store.specs.declared.outcome.StoreFault.TheVariants as fault
-use Rattle.chord_segment.specs.declared.done.Done.{Done}
+use Rattle.chord_map.specs.declared.done.Done.{Done}
 use Rattle.chord_segment.specs.Segment.{Segment, Past, id_of, past_at, append}
 use Rattle.chord_segment.specs.Segment.Past.{New, Kept, Seen}
 use Rattle.chord_caller.specs.declared.ask.Ask.{Ask}
 use Rattle.chord_node.specs.declared.asks.apply.Replies.{Replies}
 use Rattle.chord_node.specs.declared.asks.answered.Answered.{Answered}
 use Rattle.chord_node.specs.declared.asks.answered.Answered.TheVariants as answer
-use Rattle.chord_node.specs.declared.message.Message.{Message}
-use Rattle.chord_node.specs.declared.message.Message.TheVariants.{Ask as AskMessage, Told as ToldMessage, Full as FullMessage}
+use Rattle.chord_model.specs.declared.message.Message.{Message}
+use Rattle.chord_model.specs.declared.message.Message.TheVariants.{Ask as AskMessage, Told as ToldMessage, Full as FullMessage}
 use Rattle.chord_node.specs.Passed.{PassesOn}
-use Rattle.chord_node.specs.Node.{Node, NodeStep, segment_with, executed, told_of, done_of}
+use Rattle.chord_model.specs.Node.{Node, NodeStep, segment_with, executed, told_of, done_of}
 
 -- whether a reply adds a pair
 abbrev pub adds : Reply → Bool

@@ -20,9 +20,9 @@ use Rattle.chord_node.specs.declared.fault.ResendFault.TheVariants as resend
 use Rattle.chord_node.specs.declared.fault.NotStaying.{NotStaying}
 use Rattle.chord_node.specs.declared.fault.RetireFault.{RetireFault}
 use Rattle.chord_node.specs.declared.fault.RetireFault.TheVariants as retire
-use Rattle.chord_node.specs.declared.message.Message.TheVariants.{Part as PartMessage}
-use Rattle.chord_node.specs.declared.phase.Phase.TheVariants.{Staying, Leaving, Gone}
-use Rattle.chord_node.specs.Node.{Node, NodeStep, cut_held, joined_held, item_of, without_segment}
+use Rattle.chord_model.specs.declared.message.Message.TheVariants.{Part as PartMessage}
+use Rattle.chord_model.specs.declared.phase.Phase.TheVariants.{Staying, Leaving, Gone}
+use Rattle.chord_model.specs.Node.{Node, NodeStep, cut_held, joined_held, item_of, without_segment}
 
 -- what was done is one step of the node
 abbrev pub MoveSteps : {A E : Type 0} → Node → Result A E → Node → Type 0

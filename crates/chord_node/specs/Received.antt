@@ -17,11 +17,12 @@ use Rattle.chord_node.specs.declared.handovers.given.Back.{Back}
 use Rattle.chord_node.specs.declared.handovers.given.Back.TheVariants as back
 use Rattle.chord_node.specs.declared.handovers.hold.PutFault.{PutFault}
 use Rattle.chord_node.specs.declared.handovers.hold.PutFault.TheVariants as put
-use Rattle.chord_node.specs.declared.message.Message.{Message}
-use Rattle.chord_node.specs.declared.message.Message.TheVariants.{Part as PartMessage, Got as GotMessage, Declined as DeclinedMessage}
-use Rattle.chord_node.specs.declared.phase.Phase.TheVariants.{Gone}
-use Rattle.chord_node.specs.Node.{Node, NodeStep, with_given, with_back}
-use Rattle.chord_node.specs.Rules.{IsClash, IsClear}
+use Rattle.chord_model.specs.declared.message.Message.{Message}
+use Rattle.chord_model.specs.declared.message.Message.TheVariants.{Part as PartMessage, Got as GotMessage, Declined as DeclinedMessage}
+use Rattle.chord_model.specs.declared.phase.Phase.TheVariants.{Gone}
+use Rattle.chord_model.specs.Headline.{IsNextFor}
+use Rattle.chord_model.specs.Node.{Node, NodeStep, with_given, with_back}
+use Rattle.chord_model.specs.Stock.{IsClash, IsClear}
 
 -- the pairs of a parcel come into a store, where its span meets no held one and the store has room
 abbrev pub PutIs : Parcelled → List Segment → List Pair → ℕ → Result (Unit {0}) PutFault → List Pair → Type 0
@@ -82,10 +83,6 @@ BackIs ticket old (Err fault) new =
 abbrev pub BackSteps : Ticket → Node → Result Back AllocError → Node → Type 0
 BackSteps ticket old (Ok answer) new = NodeStep old (Some (DeclinedMessage ticket)) new None None
 BackSteps ticket old (Err fault) new = Unit {0}
-
--- the part is of the next handover of its sender, and the node is there to take it
-abbrev pub IsNextFor : Node → Part → Type 0
-IsNextFor node part = (part.number ≡ mark_of part.from node.taken + 1) × (node.phase ≢ Gone)
 
 -- the parts noted and this one are whole, and make this parcel
 abbrev pub IsWholeFor : Node → Part → Parcelled → Type 0

@@ -1,35 +1,13 @@
-//! What holds of every world that some steps lead to. These functions do nothing: their contracts are the theorem.
-ghost use Rattle.std.specs.Prelude.{◌≡◌, ◌≢◌, ℕ, ◌+◌, ◌^◌, ◌<◌, Some, [], Contains, Ok};
-ghost use Rattle.chord_caller.specs.Caller.{Caller};
+//! What holds of a node in every world that some steps lead to. The function does nothing: its contract is the law.
+ghost use Rattle.std.specs.Prelude.{◌≡◌, Some, Contains, Ok};
 ghost use Rattle.chord_handover.specs.declared.ticket.Ticket.{Ticket};
-ghost use Rattle.chord_handover.specs.Handover.{Handover, Part, IsWhole, gathered, Item, item_at};
-ghost use Rattle.chord_node.specs.Headline.{MeetsNone, AllApart, Headline, KeepNoneTwice, SeenFirst};
-ghost use Rattle.chord_node.specs.declared.message.Message.TheVariants.{Part as PartMessage, Declined as DeclinedMessage};
+ghost use Rattle.chord_handover.specs.Handover.{Part};
+ghost use Rattle.chord_model.specs.declared.message.Message.TheVariants.{Part as PartMessage, Declined as DeclinedMessage};
+ghost use Rattle.chord_model.specs.Node.{Node};
+ghost use Rattle.chord_model.specs.World.{World, Reached, node_at};
 ghost use Rattle.chord_node.specs.declared.handovers.given.Back.TheVariants as back;
 ghost use Rattle.chord_node.specs.declared.handovers.given.Given.TheVariants as given;
-ghost use Rattle.chord_node.specs.Node.{Node};
 ghost use Rattle.chord_node.specs.Received.{PartIs, BackIs};
-ghost use Rattle.chord_node.specs.Uses.{Rule, rules_of};
-ghost use Rattle.chord_node.specs.World.{World, Run, Reached, HasOneHolder, node_at};
-ghost use Rattle.chord_node.specs.declared.phase.Phase.TheVariants.{Gone};
-ghost use Rattle.chord_segment.specs.Marks.{mark_of};
-
-/// In every world that some steps lead to, once a node was created, each identifier has one holder.
-pub fn one_holder()
-    ensures { (world : World) (x : ℕ) → ∥ Reached world ∥₁ → world.nodes ≢ [] → x < 2 ^ 128 → HasOneHolder x world.nodes }
-{}
-
-/// No handover that a node takes, or takes back, meets a span that the node holds, and no two of those meet.
-pub fn no_clash()
-    ensures taken { (world : World) (part : Part) (handover : Handover) (node : Node) → ∥ Reached world ∥₁ → Contains world.sent (PartMessage part)
-        → IsWhole (gathered part node.noted) handover
-        → node_at handover.to world.nodes ≡ Some node → node.phase ≢ Gone → handover.number ≡ mark_of handover.from node.taken + 1
-        → MeetsNone handover.segment.span node.held }
-    ensures taken_back { (world : World) (ticket : Ticket) (node : Node) (item : Item) → ∥ Reached world ∥₁
-        → Contains world.sent (DeclinedMessage ticket) → node_at ticket.from world.nodes ≡ Some node
-        → item_at ticket.to ticket.number node.outbox ≡ Some item → MeetsNone item.segment.span node.held }
-    ensures held { (world : World) (number : ℕ) (node : Node) → ∥ Reached world ∥₁ → node_at number world.nodes ≡ Some node → AllApart node.held }
-{}
 
 /// Each part that was sent fits where it comes next, and no handover meets what is held where it comes or comes back: a
 /// delivery is never answered Clash.
@@ -39,31 +17,4 @@ pub fn no_delivery_clashes()
     ensures taken_back { (world : World) (ticket : Ticket) (node new : Node) → ∥ Reached world ∥₁
         → Contains world.sent (DeclinedMessage ticket) → node_at ticket.from world.nodes ≡ Some node
         → ¬ BackIs ticket node (Ok back.Clash) new }
-{}
-
-/// In every world that some steps lead to, the executed calls form one history of one map, each call at most once,
-/// in the order that the callers had seen; every reply that a caller took stands in it; and each holder of an
-/// identifier has what the history leaves there.
-pub fn one_history()
-    ensures { (world : World) → ∥ Reached world ∥₁ → Headline world }
-{}
-
-/// No call is kept in two of the segments that a node holds, so a join never meets a call twice.
-pub fn none_twice()
-    ensures { (world : World) (number : ℕ) (node : Node) → ∥ Reached world ∥₁ → node_at number world.nodes ≡ Some node → KeepNoneTwice node.held }
-{}
-
-/// Some steps execute a call whose reply its caller takes.
-pub fn some_run()
-    ensures { (world : World) × Reached world × (world.history ≢ []) × ((caller : Caller) × Contains world.callers caller × (caller.mine ≢ [])) }
-{}
-
-/// Some steps use every rule: one handover is taken, another is declined and taken back, and a node is gone.
-pub fn every_rule()
-    ensures { (world : World) × (run : Reached world) × ((rule : Rule) → Contains (rules_of run) rule) }
-{}
-
-/// What a caller knew at some time stands in the history before each call that it submitted later.
-pub fn seen_first()
-    ensures { (earlier later : World) → ∥ Reached earlier ∥₁ → ∥ Run earlier later ∥₁ → SeenFirst earlier later }
 {}

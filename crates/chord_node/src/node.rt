@@ -4,9 +4,9 @@ ghost use Rattle.chord_ident.specs.Circle.{in_span};
 ghost use Rattle.chord_links.specs.NodeLinks.{alone};
 ghost use Rattle.chord_segment.specs.Marks.{mark_of};
 ghost use Rattle.chord_segment.specs.Segment.{RoomySegment};
-ghost use Rattle.chord_node.specs.declared.message.Message.TheVariants.{Got as GotMessage};
-ghost use Rattle.chord_node.specs.declared.phase.Phase.TheVariants.{Gone};
-ghost use Rattle.chord_node.specs.Node.{newborn, founder, segment_with, NodeStep};
+ghost use Rattle.chord_model.specs.declared.message.Message.TheVariants.{Got as GotMessage};
+ghost use Rattle.chord_model.specs.declared.phase.Phase.TheVariants.{Gone};
+ghost use Rattle.chord_model.specs.Node.{newborn, founder, segment_with, NodeStep};
 ghost use Rattle.chord_node.specs.View.{span_of, kept_as};
 ghost use Rattle.chord_node.specs.Asked.{AskIs, AskNotes, AskSteps, AskStepsNoting};
 ghost use Rattle.chord_node.specs.Moves.{MoveSteps, SendSteps, CutAtIs, MergeIs, MayGive, GiveIs, ResendIs, LeaveIs, RetireIs};
@@ -21,11 +21,11 @@ use crate::handovers::given::{Back, Given};
 use crate::handovers::held::{cut_segment, merge_segments};
 use crate::handovers::hold::{PutFault, make_held};
 use crate::handovers::take_in::take_next;
-use crate::phase::Phase;
 use chord_caller::Ask;
 use chord_handover::{Declined, Got, Outbox, Parcelled, Part, Taken, Ticket, Verdict};
 use chord_ident::{Id, Span};
 use chord_links::{Links, Peer};
+use chord_model::Phase;
 use chord_segment::{Done, Segment};
 use chord_store::EntryStore;
 use std::alloc::{AllocError, Global};
@@ -45,7 +45,7 @@ pub struct Node<S: EntryStore> {
 }
 
 impl<S: EntryStore> Model for Node<S> {
-    ghost use Rattle.chord_node.specs.Node.{Node as NodeOf};
+    ghost use Rattle.chord_model.specs.Node.{Node as NodeOf};
     ghost use Rattle.chord_node.specs.View.{knowns, entries_in, limit_in};
     ghost use Rattle.chord_node.specs.Rules.{IsNode};
 

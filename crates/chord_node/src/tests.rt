@@ -8,12 +8,14 @@ mod handovers;
 mod leaving;
 mod parts;
 
-use crate::{Answered, Back, Given, Node, laws};
+use crate::laws::no_delivery_clashes;
+use crate::{Answered, Back, Given, Node};
 use chord_caller::Ask;
 use chord_handover::{Declined, Got, Part, Ticket};
 use chord_ident::{Id, Span};
 use chord_links::{Links, Peer};
 use chord_map::{Bytes, Request};
+use chord_model::laws;
 use chord_segment::Segment;
 use chord_store::{CappedStore, EntryStore};
 use std::alloc::{AllocError, Global};
@@ -157,9 +159,10 @@ pub fn back<S: EntryStore>(node: &mut Node<S>, declined: Declined) -> Option<Bac
 
 #[test]
 fn laws_are_called() {
+    no_delivery_clashes();
     laws::one_holder();
     laws::no_clash();
-    laws::no_delivery_clashes();
+    laws::parts_fit();
     laws::one_history();
     laws::none_twice();
     laws::some_run();

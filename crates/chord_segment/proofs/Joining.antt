@@ -10,15 +10,16 @@ use Rattle.chord_map.proofs.Each.{Each}
 use Rattle.chord_ident.proofs.Digest.{key_id-below}
 use Rattle.chord_ident.proofs.Spans.{in_span_is}
 use Rattle.chord_map.proofs.Each.{Each-append, Each-filter, Each-map}
-use Rattle.chord_segment.specs.declared.done.Done.{Done}
+use Rattle.chord_map.specs.declared.done.Done.{Done}
 use Rattle.chord_segment.specs.declared.mark.Mark.{Mark}
-use Rattle.chord_segment.specs.History.{done_at, EachOnce}
+use Rattle.chord_map.specs.History.{done_at, EachOnce}
 use Rattle.chord_segment.specs.Marks.{mark_of, raise, raise_all}
 use Rattle.chord_segment.specs.Segment.{Segment, id_of, above, span_joined, joined, stands_twice}
 use Rattle.chord_segment.specs.declared.fault.JoinFault.{JoinFault}
 use Rattle.chord_segment.specs.Join.{JoinIs}
 use Rattle.chord_segment.specs.Rules.{IsNear, IsSegment}
-use Rattle.chord_segment.proofs.MarkLemmas.{same_or_not, eqb_same, eqb_other, mark_of-raise_same}
+use Rattle.chord_map.proofs.Equal.{same_or_not, eqb_same, eqb_other}
+use Rattle.chord_segment.proofs.MarkLemmas.{mark_of-raise_same}
 use Rattle.chord_segment.proofs.SegmentRules.{find-push_none, EachOnce-filter, EachOnce_push, raise_grows, IsClose, near_above}
 
 pub raise_all_grows : (owner : ℕ) (more marks : List Mark) → mark_of owner marks ≤ mark_of owner (raise_all more marks)

@@ -12,7 +12,7 @@ use Rattle.chord_ident.proofs.Spans.{in_span_is}
 use Rattle.chord_map.proofs.Finding.{not_true}
 use Rattle.chord_map.proofs.Lists.{by_test}
 use Rattle.chord_map.proofs.Each.{Each-map, Each-filter, Each_filter_with}
-use Rattle.chord_segment.specs.declared.done.Done.{Done}
+use Rattle.chord_map.specs.declared.done.Done.{Done}
 use Rattle.chord_segment.specs.declared.mark.Mark.{Mark}
 use Rattle.chord_segment.specs.Segment.{Segment, id_of, dones_inside, dones_outside, part_of}
 use Rattle.chord_segment.specs.Rules.{IsSegment}

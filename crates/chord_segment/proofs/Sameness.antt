@@ -3,9 +3,9 @@ use Rattle.std.proofs.Common.{◌≡◌, ◌&&◌, eqb, ap}
 use Rattle.std.specs.Bool.{Decides}
 use Rattle.std.proofs.lemmas.Bool.{and_parts, and_from}
 use Rattle.chord_map.specs.Same.{same_request, same_reply, same_request-Decides, same_reply-Decides}
-use Rattle.chord_segment.specs.declared.done.Done.{Done}
+use Rattle.chord_map.specs.declared.done.Done.{Done}
 use Rattle.chord_segment.specs.declared.mark.Mark.{Mark}
-use Rattle.chord_segment.proofs.MarkLemmas.{eqb_same, eqb_is}
+use Rattle.chord_map.proofs.Equal.{eqb_same, eqb_is}
 
 pub marks_same : (a b : Mark) → Decides (eqb a.owner b.owner && eqb a.number b.number) (a ≡ b)
 marks_same a b = (

@@ -7,14 +7,15 @@ use Rattle.chord_ident.specs.Circle.{in_span}
 use Rattle.chord_segment.specs.Segment.{id_of}
 use Rattle.chord_map.proofs.Each.{Each}
 use Rattle.chord_map.proofs.Each.{Each_push, Each-filter, Each_filter_with, Each-map}
-use Rattle.chord_segment.specs.declared.done.Done.{Done}
+use Rattle.chord_map.specs.declared.done.Done.{Done}
 use Rattle.chord_segment.specs.declared.mark.Mark.{Mark}
-use Rattle.chord_segment.specs.History.{done_at, EachOnce}
+use Rattle.chord_map.specs.History.{done_at, EachOnce}
 use Rattle.chord_segment.specs.Marks.{mark_of, raise}
 use Rattle.chord_segment.specs.Segment.{Segment, past_of, past_at, above, append}
 use Rattle.chord_segment.specs.Segment.Past.{New, Seen}
 use Rattle.chord_segment.specs.Rules.{IsNear, IsSegment}
-use Rattle.chord_segment.proofs.MarkLemmas.{same_or_not, eqb_same, eqb_other, mark_of-raise_same, mark_of-raise_other}
+use Rattle.chord_map.proofs.Equal.{same_or_not, eqb_same, eqb_other}
+use Rattle.chord_segment.proofs.MarkLemmas.{mark_of-raise_same, mark_of-raise_other}
 
 -- a call that is New is above the floor and not kept
 new_floor : (b : Bool) (o : Option Done) → cond b Seen (past_of o) ≡ New → (b ≡ false) × (o ≡ None)

@@ -2,9 +2,9 @@
 use Rattle.std.specs.Prelude.{◌≡◌, ◌+◌, ◌<◌, ◌≤◌, true, List}
 use Rattle.std.specs.List.{AllByRecursion}
 use Rattle.chord_ident.specs.Circle.{in_span}
-use Rattle.chord_segment.specs.declared.done.Done.{Done}
+use Rattle.chord_map.specs.declared.done.Done.{Done}
 use Rattle.chord_segment.specs.declared.mark.Mark.{Mark}
-use Rattle.chord_segment.specs.History.{EachOnce}
+use Rattle.chord_map.specs.History.{EachOnce}
 use Rattle.chord_segment.specs.Marks.{mark_of}
 use Rattle.chord_segment.specs.Segment.{Segment, id_of}
 

@@ -1,6 +1,6 @@
 //! What a segment knows of a call.
 
-use crate::done::Done;
+use chord_map::Done;
 
 /// Whether a call is new to a segment, kept with its reply, or at or below its caller's floor.
 #[derive(Clone, Copy, Debug)]

@@ -7,11 +7,12 @@ ghost use Rattle.chord_segment.specs.Segment.Past.{New};
 ghost use Rattle.chord_segment.specs.Shown.{shown};
 ghost use Rattle.chord_segment.specs.Join.{CutIs, PartsAre, JoinIs, WholeIs};
 
-use crate::done::{Done, any_twice, copy_dones, find_done, keep_above, part_dones, same_dones};
+use crate::dones::{any_twice, keep_above, part_dones, same_dones};
 use crate::fault::{CutFault, JoinFault, Uncut, Unjoined};
 use crate::mark::{Mark, number_of, raise_mark, raise_marks, same_marks};
 use crate::past::Past;
 use chord_ident::{Id, Span};
+use chord_map::{Done, copy_dones, find_done};
 use std::alloc::{AllocError, AllocFailed, Global};
 use std::marker::Model;
 use std::mem::replace;

@@ -1,10 +1,10 @@
 -- Events of nodes and of callers as events of actors.
 use Rattle.std.proofs.Common.{◌≡◌, Option, Some, None, sym, ap, subst}
 use Rattle.chord_caller.specs.Caller.{Caller, CallerStep, Letter}
-use Rattle.chord_node.specs.declared.message.Message.{Message}
-use Rattle.chord_node.specs.Letters.{message_of, letter_sent}
-use Rattle.chord_node.specs.Node.{Node}
-use Rattle.chord_node.specs.World.{WasSent}
+use Rattle.chord_model.specs.declared.message.Message.{Message}
+use Rattle.chord_model.specs.Letters.{message_of, letter_sent}
+use Rattle.chord_model.specs.Node.{Node}
+use Rattle.chord_model.specs.World.{WasSent}
 use Rattle.chord_table.specs.Actors.{Event}
 use Rattle.chord_table.specs.Seen.{Actor, OfNode, OfCaller}
 use Rattle.chord_table.specs.Views.{Sight, NodeSight, CallerSight, node_in, caller_in, MayBecome, MayAct, MayCall}

@@ -5,10 +5,10 @@ use Rattle.std.proofs.lemmas.List.Elements.{All-contains, All-weaker}
 use mathlib.Core.Option.{some}
 use lib.ListN.{get_elem?}
 use Rattle.chord_caller.specs.Caller.{Caller}
-use Rattle.chord_node.specs.declared.message.Message.{Message}
-use Rattle.chord_node.specs.Node.{Node}
-use Rattle.chord_node.specs.World.{World, WorldStep, WasSent}
-use Rattle.chord_segment.specs.declared.done.Done.{Done}
+use Rattle.chord_model.specs.declared.message.Message.{Message}
+use Rattle.chord_model.specs.Node.{Node}
+use Rattle.chord_model.specs.World.{World, WorldStep, WasSent}
+use Rattle.chord_map.specs.declared.done.Done.{Done}
 use Rattle.chord_table.proofs.Numbers.{one_actor}
 use Rattle.chord_table.proofs.Showing.{IsHeir, shows_changed}
 use Rattle.chord_table.proofs.Worlds.{IsNew, event_steps, there_after, others_after, nodes_after, callers_after, sent_after, others_entered}

@@ -5,9 +5,9 @@ use mathlib.Core.Option.{some, some-ne-none, some-injective}
 use lib.ListN.{get_elem?}
 use Rattle.atomic_table.specs.Table.{Me, keeps, opening, Allows, Splits, Joins}
 use Rattle.atomic_table.proofs.Lists.{at_set, set_again}
-use Rattle.chord_node.specs.declared.message.Message.{Message}
-use Rattle.chord_node.specs.World.{World, empty_world}
-use Rattle.chord_node.specs.World.Run.{Stays, Goes_on}
+use Rattle.chord_model.specs.declared.message.Message.{Message}
+use Rattle.chord_model.specs.World.{World, empty_world}
+use Rattle.chord_model.specs.World.Run.{Stays, Goes_on}
 use Rattle.chord_table.proofs.Events.{shown_heir, admitted_heir, event_shown, true_entered, register_entered, callers_entered}
 use Rattle.chord_table.proofs.Showing.{IsHeir, shows_changed, shows_added}
 use Rattle.chord_table.proofs.Worlds.{IsNew, new_apart, there_entered, may_enter}

@@ -2,11 +2,11 @@
 use Rattle.std.proofs.Common.{◌≡◌, ◌≢◌, ℕ, ◌+◌, eqb, Option, None, List, [], ◌∷◌, find, map, Contains, ⊎_elim, inl, inr, refl, sym, ap}
 use Rattle.chord_caller.specs.Caller.{Caller, CallerStep, Letter}
 use Rattle.chord_map.proofs.Lists.{has_contained, contains_has}
-use Rattle.chord_node.specs.declared.message.Message.{Message}
-use Rattle.chord_node.specs.Node.{Node, NodeStep}
-use Rattle.chord_node.specs.World.{put_node, put_caller}
-use Rattle.chord_segment.proofs.MarkLemmas.{same_or_not, eqb_same, eqb_other}
-use Rattle.chord_segment.specs.declared.done.Done.{Done}
+use Rattle.chord_model.specs.declared.message.Message.{Message}
+use Rattle.chord_model.specs.Node.{Node, NodeStep}
+use Rattle.chord_model.specs.World.{put_node, put_caller}
+use Rattle.chord_map.proofs.Equal.{same_or_not, eqb_same, eqb_other}
+use Rattle.chord_map.specs.declared.done.Done.{Done}
 use Rattle.chord_table.specs.Actors.{AreOne, Event}
 use Rattle.chord_table.specs.Seen.{Actor}
 use Rattle.chord_table.specs.Views.{Name, word_of}

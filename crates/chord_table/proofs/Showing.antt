@@ -4,7 +4,7 @@ use mathlib.Core.Option.{some, some-ne-none, some-injective}
 use lib.ListN.{get_elem?}
 use Rattle.atomic_table.proofs.Lists.{at_set}
 use Rattle.chord_table.specs.Seen.{View}
-use Rattle.chord_node.specs.World.{World}
+use Rattle.chord_model.specs.World.{World}
 use Rattle.chord_table.specs.Views.{IsTrueOf, HaveOneOwner, Shows}
 
 module _ {A : Type 0} where

@@ -4,13 +4,13 @@ use Rattle.std.proofs.lemmas.List.Elements.{Contains-append_left}
 use Rattle.std.proofs.lemmas.Option.{none-some}
 use Rattle.chord_caller.specs.Caller.{Caller}
 use Rattle.chord_map.proofs.Finding.{find_push_hit}
-use Rattle.chord_node.proofs.CallerLemmas.{put_same, put_apart, caller_left}
-use Rattle.chord_node.proofs.Nodes.{node_at-put_same, node_at-put_other, node_at_push_other, node_at_push_same}
-use Rattle.chord_node.specs.declared.message.Message.{Message}
-use Rattle.chord_node.specs.Node.{Node, founder}
-use Rattle.chord_node.specs.World.{World, WorldStep, WasSent, node_at, caller_at}
-use Rattle.chord_segment.proofs.MarkLemmas.{eqb_same}
-use Rattle.chord_segment.specs.declared.done.Done.{Done}
+use Rattle.chord_model.proofs.CallerLemmas.{put_same, put_apart, caller_left}
+use Rattle.chord_model.proofs.Nodes.{node_at-put_same, node_at-put_other, node_at_push_other, node_at_push_same}
+use Rattle.chord_model.specs.declared.message.Message.{Message}
+use Rattle.chord_model.specs.Node.{Node, founder}
+use Rattle.chord_model.specs.World.{World, WorldStep, WasSent, node_at, caller_at}
+use Rattle.chord_map.proofs.Equal.{eqb_same}
+use Rattle.chord_map.specs.declared.done.Done.{Done}
 use Rattle.chord_table.proofs.Numbers.{absent, node_put, caller_put}
 use Rattle.chord_table.specs.Actors.{IsThere, AreOne, Event, after, entered, node_numbers, caller_numbers}
 use Rattle.chord_table.specs.Seen.{Actor, OfNode, OfCaller}

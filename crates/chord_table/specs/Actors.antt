@@ -1,11 +1,11 @@
 -- Nodes and callers alike, as actors of a world.
 use Rattle.std.specs.Prelude.{◌≡◌, ℕ, Option, None, Some, List, [], ◌∷◌, ◌++◌, map}
 use Rattle.chord_caller.specs.Caller.{Caller, CallerStep, Letter}
-use Rattle.chord_node.specs.declared.message.Message.{Message}
-use Rattle.chord_node.specs.Letters.{letter_sent}
-use Rattle.chord_node.specs.Node.{Node, NodeStep}
-use Rattle.chord_node.specs.World.{World, node_at, put_node, caller_at, put_caller, with_one}
-use Rattle.chord_segment.specs.declared.done.Done.{Done}
+use Rattle.chord_model.specs.declared.message.Message.{Message}
+use Rattle.chord_model.specs.Letters.{letter_sent}
+use Rattle.chord_model.specs.Node.{Node, NodeStep}
+use Rattle.chord_model.specs.World.{World, node_at, put_node, caller_at, put_caller, with_one}
+use Rattle.chord_map.specs.declared.done.Done.{Done}
 use Rattle.chord_table.specs.Seen.{Actor, OfNode, OfCaller}
 
 -- the actor is there, in this state

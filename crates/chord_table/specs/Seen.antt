@@ -1,8 +1,8 @@
 -- What a seat may show.
 use Rattle.std.specs.Prelude.{ℕ, List}
 use Rattle.chord_caller.specs.Caller.{Caller}
-use Rattle.chord_node.specs.declared.message.Message.{Message}
-use Rattle.chord_node.specs.Node.{Node}
+use Rattle.chord_model.specs.declared.message.Message.{Message}
+use Rattle.chord_model.specs.Node.{Node}
 
 -- the state of an actor, which is a node or a caller
 pub data Actor : Type 0 where

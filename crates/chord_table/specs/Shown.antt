@@ -1,10 +1,10 @@
 -- What a look tells of the world that the seats show.
 use Rattle.std.specs.Prelude.{◌≡◌, ◌≢◌, ℕ, ◌^◌, ◌<◌, Some, [], All, Contains}
 use Rattle.chord_caller.specs.Caller.{Note}
-use Rattle.chord_node.specs.declared.message.Message.TheVariants.{Note as NoteMessage}
-use Rattle.chord_node.specs.Headline.{Headline}
-use Rattle.chord_node.specs.World.{World, Reached, InOrder, HasOneHolder, node_at, caller_at}
-use Rattle.chord_segment.specs.History.{IsLegal, EachOnce, StandsIn}
+use Rattle.chord_model.specs.declared.message.Message.TheVariants.{Note as NoteMessage}
+use Rattle.chord_model.specs.Headline.{Headline}
+use Rattle.chord_model.specs.World.{World, Reached, InOrder, HasOneHolder, node_at, caller_at}
+use Rattle.chord_map.specs.History.{IsLegal, EachOnce, StandsIn}
 use Rattle.chord_table.specs.Actors.{IsThere}
 use Rattle.chord_table.specs.Views.{Sight, NodeSight, CallerSight}
 

@@ -7,12 +7,12 @@ pub use Rattle.atomic_table.specs.Seated.{TableId, table_id_coded}
 use Rattle.chord_caller.specs.Answers.{new_caller}
 use Rattle.chord_caller.specs.Caller.{Caller, CallerStep, Letter, with_request}
 use Rattle.chord_links.specs.NodeLinks.{NodeLinks, alone}
-use Rattle.chord_node.specs.declared.message.Message.{Message}
-use Rattle.chord_node.specs.declared.message.Message.TheVariants.{Ask, Full}
-use Rattle.chord_node.specs.Letters.{letter_sent}
-use Rattle.chord_node.specs.Node.{Node, NodeStep, founder, newborn}
-use Rattle.chord_node.specs.World.{World, Reached, WasSent}
-use Rattle.chord_segment.specs.declared.done.Done.{Done}
+use Rattle.chord_model.specs.declared.message.Message.{Message}
+use Rattle.chord_model.specs.declared.message.Message.TheVariants.{Ask, Full}
+use Rattle.chord_model.specs.Letters.{letter_sent}
+use Rattle.chord_model.specs.Node.{Node, NodeStep, founder, newborn}
+use Rattle.chord_model.specs.World.{World, Reached, WasSent}
+use Rattle.chord_map.specs.declared.done.Done.{Done}
 use Rattle.chord_table.specs.Actors.{IsThere, AreOne, Event, node_numbers, caller_numbers}
 use Rattle.chord_table.specs.Seen.{Actor, OfNode, OfCaller, View, Admitted, Shown, Sent, Spent}
 

@@ -1,6 +1,6 @@
 //! The seat of any actor.
 ghost use Rattle.std.specs.Prelude.{◌≡◌, ◌++◌, [], ◌∷◌, Option, Some};
-ghost use Rattle.chord_node.specs.declared.message.Message.{Message as Content};
+ghost use Rattle.chord_model.specs.declared.message.Message.{Message as Content};
 ghost use Rattle.chord_table.specs.Shown.{IsShown};
 ghost use Rattle.chord_table.specs.Views.{MayBecome};
 

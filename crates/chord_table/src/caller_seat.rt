@@ -2,8 +2,8 @@
 ghost use Rattle.std.specs.Prelude.{◌≡◌, ◌++◌, [], ◌∷◌, Contains, Option, None, Some};
 ghost use Rattle.chord_caller.specs.Caller.{AskLetter, CallerStep, Letter, with_request};
 ghost use Rattle.chord_caller.specs.Client.{hearing};
-ghost use Rattle.chord_node.specs.Letters.{message_of};
-ghost use Rattle.chord_node.specs.declared.message.Message.TheVariants.{Ask as AskMessage, Told as ToldMessage};
+ghost use Rattle.chord_model.specs.Letters.{message_of};
+ghost use Rattle.chord_model.specs.declared.message.Message.TheVariants.{Ask as AskMessage, Told as ToldMessage};
 ghost use Rattle.chord_table.specs.Shown.{CallerShown};
 ghost use Rattle.chord_table.specs.Views.{MayCall};
 
@@ -12,7 +12,8 @@ use crate::naming::Naming;
 use crate::parcel::Parcel;
 use crate::shared::Shared;
 use chord_caller::{Ask, CallerCore, Told};
-use chord_node::{Message, laws};
+use chord_model::laws;
+use chord_node::Message;
 use std::marker::{Brand, Model};
 
 /// A caller's seat. Contracts see the caller, and the messages that came to it.

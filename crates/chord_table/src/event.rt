@@ -4,7 +4,7 @@ use std::marker::Brand;
 
 /// The actor after an event, and the message that goes out. Each call with `Brand` picks them.
 pub trait Event {
-    ghost use Rattle.chord_node.specs.declared.message.Message.{Message};
+    ghost use Rattle.chord_model.specs.declared.message.Message.{Message};
     ghost use Rattle.chord_table.specs.Seen.{Actor};
 
     ghost actor: { Actor };

@@ -1,6 +1,6 @@
 //! The seats of nodes.
 ghost use Rattle.std.specs.Prelude.{◌≡◌, ◌++◌, [], ◌∷◌, Option, Some};
-ghost use Rattle.chord_node.specs.declared.message.Message.{Message as Content};
+ghost use Rattle.chord_model.specs.declared.message.Message.{Message as Content};
 ghost use Rattle.chord_table.specs.Shown.{NodeShown};
 ghost use Rattle.chord_table.specs.Views.{MayAct};
 
@@ -8,7 +8,8 @@ use crate::actor_seat::ActorSeat;
 use crate::naming::Naming;
 use crate::parcel::Parcel;
 use crate::shared::Shared;
-use chord_node::{Message, Node, laws};
+use chord_model::laws;
+use chord_node::{Message, Node};
 use chord_store::EntryStore;
 use std::marker::{Brand, Model};
 

@@ -17,7 +17,7 @@ pub struct Parcel<J: Naming> {
 
 impl<J: Naming> Model for Parcel<J> {
     ghost use Rattle.std.specs.Prelude.{◌≡◌, []};
-    ghost use Rattle.chord_node.specs.declared.message.Message.{Message};
+    ghost use Rattle.chord_model.specs.declared.message.Message.{Message};
     ghost use Rattle.chord_table.specs.Seen.{Sent};
 
     ghost Value = { Message };

@@ -9,11 +9,11 @@ use Rattle.chord_ring.specs.Ring.{links_of, is_member, IsPrincipal}
 use Rattle.chord_ring.specs.Sound.{IsSound}
 use Rattle.chord_ring.specs.Steps.{Ring}
 use Rattle.chord_ring.proofs.Stepping.{Kept}
-use Rattle.chord_segment.specs.declared.done.Done.{Done}
-use Rattle.chord_node.specs.declared.message.Message.{Message}
-use Rattle.chord_node.specs.Node.{Node, NodeStep}
-use Rattle.chord_node.specs.World.{WorldStep, WasSent, put_node, node_at, with_one}
-use Rattle.chord_node.specs.World.WorldStep.{Acts}
+use Rattle.chord_map.specs.declared.done.Done.{Done}
+use Rattle.chord_model.specs.declared.message.Message.{Message}
+use Rattle.chord_model.specs.Node.{Node, NodeStep}
+use Rattle.chord_model.specs.World.{WorldStep, WasSent, put_node, node_at, with_one}
+use Rattle.chord_model.specs.World.WorldStep.{Acts}
 use Rattle.chord_world.specs.Members.{is_gone, links_unless, member_links, members_of, ring_with}
 use Rattle.chord_world.specs.State.{WorldState, NodesFrom, IsKnown, AreKnown, IsWorld, ring_of, is_crashed, KeepsRing}
 use Rattle.chord_world.proofs.Placing.{node_at_place, put_node_place, nodes_set, node_number, calls_pushed}

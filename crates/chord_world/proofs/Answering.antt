@@ -4,7 +4,7 @@ use Rattle.std.proofs.lemmas.Option.{slice_get_past, slice_get_within, get_or_fr
 use Rattle.std.specs.Prelude.{slice_get, Contains}
 use Rattle.std.specs.declared.alloc.AllocError.{AllocError}
 use Rattle.chord_map.specs.declared.reply.Reply.{Reply}
-use Rattle.chord_segment.specs.declared.done.Done.{Done}
+use Rattle.chord_map.specs.declared.done.Done.{Done}
 use Rattle.chord_segment.specs.Segment.{Segment, Past, id_of, past_at}
 use Rattle.chord_segment.specs.Segment.Past.{New, Kept, Seen}
 use Rattle.chord_caller.specs.declared.ask.Ask.{Ask}
@@ -18,13 +18,13 @@ use Rattle.chord_caller.specs.Answers.{IsForeign, TakeIs}
 use Rattle.chord_caller.proofs.Steps.{fresh_steps, known_steps}
 use Rattle.chord_node.specs.declared.asks.answered.Answered.{Answered}
 use Rattle.chord_node.specs.declared.asks.answered.Answered.TheVariants as answer
-use Rattle.chord_node.specs.declared.message.Message.{Message}
-use Rattle.chord_node.specs.declared.message.Message.TheVariants.{Ask as AskMessage, Told as ToldMessage, Full as FullMessage}
-use Rattle.chord_node.specs.Headline.{Headline, request_with, submitted_by, answers}
-use Rattle.chord_node.specs.Node.{Node, segment_with}
+use Rattle.chord_model.specs.declared.message.Message.{Message}
+use Rattle.chord_model.specs.declared.message.Message.TheVariants.{Ask as AskMessage, Told as ToldMessage, Full as FullMessage}
+use Rattle.chord_model.specs.Headline.{Headline, request_with, submitted_by, answers}
+use Rattle.chord_model.specs.Node.{Node, segment_with}
 use Rattle.chord_node.specs.Asked.{AskIs, AskNotes, AnswersBy, ask_done, after_done, past_answer, is_full_for, sent_by}
-use Rattle.chord_node.specs.World.{WorldStep, put_node, caller_at, put_caller, with_one}
-use Rattle.chord_node.specs.World.WorldStep.{Calls}
+use Rattle.chord_model.specs.World.{WorldStep, put_node, caller_at, put_caller, with_one}
+use Rattle.chord_model.specs.World.WorldStep.{Calls}
 use Rattle.chord_node.proofs.Asking.{asked_steps}
 use Rattle.chord_world.specs.State.{WorldState, with_heard, IsWorld, is_crashed}
 use Rattle.chord_world.specs.Members.{is_gone}

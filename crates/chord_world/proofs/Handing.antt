@@ -3,7 +3,7 @@ use Rattle.std.proofs.Common.{◌≡◌, ◌≢◌, ℕ, zero, suc, ◌+◌, ◌
 use Rattle.std.specs.Prelude.{slice_get, IsErrAnd, ◌==◌, cond, ◌&&◌, nat_le, is_some}
 use Rattle.std.proofs.lemmas.Bool.{true≢false}
 use Rattle.std.proofs.lemmas.Option.{slice_get_within, same_Some}
-use Rattle.chord_segment.proofs.MarkLemmas.{eqb_other}
+use Rattle.chord_map.proofs.Equal.{eqb_other}
 use Rattle.chord_ident.specs.declared.id.Id.{Id}
 use Rattle.chord_handover.specs.Handover.{Part, parts_in, item_at}
 use Rattle.chord_handover.specs.Parcelled.{Parcelled}
@@ -18,15 +18,15 @@ use Rattle.chord_node.specs.declared.fault.NotStaying.{NotStaying}
 use Rattle.chord_node.specs.declared.fault.ResendFault.{ResendFault}
 use Rattle.chord_node.specs.declared.fault.RetireFault.{RetireFault}
 use Rattle.chord_node.specs.declared.fault.RetireFault.TheVariants as retire
-use Rattle.chord_node.specs.declared.phase.Phase.TheVariants as phase
+use Rattle.chord_model.specs.declared.phase.Phase.TheVariants as phase
 use Rattle.chord_ring.specs.Ring.{is_member, CanDepart}
 use Rattle.chord_world.specs.declared.refusal.Refusal.TheVariants as refused_as
-use Rattle.chord_node.specs.declared.message.Message.{Message}
-use Rattle.chord_node.specs.declared.message.Message.TheVariants.{Part as PartMessage}
+use Rattle.chord_model.specs.declared.message.Message.{Message}
+use Rattle.chord_model.specs.declared.message.Message.TheVariants.{Part as PartMessage}
 use Rattle.chord_node.specs.Moves.{MoveSteps, SendSteps, with_held, CutAtIs, MergeIs, LeaveIs, GiveIs, ResendIs, RetireIs}
-use Rattle.chord_node.specs.Node.{Node, NodeStep}
+use Rattle.chord_model.specs.Node.{Node, NodeStep}
 use Rattle.chord_segment.specs.Segment.{Segment}
-use Rattle.chord_node.specs.World.{WasSent, node_at, put_node, with_one}
+use Rattle.chord_model.specs.World.{WasSent, node_at, put_node, with_one}
 use Rattle.chord_world.specs.declared.outcome.Outcome.{Outcome}
 use Rattle.chord_world.specs.declared.outcome.Outcome.TheVariants as did
 use Rattle.chord_world.specs.declared.refusal.Refusal.{Refusal}

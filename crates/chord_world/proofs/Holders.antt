@@ -6,10 +6,10 @@ use Rattle.std.proofs.lemmas.Option.{slice_get_within, same_Some}
 use Rattle.chord_map.proofs.Lists.{Has, has_left, has_right, contains_has, has_contained, has_got, place_of, found, not_found}
 use Rattle.chord_handover.specs.Handover.{Item}
 use Rattle.chord_ident.specs.Circle.{in_span}
-use Rattle.chord_node.specs.declared.holder.Holder.{Holder}
-use Rattle.chord_node.specs.declared.holder.Holder.TheVariants as holder
-use Rattle.chord_node.specs.Node.{Node, segment_with}
-use Rattle.chord_node.specs.World.{at_node, under_way, holders, taken_by, last_taken, HasOneHolder}
+use Rattle.chord_model.specs.declared.holder.Holder.{Holder}
+use Rattle.chord_model.specs.declared.holder.Holder.TheVariants as holder
+use Rattle.chord_model.specs.Node.{Node, segment_with}
+use Rattle.chord_model.specs.World.{at_node, under_way, holders, taken_by, last_taken, HasOneHolder}
 use Rattle.chord_segment.specs.Segment.{Segment}
 use Rattle.chord_world.specs.Holding.{is_open, way_of, holders_at, HolderIs}
 use Rattle.chord_world.specs.State.{WorldState, NodesFrom}

@@ -10,10 +10,10 @@ use Rattle.chord_ring.specs.Steps.{founded}
 use Rattle.chord_ring.proofs.Reached.{IsSound-founded}
 use Rattle.chord_caller.specs.Caller.{Caller}
 use Rattle.chord_caller.specs.Answers.{new_caller}
-use Rattle.chord_node.specs.Node.{Node, founder}
-use Rattle.chord_node.specs.World.{World, WorldStep, Reached}
-use Rattle.chord_node.specs.World.WorldStep.{Creates, Opens}
-use Rattle.chord_node.specs.World.Run.{Stays, Goes_on}
+use Rattle.chord_model.specs.Node.{Node, founder}
+use Rattle.chord_model.specs.World.{World, WorldStep, Reached}
+use Rattle.chord_model.specs.World.WorldStep.{Creates, Opens}
+use Rattle.chord_model.specs.World.Run.{Stays, Goes_on}
 use Rattle.chord_world.specs.Members.{members_of, ids_of, ring_with}
 use Rattle.chord_world.specs.State.{WorldState, new_world, IsWorld, KeepsRing}
 use Rattle.chord_world.specs.declared.outcome.Outcome.TheVariants as did

@@ -1,12 +1,12 @@
 -- Nodes and callers stand in the order of their numbers: a look-up is by place, and a put is a write.
 use Rattle.std.proofs.Common.{◌≡◌, ◌≢◌, ℕ, zero, suc, ◌+◌, ◌≤◌, Some, List, [], ◌∷◌, ◌++◌, length, set, refl, ◌∙◌, ap, subst, arith}
 use Rattle.std.specs.Prelude.{slice_get}
-use Rattle.chord_segment.proofs.MarkLemmas.{eqb_same, eqb_other}
+use Rattle.chord_map.proofs.Equal.{eqb_same, eqb_other}
 use Rattle.chord_caller.specs.Caller.{Caller}
-use Rattle.chord_node.specs.declared.message.Message.{Message}
-use Rattle.chord_node.specs.declared.message.Message.TheVariants.{Ask as AskMessage, Told as ToldMessage, Full as FullMessage, Part as PartMessage, Got as GotMessage, Declined as DeclinedMessage, Note as NoteMessage}
-use Rattle.chord_node.specs.Node.{Node}
-use Rattle.chord_node.specs.World.{node_at, put_node, caller_at, put_caller}
+use Rattle.chord_model.specs.declared.message.Message.{Message}
+use Rattle.chord_model.specs.declared.message.Message.TheVariants.{Ask as AskMessage, Told as ToldMessage, Full as FullMessage, Part as PartMessage, Got as GotMessage, Declined as DeclinedMessage, Note as NoteMessage}
+use Rattle.chord_model.specs.Node.{Node}
+use Rattle.chord_model.specs.World.{node_at, put_node, caller_at, put_caller}
 use Rattle.chord_world.specs.State.{NodesFrom, CallersFrom, IsKnown, AreKnown}
 
 -- ---- nodes

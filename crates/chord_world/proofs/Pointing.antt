@@ -4,9 +4,9 @@ use Rattle.std.specs.Prelude.{slice_get}
 use Rattle.std.proofs.lemmas.Bool.{cases_Bool}
 use Rattle.std.proofs.lemmas.Option.{slice_get_past}
 use Rattle.chord_links.specs.declared.peer.Peer.{Peer}
-use Rattle.chord_node.specs.Node.{Node}
-use Rattle.chord_node.specs.Node.NodeStep.{Links_change}
-use Rattle.chord_node.specs.World.{node_at, put_node}
+use Rattle.chord_model.specs.Node.{Node}
+use Rattle.chord_model.specs.Node.NodeStep.{Links_change}
+use Rattle.chord_model.specs.World.{node_at, put_node}
 use Rattle.chord_links.specs.NodeLinks.{NodeLinks}
 use Rattle.chord_ring.proofs.Stepping.{Kept, Kept-fingers}
 use Rattle.chord_world.specs.Members.{is_gone, links_unless, member_links, ring_with}

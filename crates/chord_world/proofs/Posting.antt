@@ -12,11 +12,11 @@ use Rattle.chord_caller.specs.Caller.{Caller}
 use Rattle.chord_caller.specs.Caller.Letter.{AskLetter}
 use Rattle.chord_caller.specs.Answers.{SubmitIs}
 use Rattle.chord_caller.proofs.Steps.{submit_steps}
-use Rattle.chord_node.specs.declared.message.Message.{Message}
-use Rattle.chord_node.specs.declared.message.Message.TheVariants.{Ask as AskMessage}
-use Rattle.chord_node.specs.Node.{Node}
-use Rattle.chord_node.specs.World.{WorldStep, caller_at, put_caller}
-use Rattle.chord_node.specs.World.WorldStep.{Calls}
+use Rattle.chord_model.specs.declared.message.Message.{Message}
+use Rattle.chord_model.specs.declared.message.Message.TheVariants.{Ask as AskMessage}
+use Rattle.chord_model.specs.Node.{Node}
+use Rattle.chord_model.specs.World.{WorldStep, caller_at, put_caller}
+use Rattle.chord_model.specs.World.WorldStep.{Calls}
 use Rattle.chord_world.specs.State.{WorldState, IsThere, CallersFrom, AreKnown, IsWorld}
 use Rattle.chord_world.specs.declared.refusal.Refusal.{Refusal}
 use Rattle.chord_world.specs.Refusals.{refusal_of}

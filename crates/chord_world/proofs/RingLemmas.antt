@@ -5,7 +5,7 @@ use Rattle.std.proofs.lemmas.List.{get_or_past, length-map}
 use Rattle.chord_links.specs.NodeLinks.{NodeLinks}
 use Rattle.chord_ring.specs.Ring.{links_of}
 use Rattle.chord_ring.specs.Steps.{with_links, without}
-use Rattle.chord_node.specs.Node.{Node}
+use Rattle.chord_model.specs.Node.{Node}
 use Rattle.chord_world.specs.State.{WorldState, is_crashed}
 use Rattle.chord_world.specs.Members.{is_gone, links_unless, member_links, members_of, id_of_node, ids_of, ring_with}
 

@@ -4,8 +4,8 @@ use Rattle.std.specs.Prelude.{All}
 use Rattle.std.proofs.lemmas.List.{drop-map}
 use Rattle.std.proofs.lemmas.List.Elements.{All-drop}
 use mathlib.Core.Logic.{∥∥₁_map}
-use Rattle.chord_node.specs.World.{World, Run}
-use Rattle.chord_node.specs.World.Run.{Stays, Goes_on}
+use Rattle.chord_model.specs.World.{World, Run}
+use Rattle.chord_model.specs.World.Run.{Stays, Goes_on}
 use Rattle.chord_world.specs.declared.outcome.Outcome.{Outcome}
 use Rattle.chord_world.specs.declared.refusal.Refusal.{Refusal}
 use Rattle.chord_world.specs.declared.running.Answer.{Answer}

@@ -11,11 +11,11 @@ use Rattle.chord_caller.specs.Caller.CallerStep.{Meets}
 use Rattle.chord_caller.specs.declared.fault.ResendFault.TheVariants.{Idle}
 use Rattle.chord_caller.specs.Answers.{ResendIs}
 use Rattle.chord_caller.proofs.Steps.{resend_steps}
-use Rattle.chord_node.specs.Letters.{message_of}
-use Rattle.chord_node.specs.declared.message.Message.{Message}
-use Rattle.chord_node.specs.declared.message.Message.TheVariants.{Ask as AskMessage, Note as NoteMessage}
-use Rattle.chord_node.specs.World.{WorldStep, caller_at, put_caller}
-use Rattle.chord_node.specs.World.WorldStep.{Calls}
+use Rattle.chord_model.specs.Letters.{message_of}
+use Rattle.chord_model.specs.declared.message.Message.{Message}
+use Rattle.chord_model.specs.declared.message.Message.TheVariants.{Ask as AskMessage, Note as NoteMessage}
+use Rattle.chord_model.specs.World.{WorldStep, caller_at, put_caller}
+use Rattle.chord_model.specs.World.WorldStep.{Calls}
 use Rattle.chord_world.specs.declared.outcome.Outcome.{Outcome}
 use Rattle.chord_world.specs.declared.refusal.Refusal.{Refusal}
 use Rattle.chord_world.specs.declared.refusal.Refusal.TheVariants as refused

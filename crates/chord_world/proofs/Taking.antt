@@ -9,11 +9,11 @@ use Rattle.chord_node.specs.declared.handovers.given.Given.{Given}
 use Rattle.chord_node.specs.declared.handovers.given.Given.TheVariants as given
 use Rattle.chord_node.specs.declared.handovers.given.Back.{Back}
 use Rattle.chord_node.specs.declared.handovers.given.Back.TheVariants as back
-use Rattle.chord_node.specs.declared.message.Message.{Message}
-use Rattle.chord_node.specs.declared.message.Message.TheVariants.{Part as PartMessage, Got as GotMessage, Declined as DeclinedMessage}
-use Rattle.chord_node.specs.Node.{Node}
+use Rattle.chord_model.specs.declared.message.Message.{Message}
+use Rattle.chord_model.specs.declared.message.Message.TheVariants.{Part as PartMessage, Got as GotMessage, Declined as DeclinedMessage}
+use Rattle.chord_model.specs.Node.{Node}
 use Rattle.chord_node.specs.Received.{PartIs, PartSteps, GotIs, BackIs, BackSteps, sent_for}
-use Rattle.chord_node.specs.World.{World, Reached, put_node, with_one, node_at}
+use Rattle.chord_model.specs.World.{World, Reached, put_node, with_one, node_at}
 use Rattle.chord_world.specs.declared.outcome.Outcome.{Outcome}
 use Rattle.chord_world.specs.Handing.{DoesAt}
 use Rattle.chord_world.specs.Linking.{with_node}

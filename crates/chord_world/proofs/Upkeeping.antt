@@ -16,11 +16,11 @@ use Rattle.chord_ring.specs.Refusals.{AreOwn}
 use Rattle.chord_ring.proofs.Stepping.{Kept, Kept-step, Kept-joins}
 use Rattle.chord_ring.proofs.OneRing.{links_from_member}
 use Rattle.chord_ring.proofs.Reached.{Kept-departs}
-use Rattle.chord_node.specs.declared.phase.Phase.TheVariants as phase
-use Rattle.chord_node.specs.Node.{Node, newborn}
-use Rattle.chord_node.specs.Node.NodeStep.{Links_change, Retires}
-use Rattle.chord_node.specs.World.{WorldStep, node_at, put_node}
-use Rattle.chord_node.specs.World.WorldStep.{Joins as JoinsWorld}
+use Rattle.chord_model.specs.declared.phase.Phase.TheVariants as phase
+use Rattle.chord_model.specs.Node.{Node, newborn}
+use Rattle.chord_model.specs.Node.NodeStep.{Links_change, Retires}
+use Rattle.chord_model.specs.World.{WorldStep, node_at, put_node}
+use Rattle.chord_model.specs.World.WorldStep.{Joins as JoinsWorld}
 use Rattle.chord_world.specs.Members.{is_gone, members_of, id_of_node, ids_of, ring_with}
 use Rattle.chord_world.specs.State.{WorldState, NodesFrom, IsWorld, ring_of, is_crashed, KeepsRing}
 use Rattle.chord_world.specs.Joining.{with_newborn, JoinsBehind}

@@ -8,15 +8,15 @@ use Rattle.chord_caller.specs.Caller.{Note, Caller}
 use Rattle.chord_caller.specs.Answers.{TakeIs}
 use Rattle.chord_node.specs.declared.asks.answered.Answered.{Answered}
 use Rattle.chord_node.specs.declared.asks.answered.Answered.TheVariants as answer
-use Rattle.chord_node.specs.declared.message.Message.TheVariants.{Ask as AskMessage, Told as ToldMessage, Full as FullMessage, Part as PartMessage, Got as GotMessage, Declined as DeclinedMessage, Note as NoteMessage}
+use Rattle.chord_model.specs.declared.message.Message.TheVariants.{Ask as AskMessage, Told as ToldMessage, Full as FullMessage, Part as PartMessage, Got as GotMessage, Declined as DeclinedMessage, Note as NoteMessage}
 use Rattle.chord_node.specs.declared.handovers.given.Given.{Given}
 use Rattle.chord_node.specs.declared.handovers.given.Back.{Back}
 use Rattle.chord_handover.specs.declared.ticket.Ticket.{Ticket}
 use Rattle.chord_handover.specs.Handover.{Part}
 use Rattle.chord_node.specs.Received.{PartIs, GotIs, BackIs, sent_for}
-use Rattle.chord_node.specs.Node.{Node}
+use Rattle.chord_model.specs.Node.{Node}
 use Rattle.chord_node.specs.Asked.{AskIs, ask_done, sent_by}
-use Rattle.chord_node.specs.World.{node_at, put_node, caller_at, with_one}
+use Rattle.chord_model.specs.World.{node_at, put_node, caller_at, with_one}
 use Rattle.chord_world.specs.declared.outcome.Outcome.{Outcome}
 use Rattle.chord_world.specs.declared.outcome.Outcome.TheVariants as did
 use Rattle.chord_world.specs.declared.refusal.Refusal.{Refusal}

@@ -1,7 +1,7 @@
 -- How a message comes to be taken in.
 use Rattle.std.specs.Prelude.{◌≡◌, ℕ, true, Option, Some, None, Result, Ok, Err, List, slice_get, slice_set}
 use Rattle.std.specs.declared.alloc.AllocError.{AllocError}
-use Rattle.chord_segment.specs.declared.done.Done.{Done}
+use Rattle.chord_map.specs.declared.done.Done.{Done}
 use Rattle.chord_caller.specs.declared.ask.Ask.{Ask}
 use Rattle.chord_caller.specs.declared.told.Told.{Told}
 use Rattle.chord_caller.specs.declared.heard.Heard.{Heard}
@@ -9,9 +9,9 @@ use Rattle.chord_caller.specs.Caller.{Caller}
 use Rattle.chord_caller.specs.Answers.{IsForeign, TakeIs}
 use Rattle.chord_node.specs.declared.asks.answered.Answered.{Answered}
 use Rattle.chord_node.specs.declared.asks.answered.Answered.TheVariants as answer
-use Rattle.chord_node.specs.declared.message.Message.{Message}
-use Rattle.chord_node.specs.declared.message.Message.TheVariants.{Ask as AskMessage, Told as ToldMessage, Full as FullMessage}
-use Rattle.chord_node.specs.Node.{Node}
+use Rattle.chord_model.specs.declared.message.Message.{Message}
+use Rattle.chord_model.specs.declared.message.Message.TheVariants.{Ask as AskMessage, Told as ToldMessage, Full as FullMessage}
+use Rattle.chord_model.specs.Node.{Node}
 use Rattle.chord_node.specs.Asked.{AskNotes}
 
 -- the node at the place answered the call, and is another then

@@ -13,10 +13,10 @@ use Rattle.chord_node.specs.declared.fault.ResendFault.TheVariants as resend
 use Rattle.chord_node.specs.declared.fault.NotStaying.{NotStaying}
 use Rattle.chord_node.specs.declared.fault.RetireFault.{RetireFault}
 use Rattle.chord_node.specs.declared.fault.RetireFault.TheVariants as retire
-use Rattle.chord_node.specs.declared.message.Message.TheVariants.{Part as PartMessage}
+use Rattle.chord_model.specs.declared.message.Message.TheVariants.{Part as PartMessage}
 use Rattle.chord_node.specs.Moves.{GiveIs, ResendIs, RetireIs}
-use Rattle.chord_node.specs.Node.{Node}
-use Rattle.chord_node.specs.World.{node_at}
+use Rattle.chord_model.specs.Node.{Node}
+use Rattle.chord_model.specs.World.{node_at}
 use Rattle.chord_world.specs.declared.outcome.Outcome.{Outcome}
 use Rattle.chord_world.specs.declared.outcome.Outcome.TheVariants as did
 use Rattle.chord_world.specs.declared.refusal.Refusal.{Refusal}

@@ -2,10 +2,10 @@
 use Rattle.std.specs.Prelude.{◌≡◌, ℕ, Bool, ◌&&◌, nat_lt, Option, None, Some, List, [], ◌∷◌, ◌++◌}
 use Rattle.chord_handover.specs.Handover.{Item}
 use Rattle.chord_ident.specs.Circle.{in_span}
-use Rattle.chord_node.specs.declared.holder.Holder.{Holder}
-use Rattle.chord_node.specs.declared.holder.Holder.TheVariants as holder
-use Rattle.chord_node.specs.Node.{Node}
-use Rattle.chord_node.specs.World.{at_node, holders, last_taken, under_way}
+use Rattle.chord_model.specs.declared.holder.Holder.{Holder}
+use Rattle.chord_model.specs.declared.holder.Holder.TheVariants as holder
+use Rattle.chord_model.specs.Node.{Node}
+use Rattle.chord_model.specs.World.{at_node, holders, last_taken, under_way}
 use Rattle.chord_world.specs.State.{WorldState}
 
 -- whether the item hands x over, and its receiver took less from the node so far

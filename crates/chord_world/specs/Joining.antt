@@ -7,7 +7,7 @@ use Rattle.chord_ring.specs.Ring.{is_member}
 use Rattle.chord_ring.specs.Steps.{Joins}
 use Rattle.chord_ring.specs.Refusals.{JoinRefused}
 use Rattle.chord_ring.specs.declared.ring_fault.RingFault.TheVariants as fault
-use Rattle.chord_node.specs.Node.{newborn}
+use Rattle.chord_model.specs.Node.{newborn}
 use Rattle.chord_world.specs.declared.outcome.Outcome.{Outcome}
 use Rattle.chord_world.specs.declared.outcome.Outcome.TheVariants as did
 use Rattle.chord_world.specs.declared.refusal.Refusal.{Refusal}

@@ -4,8 +4,8 @@ use Rattle.std.specs.Borrow.{Bor}
 use Rattle.chord_links.specs.declared.peer.Peer.{Peer}
 use Rattle.chord_links.specs.Fingers.{with_finger}
 use Rattle.chord_links.specs.NodeLinks.{NodeLinks}
-use Rattle.chord_node.specs.Node.{Node}
-use Rattle.chord_node.specs.World.{node_at, put_node}
+use Rattle.chord_model.specs.Node.{Node}
+use Rattle.chord_model.specs.World.{node_at, put_node}
 use Rattle.chord_world.specs.declared.outcome.Outcome.{Outcome}
 use Rattle.chord_world.specs.declared.outcome.Outcome.TheVariants as did
 use Rattle.chord_world.specs.declared.refusal.Refusal.{Refusal}

@@ -3,9 +3,9 @@ use Rattle.std.specs.Prelude.{Bool, true, false, ◌||◌, Option, None, Some, �
 use Rattle.chord_links.specs.NodeLinks.{NodeLinks}
 use Rattle.chord_ring.specs.Ring.{Members}
 use Rattle.chord_ring.specs.Steps.{Ring}
-use Rattle.chord_node.specs.declared.phase.Phase.{Phase}
-use Rattle.chord_node.specs.declared.phase.Phase.TheVariants as phase
-use Rattle.chord_node.specs.Node.{Node}
+use Rattle.chord_model.specs.declared.phase.Phase.{Phase}
+use Rattle.chord_model.specs.declared.phase.Phase.TheVariants as phase
+use Rattle.chord_model.specs.Node.{Node}
 
 -- whether that is the last phase
 abbrev pub is_gone : Phase → Bool

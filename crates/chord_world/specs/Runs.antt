@@ -1,9 +1,9 @@
 -- What a run of steps answers.
 use Rattle.std.specs.Prelude.{◌≡◌, ◌≢◌, ℕ, Option, None, Some, Result, Ok, Err, List, [], ◌∷◌, ◌++◌, drop}
 use Rattle.std.specs.Borrow.{Bor}
-use Rattle.chord_segment.specs.declared.done.Done.{Done}
+use Rattle.chord_map.specs.declared.done.Done.{Done}
 use Rattle.chord_caller.specs.Caller.{Caller}
-use Rattle.chord_node.specs.World.{caller_at}
+use Rattle.chord_model.specs.World.{caller_at}
 use Rattle.chord_world.specs.declared.outcome.Outcome.{Outcome}
 use Rattle.chord_world.specs.declared.refusal.Refusal.{Refusal}
 use Rattle.chord_world.specs.declared.running.Answer.{Answer}

@@ -4,10 +4,10 @@ use Rattle.chord_ring.specs.Ring.{KeepsPrincipals}
 use Rattle.chord_ring.specs.Sound.{IsSound}
 use Rattle.chord_ring.specs.Steps.{Ring}
 use Rattle.chord_caller.specs.Caller.{Caller}
-use Rattle.chord_node.specs.declared.message.Message.{Message}
-use Rattle.chord_node.specs.declared.message.Message.TheVariants.{Ask as AskMessage, Told as ToldMessage, Full as FullMessage, Part as PartMessage, Got as GotMessage, Declined as DeclinedMessage, Note as NoteMessage}
-use Rattle.chord_node.specs.Node.{Node}
-use Rattle.chord_node.specs.World.{World, Reached, empty_world, caller_at, put_caller}
+use Rattle.chord_model.specs.declared.message.Message.{Message}
+use Rattle.chord_model.specs.declared.message.Message.TheVariants.{Ask as AskMessage, Told as ToldMessage, Full as FullMessage, Part as PartMessage, Got as GotMessage, Declined as DeclinedMessage, Note as NoteMessage}
+use Rattle.chord_model.specs.Node.{Node}
+use Rattle.chord_model.specs.World.{World, Reached, empty_world, caller_at, put_caller}
 use Rattle.chord_world.specs.Members.{ring_with}
 
 -- the world of the definitions; for each message sent the node that it goes to, where it is an Ask; for each node

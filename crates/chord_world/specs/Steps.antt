@@ -8,10 +8,10 @@ use Rattle.chord_caller.specs.declared.ask.Ask.{Ask}
 use Rattle.chord_caller.specs.declared.fault.SubmitFault.{SubmitFault}
 use Rattle.chord_caller.specs.Caller.{Caller}
 use Rattle.chord_caller.specs.Answers.{new_caller, SubmitIs}
-use Rattle.chord_node.specs.declared.message.Message.TheVariants.{Ask as AskMessage}
+use Rattle.chord_model.specs.declared.message.Message.TheVariants.{Ask as AskMessage}
 use Rattle.chord_node.specs.Moves.{CutAtIs, MergeIs, LeaveIs}
-use Rattle.chord_node.specs.Node.{founder}
-use Rattle.chord_node.specs.World.{WorldStep, caller_at, put_caller}
+use Rattle.chord_model.specs.Node.{founder}
+use Rattle.chord_model.specs.World.{WorldStep, caller_at, put_caller}
 use Rattle.chord_world.specs.declared.outcome.Outcome.{Outcome}
 use Rattle.chord_world.specs.declared.outcome.Outcome.TheVariants as did
 use Rattle.chord_world.specs.declared.refusal.Refusal.{Refusal}

@@ -5,10 +5,10 @@ use Rattle.chord_node.specs.declared.handovers.given.Given.{Given}
 use Rattle.chord_node.specs.declared.handovers.given.Given.TheVariants as given
 use Rattle.chord_node.specs.declared.handovers.given.Back.{Back}
 use Rattle.chord_node.specs.declared.handovers.given.Back.TheVariants as back
-use Rattle.chord_node.specs.declared.message.Message.{Message}
-use Rattle.chord_node.specs.declared.message.Message.TheVariants.{Got as GotMessage, Declined as DeclinedMessage}
-use Rattle.chord_node.specs.Node.{Node, NodeStep}
-use Rattle.chord_node.specs.World.{with_one}
+use Rattle.chord_model.specs.declared.message.Message.{Message}
+use Rattle.chord_model.specs.declared.message.Message.TheVariants.{Got as GotMessage, Declined as DeclinedMessage}
+use Rattle.chord_model.specs.Node.{Node, NodeStep}
+use Rattle.chord_model.specs.World.{with_one}
 use Rattle.chord_world.specs.declared.outcome.Outcome.{Outcome}
 use Rattle.chord_world.specs.declared.outcome.Outcome.TheVariants as did
 use Rattle.chord_world.specs.State.{WorldState}

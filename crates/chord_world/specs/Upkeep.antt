@@ -10,8 +10,8 @@ use Rattle.chord_ring.specs.declared.ring_step.RingDid.TheVariants as ring
 use Rattle.chord_ring.specs.Ring.{is_member, CanDepart}
 use Rattle.chord_ring.specs.Steps.{Step}
 use Rattle.chord_ring.specs.Refusals.{Refused, Did}
-use Rattle.chord_node.specs.Node.{Node}
-use Rattle.chord_node.specs.World.{node_at}
+use Rattle.chord_model.specs.Node.{Node}
+use Rattle.chord_model.specs.World.{node_at}
 use Rattle.chord_world.specs.declared.outcome.Outcome.{Outcome}
 use Rattle.chord_world.specs.declared.outcome.Outcome.TheVariants as did
 use Rattle.chord_world.specs.declared.refusal.Refusal.{Refusal}

@@ -3,8 +3,8 @@ ghost use Rattle.std.specs.Prelude.{◌≡◌, ◌≢◌, ◌<◌, Some, [], len
 ghost use Rattle.std.specs.Vec.{vec_len, vec_capacity};
 ghost use Rattle.chord_caller.specs.declared.told.Told.{Told as ToldOf};
 ghost use Rattle.chord_caller.specs.declared.ask.Ask.{Ask as AskOf};
-ghost use Rattle.chord_node.specs.declared.message.Message.TheVariants.{Ask as AskMessage, Told as ToldMessage};
-ghost use Rattle.chord_node.specs.World.{with_one};
+ghost use Rattle.chord_model.specs.declared.message.Message.TheVariants.{Ask as AskMessage, Told as ToldMessage};
+ghost use Rattle.chord_model.specs.World.{with_one};
 ghost use Rattle.chord_world.specs.State.{KeepsRing};
 ghost use Rattle.chord_world.specs.Steps.{Advances};
 ghost use Rattle.chord_world.specs.Delivered.{DeliverIs, outcome_of, outcome_heard, target_of};
@@ -155,7 +155,7 @@ impl<S: EntryStore> World<S> {
             unreachable!()
         };
         let caller = told.caller;
-        chord_node::laws::one_history();
+        chord_model::laws::one_history();
         let Ok(heard) = hear_at(&mut self.callers, caller as usize, told) else {
             return Err(Refusal::Memory);
         };

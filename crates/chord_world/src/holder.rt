@@ -1,7 +1,7 @@
 //! Who holds an identifier.
 ghost use Rattle.std.specs.Prelude.{◌≡◌, true, false, [], Some, IfSome, IfNone, Contains, slice_get};
 ghost use Rattle.chord_handover.specs.Handover.{Item};
-ghost use Rattle.chord_node.specs.World.{holders, last_taken, under_way};
+ghost use Rattle.chord_model.specs.World.{holders, last_taken, under_way};
 ghost use Rattle.chord_world.specs.Holding.{holders_at, is_open, way_of, HolderIs};
 ghost use Rattle.chord_world.specs.State.{NodesFrom};
 
@@ -86,7 +86,7 @@ impl<S: EntryStore> World<S> {
     pub fn holder(&self, id: Id) -> Option<Holder>
         ensures { HolderIs id.number self.now result }
     {
-        chord_node::laws::one_holder();
+        chord_model::laws::one_holder();
         find_holder(&self.nodes, id)
     }
 }

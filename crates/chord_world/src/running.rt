@@ -1,7 +1,7 @@
 //! Lists of steps.
 ghost use Rattle.std.specs.Prelude.{◌≡◌, [], map, IfOk, OnErr};
 ghost use Rattle.std.specs.List.{All};
-ghost use Rattle.chord_node.specs.Headline.{Headline, SeenFirst};
+ghost use Rattle.chord_model.specs.Headline.{Headline, SeenFirst};
 ghost use Rattle.chord_world.specs.Runs.{Ran, result_of, StandsOnOneRing};
 
 use crate::outcome::Outcome;
@@ -47,7 +47,7 @@ pub fn run<S: EntryStore>(
 {
     world.headline();
     world.stands_on_one_ring();
-    chord_node::laws::seen_first();
+    chord_model::laws::seen_first();
     let mut answers = Vec::with_capacity(alloc, steps.len())?;
     for step in steps {
         let result = world.step(stores, step);

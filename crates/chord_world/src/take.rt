@@ -5,9 +5,9 @@ ghost use Rattle.chord_handover.specs.declared.ticket.Ticket.{Ticket as TicketOf
 ghost use Rattle.chord_handover.specs.Handover.{Part as PartOf};
 ghost use Rattle.chord_node.specs.declared.handovers.given.Given.TheVariants.{Clash};
 ghost use Rattle.chord_node.specs.declared.handovers.given.Back.TheVariants.{Clash as BackClash};
-ghost use Rattle.chord_node.specs.declared.message.Message.TheVariants.{Part as PartMessage, Got as GotMessage, Declined as DeclinedMessage};
+ghost use Rattle.chord_model.specs.declared.message.Message.TheVariants.{Part as PartMessage, Got as GotMessage, Declined as DeclinedMessage};
 ghost use Rattle.chord_node.specs.Received.{PartIs, PartSteps, GotIs, BackIs, BackSteps};
-ghost use Rattle.chord_node.specs.World.{with_one};
+ghost use Rattle.chord_model.specs.World.{with_one};
 ghost use Rattle.chord_world.specs.State.{KeepsRing};
 ghost use Rattle.chord_world.specs.Steps.{Advances};
 ghost use Rattle.chord_world.specs.Delivered.{DeliverIs};

@@ -2,8 +2,8 @@
 ghost use Rattle.std.specs.Prelude.{◌≡◌, ◌≤◌, [], map, slice_get};
 ghost use Rattle.std.specs.List.{All};
 ghost use Rattle.std.specs.Option.{option_copied};
-ghost use Rattle.chord_node.specs.Headline.{Headline};
-ghost use Rattle.chord_node.specs.World.{Reached};
+ghost use Rattle.chord_model.specs.Headline.{Headline};
+ghost use Rattle.chord_model.specs.World.{Reached};
 ghost use Rattle.chord_world.specs.State.{new_world, KeepsRing};
 ghost use Rattle.chord_world.specs.Steps.{StepIs, StoresLeft, AdvancesBy};
 ghost use Rattle.chord_world.specs.Runs.{MineIs, ToldIs, StandsOnOneRing};
@@ -72,7 +72,7 @@ impl<S: EntryStore> World<S> {
         ensures headline { Headline self.now.known }
     {
         let _ = &self.history;
-        chord_node::laws::one_history();
+        chord_model::laws::one_history();
     }
 
     /// The executed calls, in order.
@@ -80,7 +80,7 @@ impl<S: EntryStore> World<S> {
         ensures value { result.now ≡ self.now.known.history }
         ensures headline { Headline self.now.known }
     {
-        chord_node::laws::one_history();
+        chord_model::laws::one_history();
         self.history.as_slice()
     }
 

@@ -2,7 +2,7 @@
 ghost use Rattle.std.specs.Prelude.{◌≡◌, IfOk};
 ghost use Rattle.chord_handover.specs.Handover.{part_at};
 ghost use Rattle.chord_handover.specs.Parcelled.{handed};
-ghost use Rattle.chord_node.specs.Rules.{IsStocked};
+ghost use Rattle.chord_model.specs.Stock.{IsStocked};
 ghost use Rattle.chord_store.specs.Inside.{pairs_inside};
 
 use chord_handover::{Part, Ticket, copy_chunk, count_parts};

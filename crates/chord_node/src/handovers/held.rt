@@ -3,7 +3,7 @@ ghost use Rattle.std.specs.Prelude.{◌≡◌, ◌<◌, ◌^◌, ◌↔◌, ℕ,
 ghost use Rattle.chord_ident.specs.Circle.{Meet};
 ghost use Rattle.chord_segment.specs.Segment.{RoomySegment};
 ghost use Rattle.chord_node.specs.Moves.{CutHeld, MergeHeld, merge_fault_of};
-ghost use Rattle.chord_node.specs.Rules.{holds};
+ghost use Rattle.chord_model.specs.Stock.{holds};
 ghost use Rattle.chord_node.specs.View.{knowns};
 
 use crate::fault::{CutAtFault, MergeFault};

@@ -2,7 +2,7 @@
 ghost use Rattle.std.specs.Prelude.{◌≡◌, ◌<◌, OnOk};
 ghost use Rattle.std.specs.Vec.{vec_len, vec_capacity};
 ghost use Rattle.chord_handover.specs.Parcelled.{IsParcelled};
-ghost use Rattle.chord_node.specs.Rules.{IsStocked};
+ghost use Rattle.chord_model.specs.Stock.{IsStocked};
 ghost use Rattle.chord_node.specs.Received.{PutIs};
 ghost use Rattle.chord_node.specs.View.{knowns};
 

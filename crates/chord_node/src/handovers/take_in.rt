@@ -1,7 +1,7 @@
 //! Parts of handovers that come.
 ghost use Rattle.std.specs.Prelude.{◌≡◌, ◌+◌, ◌<◌, ◌^◌};
 ghost use Rattle.chord_segment.specs.Marks.{mark_of};
-ghost use Rattle.chord_node.specs.Rules.{IsStocked};
+ghost use Rattle.chord_model.specs.Stock.{IsStocked};
 ghost use Rattle.chord_node.specs.Received.{WholeIs, NextIs};
 ghost use Rattle.chord_node.specs.View.{knowns};
 

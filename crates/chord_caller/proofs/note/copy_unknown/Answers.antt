@@ -1,6 +1,6 @@
 use Rattle.std.proofs.Common.{◌≡◌, ◌&&◌, ◌∷◌, ◌++◌, [], List, not, is_some, sym, ◌∙◌, ap}
-use Rattle.chord_segment.specs.declared.done.Done.{Done}
-use Rattle.chord_segment.specs.History.{done_at}
+use Rattle.chord_map.specs.declared.done.Done.{Done}
+use Rattle.chord_map.specs.History.{done_at}
 use Rattle.chord_caller.proofs.Naming.{name_left, more_unknown, no_more_unknown}
 use Rattle.chord_caller.proofs.note.copy_unknown.Goals as goal
 use Rattle.chord_caller.proofs.note.copy_unknown.Goals.{then-contains+in_ok-try_copy+in_ok-push, else-contains}

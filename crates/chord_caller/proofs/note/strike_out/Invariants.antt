@@ -1,5 +1,5 @@
 use Rattle.std.proofs.Common.{◌≡◌, ◌&&◌, ℕ, not, is_some, take}
-use Rattle.chord_segment.specs.History.{done_at}
+use Rattle.chord_map.specs.History.{done_at}
 use Rattle.chord_caller.specs.Names.{has_name}
 use Rattle.chord_caller.proofs.note.strike_out.Given as goal
 

@@ -2,7 +2,7 @@ use Rattle.std.proofs.Common.{◌≡◌, eqb, true, take, List, sym, ◌∙◌, 
 use Rattle.std.proofs.lemmas.Bool.{and_parts, and_from}
 use Rattle.std.proofs.lemmas.List.{take_all}
 use Rattle.chord_map.proofs.Lists.{Has, has_contained}
-use Rattle.chord_segment.proofs.MarkLemmas.{eqb_same, eqb_is}
+use Rattle.chord_map.proofs.Equal.{eqb_same, eqb_is}
 use Rattle.chord_handover.specs.Gather.{IsFitting, pairs_upto}
 use Rattle.chord_handover.specs.Handover.{Part, IsPart, gathered}
 use Rattle.chord_handover.proofs.FittingRules.{fitting_are, are_fitting, each_gathered}

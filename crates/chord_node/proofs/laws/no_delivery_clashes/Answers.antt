@@ -1,4 +1,4 @@
-use Rattle.chord_node.proofs.Merely.{part_merely, declined_merely}
+use Rattle.chord_node.proofs.Clashing.{part_merely, declined_merely}
 use Rattle.chord_node.proofs.laws.no_delivery_clashes.Goals as goal
 
 pub returns-clause-taken : goal.returns-clause-taken

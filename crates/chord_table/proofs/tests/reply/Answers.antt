@@ -3,10 +3,10 @@ use Rattle.std.proofs.lemmas.List.Elements.{Contains-push}
 use Rattle.chord_caller.specs.declared.ask.Ask.{Ask}
 use Rattle.chord_node.specs.Asked.{AskSteps, ask_done}
 use Rattle.chord_node.specs.declared.asks.answered.Answered.{Answered}
-use Rattle.chord_node.specs.declared.message.Message.{Message}
-use Rattle.chord_node.specs.declared.message.Message.TheVariants.{Ask as AskMessage, Told as ToldMessage}
-use Rattle.chord_node.specs.Node.{Node, NodeStep}
-use Rattle.chord_segment.specs.declared.done.Done.{Done}
+use Rattle.chord_model.specs.declared.message.Message.{Message}
+use Rattle.chord_model.specs.declared.message.Message.TheVariants.{Ask as AskMessage, Told as ToldMessage}
+use Rattle.chord_model.specs.Node.{Node, NodeStep}
+use Rattle.chord_map.specs.declared.done.Done.{Done}
 use Rattle.chord_table.specs.Views.{NodeSight, MayAct}
 use Rattle.chord_table.proofs.tests.reply.Goals as goal
 

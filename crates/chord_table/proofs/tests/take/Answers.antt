@@ -2,7 +2,7 @@ use Rattle.std.proofs.Common.{None, Some, [], ◌∷◌, ◌++◌, sym, subst, C
 use Rattle.std.proofs.lemmas.List.Elements.{Contains-push}
 use Rattle.chord_caller.specs.Caller.{Caller, CallerStep}
 use Rattle.chord_caller.specs.Caller.Letter.{ToldLetter}
-use Rattle.chord_node.specs.declared.message.Message.{Message}
+use Rattle.chord_model.specs.declared.message.Message.{Message}
 use Rattle.chord_table.specs.Views.{CallerSight, MayCall}
 use Rattle.chord_table.proofs.tests.take.Goals as goal
 

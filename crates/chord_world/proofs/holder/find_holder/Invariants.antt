@@ -1,6 +1,6 @@
 use Rattle.std.proofs.Common.{◌≡◌, ℕ, ◌<◌, Some, []}
 use Rattle.std.specs.Prelude.{slice_get}
-use Rattle.chord_node.specs.Node.{Node}
+use Rattle.chord_model.specs.Node.{Node}
 use Rattle.chord_world.specs.Holding.{holders_at}
 use Rattle.chord_world.proofs.holder.find_holder.Given as goal
 

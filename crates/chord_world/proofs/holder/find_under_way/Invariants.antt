@@ -1,7 +1,7 @@
 use Rattle.std.proofs.Common.{◌≡◌, ℕ, ◌<◌, false, Some}
 use Rattle.std.specs.Prelude.{slice_get}
 use Rattle.chord_handover.specs.Handover.{Item}
-use Rattle.chord_node.specs.World.{last_taken}
+use Rattle.chord_model.specs.World.{last_taken}
 use Rattle.chord_world.specs.Holding.{is_open}
 use Rattle.chord_world.proofs.holder.find_under_way.Given as goal
 

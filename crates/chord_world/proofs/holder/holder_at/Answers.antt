@@ -1,7 +1,7 @@
 use Rattle.std.proofs.Common.{◌∙◌, sym, subst, refl}
 use Rattle.std.specs.Prelude.{Contains}
-use Rattle.chord_node.specs.declared.holder.Holder.TheVariants as holder
-use Rattle.chord_node.specs.Node.{segment_with}
+use Rattle.chord_model.specs.declared.holder.Holder.TheVariants as holder
+use Rattle.chord_model.specs.Node.{segment_with}
 use Rattle.chord_world.specs.Holding.{holders_at}
 use Rattle.chord_world.proofs.Holders.{node_found, some_way_found, none_way_found}
 use Rattle.chord_world.proofs.holder.holder_at.Goals as goal

@@ -1,7 +1,7 @@
 use Rattle.std.proofs.Common.{◌≡◌, [], map, take, length, vec_len}
 use Rattle.std.specs.Prelude.{All}
 use Rattle.std.specs.Vec.{vec_capacity}
-use Rattle.chord_node.specs.World.{Run}
+use Rattle.chord_model.specs.World.{Run}
 use Rattle.chord_world.specs.Runs.{Ran}
 use Rattle.chord_world.proofs.running.run.Given as goal
 

@@ -1,5 +1,5 @@
 use Rattle.std.proofs.Common.{◌≡◌, List, ◌++◌, ap, ◌∙◌, subst}
-use Rattle.chord_segment.specs.declared.done.Done.{Done}
+use Rattle.chord_map.specs.declared.done.Done.{Done}
 use Rattle.chord_caller.specs.Caller.{Note, Caller, unknown}
 use Rattle.chord_caller.specs.Submitted.{caller_of}
 use Rattle.chord_caller.specs.Unknown.{not_in}

@@ -1,5 +1,5 @@
 use Rattle.std.proofs.Common.{◌≡◌, List, ◌++◌, ap, ap₂, ◌∙◌, subst}
-use Rattle.chord_segment.specs.declared.done.Done.{Done}
+use Rattle.chord_map.specs.declared.done.Done.{Done}
 use Rattle.chord_caller.specs.Caller.{Note, Caller, known}
 use Rattle.chord_caller.proofs.Steps.{show_steps}
 use Rattle.chord_caller.proofs.caller_core.CallerCore.show.Goals as goal

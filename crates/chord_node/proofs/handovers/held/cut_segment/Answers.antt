@@ -2,9 +2,9 @@ use Rattle.std.proofs.Common.{◌≡◌, ◌<◌, ◌^◌, List, length, true, O
 use Rattle.chord_ident.specs.Circle.{cuts}
 use Rattle.chord_segment.specs.Segment.{Segment, RoomySegment}
 use Rattle.chord_node.specs.declared.fault.CutAtFault.TheVariants.{Memory}
-use Rattle.chord_node.specs.Rules.{IsOnCircle}
+use Rattle.chord_model.specs.Stock.{IsOnCircle}
 use Rattle.chord_node.specs.View.{knowns}
-use Rattle.chord_node.specs.Node.{cut_held}
+use Rattle.chord_model.specs.Node.{cut_held}
 use Rattle.chord_node.proofs.Asking.{put_same}
 use Rattle.chord_node.proofs.Covering.{on_at, cut_covers}
 use Rattle.chord_node.proofs.Moving.{knowns_get, cut_knowns, same_at}

@@ -3,7 +3,7 @@ use Rattle.std.proofs.Math.ListN.{length-set}
 use Rattle.chord_ident.specs.declared.span.Span.{Span}
 use Rattle.chord_segment.specs.Segment.{RoomySegment}
 use Rattle.chord_segment.specs.Join.{JoinIs}
-use Rattle.chord_node.specs.Rules.{IsOnCircle}
+use Rattle.chord_model.specs.Stock.{IsOnCircle}
 use Rattle.chord_node.specs.View.{knowns}
 use Rattle.chord_node.proofs.Covering.{on_at, merge_covers}
 use Rattle.chord_node.proofs.Merging.{Read, merged, unmerged, refused}

@@ -1,6 +1,6 @@
 use Rattle.std.proofs.Common.{List, ◌∙◌, ap, subst}
 use Rattle.chord_ident.specs.declared.span.Span.{Span}
-use Rattle.chord_node.specs.Rules.{IsClear}
+use Rattle.chord_model.specs.Stock.{IsClear}
 use Rattle.chord_node.specs.View.{knowns}
 use Rattle.chord_node.proofs.Taking.{undone}
 use Rattle.chord_segment.specs.Segment.{Segment}

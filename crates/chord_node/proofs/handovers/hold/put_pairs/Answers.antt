@@ -1,11 +1,11 @@
 use Rattle.std.proofs.Common.{refl, ◌∙◌, ap, subst}
 use Rattle.chord_ident.specs.declared.span.Span.{Span}
 use Rattle.chord_map.proofs.Lists.{not_both}
-use Rattle.chord_node.specs.Rules.{IsClash}
+use Rattle.chord_model.specs.Stock.{IsClash}
 use Rattle.chord_node.specs.View.{knowns}
 use Rattle.chord_node.proofs.Clear.{clash_is, clear_is}
 use Rattle.chord_node.proofs.Putting.{put_ok, put_full, put_memory}
-use Rattle.chord_node.proofs.Stocking.{vacant, parcel_inside, all_inside}
+use Rattle.chord_model.proofs.Stocking.{vacant, parcel_inside, all_inside}
 use Rattle.chord_segment.specs.Segment.{Segment}
 use Rattle.chord_node.proofs.handovers.hold.put_pairs.Goals as goal
 

@@ -4,10 +4,10 @@ use Rattle.chord_handover.specs.Taken.{Taken}
 use Rattle.chord_map.specs.declared.pair.Pair.{Pair}
 use Rattle.chord_segment.specs.Marks.{mark_of}
 use Rattle.chord_segment.specs.Segment.{Segment}
-use Rattle.chord_node.specs.Rules.{IsStocked}
+use Rattle.chord_model.specs.Stock.{IsStocked}
 use Rattle.chord_node.specs.View.{knowns}
 use Rattle.chord_node.proofs.Moving.{held_more}
-use Rattle.chord_node.proofs.Stocking.{stocked_more}
+use Rattle.chord_model.proofs.Stocking.{stocked_more}
 use Rattle.chord_node.proofs.handovers.take_in.take_whole.Goals as goal
 
 pub mark-requires-clause-more : goal.mark-requires-clause-more

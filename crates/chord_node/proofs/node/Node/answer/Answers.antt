@@ -5,9 +5,9 @@ use Rattle.chord_segment.specs.Segment.{id_of}
 use Rattle.std.specs.Option.{option_copied_mut}
 use Rattle.chord_node.specs.View.{entries_in, limit_in}
 use Rattle.chord_node.proofs.Asking.{has, asked_at, asked_no_further, asked_past, asked_steps_noting, place_from, find_from}
-use Rattle.chord_node.specs.Node.{Node}
-use Rattle.chord_node.specs.Rules.{IsStocked}
-use Rattle.chord_node.proofs.Stocking.{asked_stocked}
+use Rattle.chord_model.specs.Node.{Node}
+use Rattle.chord_model.specs.Stock.{IsStocked}
+use Rattle.chord_node.proofs.StockedAsks.{asked_stocked}
 use Rattle.chord_node.proofs.node.Node.answer.Goals as goal
 
 pub pass_on-requires : goal.pass_on-requires

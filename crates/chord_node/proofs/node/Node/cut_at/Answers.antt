@@ -1,6 +1,6 @@
 use Rattle.chord_node.specs.View.{knowns}
 use Rattle.chord_node.proofs.Moving.{cut_at_is, cut_steps, cut_none, stored_held}
-use Rattle.chord_node.proofs.Stocking.{stocked_same}
+use Rattle.chord_model.proofs.Stocking.{stocked_same}
 use Rattle.chord_node.proofs.node.Node.cut_at.Goals as goal
 
 pub invariant_of-self : goal.invariant_of-self

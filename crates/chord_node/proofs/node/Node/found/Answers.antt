@@ -1,7 +1,7 @@
 use Rattle.std.proofs.Common.{sym, ◌∙◌, ap}
 use Rattle.chord_handover.specs.Outbox.{Outbox}
 use Rattle.chord_links.specs.NodeLinks.{NodeLinks}
-use Rattle.chord_node.proofs.Stocking.{stocked_vacant}
+use Rattle.chord_model.proofs.Stocking.{stocked_vacant}
 use Rattle.chord_node.proofs.node.Node.found.Goals as goal
 
 pub invariant_of-result : goal.invariant_of-result

@@ -6,8 +6,8 @@ use Rattle.chord_handover.specs.Parcelled.{Parcelled, handed}
 use Rattle.chord_links.specs.declared.peer.Peer.{Peer}
 use Rattle.chord_map.specs.declared.pair.Pair.{Pair}
 use Rattle.chord_store.specs.Inside.{pairs_inside, pairs_outside}
-use Rattle.chord_node.specs.Node.{Node}
-use Rattle.chord_node.specs.Rules.{IsStocked}
+use Rattle.chord_model.specs.Node.{Node}
+use Rattle.chord_model.specs.Stock.{IsStocked}
 use Rattle.chord_node.specs.View.{knowns, entries_in, limit_in}
 use Rattle.chord_node.proofs.Giving.{gave_at, give_steps, give_stocked, gives_parcel, spent_at}
 use Rattle.chord_node.proofs.Moving.{same_at}

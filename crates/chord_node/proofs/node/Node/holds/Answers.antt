@@ -1,7 +1,7 @@
 use Rattle.std.proofs.Common.{ap, ◌∙◌}
 use Rattle.std.specs.Prelude.{position, is_some}
 use Rattle.chord_node.proofs.Asking.{has, holds_at}
-use Rattle.chord_node.specs.Node.{Node, segment_with}
+use Rattle.chord_model.specs.Node.{Node, segment_with}
 use Rattle.chord_node.proofs.node.Node.holds.Goals as goal
 
 pub returns : goal.returns

@@ -1,6 +1,6 @@
 use Rattle.std.proofs.Common.{◌∙◌, ap, refl}
 use Rattle.std.specs.Prelude.{slice_get}
-use Rattle.chord_node.specs.Node.{Node}
+use Rattle.chord_model.specs.Node.{Node}
 use Rattle.chord_node.specs.View.{kept_as}
 use Rattle.chord_node.proofs.Keeping.{kept_is, none_missing}
 use Rattle.chord_segment.specs.Segment.{Segment}

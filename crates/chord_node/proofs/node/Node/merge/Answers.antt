@@ -1,7 +1,7 @@
 use Rattle.chord_node.specs.View.{knowns}
 use Rattle.chord_node.proofs.Merging.{merge_at_is, merge_steps, merge_none}
 use Rattle.chord_node.proofs.Moving.{stored_held}
-use Rattle.chord_node.proofs.Stocking.{stocked_same}
+use Rattle.chord_model.proofs.Stocking.{stocked_same}
 use Rattle.chord_node.proofs.node.Node.merge.Goals as goal
 
 pub invariant_of-self : goal.invariant_of-self

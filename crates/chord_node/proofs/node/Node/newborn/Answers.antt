@@ -1,7 +1,7 @@
 use Rattle.std.proofs.Common.{◌∙◌, ap}
 use Rattle.chord_handover.specs.Outbox.{Outbox}
 use Rattle.chord_links.specs.declared.peer.Peer.{Peer}
-use Rattle.chord_node.proofs.Stocking.{stocked_vacant}
+use Rattle.chord_model.proofs.Stocking.{stocked_vacant}
 use Rattle.chord_node.proofs.node.Node.newborn.Goals as goal
 
 pub invariant_of-result : goal.invariant_of-result

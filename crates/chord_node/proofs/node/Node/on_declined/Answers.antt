@@ -7,11 +7,11 @@ use Rattle.chord_map.specs.declared.pair.Pair.{Pair}
 use Rattle.chord_map.specs.Map.{put_all}
 use Rattle.chord_segment.specs.Segment.{Segment}
 use Rattle.chord_node.specs.declared.handovers.given.Back.TheVariants.{Clash, Full, Held}
-use Rattle.chord_node.specs.Node.NodeStep.{Keeps}
-use Rattle.chord_node.specs.Rules.{IsStocked}
+use Rattle.chord_model.specs.Node.NodeStep.{Keeps}
+use Rattle.chord_model.specs.Stock.{IsStocked}
 use Rattle.chord_node.specs.View.{knowns, entries_in, limit_in}
 use Rattle.chord_node.proofs.Moving.{has_store, held_more}
-use Rattle.chord_node.proofs.Stocking.{stocked_more}
+use Rattle.chord_model.proofs.Stocking.{stocked_more}
 use Rattle.chord_node.proofs.Taking.{back_steps, back_at, parcel_from, same_parcel, none_under_way}
 use Rattle.chord_node.proofs.node.Node.on_declined.Goals as goal
 

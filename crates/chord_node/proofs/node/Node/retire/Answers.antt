@@ -1,10 +1,10 @@
 use Rattle.std.proofs.Common.{◌≡◌, [], Ok, List, refl, ap, subst, rules, arith}
 use Rattle.std.proofs.lemmas.Bool.Decides.{nat_tests}
-use Rattle.chord_node.specs.declared.phase.Phase.TheVariants.{Leaving}
-use Rattle.chord_node.specs.Rules.{IsStocked}
+use Rattle.chord_model.specs.declared.phase.Phase.TheVariants.{Leaving}
+use Rattle.chord_model.specs.Stock.{IsStocked}
 use Rattle.chord_node.specs.View.{knowns, entries_in}
 use Rattle.chord_node.proofs.Moving.{nil_by, retired, retire_steps}
-use Rattle.chord_node.proofs.Stocking.{stocked_none, nothing_stocked}
+use Rattle.chord_model.proofs.Stocking.{stocked_none, nothing_stocked}
 use Rattle.chord_segment.specs.Segment.{Segment}
 use Rattle.chord_node.proofs.node.Node.retire.Goals as goal
 

@@ -1,5 +1,5 @@
 use Rattle.std.proofs.Common.{◌≡◌, ◌++◌, Ok, List, sym, ap, ◌∙◌, subst, refl, rules, false}
-use Rattle.chord_segment.specs.declared.done.Done.{Done}
+use Rattle.chord_map.specs.declared.done.Done.{Done}
 use Rattle.chord_segment.specs.declared.mark.Mark.{Mark}
 use Rattle.chord_segment.specs.Marks.{raise_all}
 use Rattle.chord_segment.specs.Segment.{Segment as SegmentOf, RoomySegment, above, span_joined, joined, stands_twice}

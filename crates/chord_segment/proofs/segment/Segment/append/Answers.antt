@@ -1,7 +1,7 @@
 use Rattle.std.proofs.Common.{◌≡◌, ◌++◌, ◌∷◌, [], List, sym, ap, ◌∙◌, subst, rules, refl}
 use Rattle.std.specs.Prelude.{filter}
 use Rattle.std.proofs.lemmas.Fn.{filter_same}
-use Rattle.chord_segment.specs.declared.done.Done.{Done}
+use Rattle.chord_map.specs.declared.done.Done.{Done}
 use Rattle.chord_segment.specs.Marks.{mark_of, raise}
 use Rattle.chord_segment.specs.Segment.{Segment as SegmentOf, RoomySegment, append}
 use Rattle.chord_ident.specs.Circle.{in_span}

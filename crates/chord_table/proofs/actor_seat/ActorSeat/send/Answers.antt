@@ -1,5 +1,5 @@
 use Rattle.std.proofs.Common.{◌<◌, sym, ◌∙◌, ap, subst, [], Some}
-use Rattle.chord_node.specs.declared.message.Message.{Message}
+use Rattle.chord_model.specs.declared.message.Message.{Message}
 use Rattle.chord_table.proofs.Keeping.{still_seated, some_words, send_as}
 use Rattle.chord_table.proofs.Numbers.{same_word}
 use Rattle.chord_table.specs.Views.{word_of, TableId, view_of, MayBecome}

@@ -1,4 +1,4 @@
-use Rattle.chord_node.specs.Letters.{letter_sent}
+use Rattle.chord_model.specs.Letters.{letter_sent}
 use Rattle.chord_table.proofs.Becoming.{caller_may}
 use Rattle.chord_table.proofs.caller_seat.CallerSeat.local.Goals as goal
 

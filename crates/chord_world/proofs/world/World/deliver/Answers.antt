@@ -1,9 +1,9 @@
 use Rattle.std.proofs.Common.{Some, refl, sym, ◌∙◌, ap, arith}
 use Rattle.chord_handover.specs.Handover.{Part}
-use Rattle.chord_node.specs.declared.message.Message.TheVariants.{Ask as AskMessage, Told as ToldMessage}
+use Rattle.chord_model.specs.declared.message.Message.TheVariants.{Ask as AskMessage, Told as ToldMessage}
 use Rattle.chord_world.specs.View.{state_of}
 use Rattle.chord_world.specs.State.{WorldState}
-use Rattle.chord_node.specs.declared.message.Message.TheVariants.{Part as PartMessage, Got as GotMessage, Declined as DeclinedMessage, Note as NoteMessage}
+use Rattle.chord_model.specs.declared.message.Message.TheVariants.{Part as PartMessage, Got as GotMessage, Declined as DeclinedMessage, Note as NoteMessage}
 use Rattle.chord_world.proofs.Answering.{read, sent_there, full_delivers, full_step}
 use Rattle.chord_world.proofs.world.World.deliver.Goals as goal
 

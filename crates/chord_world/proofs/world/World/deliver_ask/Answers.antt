@@ -5,7 +5,7 @@ use Rattle.chord_world.specs.State.{WorldState}
 use Rattle.chord_world.specs.Delivered.{outcome_of}
 use Rattle.chord_world.proofs.Posting.{got, slice_get_there}
 use Rattle.chord_world.proofs.RingLemmas.{flag_old}
-use Rattle.chord_node.specs.declared.message.Message.{Message}
+use Rattle.chord_model.specs.declared.message.Message.{Message}
 use Rattle.chord_world.specs.Delivering.{Answers}
 use Rattle.chord_world.proofs.Answering.{read, read_is, sent_here, stays, ask_takes, same_fields, astray, for_crashed, asked_of, answer_after, answer_delivers, answered_is, delivers_after}
 use Rattle.chord_world.proofs.world.World.deliver_ask.Goals as goal

@@ -1,6 +1,6 @@
 use Rattle.std.proofs.Common.{Ok, Err, List, length, refl, sym, ◌∙◌, ap, subst, arith}
 use Rattle.std.proofs.lemmas.Option.{slice_get_within}
-use Rattle.chord_node.specs.declared.message.Message.{Message}
+use Rattle.chord_model.specs.declared.message.Message.{Message}
 use Rattle.chord_node.specs.Received.{PartIs, PartSteps}
 use Rattle.chord_world.specs.Handing.{DoesAt}
 use Rattle.chord_world.specs.View.{state_of}

@@ -1,7 +1,7 @@
 use Rattle.std.proofs.Common.{◌≡◌, Some, List, length, refl, ◌∙◌, ap}
 use Rattle.std.specs.Prelude.{slice_get}
 use Rattle.std.proofs.lemmas.Option.{slice_get_within}
-use Rattle.chord_node.specs.declared.message.Message.TheVariants.{Told as ToldMessage}
+use Rattle.chord_model.specs.declared.message.Message.TheVariants.{Told as ToldMessage}
 use Rattle.chord_world.specs.View.{state_of}
 use Rattle.chord_world.specs.State.{WorldState}
 use Rattle.chord_world.proofs.Placing.{call_at}

@@ -1,5 +1,5 @@
 use Rattle.std.proofs.Common.{subst}
-use Rattle.chord_node.specs.World.{Reached}
+use Rattle.chord_model.specs.World.{Reached}
 use Rattle.chord_world.specs.State.{WorldState}
 use Rattle.chord_world.proofs.world.World.headline.Goals as goal
 

@@ -3,7 +3,7 @@ use Rattle.std.specs.Prelude.{slice_get}
 use Rattle.chord_caller.specs.Caller.Letter.{NoteLetter}
 use Rattle.chord_world.specs.View.{state_of}
 use Rattle.chord_world.specs.State.{WorldState, IsKnown}
-use Rattle.chord_node.specs.declared.message.Message.TheVariants.{Note as NoteMessage}
+use Rattle.chord_model.specs.declared.message.Message.TheVariants.{Note as NoteMessage}
 use Rattle.chord_world.proofs.Answering.{world_after, step_after}
 use Rattle.chord_world.proofs.Posting.{got, caller_stands}
 use Rattle.chord_world.proofs.Speaking.{caller_in, note_call, show_sends, sent_now, sent_step, sent_is_world}

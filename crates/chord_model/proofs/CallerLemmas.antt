@@ -1,0 +1,246 @@
+-- Callers that grow: what was submitted and taken stays so.
+use Rattle.std.proofs.Common.{◌≡◌, ◌≢◌, ℕ, zero, suc, ◌+◌, ◌≤◌, Bool, true, cond, ◌&&◌, eqb, ◌⊎◌, inl, inr, ⊎_elim, refl, sym, ◌∙◌, ap, ap₂, subst, arith, List, [], ◌∷◌, ◌++◌, length, take, find, Option, Some, None, is_some, slice_get, length-append}
+use Rattle.std.proofs.lemmas.Bool.{and_parts, and_from, eqb-true, eq-eqb, ne_eqb, cond-true, cond-false, cases_eq}
+use Rattle.std.proofs.lemmas.Option.{same_Some, none-some}
+use Rattle.std.proofs.lemmas.List.{take-append-le}
+use Rattle.chord_caller.specs.Caller.{Submission, Caller, submission_at, is_taken, floor_upto, floor_of, seen_at}
+use Rattle.chord_map.proofs.Lists.{by_test, Has, found, find_left}
+use Rattle.chord_map.specs.declared.request.Request.{Request}
+use Rattle.chord_model.proofs.Invariant.{TakenUpto, HasTaken, Submitted}
+use Rattle.chord_model.specs.World.{caller_at, put_caller}
+use Rattle.chord_map.proofs.HistoryLemmas.{done_left}
+use Rattle.chord_map.specs.declared.done.Done.{Done}
+use Rattle.chord_map.specs.History.{done_at}
+
+-- looking callers up
+
+pub caller_number : (number : ℕ) (callers : List Caller) (caller : Caller) → caller_at number callers ≡ Some caller → caller.number ≡ number
+unfolding caller_at
+caller_number number callers caller e = eqb-true caller.number number (found (λ (c : Caller). eqb c.number number) callers caller e).0
+
+pub caller_has : (number : ℕ) (callers : List Caller) (caller : Caller) → caller_at number callers ≡ Some caller → Has callers caller
+unfolding caller_at
+caller_has number callers caller e = (found (λ (c : Caller). eqb c.number number) callers caller e).1
+
+pub put_same : (after : Caller) (callers : List Caller) (caller : Caller) → caller_at after.number callers ≡ Some caller
+    → caller_at after.number (put_caller after callers) ≡ Some after
+unfolding caller_at put_caller
+put_same after [] caller e = absurd (none-some caller e)
+put_same after (first ∷ rest) caller e =
+    by_test (eqb first.number after.number)
+    (λ t. ap (λ cs. find (λ (c : Caller). eqb c.number after.number) cs) (cond-true (eqb first.number after.number) (after ∷ rest) (first ∷ put_caller after rest) t)
+    ∙ cond-true (eqb after.number after.number) (Some after) (find (λ (c : Caller). eqb c.number after.number) rest) (eq-eqb after.number after.number refl))
+    (λ f. ap (λ cs. find (λ (c : Caller). eqb c.number after.number) cs) (cond-false (eqb first.number after.number) (after ∷ rest) (first ∷ put_caller after rest) f)
+    ∙ cond-false (eqb first.number after.number) (Some first) (find (λ (c : Caller). eqb c.number after.number) (put_caller after rest)) f
+    ∙ put_same after rest caller (sym (cond-false (eqb first.number after.number) (Some first) (find (λ (c : Caller). eqb c.number after.number) rest) f) ∙ e))
+
+pub put_apart : (after : Caller) (callers : List Caller) (number : ℕ) → number ≢ after.number
+    → caller_at number (put_caller after callers) ≡ caller_at number callers
+unfolding caller_at put_caller
+put_apart after [] number apart = refl
+put_apart after (first ∷ rest) number apart =
+    by_test (eqb first.number after.number)
+    (λ t.
+    let e : first.number ≡ after.number = eqb-true first.number after.number t in
+    ap (λ cs. find (λ (c : Caller). eqb c.number number) cs) (cond-true (eqb first.number after.number) (after ∷ rest) (first ∷ put_caller after rest) t)
+    ∙ cond-false (eqb after.number number) (Some after) (find (λ (c : Caller). eqb c.number number) rest) (ne_eqb after.number number (λ d. apart (sym d)))
+    ∙ sym (cond-false (eqb first.number number) (Some first) (find (λ (c : Caller). eqb c.number number) rest) (ne_eqb first.number number (λ d. apart (sym d ∙ e)))))
+    (λ f. ap (λ cs. find (λ (c : Caller). eqb c.number number) cs) (cond-false (eqb first.number after.number) (after ∷ rest) (first ∷ put_caller after rest) f)
+    ∙ ap (λ o. cond (eqb first.number number) (Some first) o) (put_apart after rest number apart))
+
+pub has_put_caller : (after : Caller) (callers : List Caller) (caller : Caller) → Has (put_caller after callers) caller → Has callers caller ⊎ (after ≡ caller)
+unfolding put_caller
+has_put_caller after [] caller h = absurd h
+has_put_caller after (first ∷ rest) caller h =
+    by_test (eqb first.number after.number)
+    (λ t. ⊎_elim (λ e. inr e) (λ more. inl (inr more))
+    (subst (λ cs. Has cs caller) (cond-true (eqb first.number after.number) (after ∷ rest) (first ∷ put_caller after rest) t) h))
+    (λ f. ⊎_elim (λ e. inl (inl e)) (λ more. ⊎_elim (λ a. inl (inr a)) (λ e. inr e) (has_put_caller after rest caller more))
+    (subst (λ cs. Has cs caller) (cond-false (eqb first.number after.number) (after ∷ rest) (first ∷ put_caller after rest) f) h))
+
+-- a caller that has grown has at least what it had
+pub record Grown (old new : Caller) : Type 0 where
+  pub number : new.number ≡ old.number
+  pub window : new.window ≡ old.window
+  pub submitted : (more : List Submission) × (new.submitted ≡ old.submitted ++ more)
+  pub mine : (more : List Done) × (new.mine ≡ old.mine ++ more)
+  pub told : (more : List Done) × (new.told ≡ old.told ++ more)
+
+abbrev pub AllGrown : List Caller → List Caller → Type 0
+AllGrown old new = (number : ℕ) (caller : Caller) → caller_at number old ≡ Some caller
+    → (after : Caller) × (caller_at number new ≡ Some after) × Grown caller after
+
+append_none {ℓ} : {A : Type ℓ} (xs : List A) → xs ≡ xs ++ []
+append_none [] = refl
+append_none (x ∷ xs) = ap (λ ys. x ∷ ys) (append_none xs)
+
+pub nothing_more : {A : Type 0} (xs : List A) → (more : List A) × (xs ≡ xs ++ more)
+nothing_more xs = ([], append_none xs)
+
+pub grown_itself : (caller : Caller) → Grown caller caller
+grown_itself caller = record { number = refl; window = refl; submitted = nothing_more caller.submitted; mine = nothing_more caller.mine; told = nothing_more caller.told }
+
+pub all_grown_itself : (callers : List Caller) → AllGrown callers callers
+all_grown_itself callers number caller e = (caller, e, grown_itself caller)
+
+pub all_grown_put : (after : Caller) (callers : List Caller) (caller : Caller) → caller_at after.number callers ≡ Some caller → Grown caller after
+    → AllGrown callers (put_caller after callers)
+all_grown_put after callers caller here grown number other e =
+    ⊎_elim
+    (λ same.
+    let is : caller ≡ other = same_Some caller other (sym here ∙ subst (λ n. caller_at n callers ≡ Some other) same e) in
+    (after, subst (λ n. caller_at n (put_caller after callers) ≡ Some after) (sym same) (put_same after callers caller here), subst (λ c. Grown c after) is grown))
+    (λ apart. (other, put_apart after callers number apart ∙ e, grown_itself other))
+    (cases_eq number after.number)
+
+pub caller_left : (number : ℕ) (callers more : List Caller) (caller : Caller) → caller_at number callers ≡ Some caller → caller_at number (callers ++ more) ≡ Some caller
+unfolding caller_at
+caller_left number callers more caller e = find_left (λ (c : Caller). eqb c.number number) callers more caller e
+
+pub all_grown_pushed : (callers : List Caller) (new : Caller) → AllGrown callers (callers ++ new ∷ [])
+unfolding caller_at
+all_grown_pushed callers new number caller e = (caller, find_left (λ (c : Caller). eqb c.number number) callers (new ∷ []) caller e, grown_itself caller)
+
+got_left : {A : Type 0} (xs more : List A) (place : ℕ) (x : A) → slice_get xs place ≡ Some x → slice_get (xs ++ more) place ≡ Some x
+got_left [] more place x e = absurd (none-some x e)
+got_left (y ∷ xs) more zero x e = e
+got_left (y ∷ xs) more (suc place) x e = got_left xs more place x e
+
+pub submission_left : (place : ℕ) (submitted more : List Submission) (submission : Submission) → submission_at place submitted ≡ Some submission
+    → submission_at place (submitted ++ more) ≡ Some submission
+submission_left zero submitted more submission e = absurd (none-some submission e)
+submission_left (suc place) submitted more submission e = got_left submitted more place submission e
+
+pub submission_grown : (old new : Caller) → Grown old new → (place : ℕ) (submission : Submission) → submission_at place old.submitted ≡ Some submission
+    → submission_at place new.submitted ≡ Some submission
+submission_grown old new grown place submission e =
+    ap (submission_at place) (grown.submitted).1 ∙ submission_left place old.submitted (grown.submitted).0 submission e
+
+some_is : {A : Type 0} (o : Option A) → is_some o ≡ true → (x : A) × (o ≡ Some x)
+some_is None e = absurd (cc)
+some_is (Some x) e = (x, refl)
+
+pub taken_is : (caller : Caller) (place : ℕ) → is_taken caller place ≡ true → (done : Done) × (done_at caller.number place caller.mine ≡ Some done)
+unfolding is_taken
+taken_is caller place e = some_is (done_at caller.number place caller.mine) e
+
+pub is_taken_from : (caller : Caller) (place : ℕ) (done : Done) → done_at caller.number place caller.mine ≡ Some done → is_taken caller place ≡ true
+unfolding is_taken
+is_taken_from caller place done e = ap is_some e
+
+pub taken_grown : (old new : Caller) → Grown old new → (place : ℕ) → is_taken old place ≡ true → is_taken new place ≡ true
+taken_grown old new grown place e =
+    let r = taken_is old place e in
+    is_taken_from new place r.0
+    (ap₂ (λ n dones. done_at n place dones) grown.number (grown.mine).1 ∙ done_left old.number place old.mine (grown.mine).0 r.0 r.1)
+
+pub submitted_grown : (old new : List Caller) → AllGrown old new → (number place : ℕ) (request : Request) → Submitted old number place request → Submitted new number place request
+submitted_grown old new grown number place request s =
+    let r = grown number s.caller s.is_caller in
+    record {
+      caller = r.0;
+      submission = s.submission;
+      is_caller = r.1;
+      is_submission = submission_grown s.caller r.0 r.2 place s.submission s.is_submission;
+      is_request = s.is_request;
+    }
+
+pub taken_by_grown : (old new : List Caller) → AllGrown old new → (number place : ℕ) → HasTaken old number place → HasTaken new number place
+taken_by_grown old new grown number place t =
+    let r = grown number t.caller t.is_caller in
+    record { caller = r.0; is_caller = r.1; taken = taken_grown t.caller r.0 r.2 place t.taken }
+
+pub taken_upto_grown : (old new : List Caller) → AllGrown old new → (number floor : ℕ) → TakenUpto old number floor → TakenUpto new number floor
+taken_upto_grown old new grown number floor t place low high = taken_by_grown old new grown number place (t place low high)
+
+-- a number names one request
+pub one_request : (callers : List Caller) (number place : ℕ) (one other : Request) → Submitted callers number place one → Submitted callers number place other → one ≡ other
+one_request callers number place one other a b =
+    let same : a.caller ≡ b.caller = same_Some a.caller b.caller (sym a.is_caller ∙ b.is_caller) in
+    let e : submission_at place a.caller.submitted ≡ submission_at place b.caller.submitted = ap (λ (c : Caller). submission_at place c.submitted) same in
+    let is : a.submission ≡ b.submission = same_Some a.submission b.submission (sym a.is_submission ∙ e ∙ b.is_submission) in
+    sym a.is_request ∙ ap (λ (s : Submission). s.request) is ∙ b.is_request
+
+-- all numbers up to the floor were taken
+floor_upto_taken : (caller : Caller) (upto place : ℕ) → 1 ≤ place → place ≤ floor_upto caller upto → is_taken caller place ≡ true
+unfolding floor_upto
+floor_upto_taken caller zero place low high = absurd (omega arith)
+floor_upto_taken caller (suc upto) place low high =
+    let test : Bool = eqb (floor_upto caller upto) upto && is_taken caller (suc upto) in
+    by_test test
+    (λ t.
+    let parts = and_parts (eqb (floor_upto caller upto) upto) (is_taken caller (suc upto)) t in
+    let at : floor_upto caller upto ≡ upto = eqb-true (floor_upto caller upto) upto parts.0 in
+    let whole : cond test (suc upto) (floor_upto caller upto) ≡ suc upto = cond-true test (suc upto) (floor_upto caller upto) t in
+    let below : place ≤ suc upto = subst (λ n. place ≤ n) whole high in
+    ⊎_elim (λ same. subst (λ n. is_taken caller n ≡ true) (sym same) parts.1)
+    (λ apart. floor_upto_taken caller upto place low (omega arith))
+    (cases_eq place (suc upto)))
+    (λ f.
+    let whole : cond test (suc upto) (floor_upto caller upto) ≡ floor_upto caller upto = cond-false test (suc upto) (floor_upto caller upto) f in
+    floor_upto_taken caller upto place low (subst (λ n. place ≤ n) whole high))
+
+pub floor_taken : (caller : Caller) (place : ℕ) → 1 ≤ place → place ≤ floor_of caller → is_taken caller place ≡ true
+floor_taken caller place low high = floor_upto_taken caller (length caller.submitted) place low high
+
+-- what was seen stays so as its caller grows
+pub seen_grown : (old new : Caller) → Grown old new → (submission : Submission) → submission.mine_seen ≤ length old.mine → submission.told_seen ≤ length old.told
+    → seen_at new submission ≡ seen_at old submission
+seen_grown old new grown submission mine_low told_low =
+    ap₂ ◌++◌
+    (ap (take submission.mine_seen) (grown.mine).1 ∙ take-append-le submission.mine_seen old.mine (grown.mine).0 mine_low)
+    (ap (take submission.told_seen) (grown.told).1 ∙ take-append-le submission.told_seen old.told (grown.told).0 told_low)
+
+-- the floor is the greatest such number, and does not fall
+
+floor_low : (caller : Caller) (upto : ℕ) → floor_upto caller upto ≤ upto
+unfolding floor_upto
+floor_low caller zero = omega arith
+floor_low caller (suc upto) =
+    let test : Bool = eqb (floor_upto caller upto) upto && is_taken caller (suc upto) in
+    by_test test
+    (λ t. let whole : cond test (suc upto) (floor_upto caller upto) ≡ suc upto = cond-true test (suc upto) (floor_upto caller upto) t in
+    subst (λ n. n ≤ suc upto) (sym whole) (omega arith))
+    (λ f. let whole : cond test (suc upto) (floor_upto caller upto) ≡ floor_upto caller upto = cond-false test (suc upto) (floor_upto caller upto) f in
+    subst (λ n. n ≤ suc upto) (sym whole) (omega (arith, floor_low caller upto)))
+
+floor_steps : (caller : Caller) (upto : ℕ) → floor_upto caller upto ≤ floor_upto caller (suc upto)
+unfolding floor_upto
+floor_steps caller upto =
+    let test : Bool = eqb (floor_upto caller upto) upto && is_taken caller (suc upto) in
+    by_test test
+    (λ t. let whole : cond test (suc upto) (floor_upto caller upto) ≡ suc upto = cond-true test (suc upto) (floor_upto caller upto) t in
+    subst (λ n. floor_upto caller upto ≤ n) (sym whole) (omega (arith, floor_low caller upto)))
+    (λ f. let whole : cond test (suc upto) (floor_upto caller upto) ≡ floor_upto caller upto = cond-false test (suc upto) (floor_upto caller upto) f in
+    subst (λ n. floor_upto caller upto ≤ n) (sym whole) (omega arith))
+
+floor_full : (caller : Caller) (upto : ℕ) → floor_upto caller upto ≡ upto → is_taken caller (suc upto) ≡ true → floor_upto caller (suc upto) ≡ suc upto
+unfolding floor_upto
+floor_full caller upto e taken =
+    cond-true (eqb (floor_upto caller upto) upto && is_taken caller (suc upto)) (suc upto) (floor_upto caller upto)
+    (and_from (eqb (floor_upto caller upto) upto) (is_taken caller (suc upto)) (eq-eqb (floor_upto caller upto) upto e) taken)
+
+floor_reaches : (caller : Caller) (upto floor : ℕ) → floor ≤ upto → ((place : ℕ) → 1 ≤ place → place ≤ floor → is_taken caller place ≡ true)
+    → floor ≤ floor_upto caller upto
+floor_reaches caller zero floor low taken = omega arith
+floor_reaches caller (suc upto) floor low taken =
+    ⊎_elim
+    (λ same.
+    let before : upto ≤ floor_upto caller upto = floor_reaches caller upto upto (omega arith) (λ place a b. taken place a (omega arith)) in
+    let e : floor_upto caller upto ≡ upto = omega (arith, floor_low caller upto) in
+    let last : is_taken caller (suc upto) ≡ true = taken (suc upto) (omega arith) (omega arith) in
+    omega (arith, floor_full caller upto e last))
+    (λ apart.
+    let before : floor ≤ floor_upto caller upto = floor_reaches caller upto floor (omega arith) taken in
+    omega (arith, floor_steps caller upto))
+    (cases_eq floor (suc upto))
+
+pub floor_within : (caller : Caller) → floor_of caller ≤ length caller.submitted
+floor_within caller = floor_low caller (length caller.submitted)
+
+pub floor_grown : (old new : Caller) → Grown old new → floor_of old ≤ floor_of new
+floor_grown old new grown =
+    let longer : length new.submitted ≡ length old.submitted + length (grown.submitted).0 =
+    ap length (grown.submitted).1 ∙ length-append old.submitted (grown.submitted).0 in
+    floor_reaches new (length new.submitted) (floor_of old) (omega (arith, floor_within old))
+    (λ place low high. taken_grown old new grown place (floor_taken old place low high))

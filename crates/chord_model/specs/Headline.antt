@@ -1,0 +1,118 @@
+-- What holds of every world that some steps lead to.
+use Rattle.std.specs.Prelude.{◌≡◌, ◌≢◌, ℕ, ◌+◌, ◌<◌, ◌≤◌, Bool, true, Option, None, Some, List, [], ◌∷◌, ◌++◌, length, slice_get, Contains, All, ◌^◌, false}
+use Rattle.chord_caller.specs.declared.told.Told.{Told}
+use Rattle.chord_caller.specs.Caller.{Caller, Note, Submission, submission_at, is_taken, fresh_for, known}
+use Rattle.chord_handover.specs.Handover.{Part, Item}
+use Rattle.chord_ident.specs.declared.span.Span.{Span}
+use Rattle.chord_ident.specs.Circle.{in_span, key_id}
+use Rattle.chord_map.specs.declared.pair.Pair.{Pair}
+use Rattle.chord_map.specs.declared.reply.Reply.{Reply}
+use Rattle.chord_map.specs.declared.request.Request.{Request}
+use Rattle.chord_map.specs.Map.{values_at, fits}
+use Rattle.chord_model.specs.declared.phase.Phase.TheVariants.{Gone}
+use Rattle.chord_model.specs.declared.message.Message.TheVariants.{Told as ToldMessage, Part as PartMessage, Note as NoteMessage}
+use Rattle.chord_model.specs.Node.{Node}
+use Rattle.chord_model.specs.World.{World, node_at, caller_at, last_taken, InOrder}
+use Rattle.chord_map.specs.declared.done.Done.{Done}
+use Rattle.chord_map.specs.History.{replay, done_at, EachOnce, IsLegal, StandsIn}
+use Rattle.chord_segment.specs.Marks.{mark_of}
+use Rattle.chord_segment.specs.Segment.{id_of, Segment}
+
+-- a segment with the pairs of its holder: a node, or a handover that its receiver has not taken
+pub data Holds (nodes : List Node) : Segment → List Pair → Type 0 where
+  ByNode : (number : ℕ) (node : Node) (segment : Segment) → node_at number nodes ≡ Some node → Contains node.held segment
+      → Holds nodes segment node.entries
+  ByHandover : (number : ℕ) (node : Node) (item : Item) → node_at number nodes ≡ Some node → Contains node.outbox item
+      → last_taken nodes item.to number < item.number → Holds nodes item.segment item.pairs
+
+-- a segment that is held, stands in an outbox or was sent
+pub data Appears (world : World) : Segment → Type 0 where
+  Held : (number : ℕ) (node : Node) (segment : Segment) → node_at number world.nodes ≡ Some node → Contains node.held segment → Appears world segment
+  Kept_for : (number : ℕ) (node : Node) (item : Item) → node_at number world.nodes ≡ Some node → Contains node.outbox item → Appears world item.segment
+  Sent : (part : Part) (segment : Segment) → Contains world.sent (PartMessage part) → part.segment ≡ Some segment → Appears world segment
+
+-- the request that a caller submitted under a number
+abbrev pub request_with : Option Submission → Option Request
+request_with None = None
+request_with (Some submission) = Some submission.request
+
+abbrev pub submitted_by : Option Caller → ℕ → Option Request
+submitted_by None number = None
+submitted_by (Some caller) number = request_with (submission_at number caller.submitted)
+
+-- whether a caller took the reply to its call of this number
+abbrev pub was_taken : Option Caller → ℕ → Bool
+was_taken None number = Bool.false
+was_taken (Some caller) number = is_taken caller number
+
+-- whether the reply is of the kind of the request, if there is one
+abbrev pub answers : Reply → Option Request → Bool
+answers reply None = Bool.false
+answers reply (Some request) = fits reply request
+
+-- the headline, clause by clause
+pub record Headline (world : World) : Type 0 where
+  -- one map, empty at first, gives each reply, and no call stands twice
+  pub legal : IsLegal world.history
+  -- each call was submitted, under its number and with its request
+  pub made : (done : Done) → StandsIn world.history done → submitted_by (caller_at done.caller world.callers) done.number ≡ Some done.request
+  -- each reply that a caller took is one to its own call, and stands in the history; so does each that it was told of
+  pub mine : (number : ℕ) (caller : Caller) → caller_at number world.callers ≡ Some caller
+      → All (λ done. (done.caller ≡ number) × StandsIn world.history done) caller.mine
+  pub once : (number : ℕ) (caller : Caller) → caller_at number world.callers ≡ Some caller → EachOnce caller.mine
+  pub told : (number : ℕ) (caller : Caller) → caller_at number world.callers ≡ Some caller → All (StandsIn world.history) caller.told
+  -- and so does each that a caller showed
+  pub noted : (note : Note) → Contains world.sent (NoteMessage note) → All (StandsIn world.history) note.done
+  -- each request stands after all that its caller had seen
+  pub in_order : InOrder world
+  -- no reply is foreign: it answers a submitted request, and is no news to its caller only if the caller took it before
+  pub owed : (told : Told) → Contains world.sent (ToldMessage told) → answers told.reply (submitted_by (caller_at told.caller world.callers) told.number) ≡ true
+  pub stale : (told : Told) (caller : Caller) → Contains world.sent (ToldMessage told) → caller_at told.caller world.callers ≡ Some caller
+      → fresh_for told caller ≡ None → is_taken caller told.number ≡ true
+  -- the holder's values under a key are those of the replayed history
+  pub values : (segment : Segment) (pairs : List Pair) (key : List ℕ) → Holds world.nodes segment pairs → in_span segment.span (key_id key) ≡ true
+      → values_at key pairs ≡ values_at key (replay [] world.history)
+  -- each executed call above its caller's floor is kept by its holder
+  pub kept : (segment : Segment) (pairs : List Pair) (done : Done) → Holds world.nodes segment pairs → StandsIn world.history done
+      → in_span segment.span (id_of done.request) ≡ true → mark_of done.caller segment.floors < done.number
+      → done_at done.caller done.number segment.kept ≡ Some done
+  -- each kept call stands in the history
+  pub stands : (segment : Segment) → Appears world segment → All (StandsIn world.history) segment.kept
+  -- it is above its caller's floor there, and at most 16 above
+  pub near : (segment : Segment) → Appears world segment
+      → All (λ done. (mark_of done.caller segment.floors < done.number) × (done.number ≤ mark_of done.caller segment.floors + 16)) segment.kept
+  -- each number at or below a floor was taken
+  pub floors : (segment : Segment) (number place : ℕ) → Appears world segment → 1 ≤ place → place ≤ mark_of number segment.floors
+      → was_taken (caller_at number world.callers) place ≡ true
+
+-- no call is kept in two of the segments
+abbrev pub KeepNoneTwice : List Segment → Type 0
+KeepNoneTwice held =
+    (place other : ℕ) (segment more : Segment) (caller number : ℕ) (done : Done) → slice_get held place ≡ Some segment → slice_get held other ≡ Some more
+    → place ≢ other → done_at caller number segment.kept ≡ Some done → done_at caller number more.kept ≡ None
+
+-- What a caller knew at some time stands before each call that it submitted later.
+abbrev pub SeenFirst : World → World → Type 0
+SeenFirst earlier later =
+    (number : ℕ) (caller : Caller) (seen done : Done) (before behind : List Done)
+    → caller_at number earlier.callers ≡ Some caller → Contains (known caller) seen
+    → later.history ≡ before ++ done ∷ behind → done.caller ≡ number → length caller.submitted < done.number
+    → StandsIn before seen
+
+-- no identifier lies in both spans
+abbrev pub IsApart : Span → Span → Type 0
+IsApart a b = (x : ℕ) → x < 2 ^ 128 → in_span a x ≡ true → in_span b x ≡ false
+
+-- the span meets none of the segments
+abbrev pub MeetsNone : Span → List Segment → Type 0
+MeetsNone span held = (place : ℕ) (segment : Segment) → slice_get held place ≡ Some segment → IsApart span segment.span
+
+-- no two of the segments meet
+abbrev pub AllApart : List Segment → Type 0
+AllApart held =
+    (place other : ℕ) (segment more : Segment) → slice_get held place ≡ Some segment → slice_get held other ≡ Some more
+    → place ≢ other → IsApart segment.span more.span
+
+-- the part is of the next handover of its sender, and the node is there to take it
+abbrev pub IsNextFor : Node → Part → Type 0
+IsNextFor node part = (part.number ≡ mark_of part.from node.taken + 1) × (node.phase ≢ Gone)
