@@ -20,7 +20,7 @@ pub mod Stocked
 pub mod Fitting
 mod Theorem
 mod HolderTie
-mod HeadlineProof
+mod HistoryProof
 mod SeenFirst
 mod Merely
 mod Example

@@ -1,13 +1,15 @@
 -- It is enough that some run exists: what the headline says of the history has one proof at most.
 use Rattle.std.proofs.Common.{◌≡◌, ◌≢◌, ℕ, ◌+◌, ◌<◌, ◌^◌, Some, Ok, List, [], ◌∷◌}
 use Rattle.std.specs.Prelude.{Contains}
+use Rattle.std.specs.List.{AllByRecursion-prop}
+use Rattle.std.specs.List.Sorted.{IsStrictlySortedBy-prop}
 use Rattle.std.proofs.Props.{props}
 use mathlib.Core.Logic.{∥∥₁_elim}
 use Rattle.chord_map.specs.declared.pair.Pair.{Pair}
 use Rattle.chord_map.specs.declared.reply.Reply.{Reply}
 use Rattle.chord_map.specs.declared.request.Request.{Request}
-use Rattle.chord_map.specs.Map.{pairs_after}
-use Rattle.chord_model.proofs.HeadlineProof.{headline, none_twice}
+use Rattle.chord_map.specs.Map.{pair_cmp, pairs_after}
+use Rattle.chord_model.proofs.HistoryProof.{one_history, none_twice}
 use Rattle.chord_model.proofs.SeenFirst.{seen_first}
 use Rattle.chord_handover.specs.declared.gather.Gather.TheVariants.{Unfit}
 use Rattle.chord_handover.specs.declared.ticket.Ticket.{Ticket}
@@ -15,12 +17,15 @@ use Rattle.chord_handover.specs.Gather.{GatherIs}
 use Rattle.chord_handover.specs.Handover.{Handover, Part, IsWhole, gathered, Item, item_at}
 use Rattle.chord_model.proofs.Clash.{taken_clear, back_clear, held_apart}
 use Rattle.chord_model.proofs.Fitting.{part_fits}
+use Rattle.chord_model.proofs.Stocked.{stocks_reached}
 use Rattle.chord_model.proofs.Theorem.{only_one, one_length}
 use Rattle.chord_model.specs.declared.message.Message.TheVariants.{Part as PartMessage, Declined as DeclinedMessage}
 use Rattle.chord_model.specs.declared.phase.Phase.TheVariants.{Gone}
 use Rattle.chord_segment.specs.Marks.{mark_of}
-use Rattle.chord_model.specs.Headline.{MeetsNone, AllApart, Headline, IsNextFor, KeepNoneTwice, SeenFirst}
+use Rattle.chord_segment.specs.Segment.{Segment}
+use Rattle.chord_model.specs.Headline.{MeetsNone, AllApart, Headline, IsWellHeld, OneHistory, IsNextFor, KeepNoneTwice, SeenFirst}
 use Rattle.chord_model.specs.Node.{Node}
+use Rattle.chord_model.specs.Stock.{IsHeld, IsStocked}
 use Rattle.chord_model.specs.World.{World, Reached, Run, node_at, HasOneHolder, holders}
 use Rattle.chord_map.specs.declared.done.Done.{Done}
 use Rattle.chord_map.specs.History.{Replies, EachOnce, IsLegal, StandsIn}
@@ -48,12 +53,12 @@ legal_prop dones = hlevel (replies_prop [] dones, once_prop dones)
 stands_prop : (dones : List Done) (done : Done) → IsProp (StandsIn dones done)
 stands_prop dones done = hlevel (props, done_set)
 
-pub headline_prop : (world : World) → IsProp (Headline world)
-headline_prop world = hlevel (props, reply_set, request_set, done_set, legal_prop world.history, once_prop)
+pub history_prop : (world : World) → IsProp (OneHistory world)
+history_prop world = hlevel (props, reply_set, request_set, done_set, legal_prop world.history, once_prop)
 
--- the headline where merely some run is known
-pub headline_merely : (world : World) → ∥ Reached world ∥₁ → Headline world
-headline_merely world reached = ∥∥₁_elim reached (headline_prop world) (λ run. headline world run)
+-- one history where merely some run is known
+pub history_merely : (world : World) → ∥ Reached world ∥₁ → OneHistory world
+history_merely world reached = ∥∥₁_elim reached (history_prop world) (λ run. one_history world run)
 
 pub none_twice_merely : (world : World) → ∥ Reached world ∥₁ → (number : ℕ) (node : Node) → node_at number world.nodes ≡ Some node → KeepNoneTwice node.held
 none_twice_merely world reached number node here =
@@ -83,3 +88,22 @@ apart_merely world reached number node at = ∥∥₁_elim reached (hlevel props
 pub fits_merely : (world : World) → ∥ Reached world ∥₁ → (part : Part) (node : Node) → Contains world.sent (PartMessage part) → node_at part.to world.nodes ≡ Some node
     → IsNextFor node part → ¬ GatherIs part node.noted Unfit
 fits_merely world reached part node was at next = ∥∥₁_elim reached (hlevel props) (λ run. part_fits world run part node was at next)
+
+-- ---- the whole headline
+
+stocked_prop : (held : List Segment) (pairs : List Pair) → IsProp (IsStocked held pairs)
+stocked_prop held pairs = hlevel (props, IsStrictlySortedBy-prop pair_cmp pairs, AllByRecursion-prop (IsHeld held) (λ pair. hlevel props) pairs)
+
+well_held : (world : World) → ∥ Reached world ∥₁ → (number : ℕ) (node : Node) → node_at number world.nodes ≡ Some node → IsWellHeld node
+well_held world reached number node at = record {
+  apart = apart_merely world reached number node at;
+  once = none_twice_merely world reached number node at;
+  stocked = ∥∥₁_elim reached (stocked_prop node.held node.entries) (λ run. (stocks_reached world run number node at).stocked);
+}
+
+pub headline_merely : (world : World) → ∥ Reached world ∥₁ → Headline world
+headline_merely world reached = record {
+  history = history_merely world reached;
+  one_holder = λ some x within. one_holder_merely world reached some x within;
+  held = well_held world reached;
+}

@@ -12,7 +12,8 @@ use Rattle.chord_map.specs.Map.{values_at, fits}
 use Rattle.chord_model.specs.declared.phase.Phase.TheVariants.{Gone}
 use Rattle.chord_model.specs.declared.message.Message.TheVariants.{Told as ToldMessage, Part as PartMessage, Note as NoteMessage}
 use Rattle.chord_model.specs.Node.{Node}
-use Rattle.chord_model.specs.World.{World, node_at, caller_at, last_taken, InOrder}
+use Rattle.chord_model.specs.Stock.{IsStocked}
+use Rattle.chord_model.specs.World.{World, node_at, caller_at, last_taken, HasOneHolder, InOrder}
 use Rattle.chord_map.specs.declared.done.Done.{Done}
 use Rattle.chord_map.specs.History.{replay, done_at, EachOnce, IsLegal, StandsIn}
 use Rattle.chord_segment.specs.Marks.{mark_of}
@@ -50,8 +51,8 @@ abbrev pub answers : Reply → Option Request → Bool
 answers reply None = Bool.false
 answers reply (Some request) = fits reply request
 
--- the headline, clause by clause
-pub record Headline (world : World) : Type 0 where
+-- what holds of the history, clause by clause
+pub record OneHistory (world : World) : Type 0 where
   -- one map, empty at first, gives each reply, and no call stands twice
   pub legal : IsLegal world.history
   -- each call was submitted, under its number and with its request
@@ -112,6 +113,18 @@ abbrev pub AllApart : List Segment → Type 0
 AllApart held =
     (place other : ℕ) (segment more : Segment) → slice_get held place ≡ Some segment → slice_get held other ≡ Some more
     → place ≢ other → IsApart segment.span more.span
+
+-- what a node holds: no two of its segments meet or keep one call, and its entries rise and lie in them
+pub record IsWellHeld (node : Node) : Type 0 where
+  pub apart : AllApart node.held
+  pub once : KeepNoneTwice node.held
+  pub stocked : IsStocked node.held node.entries
+
+-- The headline: one history of one map, one holder of each identifier once there is a node, and each node holds well.
+pub record Headline (world : World) : Type 0 where
+  pub history : OneHistory world
+  pub one_holder : world.nodes ≢ [] → (x : ℕ) → x < 2 ^ 128 → HasOneHolder x world.nodes
+  pub held : (number : ℕ) (node : Node) → node_at number world.nodes ≡ Some node → IsWellHeld node
 
 -- the part is of the next handover of its sender, and the node is there to take it
 abbrev pub IsNextFor : Node → Part → Type 0

@@ -5,13 +5,19 @@ ghost use Rattle.chord_handover.specs.declared.gather.Gather.TheVariants.{Unfit}
 ghost use Rattle.chord_handover.specs.declared.ticket.Ticket.{Ticket};
 ghost use Rattle.chord_handover.specs.Gather.{GatherIs};
 ghost use Rattle.chord_handover.specs.Handover.{Handover, Part, IsWhole, gathered, Item, item_at};
-ghost use Rattle.chord_model.specs.Headline.{MeetsNone, AllApart, Headline, IsNextFor, KeepNoneTwice, SeenFirst};
+ghost use Rattle.chord_model.specs.Headline.{MeetsNone, AllApart, Headline, OneHistory, IsNextFor, KeepNoneTwice, SeenFirst};
 ghost use Rattle.chord_model.specs.declared.message.Message.TheVariants.{Part as PartMessage, Declined as DeclinedMessage};
 ghost use Rattle.chord_model.specs.Node.{Node};
 ghost use Rattle.chord_model.specs.Uses.{Rule, rules_of};
 ghost use Rattle.chord_model.specs.World.{World, Run, Reached, HasOneHolder, node_at};
 ghost use Rattle.chord_model.specs.declared.phase.Phase.TheVariants.{Gone};
 ghost use Rattle.chord_segment.specs.Marks.{mark_of};
+
+/// In every world that some steps lead to: one history of one map, one holder of each identifier once there is a node,
+/// and each node's segments neither meet nor keep a call twice, and have its entries.
+pub fn headline()
+    ensures { (world : World) → ∥ Reached world ∥₁ → Headline world }
+{}
 
 /// In every world that some steps lead to, once a node was created, each identifier has one holder.
 pub fn one_holder()
@@ -41,7 +47,7 @@ pub fn parts_fit()
 /// in the order that the callers had seen; every reply that a caller took stands in it; and each holder of an
 /// identifier has what the history leaves there.
 pub fn one_history()
-    ensures { (world : World) → ∥ Reached world ∥₁ → Headline world }
+    ensures { (world : World) → ∥ Reached world ∥₁ → OneHistory world }
 {}
 
 /// No call is kept in two of the segments that a node holds, so a join never meets a call twice.

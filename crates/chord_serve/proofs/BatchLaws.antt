@@ -14,7 +14,7 @@ use Rattle.chord_serve.specs.declared.served.Served.{Served}
 use Rattle.chord_serve.specs.declared.served.Served.TheVariants as served
 use Rattle.std.specs.declared.alloc.AllocError.{AllocError}
 use Rattle.chord_serve.specs.Question.{Question}
-use Rattle.chord_serve.specs.State.{State}
+use Rattle.chord_serve.specs.SessionState.{SessionState}
 use Rattle.chord_serve.specs.Session.{start, move_of}
 use Rattle.chord_serve.specs.Output.{written, state_after, questions, question_of}
 use Rattle.chord_serve.specs.Steps.{Step, MayAsk, Deals}
@@ -30,7 +30,7 @@ unfolding next_request body_at
 next_of_nothing = refl
 
 -- a connection of these parts
-abbrev pub connected : List ℕ → Option ℕ → State → Connection
+abbrev pub connected : List ℕ → Option ℕ → SessionState → Connection
 connected frames version session = record { frames = frames; version = version; session = session }
 
 AreOfVersion-append : (v w x : Option ℕ) (rs ts : List WireRequest) → AreOfVersion v rs w → AreOfVersion w ts x → AreOfVersion v (rs ++ ts) x
@@ -52,21 +52,21 @@ stop_ends left served.Read stop = absurd stop
 stop_ends left served.TurnsSpent stop = absurd stop
 
 module _ {A : Type 0} (answers : A → Question → Asked → A → Type 0) where
-  pub nothing : (v : Option ℕ) (s : State) (a : A) (bytes : List ℕ) → Dealt answers v s a bytes [] bytes v s a
+  pub nothing : (v : Option ℕ) (s : SessionState) (a : A) (bytes : List ℕ) → Dealt answers v s a bytes [] bytes v s a
   unfolding written state_after questions
   nothing v s a bytes = record { requests = []; given = []; spelled = record { each = tt; parts = refl }; versions = refl; output_is = refl; state_is = refl; answered = refl }
 
   -- the steps of what was dealt with
-  steps : (v : Option ℕ) (s : State) (a : A) (bytes output rest : List ℕ) (w : Option ℕ) (t : State) (b : A) (p : Dealt answers v s a bytes output rest w t b) → Serves answers s a p.requests output t b
+  steps : (v : Option ℕ) (s : SessionState) (a : A) (bytes output rest : List ℕ) (w : Option ℕ) (t : SessionState) (b : A) (p : Dealt answers v s a bytes output rest w t b) → Serves answers s a p.requests output t b
   steps v s a bytes output rest w t b p = serves answers s a p.requests output t b (record { given = p.given; output_is = p.output_is; state_is = p.state_is; answered = p.answered })
 
-  made_of : (v : Option ℕ) (s : State) (a : A) (requests : List WireRequest) (bytes output rest : List ℕ) (w : Option ℕ) (t : State) (b : A) → Spells bytes requests rest → AreOfVersion v requests w → Serves answers s a requests output t b → Dealt answers v s a bytes output rest w t b
+  made_of : (v : Option ℕ) (s : SessionState) (a : A) (requests : List WireRequest) (bytes output rest : List ℕ) (w : Option ℕ) (t : SessionState) (b : A) → Spells bytes requests rest → AreOfVersion v requests w → Serves answers s a requests output t b → Dealt answers v s a bytes output rest w t b
   made_of v s a requests bytes output rest w t b spelled versions h =
       let f = as_function answers s a requests output t b h in
       record { requests = requests; given = f.given; spelled = spelled; versions = versions; output_is = f.output_is; state_is = f.state_is; answered = f.answered }
 
   -- one after the other
-  pub Dealt-then : (v w x : Option ℕ) (s t u : State) (a b c : A) (bytes first rest second end : List ℕ) → Dealt answers v s a bytes first rest w t b → Dealt answers w t b rest second end x u c → Dealt answers v s a bytes (first ++ second) end x u c
+  pub Dealt-then : (v w x : Option ℕ) (s t u : SessionState) (a b c : A) (bytes first rest second end : List ℕ) → Dealt answers v s a bytes first rest w t b → Dealt answers w t b rest second end x u c → Dealt answers v s a bytes (first ++ second) end x u c
   Dealt-then v w x s t u a b c bytes first rest second end p q =
       let parts : bytes ≡ flat_map request_frame (p.requests ++ q.requests) ++ end =
       p.spelled.parts ∙ ap (λ (ys : List ℕ). flat_map request_frame p.requests ++ ys) q.spelled.parts ∙ sym (append_assoc (flat_map request_frame p.requests) (flat_map request_frame q.requests) end) ∙ ap (λ (ys : List ℕ). ys ++ end) (sym (flat_map-append request_frame p.requests q.requests)) in
@@ -75,7 +75,7 @@ module _ {A : Type 0} (answers : A → Question → Asked → A → Type 0) wher
       (Serves-append answers s a p.requests q.requests first second t u b c (steps v s a bytes first rest w t b p) (steps w t b rest second end x u c q))
 
   -- more bytes came
-  pub Dealt-fed : (v w : Option ℕ) (s t : State) (a b : A) (bytes output rest more : List ℕ) → Dealt answers v s a bytes output rest w t b → Dealt answers v s a (bytes ++ more) output (rest ++ more) w t b
+  pub Dealt-fed : (v w : Option ℕ) (s t : SessionState) (a b : A) (bytes output rest more : List ℕ) → Dealt answers v s a bytes output rest w t b → Dealt answers v s a (bytes ++ more) output (rest ++ more) w t b
   Dealt-fed v w s t a b bytes output rest more p = record {
     requests = p.requests;
     given = p.given;
@@ -87,27 +87,27 @@ module _ {A : Type 0} (answers : A → Question → Asked → A → Type 0) wher
   }
 
   -- one request
-  pub one_dealt : (v : Option ℕ) (s t : State) (a b : A) (r : WireRequest) (bytes output rest : List ℕ) → IsWireRequest r × (bytes ≡ request_frame r ++ rest) → is_other v r.version ≡ false → Step answers s a r output t b → Dealt answers v s a bytes output rest (Some r.version) t b
+  pub one_dealt : (v : Option ℕ) (s t : SessionState) (a b : A) (r : WireRequest) (bytes output rest : List ℕ) → IsWireRequest r × (bytes ≡ request_frame r ++ rest) → is_other v r.version ≡ false → Step answers s a r output t b → Dealt answers v s a bytes output rest (Some r.version) t b
   one_dealt v s t a b r bytes output rest fits same step =
       made_of v s a (r ∷ []) bytes output rest (Some r.version) t b
       (record { each = (fits.0, tt); parts = fits.1 ∙ ap (λ (ys : List ℕ). ys ++ rest) (sym (append-nil (request_frame r)) ∙ sym (flat_map-cons request_frame r [])) })
       (same, refl)
       (output, [], t, b, step, (refl, refl, refl), sym (append-nil output))
 
-  stops_at_once : (v : Option ℕ) (s : State) (a : A) (bytes : List ℕ) → StopsAfter answers v s a bytes [] a
+  stops_at_once : (v : Option ℕ) (s : SessionState) (a : A) (bytes : List ℕ) → StopsAfter answers v s a bytes [] a
   stops_at_once v s a bytes = record { rest = bytes; version = v; state = s; asker = a; dealt = nothing v s a bytes; last = inl refl }
 
   -- an end, with what became due for it
-  abbrev pub EndsSo : Served → Option ℕ → State → A → List ℕ → List ℕ → List ℕ → A → Type 0
+  abbrev pub EndsSo : Served → Option ℕ → SessionState → A → List ℕ → List ℕ → List ℕ → A → Type 0
   EndsSo end v s a bytes old new a' = (output : List ℕ) × IsServed answers end v s a bytes output a' × (new ≡ old ++ output)
 
-  pub memory_ends : (v : Option ℕ) (s : State) (a : A) (bytes old new : List ℕ) → new ≡ old → EndsSo served.Memory v s a bytes old new a
+  pub memory_ends : (v : Option ℕ) (s : SessionState) (a : A) (bytes old new : List ℕ) → new ≡ old → EndsSo served.Memory v s a bytes old new a
   memory_ends v s a bytes old new e = ([], stops_at_once v s a bytes, e ∙ sym (append-nil old))
 
-  refuses_nothing : (v : Option ℕ) (s : State) (a : A) (bytes : List ℕ) (f : WireFault) → IsRefused answers v bytes f → Refuses answers v s a bytes (fault_frame f) f a
+  refuses_nothing : (v : Option ℕ) (s : SessionState) (a : A) (bytes : List ℕ) (f : WireFault) → IsRefused answers v bytes f → Refuses answers v s a bytes (fault_frame f) f a
   refuses_nothing v s a bytes f refused = record { before = []; rest = bytes; version = v; state = s; dealt = nothing v s a bytes; refused = refused; output_is = refl }
 
-  pub refused_ends : (end : Served) (f : WireFault) (v : Option ℕ) (s : State) (a : A) (bytes old new : List ℕ) → IsRefused answers v bytes f → TellsFault end f old new → EndsSo end v s a bytes old new a
+  pub refused_ends : (end : Served) (f : WireFault) (v : Option ℕ) (s : SessionState) (a : A) (bytes old new : List ℕ) → IsRefused answers v bytes f → TellsFault end f old new → EndsSo end v s a bytes old new a
   refused_ends (served.Malformed code) f v s a bytes old new refused w = (fault_frame f, (f, w.0, refuses_nothing v s a bytes f refused), w.1)
   refused_ends served.Memory f v s a bytes old new refused w = memory_ends v s a bytes old new w
   refused_ends served.Write f v s a bytes old new refused w = absurd w
@@ -116,25 +116,25 @@ module _ {A : Type 0} (answers : A → Question → Asked → A → Type 0) wher
   refused_ends served.Read f v s a bytes old new refused w = absurd w
   refused_ends served.TurnsSpent f v s a bytes old new refused w = absurd w
 
-  may_ask : (v : Option ℕ) (s : State) (a b : A) (r : WireRequest) (bytes rest : List ℕ) (question : Option Question) → question_of (move_of s r) r ≡ question → next_request bytes ≡ Ok (Some (r, rest)) → is_other v r.version ≡ false → MayAsk answers question a b → (b ≡ a) ⊎ AsksNext answers v s a bytes b
+  may_ask : (v : Option ℕ) (s : SessionState) (a b : A) (r : WireRequest) (bytes rest : List ℕ) (question : Option Question) → question_of (move_of s r) r ≡ question → next_request bytes ≡ Ok (Some (r, rest)) → is_other v r.version ≡ false → MayAsk answers question a b → (b ≡ a) ⊎ AsksNext answers v s a bytes b
   may_ask v s a b r bytes rest None e next same may = inl may
   may_ask v s a b r bytes rest (Some q) e next same (inl not_asked) = inl not_asked
   may_ask v s a b r bytes rest (Some q) e next same (inr asked) = inr (record { request = r; behind = rest; question = q; answer = asked.0; next = next; same_version = same; is_its_own = e; asks = asked.1 })
 
-  pub step_ends : (refused : AllocError) (v : Option ℕ) (s t : State) (a b : A) (r : WireRequest) (bytes rest old new : List ℕ) → next_request bytes ≡ Ok (Some (r, rest)) → is_other v r.version ≡ false → Deals answers (Err refused) s a r old new t b → EndsSo served.Memory v s a bytes old new b
+  pub step_ends : (refused : AllocError) (v : Option ℕ) (s t : SessionState) (a b : A) (r : WireRequest) (bytes rest old new : List ℕ) → next_request bytes ≡ Ok (Some (r, rest)) → is_other v r.version ≡ false → Deals answers (Err refused) s a r old new t b → EndsSo served.Memory v s a bytes old new b
   step_ends refused v s t a b r bytes rest old new next same d =
       ([], record { rest = bytes; version = v; state = s; asker = a; dealt = nothing v s a bytes; last = may_ask v s a b r bytes rest (question_of (move_of s r) r) refl next same d.1 }, d.0 ∙ sym (append-nil old))
 
   -- ---- what comes after some requests
 
-  all_after : (v w : Option ℕ) (s t : State) (a b c : A) (bytes first rest second end : List ℕ) → Dealt answers v s a bytes first rest w t b → DealsWithAll answers w t b rest second end c → DealsWithAll answers v s a bytes (first ++ second) end c
+  all_after : (v w : Option ℕ) (s t : SessionState) (a b c : A) (bytes first rest second end : List ℕ) → Dealt answers v s a bytes first rest w t b → DealsWithAll answers w t b rest second end c → DealsWithAll answers v s a bytes (first ++ second) end c
   all_after v w s t a b c bytes first rest second end p q = record { version = q.version; state = q.state; dealt = Dealt-then v w q.version s t q.state a b c bytes first rest second end p q.dealt; undecided = q.undecided }
 
-  stops_after : (v w : Option ℕ) (s t : State) (a b c : A) (bytes first rest second : List ℕ) → Dealt answers v s a bytes first rest w t b → StopsAfter answers w t b rest second c → StopsAfter answers v s a bytes (first ++ second) c
+  stops_after : (v w : Option ℕ) (s t : SessionState) (a b c : A) (bytes first rest second : List ℕ) → Dealt answers v s a bytes first rest w t b → StopsAfter answers w t b rest second c → StopsAfter answers v s a bytes (first ++ second) c
   stops_after v w s t a b c bytes first rest second p q =
       record { rest = q.rest; version = q.version; state = q.state; asker = q.asker; dealt = Dealt-then v w q.version s t q.state a b q.asker bytes first rest second q.rest p q.dealt; last = q.last }
 
-  refuses_after : (v w : Option ℕ) (s t : State) (a b c : A) (bytes first rest second : List ℕ) (f : WireFault) → Dealt answers v s a bytes first rest w t b → Refuses answers w t b rest second f c → Refuses answers v s a bytes (first ++ second) f c
+  refuses_after : (v w : Option ℕ) (s t : SessionState) (a b c : A) (bytes first rest second : List ℕ) (f : WireFault) → Dealt answers v s a bytes first rest w t b → Refuses answers w t b rest second f c → Refuses answers v s a bytes (first ++ second) f c
   refuses_after v w s t a b c bytes first rest second f p q = record {
     before = first ++ q.before;
     rest = q.rest;
@@ -145,7 +145,7 @@ module _ {A : Type 0} (answers : A → Question → Asked → A → Type 0) wher
     output_is = ap (λ (ys : List ℕ). first ++ ys) q.output_is ∙ sym (append_assoc first q.before (fault_frame f));
   }
 
-  pub served_after : (end : Served) (v w : Option ℕ) (s t : State) (a b c : A) (bytes first rest second : List ℕ) → Dealt answers v s a bytes first rest w t b → IsServed answers end w t b rest second c → IsServed answers end v s a bytes (first ++ second) c
+  pub served_after : (end : Served) (v w : Option ℕ) (s t : SessionState) (a b c : A) (bytes first rest second : List ℕ) → Dealt answers v s a bytes first rest w t b → IsServed answers end w t b rest second c → IsServed answers end v s a bytes (first ++ second) c
   served_after served.Ended v w s t a b c bytes first rest second p q = all_after v w s t a b c bytes first rest second [] p q
   served_after served.Truncated v w s t a b c bytes first rest second p q = (q.0, q.1, all_after v w s t a b c bytes first rest second q.0 p q.2)
   served_after served.Read v w s t a b c bytes first rest second p q = (q.0, all_after v w s t a b c bytes first rest second q.0 p q.1)
@@ -165,12 +165,12 @@ module _ {A : Type 0} (answers : A → Question → Asked → A → Type 0) wher
 
   -- ---- a part of the requests
 
-  pub part_on : (v w x : Option ℕ) (s t u : State) (a b c : A) (bytes rest end output due : List ℕ) → Dealt answers v s a bytes output rest w t b
+  pub part_on : (v w x : Option ℕ) (s t u : SessionState) (a b c : A) (bytes rest end output due : List ℕ) → Dealt answers v s a bytes output rest w t b
       → DealsWithNext answers (Ok true) (connected rest w t) b output due (connected end x u) c → Dealt answers v s a bytes due end x u c
   part_on v w x s t u a b c bytes rest end output due p q =
       subst (λ (ys : List ℕ). Dealt answers v s a bytes ys end x u c) (sym q.2) (Dealt-then v w x s t u a b c bytes output rest q.0 end p q.1)
 
-  pub part_ends : (end : Served) (v w : Option ℕ) (s t : State) (a b c : A) (bytes rest output due : List ℕ) → Dealt answers v s a bytes output rest w t b
+  pub part_ends : (end : Served) (v w : Option ℕ) (s t : SessionState) (a b c : A) (bytes rest output due : List ℕ) → Dealt answers v s a bytes output rest w t b
       → EndsSo end w t b rest output due c → IsServed answers end v s a bytes due c
   part_ends end v w s t a b c bytes rest output due p q =
       subst (λ (ys : List ℕ). IsServed answers end v s a bytes ys c) (sym q.2) (served_after end v w s t a b c bytes output rest q.0 p q.1)
@@ -178,11 +178,11 @@ module _ {A : Type 0} (answers : A → Question → Asked → A → Type 0) wher
   -- ---- what is due is written
 
   -- where all requests were dealt with, these are some
-  all_stops : (v : Option ℕ) (s : State) (a : A) (bytes output rest : List ℕ) (b : A) → DealsWithAll answers v s a bytes output rest b → StopsAfter answers v s a bytes output b
+  all_stops : (v : Option ℕ) (s : SessionState) (a : A) (bytes output rest : List ℕ) (b : A) → DealsWithAll answers v s a bytes output rest b → StopsAfter answers v s a bytes output b
   all_stops v s a bytes output rest b p = record { rest = rest; version = p.version; state = p.state; asker = b; dealt = p.dealt; last = inl refl }
 
   -- only a front of the output was written
-  front_served : (end : Served) (v : Option ℕ) (s : State) (a : A) (bytes whole front rest : List ℕ) (b : A) → whole ≡ front ++ rest → IsServed answers end v s a bytes whole b → IsServed answers served.Write v s a bytes front b
+  front_served : (end : Served) (v : Option ℕ) (s : SessionState) (a : A) (bytes whole front rest : List ℕ) (b : A) → whole ≡ front ++ rest → IsServed answers end v s a bytes whole b → IsServed answers served.Write v s a bytes front b
   front_served served.Ended v s a bytes whole front rest b e p = (whole, rest, e, inl (all_stops v s a bytes whole [] b p))
   front_served served.Truncated v s a bytes whole front rest b e p = (whole, rest, e, inl (all_stops v s a bytes whole p.0 b p.2))
   front_served served.Read v s a bytes whole front rest b e p = (whole, rest, e, inl (all_stops v s a bytes whole p.0 b p.1))
@@ -192,62 +192,62 @@ module _ {A : Type 0} (answers : A → Question → Asked → A → Type 0) wher
   front_served served.Memory v s a bytes whole front rest b e p = (whole, rest, e, inl p)
 
   -- at an error of the writer
-  pub part_unwritten : (result : Result Bool Served) (v w : Option ℕ) (s t : State) (a b : A) (bytes rest output : List ℕ) (old new : Option (List ℕ)) → DealsWithPart answers result (connected bytes v s) a output (connected rest w t) b → WritesFront old new output
+  pub part_unwritten : (result : Result Bool Served) (v w : Option ℕ) (s t : SessionState) (a b : A) (bytes rest output : List ℕ) (old new : Option (List ℕ)) → DealsWithPart answers result (connected bytes v s) a output (connected rest w t) b → WritesFront old new output
       → WritesPart answers (Err served.Write) (connected bytes v s) a old new (connected rest w t) b
   part_unwritten (Ok more) v w s t a b bytes rest output old new p f =
       (f.front, (output, f.rest, f.parts, inl (record { rest = rest; version = w; state = t; asker = b; dealt = p.0; last = inl refl })), f.appends)
   part_unwritten (Err end) v w s t a b bytes rest output old new p f = (f.front, front_served end v s a bytes output f.front f.rest b f.parts p, f.appends)
 
   -- requests dealt with, and what was written for them
-  abbrev pub DealsSo : Option ℕ → State → A → List ℕ → Option (List ℕ) → Option (List ℕ) → List ℕ → Option ℕ → State → A → Type 0
+  abbrev pub DealsSo : Option ℕ → SessionState → A → List ℕ → Option (List ℕ) → Option (List ℕ) → List ℕ → Option ℕ → SessionState → A → Type 0
   DealsSo v s a bytes old new rest w t b = (output : List ℕ) × Dealt answers v s a bytes output rest w t b × Appends old new output
 
-  pub deals_nothing : (v : Option ℕ) (s : State) (a : A) (bytes : List ℕ) (old : Option (List ℕ)) → DealsSo v s a bytes old old bytes v s a
+  pub deals_nothing : (v : Option ℕ) (s : SessionState) (a : A) (bytes : List ℕ) (old : Option (List ℕ)) → DealsSo v s a bytes old old bytes v s a
   deals_nothing v s a bytes old = ([], nothing v s a bytes, Appends-nil old)
 
-  pub deals_on : (v w x : Option ℕ) (s t u : State) (a b c : A) (bytes rest end : List ℕ) (old mid new : Option (List ℕ)) → DealsSo v s a bytes old mid rest w t b → DealsSo w t b rest mid new end x u c → DealsSo v s a bytes old new end x u c
+  pub deals_on : (v w x : Option ℕ) (s t u : SessionState) (a b c : A) (bytes rest end : List ℕ) (old mid new : Option (List ℕ)) → DealsSo v s a bytes old mid rest w t b → DealsSo w t b rest mid new end x u c → DealsSo v s a bytes old new end x u c
   deals_on v w x s t u a b c bytes rest end old mid new p q =
       (p.0 ++ q.0, Dealt-then v w x s t u a b c bytes p.0 rest q.0 end p.1 q.1, Appends-trans old mid new p.0 q.0 p.2 q.2)
 
   -- an end, with what was written for it
-  abbrev pub EndsWritten : Served → Option ℕ → State → A → List ℕ → Option (List ℕ) → Option (List ℕ) → A → Type 0
+  abbrev pub EndsWritten : Served → Option ℕ → SessionState → A → List ℕ → Option (List ℕ) → Option (List ℕ) → A → Type 0
   EndsWritten end v s a bytes old new a' = (output : List ℕ) × IsServed answers end v s a bytes output a' × Appends old new output
 
-  pub ends_on : (end : Served) (v w : Option ℕ) (s t : State) (a b c : A) (bytes rest : List ℕ) (old mid new : Option (List ℕ)) → DealsSo v s a bytes old mid rest w t b → EndsWritten end w t b rest mid new c → EndsWritten end v s a bytes old new c
+  pub ends_on : (end : Served) (v w : Option ℕ) (s t : SessionState) (a b c : A) (bytes rest : List ℕ) (old mid new : Option (List ℕ)) → DealsSo v s a bytes old mid rest w t b → EndsWritten end w t b rest mid new c → EndsWritten end v s a bytes old new c
   ends_on end v w s t a b c bytes rest old mid new p q =
       (p.0 ++ q.0, served_after end v w s t a b c bytes p.0 rest q.0 p.1 q.1, Appends-trans old mid new p.0 q.0 p.2 q.2)
 
   -- ---- turns
 
-  all_of_nothing : (v : Option ℕ) (s : State) (a : A) (bytes : List ℕ) → next_request bytes ≡ Ok None → DealsWithAll answers v s a (bytes ++ []) [] bytes a
+  all_of_nothing : (v : Option ℕ) (s : SessionState) (a : A) (bytes : List ℕ) → next_request bytes ≡ Ok None → DealsWithAll answers v s a (bytes ++ []) [] bytes a
   all_of_nothing v s a bytes none = subst (λ (xs : List ℕ). DealsWithAll answers v s a xs [] bytes a) (sym (append-nil bytes)) (record { version = v; state = s; dealt = nothing v s a bytes; undecided = none })
 
   -- an end without more bytes or with bytes that are not dealt with
-  abbrev pub EndsTurn : Served → Option ℕ → State → A → List ℕ → Option (List ℕ) → Option (List ℕ) → Option (List ℕ) → Option (List ℕ) → A → Type 0
+  abbrev pub EndsTurn : Served → Option ℕ → SessionState → A → List ℕ → Option (List ℕ) → Option (List ℕ) → Option (List ℕ) → Option (List ℕ) → A → Type 0
   EndsTurn end v s a bytes left left' old new a' = (input : List ℕ) × (output : List ℕ) × Consumes left left' input × IsServed answers end v s a (bytes ++ input) output a' × Appends old new output
 
-  pub read_ends : (v : Option ℕ) (s : State) (a : A) (bytes : List ℕ) (left left' old : Option (List ℕ)) → next_request bytes ≡ Ok None → Keeps left left' → EndsTurn served.Read v s a bytes left left' old old a
+  pub read_ends : (v : Option ℕ) (s : SessionState) (a : A) (bytes : List ℕ) (left left' old : Option (List ℕ)) → next_request bytes ≡ Ok None → Keeps left left' → EndsTurn served.Read v s a bytes left left' old old a
   read_ends v s a bytes left left' old none kept = ([], [], Consumes-kept left left left' [] (Consumes-nil left) kept, (bytes, all_of_nothing v s a bytes none), Appends-nil old)
 
-  pub input_ends : (v : Option ℕ) (s : State) (a : A) (bytes : List ℕ) (left left' old : Option (List ℕ)) → next_request bytes ≡ Ok None → Consumes left left' [] → bytes ≡ [] → EndsTurn served.Ended v s a bytes left left' old old a
+  pub input_ends : (v : Option ℕ) (s : SessionState) (a : A) (bytes : List ℕ) (left left' old : Option (List ℕ)) → next_request bytes ≡ Ok None → Consumes left left' [] → bytes ≡ [] → EndsTurn served.Ended v s a bytes left left' old old a
   input_ends v s a bytes left left' old none taken end = ([], [], taken, subst (λ (xs : List ℕ). DealsWithAll answers v s a (bytes ++ []) [] xs a) end (all_of_nothing v s a bytes none), Appends-nil old)
 
-  pub input_stops : (v : Option ℕ) (s : State) (a : A) (bytes : List ℕ) (left left' old : Option (List ℕ)) → next_request bytes ≡ Ok None → Consumes left left' [] → 0 < length bytes → EndsTurn served.Truncated v s a bytes left left' old old a
+  pub input_stops : (v : Option ℕ) (s : SessionState) (a : A) (bytes : List ℕ) (left left' old : Option (List ℕ)) → next_request bytes ≡ Ok None → Consumes left left' [] → 0 < length bytes → EndsTurn served.Truncated v s a bytes left left' old old a
   input_stops v s a bytes left left' old none taken some = ([], [], taken, (bytes, some, all_of_nothing v s a bytes none), Appends-nil old)
 
-  pub feed_ends : (v : Option ℕ) (s : State) (a : A) (bytes input : List ℕ) (left left' old : Option (List ℕ)) → Consumes left left' input → EndsTurn served.Memory v s a bytes left left' old old a
+  pub feed_ends : (v : Option ℕ) (s : SessionState) (a : A) (bytes input : List ℕ) (left left' old : Option (List ℕ)) → Consumes left left' input → EndsTurn served.Memory v s a bytes left left' old old a
   feed_ends v s a bytes input left left' old taken = (input, [], taken, stops_at_once v s a (bytes ++ input), Appends-nil old)
 
-  pub batch_turns : (result : Result (Unit {0}) Served) (v w : Option ℕ) (s t : State) (a b : A) (bytes input fed rest : List ℕ) (left left' old new : Option (List ℕ)) → fed ≡ bytes ++ input → Consumes left left' input
+  pub batch_turns : (result : Result (Unit {0}) Served) (v w : Option ℕ) (s t : SessionState) (a b : A) (bytes input fed rest : List ℕ) (left left' old new : Option (List ℕ)) → fed ≡ bytes ++ input → Consumes left left' input
       → DealsWithBatch answers result (connected fed v s) a old new (connected rest w t) b → TakesTurn answers result (connected bytes v s) a left left' old new (connected rest w t) b
   batch_turns (Ok done) v w s t a b bytes input fed rest left left' old new e taken d = (input, d.0, taken, subst (λ (xs : List ℕ). Dealt answers v s a xs d.0 rest w t b) e d.1, d.2, d.3)
   batch_turns (Err end) v w s t a b bytes input fed rest left left' old new e taken d = (input, d.0, taken, subst (λ (xs : List ℕ). IsServed answers end v s a xs d.0 b) e d.1, d.2)
 
   -- the turns so far
-  abbrev pub TurnsSo : A → Option (List ℕ) → Option (List ℕ) → Option (List ℕ) → Option (List ℕ) → List ℕ → Option ℕ → State → A → Type 0
+  abbrev pub TurnsSo : A → Option (List ℕ) → Option (List ℕ) → Option (List ℕ) → Option (List ℕ) → List ℕ → Option ℕ → SessionState → A → Type 0
   TurnsSo a left left' old new rest w t b = TakesTurn answers (Ok tt) (connected [] None start) a left left' old new (connected rest w t) b
 
-  pub turn_on : (w x : Option ℕ) (t u : State) (a b c : A) (rest end : List ℕ) (left left' left'' old mid new : Option (List ℕ)) → TurnsSo a left left' old mid rest w t b → TakesTurn answers (Ok tt) (connected rest w t) b left' left'' mid new (connected end x u) c → TurnsSo a left left'' old new end x u c
+  pub turn_on : (w x : Option ℕ) (t u : SessionState) (a b c : A) (rest end : List ℕ) (left left' left'' old mid new : Option (List ℕ)) → TurnsSo a left left' old mid rest w t b → TakesTurn answers (Ok tt) (connected rest w t) b left' left'' mid new (connected end x u) c → TurnsSo a left left'' old new end x u c
   turn_on w x t u a b c rest end left left' left'' old mid new p q = (
     p.0 ++ q.0,
     p.1 ++ q.1,
@@ -257,7 +257,7 @@ module _ {A : Type 0} (answers : A → Question → Asked → A → Type 0) wher
     Appends-trans old mid new p.1 q.1 p.5 q.5,
   )
 
-  pub turn_ends : (last : Served) (w : Option ℕ) (t : State) (a b c : A) (rest : List ℕ) (left left' left'' old mid new : Option (List ℕ)) → TurnsSo a left left' old mid rest w t b → EndsTurn last w t b rest left' left'' mid new c → EndsTurn last None start a [] left left'' old new c
+  pub turn_ends : (last : Served) (w : Option ℕ) (t : SessionState) (a b c : A) (rest : List ℕ) (left left' left'' old mid new : Option (List ℕ)) → TurnsSo a left left' old mid rest w t b → EndsTurn last w t b rest left' left'' mid new c → EndsTurn last None start a [] left left'' old new c
   turn_ends last w t a b c rest left left' left'' old mid new p q = (
     p.0 ++ q.0,
     p.1 ++ q.1,
@@ -266,7 +266,7 @@ module _ {A : Type 0} (answers : A → Question → Asked → A → Type 0) wher
     Appends-trans old mid new p.1 q.1 p.5 q.4,
   )
 
-  pub turns_spent : (w : Option ℕ) (t : State) (a b : A) (rest : List ℕ) (left left' old new : Option (List ℕ)) → TurnsSo a left left' old new rest w t b → EndsTurn served.TurnsSpent None start a [] left left' old new b
+  pub turns_spent : (w : Option ℕ) (t : SessionState) (a b : A) (rest : List ℕ) (left left' old new : Option (List ℕ)) → TurnsSo a left left' old new rest w t b → EndsTurn served.TurnsSpent None start a [] left left' old new b
   turns_spent w t a b rest left left' old new p = (p.0, p.1, p.2, (rest, record { version = w; state = t; dealt = p.3; undecided = p.4 }), p.5)
 
   pub no_turn : (a : A) (left old : Option (List ℕ)) → next_request [] ≡ Ok None → TurnsSo a left left old old [] None start a

@@ -16,7 +16,7 @@ use Rattle.chord_serve.specs.declared.session.Move.{Move}
 use Rattle.chord_serve.specs.declared.session.Move.TheVariants.{Refuse, Again, Ask, Retry}
 use Rattle.chord_serve.specs.Question.{Question, IsReplyTo, asked_with, request_at, request_asked}
 use Rattle.chord_serve.specs.Question as question
-use Rattle.chord_serve.specs.State.{State}
+use Rattle.chord_serve.specs.SessionState.{SessionState}
 use Rattle.chord_serve.specs.Session.{accepted, added, answered, answered_of, answered_at, frame_at, is_out, last, move_at, move_of, place_of, raised, start}
 use Rattle.chord_serve.specs.Output.{reaction, react, told, question_of, and_then, and_pair, answered_requests, questions, AreAnswers, IsPaired}
 
@@ -24,7 +24,7 @@ abbrev request_in : Kept → Request
 request_in k = k.request
 
 -- the requests that were asked are those at or below the floor, and those that are kept
-pub record IsNoted (s : State) (requests : List Request) : Type 0 where
+pub record IsNoted (s : SessionState) (requests : List Request) : Type 0 where
   pub front : List Request
   pub long : length front ≡ s.floor
   pub same : requests ≡ front ++ map request_in s.kept
@@ -41,10 +41,10 @@ few_answered (k ∷ kept) = elim (cases_Bool (is_some k.frame)) [
   | inr none ↦ rw none (omega arith)
 ]
 
-abbrev more_front : State → ℕ → List Request
+abbrev more_front : SessionState → ℕ → List Request
 more_front s floor = map request_in (take (floor - s.floor) s.kept)
 
-noted_raised : (s : State) (floor : ℕ) (requests : List Request) → floor ≤ last s → IsNoted s requests → IsNoted (raised s floor) requests
+noted_raised : (s : SessionState) (floor : ℕ) (requests : List Request) → floor ≤ last s → IsNoted s requests → IsNoted (raised s floor) requests
 noted_raised s floor requests le n =
     let long : length (n.front ++ more_front s floor) ≡ max s.floor floor =
     omega (arith, length-append n.front (more_front s floor), length-map (take (floor - s.floor) s.kept) request_in, length-take (floor - s.floor) s.kept, n.long, le) in
@@ -56,7 +56,7 @@ noted_raised s floor requests le n =
       same = n.same ∙ ap (λ (xs : List Request). n.front ++ xs) split ∙ sym (append_assoc n.front (more_front s floor) (map request_in (drop (floor - s.floor) s.kept)));
     }
 
-low_floor : (s : State) (r : WireRequest) → is_out s r ≡ false → r.floor ≤ last s
+low_floor : (s : SessionState) (r : WireRequest) → is_out s r ≡ false → r.floor ≤ last s
 low_floor s r e =
     let all = or_parts ((eqb r.number 0 || ltb (answered s) r.floor) || leb r.number s.floor) (ltb (last s + 1) r.number) e in
     let three = or_parts (eqb r.number 0 || ltb (answered s) r.floor) (leb r.number s.floor) all.0 in
@@ -64,13 +64,13 @@ low_floor s r e =
     let le : r.floor ≤ answered s = ltb-false _ _ two.1 in
     omega (arith, le, few_answered s.kept)
 
-noted_accepted : (s : State) (r : WireRequest) (requests : List Request) → IsNoted s requests → IsNoted (accepted s r) requests
+noted_accepted : (s : SessionState) (r : WireRequest) (requests : List Request) → IsNoted s requests → IsNoted (accepted s r) requests
 noted_accepted s r requests n = elim (cases_Bool (is_out s r)) [
   | inl out ↦ subst (λ (b : Bool). IsNoted (cond b s (raised s r.floor)) requests) (sym out) n
   | inr goes ↦ subst (λ (b : Bool). IsNoted (cond b s (raised s r.floor)) requests) (sym goes) (noted_raised s r.floor requests (low_floor s r goes) n)
 ]
 
-noted_added : (s : State) (request : Request) (requests : List Request) → IsNoted s requests → IsNoted (added s request) (requests ++ request ∷ [])
+noted_added : (s : SessionState) (request : Request) (requests : List Request) → IsNoted s requests → IsNoted (added s request) (requests ++ request ∷ [])
 noted_added s request requests n = record {
   front = n.front;
   long = n.long;
@@ -78,14 +78,14 @@ noted_added s request requests n = record {
       ∙ ap (λ (xs : List Request). n.front ++ xs) (sym (map-append request_in s.kept (record { request = request; frame = None } ∷ [])));
 }
 
-noted_framed : (s : State) (number : ℕ) (frame : List ℕ) (requests : List Request) → IsNoted s requests → IsNoted (answered_at s number frame) requests
+noted_framed : (s : SessionState) (number : ℕ) (frame : List ℕ) (requests : List Request) → IsNoted s requests → IsNoted (answered_at s number frame) requests
 noted_framed s number frame requests n = record {
   front = n.front;
   long = n.long;
   same = n.same ∙ ap (λ (xs : List Request). n.front ++ xs) (sym (requests_stay s.kept (place_of s number) frame));
 }
 
-noted_told : (s : State) (number : ℕ) (answer : Asked) (requests : List Request) → IsNoted s requests → IsNoted (told s number answer) requests
+noted_told : (s : SessionState) (number : ℕ) (answer : Asked) (requests : List Request) → IsNoted s requests → IsNoted (told s number answer) requests
 noted_told s number (asked.Reply reply) requests n = noted_framed s number _ requests n
 noted_told s number asked.Full requests n = n
 noted_told s number asked.NoAnswer requests n = n
@@ -117,7 +117,7 @@ found : (o : Option Kept) (request : Request) → move_at o request ≡ Retry �
 found None request e = absurd cc
 found (Some k) request e = tested k request (same_request k.request request) (is_some k.frame) refl refl e
 
-not_refused : (s : State) (r : WireRequest) → move_of s r ≡ Retry → (is_out s r ≡ false) × (move_at (slice_get (raised s r.floor).kept (place_of (raised s r.floor) r.number)) r.request ≡ Retry)
+not_refused : (s : SessionState) (r : WireRequest) → move_of s r ≡ Retry → (is_out s r ≡ false) × (move_at (slice_get (raised s r.floor).kept (place_of (raised s r.floor) r.number)) r.request ≡ Retry)
 not_refused s r e =
     let inner = move_at (slice_get (raised s r.floor).kept (place_of (raised s r.floor) r.number)) r.request in
     let go : (b : Bool) → cond b (Refuse BadNumber) inner ≡ Retry → (b ≡ false) × (inner ≡ Retry) = λ b. elim b as (λ v. cond v (Refuse BadNumber) inner ≡ Retry → (v ≡ false) × (inner ≡ Retry)) [
@@ -127,7 +127,7 @@ not_refused s r e =
     go (is_out s r) e
 
 -- the number is above the floor
-above : (s : State) (r : WireRequest) → IsWireRequest r → is_out s r ≡ false → (raised s r.floor).floor < r.number
+above : (s : SessionState) (r : WireRequest) → IsWireRequest r → is_out s r ≡ false → (raised s r.floor).floor < r.number
 above s r fits e =
     let all = or_parts ((eqb r.number 0 || ltb (answered s) r.floor) || leb r.number s.floor) (ltb (last s + 1) r.number) e in
     let three = or_parts (eqb r.number 0 || ltb (answered s) r.floor) (leb r.number s.floor) all.0 in
@@ -140,7 +140,7 @@ above s r fits e =
     ] in
     omega (arith, over, own)
 
-retried_is : (s : State) (r : WireRequest) (requests : List Request) → IsWireRequest r → IsNoted (accepted s r) requests → move_of s r ≡ Retry → request_at r.number requests ≡ Some r.request
+retried_is : (s : SessionState) (r : WireRequest) (requests : List Request) → IsWireRequest r → IsNoted (accepted s r) requests → move_of s r ≡ Retry → request_at r.number requests ≡ Some r.request
 retried_is s r requests fits n e =
     let moved = not_refused s r e in
     let t = raised s r.floor in
@@ -158,13 +158,13 @@ retried_is s r requests fits n e =
 module _ {A : Type 0} (answers : A → Question → Asked → A → Type 0) (asked_of : A → List Request)
     (notes : (a b : A) (q : Question) (x : Asked) → answers a q x b → x ≢ asked.Memory → asked_of b ≡ asked_with q (asked_of a))
     (kind : (a b : A) (q : Question) (x : Asked) → answers a q x b → IsReplyTo x (request_asked q (asked_of a))) where
-  record Goes (m : Move) (t : State) (a : A) (r : WireRequest) (given : List Asked) (qs : List Question) (c : A) : Type 0 where
+  record Goes (m : Move) (t : SessionState) (a : A) (r : WireRequest) (given : List Asked) (qs : List Question) (c : A) : Type 0 where
     after : A
     noted : IsNoted (react m t r given).state (asked_of after)
     rest : AreAnswers answers after qs (react m t r given).unused c
     fits : (pairs : List (Request × Asked)) → AllByRecursion IsPaired pairs → AllByRecursion IsPaired (and_pair (question_of m r) r given pairs)
 
-  goes : (m : Move) (s : State) (a : A) (r : WireRequest) (given : List Asked) (qs : List Question) (c : A) → move_of s r ≡ m → IsWireRequest r → IsNoted (accepted s r) (asked_of a) → AreAnswers answers a (and_then (question_of m r) qs) given c → Goes m (accepted s r) a r given qs c
+  goes : (m : Move) (s : SessionState) (a : A) (r : WireRequest) (given : List Asked) (qs : List Question) (c : A) → move_of s r ≡ m → IsWireRequest r → IsNoted (accepted s r) (asked_of a) → AreAnswers answers a (and_then (question_of m r) qs) given c → Goes m (accepted s r) a r given qs c
   goes (Refuse code) s a r given qs c e whole n h = record { after = a; noted = n; rest = h; fits = λ pairs all. all }
   goes Again s a r given qs c e whole n h = record { after = a; noted = n; rest = h; fits = λ pairs all. all }
   goes Ask s a r [] qs c e whole n h = absurd h
@@ -186,7 +186,7 @@ module _ {A : Type 0} (answers : A → Question → Asked → A → Type 0) (ask
         fits = λ pairs all. (subst (IsReplyTo x) (retried_is s r (asked_of a) whole n e) (kind a h.0 (question.Retry r.number) x h.1), all);
       }
 
-  all_fit : (s : State) (a : A) (rs : List WireRequest) (given : List Asked) (b : A) → AllByRecursion IsWireRequest rs → IsNoted s (asked_of a) → AreAnswers answers a (questions s rs given) given b → AllByRecursion IsPaired (answered_requests s rs given)
+  all_fit : (s : SessionState) (a : A) (rs : List WireRequest) (given : List Asked) (b : A) → AllByRecursion IsWireRequest rs → IsNoted s (asked_of a) → AreAnswers answers a (questions s rs given) given b → AllByRecursion IsPaired (answered_requests s rs given)
   unfolding questions answered_requests
   all_fit s a [] given b whole n h = tt
   all_fit s a (r ∷ rs) given b whole n h =

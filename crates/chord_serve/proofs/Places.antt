@@ -1,7 +1,7 @@
 -- The reply frame at a place.
 use Rattle.std.proofs.Common.{◌≡◌, ℕ, zero, suc, ◌<◌, List, [], ◌∷◌, length, get_or, set, Some, ap, arith}
 use Rattle.chord_serve.specs.declared.kept.Kept.{Kept}
-use Rattle.chord_serve.specs.State.{State}
+use Rattle.chord_serve.specs.SessionState.{SessionState}
 use Rattle.chord_serve.specs.Session.{frame_at}
 
 -- with this frame
@@ -14,5 +14,5 @@ set_frame (x ∷ kept) zero k frame lt e = ap (λ (y : Kept). framed y frame ∷
 set_frame (x ∷ kept) (suc place) k frame lt e = ap (λ (ys : List Kept). x ∷ ys) (set_frame kept place k frame (omega arith) e)
 
 -- a state of these parts
-abbrev pub state_of : ℕ → List Kept → State
+abbrev pub state_of : ℕ → List Kept → SessionState
 state_of floor kept = record { floor = floor; kept = kept }

@@ -6,65 +6,65 @@ use Rattle.chord_serve.specs.declared.session.Move.{Move}
 use Rattle.chord_serve.specs.declared.session.Move.TheVariants.{Refuse, Again, Ask, Retry}
 use Rattle.chord_serve.specs.Question.{Question}
 use Rattle.chord_serve.specs.Question as question
-use Rattle.chord_serve.specs.State.{State}
+use Rattle.chord_serve.specs.SessionState.{SessionState}
 use Rattle.chord_serve.specs.Session.{accepted, added, move_of}
 use Rattle.chord_serve.specs.Output.{Reaction, reaction, react, question_of, and_then, told, written, state_after, questions, AreAnswers}
 use Rattle.chord_serve.specs.Steps.{Asks, Does, Step}
 
 module _ {A : Type 0} (answers : A → Question → Asked → A → Type 0) where
   -- one step after another, for each request in order
-  abbrev pub Serves : State → A → List WireRequest → List ℕ → State → A → Type 0
+  abbrev pub Serves : SessionState → A → List WireRequest → List ℕ → SessionState → A → Type 0
   Serves s a [] output s' a' = (output ≡ []) × (s' ≡ s) × (a' ≡ a)
-  Serves s a (r ∷ rs) output s' a' = (bytes : List ℕ) × (more : List ℕ) × (mid : State) × (b : A) × Step answers s a r bytes mid b × Serves mid b rs more s' a' × (output ≡ bytes ++ more)
+  Serves s a (r ∷ rs) output s' a' = (bytes : List ℕ) × (more : List ℕ) × (mid : SessionState) × (b : A) × Step answers s a r bytes mid b × Serves mid b rs more s' a' × (output ≡ bytes ++ more)
 
-  pub Serves-append : (s : State) (a : A) (rs ts : List WireRequest) (x y : List ℕ) (t u : State) (b c : A) → Serves s a rs x t b → Serves t b ts y u c → Serves s a (rs ++ ts) (x ++ y) u c
+  pub Serves-append : (s : SessionState) (a : A) (rs ts : List WireRequest) (x y : List ℕ) (t u : SessionState) (b c : A) → Serves s a rs x t b → Serves t b ts y u c → Serves s a (rs ++ ts) (x ++ y) u c
   Serves-append s a [] ts x y t u b c p q =
-      subst (λ (w : List ℕ). Serves s a ts (w ++ y) u c) (sym p.0) (subst (λ (r : State). Serves r a ts y u c) p.1 (subst (λ (d : A). Serves t d ts y u c) p.2 q))
+      subst (λ (w : List ℕ). Serves s a ts (w ++ y) u c) (sym p.0) (subst (λ (r : SessionState). Serves r a ts y u c) p.1 (subst (λ (d : A). Serves t d ts y u c) p.2 q))
   Serves-append s a (r ∷ rs) ts x y t u b c p q =
       (p.0, p.1 ++ y, p.2, p.3, p.4, Serves-append p.2 p.3 rs ts p.1 y t u b c p.5 q, ap (λ (w : List ℕ). w ++ y) p.6 ∙ append_assoc p.0 p.1 y)
 
   -- ---- from steps to the functions
 
-  abbrev made : List ℕ → State → List Asked → Reaction
+  abbrev made : List ℕ → SessionState → List Asked → Reaction
   made bytes s unused = record { bytes = bytes; state = s; unused = unused }
 
   -- answers that begin with those of this move make of it what was done
-  record Reacts (m : Move) (t : State) (a : A) (r : WireRequest) (bytes : List ℕ) (mid : State) (b : A) (unused : List Asked) : Type 0 where
+  record Reacts (m : Move) (t : SessionState) (a : A) (r : WireRequest) (bytes : List ℕ) (mid : SessionState) (b : A) (unused : List Asked) : Type 0 where
     given : List Asked
     same : react m t r given ≡ made bytes mid unused
     more : (qs : List Question) (c : A) → AreAnswers answers b qs unused c → AreAnswers answers a (and_then (question_of m r) qs) given c
 
-  asks_reacts : (s : State) (a : A) (q : Question) (r : WireRequest) (bytes : List ℕ) (mid : State) (b : A) (unused : List Asked) (m : Move) (t : State)
+  asks_reacts : (s : SessionState) (a : A) (q : Question) (r : WireRequest) (bytes : List ℕ) (mid : SessionState) (b : A) (unused : List Asked) (m : Move) (t : SessionState)
       → ((x : Asked) → react m t r (x ∷ unused) ≡ react Retry s r (x ∷ unused)) → question_of m r ≡ Some q
       → Asks answers s a q r.number bytes mid b → Reacts m t a r bytes mid b unused
   asks_reacts s a q r bytes mid b unused m t e qe p = record {
     given = p.answer ∷ unused;
-    same = e p.answer ∙ ap (λ (x : List ℕ). made x (told s r.number p.answer) unused) (sym p.bytes_are) ∙ ap (λ (x : State). made bytes x unused) (sym p.state_is);
+    same = e p.answer ∙ ap (λ (x : List ℕ). made x (told s r.number p.answer) unused) (sym p.bytes_are) ∙ ap (λ (x : SessionState). made bytes x unused) (sym p.state_is);
     more = λ qs c h. subst (λ (o : Option Question). AreAnswers answers a (and_then o qs) (p.answer ∷ unused) c) (sym qe) (b, p.asks, p.not_memory, h);
   }
 
-  reacts : (m : Move) (t : State) (a : A) (r : WireRequest) (bytes : List ℕ) (mid : State) (b : A) (unused : List Asked) → Does answers m t a r bytes mid b → Reacts m t a r bytes mid b unused
+  reacts : (m : Move) (t : SessionState) (a : A) (r : WireRequest) (bytes : List ℕ) (mid : SessionState) (b : A) (unused : List Asked) → Does answers m t a r bytes mid b → Reacts m t a r bytes mid b unused
   reacts (Refuse code) t a r bytes mid b unused p = record {
     given = unused;
-    same = ap (λ (x : List ℕ). made x t unused) (sym p.0) ∙ ap (λ (x : State). made bytes x unused) (sym p.1);
+    same = ap (λ (x : List ℕ). made x t unused) (sym p.0) ∙ ap (λ (x : SessionState). made bytes x unused) (sym p.1);
     more = λ qs c h. subst (λ (x : A). AreAnswers answers x qs unused c) p.2 h;
   }
   reacts Again t a r bytes mid b unused p = record {
     given = unused;
-    same = ap (λ (x : List ℕ). made x t unused) (sym p.0) ∙ ap (λ (x : State). made bytes x unused) (sym p.1);
+    same = ap (λ (x : List ℕ). made x t unused) (sym p.0) ∙ ap (λ (x : SessionState). made bytes x unused) (sym p.1);
     more = λ qs c h. subst (λ (x : A). AreAnswers answers x qs unused c) p.2 h;
   }
   reacts Ask t a r bytes mid b unused p = asks_reacts (added t r.request) a (question.Ask r.request) r bytes mid b unused Ask t (λ x. refl) refl p
   reacts Retry t a r bytes mid b unused p = asks_reacts t a (question.Retry r.number) r bytes mid b unused Retry t (λ x. refl) refl p
 
   -- the answers with which the functions say what was done
-  pub record Functional (s : State) (a : A) (rs : List WireRequest) (output : List ℕ) (s' : State) (a' : A) : Type 0 where
+  pub record Functional (s : SessionState) (a : A) (rs : List WireRequest) (output : List ℕ) (s' : SessionState) (a' : A) : Type 0 where
     pub given : List Asked
     pub output_is : output ≡ written s rs given
     pub state_is : s' ≡ state_after s rs given
     pub answered : AreAnswers answers a (questions s rs given) given a'
 
-  pub as_function : (s : State) (a : A) (rs : List WireRequest) (output : List ℕ) (s' : State) (a' : A) → Serves s a rs output s' a' → Functional s a rs output s' a'
+  pub as_function : (s : SessionState) (a : A) (rs : List WireRequest) (output : List ℕ) (s' : SessionState) (a' : A) → Serves s a rs output s' a' → Functional s a rs output s' a'
   unfolding written state_after questions
   as_function s a [] output s' a' p = record { given = []; output_is = p.0; state_is = p.1; answered = p.2 }
   as_function s a (r ∷ rs) output s' a' p =
@@ -79,10 +79,10 @@ module _ {A : Type 0} (answers : A → Question → Asked → A → Type 0) wher
 
   -- ---- and back
 
-  abbrev Done : Move → State → A → WireRequest → List Question → List Asked → A → Type 0
+  abbrev Done : Move → SessionState → A → WireRequest → List Question → List Asked → A → Type 0
   Done m t a r qs given c = (b : A) × Does answers m t a r (react m t r given).bytes (react m t r given).state b × AreAnswers answers b qs (react m t r given).unused c
 
-  does : (m : Move) (t : State) (a : A) (r : WireRequest) (qs : List Question) (given : List Asked) (c : A) → AreAnswers answers a (and_then (question_of m r) qs) given c → Done m t a r qs given c
+  does : (m : Move) (t : SessionState) (a : A) (r : WireRequest) (qs : List Question) (given : List Asked) (c : A) → AreAnswers answers a (and_then (question_of m r) qs) given c → Done m t a r qs given c
   does (Refuse code) t a r qs given c h = (a, (refl, refl, refl), h)
   does Again t a r qs given c h = (a, (refl, refl, refl), h)
   does Ask t a r qs [] c h = absurd h
@@ -90,7 +90,7 @@ module _ {A : Type 0} (answers : A → Question → Asked → A → Type 0) wher
   does Retry t a r qs [] c h = absurd h
   does Retry t a r qs (x ∷ given) c h = (h.0, record { answer = x; not_memory = h.2; asks = h.1; bytes_are = refl; state_is = refl }, h.3)
 
-  pub as_relation : (s : State) (a : A) (rs : List WireRequest) (given : List Asked) (a' : A) → AreAnswers answers a (questions s rs given) given a' → Serves s a rs (written s rs given) (state_after s rs given) a'
+  pub as_relation : (s : SessionState) (a : A) (rs : List WireRequest) (given : List Asked) (a' : A) → AreAnswers answers a (questions s rs given) given a' → Serves s a rs (written s rs given) (state_after s rs given) a'
   unfolding written state_after questions
   as_relation s a [] [] a' h = (refl, refl, h)
   as_relation s a [] (x ∷ given) a' h = absurd h
@@ -99,6 +99,6 @@ module _ {A : Type 0} (answers : A → Question → Asked → A → Type 0) wher
       let d = does (move_of s r) (accepted s r) a r (questions x.state rs x.unused) given a' h in
       (x.bytes, written x.state rs x.unused, x.state, d.0, d.1, as_relation x.state d.0 rs x.unused a' d.2, refl)
 
-  pub serves : (s : State) (a : A) (rs : List WireRequest) (output : List ℕ) (s' : State) (a' : A) → Functional s a rs output s' a' → Serves s a rs output s' a'
+  pub serves : (s : SessionState) (a : A) (rs : List WireRequest) (output : List ℕ) (s' : SessionState) (a' : A) → Functional s a rs output s' a' → Serves s a rs output s' a'
   serves s a rs output s' a' f =
-      subst (λ (w : List ℕ). Serves s a rs w s' a') (sym f.output_is) (subst (λ (t : State). Serves s a rs (written s rs f.given) t a') (sym f.state_is) (as_relation s a rs f.given a' f.answered))
+      subst (λ (w : List ℕ). Serves s a rs w s' a') (sym f.output_is) (subst (λ (t : SessionState). Serves s a rs (written s rs f.given) t a') (sym f.state_is) (as_relation s a rs f.given a' f.answered))

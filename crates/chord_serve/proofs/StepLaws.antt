@@ -16,7 +16,7 @@ use Rattle.chord_serve.specs.declared.session.Move.TheVariants.{Refuse, Again, A
 use Rattle.std.specs.declared.alloc.AllocError.{AllocError}
 use Rattle.chord_serve.specs.Question.{Question}
 use Rattle.chord_serve.specs.Question as question
-use Rattle.chord_serve.specs.State.{State}
+use Rattle.chord_serve.specs.SessionState.{SessionState}
 use Rattle.chord_serve.specs.Session.{accepted, added, repeated, move_of}
 use Rattle.chord_serve.specs.Writes.{Joins}
 use Rattle.chord_serve.specs.Output.{frame_of, told, question_of}
@@ -33,7 +33,7 @@ some_request : (x y : Request) → given x ≡ given y → x ≡ y
 some_request x y e = cc
 
 -- the request that was added last
-pub newest_is : (s : State) (request x : Request) → option_map (λ (k : Kept). k.request) (slice_get (added s request).kept (length (added s request).kept - 1)) ≡ Some x → x ≡ request
+pub newest_is : (s : SessionState) (request x : Request) → option_map (λ (k : Kept). k.request) (slice_get (added s request).kept (length (added s request).kept - 1)) ≡ Some x → x ≡ request
 newest_is s request x e =
     let k : Kept = record { request = request; frame = None } in
     let place : length (s.kept ++ k ∷ []) - 1 ≡ length s.kept = omega (arith, length-append s.kept (k ∷ [])) in
@@ -42,29 +42,29 @@ newest_is s request x e =
 
 module _ {A : Type 0} (answers : A → Question → Asked → A → Type 0) where
   -- the move and the session that the code has are those of the definition
-  with_move : (m : Move) (mid s : State) (a : A) (r : WireRequest) (bytes : List ℕ) (s' : State) (a' : A) → m ≡ move_of s r → mid ≡ accepted s r → Does answers m mid a r bytes s' a' → Step answers s a r bytes s' a'
+  with_move : (m : Move) (mid s : SessionState) (a : A) (r : WireRequest) (bytes : List ℕ) (s' : SessionState) (a' : A) → m ≡ move_of s r → mid ≡ accepted s r → Does answers m mid a r bytes s' a' → Step answers s a r bytes s' a'
   with_move m mid s a r bytes s' a' e t h =
-      subst (λ (n : Move). Does answers n (accepted s r) a r bytes s' a') e (subst (λ (u : State). Does answers m u a r bytes s' a') t h)
+      subst (λ (n : Move). Does answers n (accepted s r) a r bytes s' a') e (subst (λ (u : SessionState). Does answers m u a r bytes s' a') t h)
 
   -- a step that asks nothing, of which these bytes were to join those that are due
-  joined : (result : Result (Unit {0}) AllocError) (m : Move) (s : State) (a : A) (r : WireRequest) (bytes : List ℕ) (s' : State) (old new : List ℕ)
+  joined : (result : Result (Unit {0}) AllocError) (m : Move) (s : SessionState) (a : A) (r : WireRequest) (bytes : List ℕ) (s' : SessionState) (old new : List ℕ)
       → m ≡ move_of s r → question_of m r ≡ None → Step answers s a r bytes s' a → Joins result old new bytes → Deals answers result s a r old new s' a
   joined (Ok done) m s a r bytes s' old new e none step w = (bytes, step, w)
   joined (Err refused) m s a r bytes s' old new e none step w =
       (w, subst (λ (o : Option Question). MayAsk answers o a a) (sym none ∙ ap (λ (n : Move). question_of n r) e) refl)
 
-  pub refuses : (result : Result (Unit {0}) AllocError) (code : FaultCode) (s mid : State) (a : A) (r : WireRequest) (old new : List ℕ) → Refuse code ≡ move_of s r → mid ≡ accepted s r → Joins result old new (frame (fault_body r.number code)) → Deals answers result s a r old new mid a
+  pub refuses : (result : Result (Unit {0}) AllocError) (code : FaultCode) (s mid : SessionState) (a : A) (r : WireRequest) (old new : List ℕ) → Refuse code ≡ move_of s r → mid ≡ accepted s r → Joins result old new (frame (fault_body r.number code)) → Deals answers result s a r old new mid a
   refuses result code s mid a r old new e t w =
       joined result (Refuse code) s a r (frame (fault_body r.number code)) mid old new e refl (with_move (Refuse code) mid s a r (frame (fault_body r.number code)) mid a e t (refl, refl, refl)) w
 
-  pub repeats : (result : Result (Unit {0}) AllocError) (bytes : List ℕ) (s mid : State) (a : A) (r : WireRequest) (old new : List ℕ) → Again ≡ move_of s r → mid ≡ accepted s r → bytes ≡ repeated mid r.number → Joins result old new bytes → Deals answers result s a r old new mid a
+  pub repeats : (result : Result (Unit {0}) AllocError) (bytes : List ℕ) (s mid : SessionState) (a : A) (r : WireRequest) (old new : List ℕ) → Again ≡ move_of s r → mid ≡ accepted s r → bytes ≡ repeated mid r.number → Joins result old new bytes → Deals answers result s a r old new mid a
   repeats result bytes s mid a r old new e t there w =
       joined result Again s a r bytes mid old new e refl (with_move Again mid s a r bytes mid a e t (there, refl, refl)) w
 
   -- a question was asked, and its answer told
-  told_deals : (result : Result (Unit {0}) AllocError) (answer : Asked) (q : Question) (before after s : State) (a a' : A) (r : WireRequest) (old new : List ℕ)
+  told_deals : (result : Result (Unit {0}) AllocError) (answer : Asked) (q : Question) (before after s : SessionState) (a a' : A) (r : WireRequest) (old new : List ℕ)
       → question_of (move_of s r) r ≡ Some q
-      → ((bytes : List ℕ) (s' : State) → Asks answers before a q r.number bytes s' a' → Step answers s a r bytes s' a')
+      → ((bytes : List ℕ) (s' : SessionState) → Asks answers before a q r.number bytes s' a' → Step answers s a r bytes s' a')
       → answers a q answer a'
       → Joins result old new (frame_of r.number answer)
       → OnOk result (after ≡ told before r.number answer)
@@ -75,7 +75,7 @@ module _ {A : Type 0} (answers : A → Question → Asked → A → Type 0) wher
   told_deals (Err refused) answer q before after s a a' r old new asks step answered w t ok =
       (w, subst (λ (o : Option Question). MayAsk answers o a a') (sym asks) (inr (answer, answered)))
 
-  pub asks_new : (result : Result (Unit {0}) AllocError) (answer : Asked) (asked_for : Request) (mid before after s : State) (a a' : A) (r : WireRequest) (old new : List ℕ)
+  pub asks_new : (result : Result (Unit {0}) AllocError) (answer : Asked) (asked_for : Request) (mid before after s : SessionState) (a a' : A) (r : WireRequest) (old new : List ℕ)
       → Ask ≡ move_of s r → mid ≡ accepted s r → before ≡ added mid r.request → asked_for ≡ r.request
       → answers a (question.Ask asked_for) answer a'
       → Joins result old new (frame_of r.number answer)
@@ -84,10 +84,10 @@ module _ {A : Type 0} (answers : A → Question → Asked → A → Type 0) wher
       → Deals answers result s a r old new after a'
   asks_new result answer asked_for mid before after s a a' r old new e t b same answered w ok1 ok2 =
       told_deals result answer (question.Ask r.request) before after s a a' r old new (ap (λ (m : Move). question_of m r) (sym e))
-      (λ bytes s' h. with_move Ask mid s a r bytes s' a' e t (subst (λ (u : State). Asks answers u a (question.Ask r.request) r.number bytes s' a') b h))
+      (λ bytes s' h. with_move Ask mid s a r bytes s' a' e t (subst (λ (u : SessionState). Asks answers u a (question.Ask r.request) r.number bytes s' a') b h))
       (subst (λ (x : Request). answers a (question.Ask x) answer a') same answered) w ok1 ok2
 
-  pub asks_again : (result : Result (Unit {0}) AllocError) (answer : Asked) (mid after s : State) (a a' : A) (r : WireRequest) (old new : List ℕ)
+  pub asks_again : (result : Result (Unit {0}) AllocError) (answer : Asked) (mid after s : SessionState) (a a' : A) (r : WireRequest) (old new : List ℕ)
       → Retry ≡ move_of s r → mid ≡ accepted s r
       → answers a (question.Retry r.number) answer a'
       → Joins result old new (frame_of r.number answer)

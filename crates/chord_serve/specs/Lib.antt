@@ -1,5 +1,5 @@
 pub mod Question
-pub mod State
+pub mod SessionState
 pub mod Session
 pub mod Output
 pub mod Writes

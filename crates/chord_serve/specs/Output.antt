@@ -11,7 +11,7 @@ use Rattle.chord_serve.specs.declared.session.Move.{Move}
 use Rattle.chord_serve.specs.declared.session.Move.TheVariants.{Refuse, Again, Ask, Retry}
 use Rattle.chord_serve.specs.Question.{Question, IsReplyTo}
 use Rattle.chord_serve.specs.Question as question
-use Rattle.chord_serve.specs.State.{State}
+use Rattle.chord_serve.specs.SessionState.{SessionState}
 use Rattle.chord_serve.specs.Session.{accepted, added, answered_at, repeated, move_of}
 
 -- the frame that an answer is written as
@@ -22,7 +22,7 @@ frame_of number asked.NoAnswer = frame (fault_body number fault.NoAnswer)
 frame_of number asked.Memory = []
 
 -- the session once the number got this answer: a reply is kept
-abbrev pub told : State → ℕ → Asked → State
+abbrev pub told : SessionState → ℕ → Asked → SessionState
 told s number (asked.Reply reply) = answered_at s number (frame (reply_body number reply))
 told s number asked.Full = s
 told s number asked.NoAnswer = s
@@ -31,23 +31,23 @@ told s number asked.Memory = s
 -- what is written for a request, the session then, and the answers that are left for later questions
 pub record Reaction : Type 0 where
   pub bytes : List ℕ
-  pub state : State
+  pub state : SessionState
   pub unused : List Asked
 
 -- a question takes the next answer
-abbrev pub on_answer : State → ℕ → List Asked → Reaction
+abbrev pub on_answer : SessionState → ℕ → List Asked → Reaction
 on_answer s number [] = record { bytes = []; state = s; unused = [] }
 on_answer s number (answer ∷ more) = record { bytes = frame_of number answer; state = told s number answer; unused = more }
 
 -- what comes of a move
-abbrev pub react : Move → State → WireRequest → List Asked → Reaction
+abbrev pub react : Move → SessionState → WireRequest → List Asked → Reaction
 react (Refuse code) s r given = record { bytes = frame (fault_body r.number code); state = s; unused = given }
 react Again s r given = record { bytes = repeated s r.number; state = s; unused = given }
 react Ask s r given = on_answer (added s r.request) r.number given
 react Retry s r given = on_answer s r.number given
 
 -- what comes of a request
-abbrev pub reaction : State → WireRequest → List Asked → Reaction
+abbrev pub reaction : SessionState → WireRequest → List Asked → Reaction
 reaction s r given = react (move_of s r) (accepted s r) r given
 
 -- the question of a move, where it has one
@@ -62,17 +62,17 @@ and_then None questions = questions
 and_then (Some q) questions = q ∷ questions
 
 -- all that is written
-unfoldable pub written : State → List WireRequest → List Asked → List ℕ
+unfoldable pub written : SessionState → List WireRequest → List Asked → List ℕ
 written s [] given = []
 written s (r ∷ requests) given = (reaction s r given).bytes ++ written (reaction s r given).state requests (reaction s r given).unused
 
 -- the session after all requests
-unfoldable pub state_after : State → List WireRequest → List Asked → State
+unfoldable pub state_after : SessionState → List WireRequest → List Asked → SessionState
 state_after s [] given = s
 state_after s (r ∷ requests) given = state_after (reaction s r given).state requests (reaction s r given).unused
 
 -- all that is asked, in order
-unfoldable pub questions : State → List WireRequest → List Asked → List Question
+unfoldable pub questions : SessionState → List WireRequest → List Asked → List Question
 questions s [] given = []
 questions s (r ∷ requests) given = and_then (question_of (move_of s r) r) (questions (reaction s r given).state requests (reaction s r given).unused)
 
@@ -90,7 +90,7 @@ and_pair (Some q) r [] pairs = pairs
 and_pair (Some q) r (x ∷ given) pairs = (r.request, x) ∷ pairs
 
 -- the requests whose questions were answered, in order, each with its answer
-unfoldable pub answered_requests : State → List WireRequest → List Asked → List (Request × Asked)
+unfoldable pub answered_requests : SessionState → List WireRequest → List Asked → List (Request × Asked)
 answered_requests s [] given = []
 answered_requests s (r ∷ requests) given =
     and_pair (question_of (move_of s r) r) r given (answered_requests (reaction s r given).state requests (reaction s r given).unused)

@@ -13,7 +13,7 @@ use Rattle.chord_serve.specs.declared.asker.Asked.{Asked}
 use Rattle.chord_serve.specs.declared.served.Served.{Served}
 use Rattle.chord_serve.specs.declared.served.Served.TheVariants as served
 use Rattle.chord_serve.specs.Question.{Question}
-use Rattle.chord_serve.specs.State.{State}
+use Rattle.chord_serve.specs.SessionState.{SessionState}
 use Rattle.chord_serve.specs.Session.{move_of}
 use Rattle.chord_serve.specs.declared.connection.Connection.{Connection}
 use Rattle.chord_serve.specs.Output.{written, state_after, questions, question_of, AreAnswers}
@@ -35,7 +35,7 @@ AreOfVersion before (r ∷ rs) after = (is_other before r.version ≡ false) × 
 module _ {A : Type 0} (answers : A → Question → Asked → A → Type 0) where
   -- The front of the bytes spells requests. Their questions were asked once each, in order, and answered so; what these
   -- answers make of them was written, and nothing else.
-  pub record Dealt (v : Option ℕ) (s : State) (a : A) (bytes output rest : List ℕ) (v' : Option ℕ) (s' : State) (a' : A) : Type 0 where
+  pub record Dealt (v : Option ℕ) (s : SessionState) (a : A) (bytes output rest : List ℕ) (v' : Option ℕ) (s' : SessionState) (a' : A) : Type 0 where
     pub requests : List WireRequest
     pub given : List Asked
     pub spelled : Spells bytes requests rest
@@ -50,24 +50,24 @@ module _ {A : Type 0} (answers : A → Question → Asked → A → Type 0) wher
       ⊎ ((r : WireRequest) × (after : List ℕ) × (next_request rest ≡ Ok (Some (r, after))) × (is_other v r.version ≡ true) × (f ≡ fault BadVersion 0))
 
   -- some requests were dealt with, and the bytes behind them refused
-  pub record Refuses (v : Option ℕ) (s : State) (a : A) (bytes output : List ℕ) (f : WireFault) (a' : A) : Type 0 where
+  pub record Refuses (v : Option ℕ) (s : SessionState) (a : A) (bytes output : List ℕ) (f : WireFault) (a' : A) : Type 0 where
     pub before : List ℕ
     pub rest : List ℕ
     pub version : Option ℕ
-    pub state : State
+    pub state : SessionState
     pub dealt : Dealt v s a bytes before rest version state a'
     pub refused : IsRefused version rest f
     pub output_is : output ≡ before ++ fault_frame f
 
   -- all whole requests were dealt with
-  pub record DealsWithAll (v : Option ℕ) (s : State) (a : A) (bytes output rest : List ℕ) (a' : A) : Type 0 where
+  pub record DealsWithAll (v : Option ℕ) (s : SessionState) (a : A) (bytes output rest : List ℕ) (a' : A) : Type 0 where
     pub version : Option ℕ
-    pub state : State
+    pub state : SessionState
     pub dealt : Dealt v s a bytes output rest version state a'
     pub undecided : next_request rest ≡ Ok None
 
   -- the question of the request that is next, which was asked last and is not answered in bytes
-  pub record AsksNext (v : Option ℕ) (s : State) (a : A) (rest : List ℕ) (a' : A) : Type 0 where
+  pub record AsksNext (v : Option ℕ) (s : SessionState) (a : A) (rest : List ℕ) (a' : A) : Type 0 where
     pub request : WireRequest
     pub behind : List ℕ
     pub question : Question
@@ -78,17 +78,17 @@ module _ {A : Type 0} (answers : A → Question → Asked → A → Type 0) wher
     pub asks : answers a question answer a'
 
   -- some requests were dealt with, and the question of the next one was asked or not
-  pub record StopsAfter (v : Option ℕ) (s : State) (a : A) (bytes output : List ℕ) (a' : A) : Type 0 where
+  pub record StopsAfter (v : Option ℕ) (s : SessionState) (a : A) (bytes output : List ℕ) (a' : A) : Type 0 where
     pub rest : List ℕ
     pub version : Option ℕ
-    pub state : State
+    pub state : SessionState
     pub asker : A
     pub dealt : Dealt v s a bytes output rest version state asker
     pub last : (a' ≡ asker) ⊎ AsksNext version state asker rest a'
 
   -- How a session stands to its input and output where it ended so. At Write a front was written of what was due, also
   -- where memory ran out first or a frame was refused.
-  abbrev pub IsServed : Served → Option ℕ → State → A → List ℕ → List ℕ → A → Type 0
+  abbrev pub IsServed : Served → Option ℕ → SessionState → A → List ℕ → List ℕ → A → Type 0
   IsServed served.Ended v s a input output a' = DealsWithAll v s a input output [] a'
   IsServed served.Truncated v s a input output a' = (rest : List ℕ) × (0 < length rest) × DealsWithAll v s a input output rest a'
   IsServed served.Read v s a input output a' = (rest : List ℕ) × DealsWithAll v s a input output rest a'

@@ -7,14 +7,14 @@ use Rattle.chord_wire.specs.declared.fault.FaultCode.TheVariants.{BadNumber, Num
 use Rattle.chord_serve.specs.declared.kept.Kept.{Kept}
 use Rattle.chord_serve.specs.declared.session.Move.{Move}
 use Rattle.chord_serve.specs.declared.session.Move.TheVariants as moves
-use Rattle.chord_serve.specs.State.{State}
+use Rattle.chord_serve.specs.SessionState.{SessionState}
 
 -- before the first request
-abbrev pub start : State
+abbrev pub start : SessionState
 start = record { floor = 0; kept = [] }
 
 -- the last number
-abbrev pub last : State → ℕ
+abbrev pub last : SessionState → ℕ
 last s = s.floor + length s.kept
 
 -- how many at the front are answered
@@ -23,23 +23,23 @@ answered_of [] = 0
 answered_of (k ∷ ks) = if is_some k.frame then answered_of ks + 1 else 0
 
 -- the greatest number with all at or below it answered
-abbrev pub answered : State → ℕ
+abbrev pub answered : SessionState → ℕ
 answered s = s.floor + answered_of s.kept
 
 -- a number or a floor out of line
-abbrev pub is_out : State → WireRequest → Bool
+abbrev pub is_out : SessionState → WireRequest → Bool
 is_out s r = r.number == 0 || nat_lt (answered s) r.floor || nat_le r.number s.floor || nat_lt (last s + 1) r.number
 
 -- the floor becomes the greater one, and what is kept at or below it is dropped
-abbrev pub raised : State → ℕ → State
+abbrev pub raised : SessionState → ℕ → SessionState
 raised s floor = record { floor = max s.floor floor; kept = drop (floor - s.floor) s.kept }
 
 -- the session once the request is let in
-abbrev pub accepted : State → WireRequest → State
+abbrev pub accepted : SessionState → WireRequest → SessionState
 accepted s r = if is_out s r then s else raised s r.floor
 
 -- where the number stands among those that are kept
-abbrev pub place_of : State → ℕ → ℕ
+abbrev pub place_of : SessionState → ℕ → ℕ
 place_of s number = number - s.floor - 1
 
 -- what was asked before is written again or asked again; another request is refused
@@ -48,11 +48,11 @@ move_at None request = moves.Ask
 move_at (Some k) request = if same_request k.request request then (if is_some k.frame then moves.Again else moves.Retry) else moves.Refuse NumberReused
 
 -- what a request calls for
-abbrev pub move_of : State → WireRequest → Move
+abbrev pub move_of : SessionState → WireRequest → Move
 move_of s r = if is_out s r then moves.Refuse BadNumber else move_at (slice_get (raised s r.floor).kept (place_of (raised s r.floor) r.number)) r.request
 
 -- with a request that is not answered yet
-abbrev pub added : State → Request → State
+abbrev pub added : SessionState → Request → SessionState
 added s request = record { floor = s.floor; kept = s.kept ++ record { request = request; frame = None } ∷ [] }
 
 -- with the reply frame at a place
@@ -62,11 +62,11 @@ frame_at (k ∷ ks) zero frame = record { request = k.request; frame = Some fram
 frame_at (k ∷ ks) (suc place) frame = k ∷ frame_at ks place frame
 
 -- with the reply frame of a number
-abbrev pub answered_at : State → ℕ → List ℕ → State
+abbrev pub answered_at : SessionState → ℕ → List ℕ → SessionState
 answered_at s number frame = record { floor = s.floor; kept = frame_at s.kept (place_of s number) frame }
 
 -- the reply frame of a number, where one is kept
-abbrev pub frame_kept : State → ℕ → Option (List ℕ)
+abbrev pub frame_kept : SessionState → ℕ → Option (List ℕ)
 frame_kept s number = option_and_then (λ (k : Kept). k.frame) (slice_get s.kept (place_of s number))
 
 abbrev pub bytes_of : Option (List ℕ) → List ℕ
@@ -74,5 +74,5 @@ bytes_of None = []
 bytes_of (Some bytes) = bytes
 
 -- the bytes that are written again for a number
-abbrev pub repeated : State → ℕ → List ℕ
+abbrev pub repeated : SessionState → ℕ → List ℕ
 repeated s number = bytes_of (frame_kept s number)

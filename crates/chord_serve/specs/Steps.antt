@@ -10,13 +10,13 @@ use Rattle.chord_serve.specs.declared.session.Move.{Move}
 use Rattle.chord_serve.specs.declared.session.Move.TheVariants.{Refuse, Again, Ask, Retry}
 use Rattle.chord_serve.specs.Question.{Question}
 use Rattle.chord_serve.specs.Question as question
-use Rattle.chord_serve.specs.State.{State}
+use Rattle.chord_serve.specs.SessionState.{SessionState}
 use Rattle.chord_serve.specs.Session.{accepted, added, repeated, move_of}
 use Rattle.chord_serve.specs.Output.{frame_of, told, question_of}
 
 module _ {A : Type 0} (answers : A → Question → Asked → A → Type 0) where
   -- the question is asked once, and its answer is what is written and kept
-  pub record Asks (s : State) (a : A) (q : Question) (number : ℕ) (bytes : List ℕ) (s' : State) (a' : A) : Type 0 where
+  pub record Asks (s : SessionState) (a : A) (q : Question) (number : ℕ) (bytes : List ℕ) (s' : SessionState) (a' : A) : Type 0 where
     pub answer : Asked
     pub not_memory : answer ≢ asked.Memory
     pub asks : answers a q answer a'
@@ -24,14 +24,14 @@ module _ {A : Type 0} (answers : A → Question → Asked → A → Type 0) wher
     pub state_is : s' ≡ told s number answer
 
   -- a move from a session that let the request in
-  abbrev pub Does : Move → State → A → WireRequest → List ℕ → State → A → Type 0
+  abbrev pub Does : Move → SessionState → A → WireRequest → List ℕ → SessionState → A → Type 0
   Does (Refuse code) s a r bytes s' a' = (bytes ≡ frame (fault_body r.number code)) × (s' ≡ s) × (a' ≡ a)
   Does Again s a r bytes s' a' = (bytes ≡ repeated s r.number) × (s' ≡ s) × (a' ≡ a)
   Does Ask s a r bytes s' a' = Asks (added s r.request) a (question.Ask r.request) r.number bytes s' a'
   Does Retry s a r bytes s' a' = Asks s a (question.Retry r.number) r.number bytes s' a'
 
   -- what is written for one request, and the session and the asker after it
-  abbrev pub Step : State → A → WireRequest → List ℕ → State → A → Type 0
+  abbrev pub Step : SessionState → A → WireRequest → List ℕ → SessionState → A → Type 0
   Step s a r bytes s' a' = Does (move_of s r) (accepted s r) a r bytes s' a'
 
   -- the question, if there is one, was asked or not
@@ -40,6 +40,6 @@ module _ {A : Type 0} (answers : A → Question → Asked → A → Type 0) wher
   MayAsk (Some q) a a' = (a' ≡ a) ⊎ ((answer : Asked) × answers a q answer a')
 
   -- a step, whose bytes joined those that are due; where there was no memory, none did
-  abbrev pub Deals : Result (Unit {0}) AllocError → State → A → WireRequest → List ℕ → List ℕ → State → A → Type 0
+  abbrev pub Deals : Result (Unit {0}) AllocError → SessionState → A → WireRequest → List ℕ → List ℕ → SessionState → A → Type 0
   Deals (Ok done) s a r old new s' a' = (bytes : List ℕ) × Step s a r bytes s' a' × (new ≡ old ++ bytes)
   Deals (Err refused) s a r old new s' a' = (new ≡ old) × MayAsk (question_of (move_of s r) r) a a'

@@ -13,15 +13,22 @@ use chord_map::Request;
 use chord_wire::{Answer, Answers, FaultCode, write_request, write_request_2};
 use std::alloc::Global;
 use std::io::{Read, Write};
+use thiserror::Error;
 
 /// Why a call has no answer.
-#[derive(Clone, Copy, Debug, PartialEq, Eq)]
+#[derive(Clone, Copy, Debug, PartialEq, Eq, Error)]
 pub enum CallFault {
+    #[error("the request could not be written")]
     Write,
+    #[error("no more could be read")]
     Read,
+    #[error("the other end ended the connection")]
     Ended,
+    #[error("the answer is no frame: {0}")]
     Malformed(FaultCode),
+    #[error("no whole answer came in so many reads")]
     TurnsSpent,
+    #[error("out of memory")]
     Memory,
 }
 

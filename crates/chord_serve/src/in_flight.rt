@@ -15,35 +15,42 @@ use chord_wire::{Answer, Answers, WireRequest, write_request, write_request_2};
 use std::alloc::{AllocError, Global};
 use std::io::{Read, Write};
 use std::marker::Model;
+use thiserror::Error;
 
 /// Why a request was not sent, or not wholly.
-#[derive(Clone, Copy, Debug, PartialEq, Eq)]
+#[derive(Clone, Copy, Debug, PartialEq, Eq, Error)]
 pub enum SendFault {
+    #[error("as many requests as the window holds are in flight")]
     WindowFull,
+    #[error("all numbers are spent")]
     NumbersSpent,
+    #[error("the request could not be written")]
     Write,
+    #[error("out of memory")]
     Memory,
 }
 
 /// Why a request was not sent again, or not wholly.
-#[derive(Clone, Copy, Debug, PartialEq, Eq)]
+#[derive(Clone, Copy, Debug, PartialEq, Eq, Error)]
 pub enum AgainFault {
-    /// No request of this number got a fault and was not sent again since.
+    #[error("no request of this number got a fault and was not sent again since")]
     NotRefused,
+    #[error("the request could not be written")]
     Write,
+    #[error("out of memory")]
     Memory,
 }
 
 /// Why no answer was received.
-#[derive(Clone, Copy, Debug, PartialEq, Eq)]
+#[derive(Clone, Copy, Debug, PartialEq, Eq, Error)]
 pub enum ReceiveFault {
-    /// No answer is awaited.
+    #[error("no answer is awaited")]
     Idle,
-    /// None came.
+    #[error("no answer came: {0}")]
     Call(CallFault),
-    /// It has not the number of the first request that is awaited.
+    #[error("the answer has another number than the first request that awaits one")]
     WrongNumber,
-    /// It is no reply to such a request.
+    #[error("the answer is no reply to such a request")]
     WrongKind,
 }
 

@@ -6,7 +6,7 @@ ghost use Rattle.chord_wire.specs.Spelling.{IsWireRequest};
 ghost use Rattle.chord_wire.specs.Streams.{HasNoNext};
 ghost use Rattle.chord_serve.specs.declared.asker.Asked.{Asked};
 ghost use Rattle.chord_serve.specs.Session.{start};
-ghost use Rattle.chord_serve.specs.State.{State};
+ghost use Rattle.chord_serve.specs.SessionState.{SessionState};
 ghost use Rattle.chord_serve.specs.Served.{Dealt};
 ghost use Rattle.chord_serve.specs.Output.{questions, answered_requests, AreAnswers, IsPaired};
 
@@ -22,7 +22,7 @@ pub fn replies_are_of_their_kind<A: Asker>()
 /// What a session writes for all whole requests of its input depends on that input and on the answers alone, however
 /// the input was cut.
 pub fn one_output<A: Asker>()
-    ensures { (a b after after' : A) (input output output' rest rest' : List ℕ) (v v' : Option ℕ) (s s' : State)
+    ensures { (a b after after' : A) (input output output' rest rest' : List ℕ) (v v' : Option ℕ) (s s' : SessionState)
         → (one : Dealt A.answers None start a input output rest v s after) → (other : Dealt A.answers None start b input output' rest' v' s' after')
         → HasNoNext rest → HasNoNext rest' → one.given ≡ other.given → output ≡ output' }
 {

@@ -32,9 +32,9 @@ pub struct Session {
 
 impl Model for Session {
     ghost use Rattle.std.specs.Prelude.{◌+◌, ◌<◌, ◌^◌, vec_len};
-    ghost use Rattle.chord_serve.specs.State.{State};
+    ghost use Rattle.chord_serve.specs.SessionState.{SessionState};
 
-    ghost Value = { State };
+    ghost Value = { SessionState };
 
     ghost view = { λ s. record { floor = s.floor; kept = s.kept.items } };
 

@@ -2,6 +2,7 @@
 
 mod askers;
 mod devices;
+mod faults;
 mod growths;
 mod in_flight;
 mod sessions;

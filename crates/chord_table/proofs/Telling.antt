@@ -14,24 +14,19 @@ use Rattle.chord_table.specs.Views.{Sight, NodeSight, CallerSight, node_in, call
 abbrev HasHeadline : Type 0
 HasHeadline = (world : World) → ∥ Reached world ∥₁ → Headline world
 
--- once there is a node, each identifier has one holder there
-abbrev HasHolder : Type 0
-HasHolder = (world : World) (x : ℕ) → ∥ Reached world ∥₁ → world.nodes ≢ [] → x < 2 ^ 128 → HasOneHolder x world.nodes
-
 pub node_told : (s : Sight) (v : NodeSight) → s.actor ≡ OfNode (node_in s.actor) → record { node = node_in s.actor; messages = s.messages } ≡ v
-    → IsShown s → HasHeadline → HasHolder → NodeShown v
-node_told s v is shows seen headline holder = subst (λ (n : NodeSight). NodeShown n) shows (record {
+    → IsShown s → HasHeadline → NodeShown v
+node_told s v is shows seen headline = subst (λ (n : NodeSight). NodeShown n) shows (record {
   world = seen.world;
   reached = seen.reached;
   there = subst (λ (a : Actor). IsThere seen.world a) is seen.there;
   messages = seen.messages;
   headline = headline seen.world ∣ seen.reached ∣₁;
-  one_holder = λ some x within. holder seen.world x ∣ seen.reached ∣₁ some within;
 })
 
 pub caller_told : (s : Sight) (v : CallerSight) → s.actor ≡ OfCaller (caller_in s.actor) → record { caller = caller_in s.actor; messages = s.messages } ≡ v
-    → IsShown s → HasHeadline → HasHolder → CallerShown v
-caller_told s v is shows seen headline holder =
+    → IsShown s → HasHeadline → CallerShown v
+caller_told s v is shows seen headline =
     let there : IsThere seen.world (OfCaller (caller_in s.actor)) = subst (λ (a : Actor). IsThere seen.world a) is seen.there in
     let all : Headline seen.world = headline seen.world ∣ seen.reached ∣₁ in
     let caller = caller_in s.actor in
@@ -41,11 +36,11 @@ caller_told s v is shows seen headline holder =
       there = there;
       messages = seen.messages;
       headline = all;
-      legal = all.legal;
-      mine = all.mine caller.number caller there;
-      once = all.once caller.number caller there;
-      told = all.told caller.number caller there;
-      noted = λ note came. all.noted note (All-contains (Contains seen.world.sent) s.messages (NoteMessage note) seen.messages came);
-      in_order = all.in_order;
-      one_holder = λ some x within. holder seen.world x ∣ seen.reached ∣₁ some within;
+      legal = all.history.legal;
+      mine = all.history.mine caller.number caller there;
+      once = all.history.once caller.number caller there;
+      told = all.history.told caller.number caller there;
+      noted = λ note came. all.history.noted note (All-contains (Contains seen.world.sent) s.messages (NoteMessage note) seen.messages came);
+      in_order = all.history.in_order;
+      one_holder = all.one_holder;
     })

@@ -15,14 +15,13 @@ pub record IsShown (sight : Sight) : Type 0 where
   pub there : IsThere world sight.actor
   pub messages : All (Contains world.sent) sight.messages
 
--- the same of a node, in a world with the headline where each identifier has one holder
+-- the same of a node, in a world with the headline
 pub record NodeShown (sight : NodeSight) : Type 0 where
   pub world : World
   pub reached : Reached world
   pub there : node_at sight.node.number world.nodes ≡ Some sight.node
   pub messages : All (Contains world.sent) sight.messages
   pub headline : Headline world
-  pub one_holder : world.nodes ≢ [] → (x : ℕ) → x < 2 ^ 128 → HasOneHolder x world.nodes
 
 -- the same of a caller: all that it took stands in one legal history, each call once, in the order that callers had seen
 pub record CallerShown (sight : CallerSight) : Type 0 where

@@ -92,8 +92,7 @@ impl<J: Naming> CallerSeat<J> {
         ensures same { self.new ≡ self.old }
         ensures shown { CallerShown self.old }
     {
-        laws::one_history();
-        laws::one_holder();
+        laws::headline();
         self.seat.look(table);
     }
 }

@@ -67,8 +67,7 @@ impl<J: Naming> NodeSeat<J> {
         ensures same { self.new ≡ self.old }
         ensures shown { NodeShown self.old }
     {
-        laws::one_history();
-        laws::one_holder();
+        laws::headline();
         self.seat.look(table);
     }
 }

@@ -36,7 +36,7 @@ pub enum FaultCode {
 }
 
 impl FaultCode {
-    /// The fault with this code in a frame. Want of memory stands in none.
+    /// The fault with this code in a frame. Out of memory stands in none.
     pub fn from_number(number: u8) -> Option<FaultCode>
         ensures { result ≡ code_of number }
     {

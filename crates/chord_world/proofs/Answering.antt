@@ -194,7 +194,7 @@ told_owed told place view kept headline sent core here foreign =
     let at : caller_at told.caller view.known.callers ≡ Some core = caller_at_place 0 told.caller told.caller view.known.callers kept.callers (omega arith) ∙ here in
     let number = caller_number 0 told.caller core view.known.callers kept.callers here in
     let owed : answers told.reply (submitted_by (Some core) told.number) ≡ true =
-    ap (λ o. answers told.reply (submitted_by o told.number)) (sym at) ∙ headline.owed told (was_sent view.known.sent place (ToldMessage told) sent) in
+    ap (λ o. answers told.reply (submitted_by o told.number)) (sym at) ∙ headline.history.owed told (was_sent view.known.sent place (ToldMessage told) sent) in
     foreign_none told core (omega arith) owed foreign
 
 -- ---- Full

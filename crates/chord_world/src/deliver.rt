@@ -155,7 +155,7 @@ impl<S: EntryStore> World<S> {
             unreachable!()
         };
         let caller = told.caller;
-        chord_model::laws::one_history();
+        chord_model::laws::headline();
         let Ok(heard) = hear_at(&mut self.callers, caller as usize, told) else {
             return Err(Refusal::Memory);
         };

@@ -72,7 +72,7 @@ impl<S: EntryStore> World<S> {
         ensures headline { Headline self.now.known }
     {
         let _ = &self.history;
-        chord_model::laws::one_history();
+        chord_model::laws::headline();
     }
 
     /// The executed calls, in order.
@@ -80,7 +80,7 @@ impl<S: EntryStore> World<S> {
         ensures value { result.now ≡ self.now.known.history }
         ensures headline { Headline self.now.known }
     {
-        chord_model::laws::one_history();
+        chord_model::laws::headline();
         self.history.as_slice()
     }
 

@@ -1,5 +1,5 @@
-use Rattle.chord_model.proofs.Merely.{headline_merely}
+use Rattle.chord_model.proofs.Merely.{history_merely}
 use Rattle.chord_model.proofs.laws.one_history.Goals as goal
 
 pub returns : goal.returns
-returns c = λ world reached. headline_merely world reached
+returns c = λ world reached. history_merely world reached

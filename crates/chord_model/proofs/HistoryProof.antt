@@ -17,7 +17,7 @@ use Rattle.chord_model.proofs.Invariant.{HasTaken, TakenUpto, IsNear, SegmentGoo
 use Rattle.chord_model.proofs.Main.{reached_good}
 use Rattle.chord_model.proofs.NodeLemmas.{node_has}
 use Rattle.chord_model.proofs.Placed.{KeptInside}
-use Rattle.chord_model.specs.Headline.{Holds, Appears, Headline, KeepNoneTwice, request_with, submitted_by, was_taken, answers}
+use Rattle.chord_model.specs.Headline.{Holds, Appears, OneHistory, KeepNoneTwice, request_with, submitted_by, was_taken, answers}
 use Rattle.chord_model.specs.Headline.Appears.{Held, Kept_for, Sent}
 use Rattle.chord_model.specs.Headline.Holds.{ByNode, ByHandover}
 use Rattle.chord_model.specs.declared.message.Message.TheVariants.{Note as NoteMessage, Told as ToldMessage, Part as PartMessage}
@@ -89,8 +89,8 @@ module _ (world : World) (good : Good world) where
       fresh_none caller told s.submission (sym (caller_number told.caller world.callers caller here)) (ap (λ (c : Caller). submission_at told.number c.submitted) (sym same) ∙ s.is_submission)
       (ap (fits told.reply) s.is_request ∙ done_good.kind) none
 
-  pub headline_of : Headline world
-  headline_of = record {
+  pub history_of : OneHistory world
+  history_of = record {
     legal = good.legal;
     made = made;
     mine = λ number caller here.
@@ -118,12 +118,12 @@ module _ (world : World) (good : Good world) where
   }
 
 -- the headline, if no reached world holds an identifier twice
-pub headline_from : ((world : World) → Reached world → HolderFacts world) → (world : World) → Reached world → Headline world
-headline_from facts world reached = headline_of world (reached_good facts world reached)
+pub history_from : ((world : World) → Reached world → HolderFacts world) → (world : World) → Reached world → OneHistory world
+history_from facts world reached = history_of world (reached_good facts world reached)
 
 -- every reached world
-pub headline : (world : World) → Reached world → Headline world
-headline world reached = headline_from holder_facts world reached
+pub one_history : (world : World) → Reached world → OneHistory world
+one_history world reached = history_from holder_facts world reached
 
 -- what two of a node's segments keep is apart
 pub none_twice : (world : World) → Reached world → (number : ℕ) (node : Node) → node_at number world.nodes ≡ Some node → KeepNoneTwice node.held
