@@ -5,27 +5,13 @@
 //! is the theorem: the replies are those of one map of sets.
 #![tactic(auto)]
 
-mod act;
-mod again;
-mod crash;
-mod create;
-mod deliver;
-mod finger;
-mod give;
-mod hold;
 mod holder;
-mod join;
 mod members;
-mod note;
-mod open_caller;
 mod outcome;
 mod refusal;
-mod retire;
 mod running;
 mod step;
-mod submit;
-mod take;
-mod upkeep;
+mod steps;
 mod world;
 
 pub use outcome::Outcome;

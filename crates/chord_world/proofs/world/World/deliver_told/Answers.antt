@@ -24,7 +24,7 @@ hear_at-requires-clause-owed g c =
     let view : WorldState = state_of c.self.inside in
     let within = slice_get_within view.known.sent c.args.place _ (sent_here view c.args.self.now c.args.place _ c.self.view_is c.requires.told.1) in
     let sent : slice_get view.known.sent c.args.place ≡ Some (ToldMessage c.in-Told.told) = read view.known.sent view.known.sent c.args.place c.index.result.now refl within c.index.ensures ∙ ap (λ m. Some m) c.in-Told.is in
-    told_owed c.in-Told.told c.args.place view c.self.invariant (c.one_history.ensures view.known c.self.invariant.reached) sent
+    told_owed c.in-Told.told c.args.place view c.self.invariant (c.headline.ensures view.known c.self.invariant.reached) sent
 
 pub invariant_of-self-2 : goal.invariant_of-self-2
 invariant_of-self-2 g c =

@@ -8,4 +8,4 @@ returns-clause-reached g c = subst (λ (w : WorldState). ∥ Reached w.known ∥
 
 pub returns-clause-headline : goal.returns-clause-headline
 returns-clause-headline g c =
-    c.one_history.ensures c.args.self.now.known (subst (λ (w : WorldState). ∥ Reached w.known ∥₁) c.self.view_is c.self.invariant.reached)
+    c.headline.ensures c.args.self.now.known (subst (λ (w : WorldState). ∥ Reached w.known ∥₁) c.self.view_is c.self.invariant.reached)

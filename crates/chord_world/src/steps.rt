@@ -1,0 +1,18 @@
+//! The steps of a world, a file for each kind; what they share stands in `checks` and `outgoing`.
+
+mod checks;
+mod crash;
+mod create;
+mod deliver;
+mod finger;
+mod give;
+mod hold;
+mod join;
+mod note;
+mod open_caller;
+mod outgoing;
+mod resend;
+mod retire;
+mod submit;
+mod take;
+mod upkeep;

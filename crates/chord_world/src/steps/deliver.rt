@@ -1,0 +1,197 @@
+//! Messages that are delivered.
+ghost use Rattle.std.specs.Prelude.{◌≡◌, ◌≢◌, ◌<◌, Some, [], length, slice_get};
+ghost use Rattle.std.specs.Vec.{vec_len, vec_capacity};
+ghost use Rattle.chord_caller.specs.declared.told.Told.{Told as ToldOf};
+ghost use Rattle.chord_caller.specs.declared.ask.Ask.{Ask as AskOf};
+ghost use Rattle.chord_model.specs.declared.message.Message.TheVariants.{Ask as AskMessage, Told as ToldMessage};
+ghost use Rattle.chord_model.specs.World.{with_one};
+ghost use Rattle.chord_world.specs.State.{KeepsRing};
+ghost use Rattle.chord_world.specs.Steps.{Advances};
+ghost use Rattle.chord_world.specs.Delivered.{DeliverIs, outcome_of, outcome_heard, target_of};
+ghost use Rattle.chord_world.specs.Delivering.{AnswersAt, HearsAt, IsOwed, message_by};
+
+use crate::members::is_out;
+use crate::outcome::Outcome;
+use crate::refusal::{PartFault, Refusal};
+use crate::steps::outgoing::make_room;
+use crate::world::World;
+use chord_caller::{Ask, CallerCore, Heard, TakeFault, Told};
+use chord_node::{Answered, Message, Node};
+use chord_segment::Done;
+use chord_store::EntryStore;
+use std::alloc::AllocError;
+
+/// Answers the call at the node of this place.
+fn answer_at<S: EntryStore>(
+    nodes: &mut Vec<Node<S>>,
+    place: usize,
+    ask: &Ask,
+) -> Result<(Answered, Option<Done>), AllocError>
+    requires { place < length nodes.old.items }
+    ensures { AnswersAt place ask.now nodes.old.items result nodes.new.items }
+{
+    let node = &mut nodes[place];
+    node.on_ask_noting(ask)
+}
+
+/// The caller at the place hears a copy of the reply.
+fn hear_at(callers: &mut Vec<CallerCore>, place: usize, told: &Told) -> Result<Heard, AllocError>
+    requires place { place < length callers.old.items }
+    requires owed { IsOwed place told.now callers.old.items }
+    ensures { HearsAt place told.now callers.old.items result callers.new.items }
+{
+    let reply = told.reply.try_copy()?;
+    let copy = Told {
+        caller: told.caller,
+        number: told.number,
+        reply,
+    };
+    let core = &mut callers[place];
+    match core.take(copy) {
+        Ok(heard) => Ok(heard),
+        Err(TakeFault::Foreign) => unreachable!(),
+        Err(TakeFault::Memory) => Err(AllocError),
+    }
+}
+
+/// What hearing a reply is as an outcome.
+fn outcome_of_heard(heard: Heard, caller: u64) -> Outcome
+    ensures { result ≡ outcome_heard heard caller }
+{
+    match heard {
+        Heard::Fresh => Outcome::Fresh(caller),
+        Heard::Known => Outcome::Known,
+    }
+}
+
+/// Sends what the answer to a call of this caller sends.
+fn post(
+    sent: &mut Vec<Message>,
+    targets: &mut Vec<u64>,
+    caller: u64,
+    number: u64,
+    answered: Answered,
+) -> Outcome
+    requires sent { vec_len sent.old < vec_capacity sent.old }
+    requires targets { vec_len targets.old < vec_capacity targets.old }
+    ensures sent { sent.new.items ≡ with_one sent.old.items (message_by caller number answered) }
+    ensures targets { targets.new.items ≡ with_one targets.old.items (target_of answered) }
+    ensures outcome { result ≡ outcome_of answered (length sent.old.items) }
+{
+    let count = sent.len() as u64;
+    match answered {
+        Answered::Told(told) => {
+            sent.push_reserved(Message::Told(told));
+            targets.push_reserved(0);
+            Outcome::Told(count)
+        }
+        Answered::Forward(to, passed) => {
+            sent.push_reserved(Message::Ask(passed));
+            targets.push_reserved(to);
+            Outcome::Forwarded(count)
+        }
+        Answered::Dropped => Outcome::Dropped,
+        Answered::Full => {
+            sent.push_reserved(Message::Full { caller, number });
+            targets.push_reserved(0);
+            Outcome::Full(count)
+        }
+    }
+}
+
+/// Adds the call that was executed, if one was.
+fn note(history: &mut Vec<Done>, done: Option<Done>)
+    requires { vec_len history.old < vec_capacity history.old }
+    ensures { history.new.items ≡ with_one history.old.items done }
+{
+    if let Some(done) = done {
+        history.push_reserved(done);
+    }
+}
+
+impl<S: EntryStore> World<S> {
+    /// A call is taken in by the node that it is for.
+    fn deliver_ask(&mut self, place: usize) -> Result<Outcome, Refusal>
+        requires ask { (ask : AskOf) × (slice_get self.old.known.sent place ≡ Some (AskMessage ask)) }
+        requires created { self.old.known.nodes ≢ [] }
+        ensures answer { DeliverIs place self.old result self.new }
+        ensures step { Advances self.old result self.new }
+        ensures ring { KeepsRing self.old self.new }
+    {
+        let to = self.targets[place];
+        if to >= self.nodes.len() as u64 {
+            return Err(Refusal::NoSuchNode);
+        }
+        if is_out(&self.crashed, to) {
+            return Err(Refusal::Part(PartFault::Crashed));
+        }
+        if make_room(&mut self.sent, &mut self.targets).is_err() {
+            return Err(Refusal::Memory);
+        }
+        if self.history.reserve(1).is_err() {
+            return Err(Refusal::Memory);
+        }
+        let Message::Ask(ask) = &self.sent[place] else {
+            unreachable!()
+        };
+        let caller = ask.caller;
+        let number = ask.number;
+        let Ok((answered, done)) = answer_at(&mut self.nodes, to as usize, ask) else {
+            return Err(Refusal::Memory);
+        };
+        note(&mut self.history, done);
+        Ok(post(&mut self.sent, &mut self.targets, caller, number, answered))
+    }
+
+    /// A reply is taken in by its caller.
+    fn deliver_told(&mut self, place: usize) -> Result<Outcome, Refusal>
+        requires told { (told : ToldOf) × (slice_get self.old.known.sent place ≡ Some (ToldMessage told)) }
+        requires created { self.old.known.nodes ≢ [] }
+        ensures answer { DeliverIs place self.old result self.new }
+        ensures step { Advances self.old result self.new }
+        ensures ring { KeepsRing self.old self.new }
+    {
+        let Message::Told(told) = &self.sent[place] else {
+            unreachable!()
+        };
+        let caller = told.caller;
+        chord_model::laws::headline();
+        let Ok(heard) = hear_at(&mut self.callers, caller as usize, told) else {
+            return Err(Refusal::Memory);
+        };
+        Ok(outcome_of_heard(heard, caller))
+    }
+
+    /// The message comes to the node or the caller that it is for.
+    pub(crate) fn deliver(&mut self, message: u64) -> Result<Outcome, Refusal>
+        ensures answer { DeliverIs message self.old result self.new }
+        ensures step { Advances self.old result self.new }
+        ensures ring { KeepsRing self.old self.new }
+    {
+        if self.nodes.is_empty() {
+            return Err(Refusal::NotCreated);
+        }
+        if message >= self.sent.len() as u64 {
+            return Err(Refusal::NoSuchMessage);
+        }
+        let place = message as usize;
+        match &self.sent[place] {
+            Message::Ask(_) => self.deliver_ask(place),
+            Message::Told(_) => self.deliver_told(place),
+            Message::Full { .. } => Ok(Outcome::HeardFull),
+            Message::Part(part) => {
+                let to = part.to;
+                self.deliver_part(place, to)
+            }
+            Message::Got(got) => {
+                let got = *got;
+                self.deliver_got(place, got)
+            }
+            Message::Declined(declined) => {
+                let declined = *declined;
+                self.deliver_declined(place, declined)
+            }
+            Message::Note(_) => Err(Refusal::Part(PartFault::NeedsMeet)),
+        }
+    }
+}

@@ -1,0 +1,66 @@
+//! Segments that are given, and parts that go out again.
+ghost use Rattle.std.specs.Prelude.{◌<◌, length};
+ghost use Rattle.chord_node.specs.Moves.{SendSteps, GiveIs};
+ghost use Rattle.chord_world.specs.State.{KeepsRing};
+ghost use Rattle.chord_world.specs.Steps.{Advances};
+ghost use Rattle.chord_world.specs.Handing.{DoesAt, GiveStepIs, SendPartIs};
+
+use crate::outcome::Outcome;
+use crate::refusal::{PartFault, Refusal};
+use crate::steps::outgoing::{make_room, push_message, send};
+use crate::world::World;
+use chord_handover::Part;
+use chord_node::{GiveFault, Message, Node};
+use chord_store::EntryStore;
+
+/// The node of this number gives the segment at the place.
+fn give_in<S: EntryStore>(
+    nodes: &mut Vec<Node<S>>,
+    number: usize,
+    place: usize,
+    to: u64,
+) -> Result<Part, GiveFault>
+    requires { number < length nodes.old.items }
+    ensures { DoesAt (GiveIs place to) SendSteps number nodes.old.items result nodes.new.items }
+{
+    let node = &mut nodes[number];
+    node.give(place, to)
+}
+
+impl<S: EntryStore> World<S> {
+    /// The node gives the held segment at the place to another, and sends the first part.
+    pub(crate) fn give(&mut self, node: u64, place: u64, to: u64) -> Result<Outcome, Refusal>
+        ensures answer { GiveStepIs node place to self.old result self.new }
+        ensures step { Advances self.old result self.new }
+        ensures ring { KeepsRing self.old self.new }
+    {
+        self.is_there(to)?;
+        self.can_act(node)?;
+        self.nodes[node as usize].may_give(place as usize, to)?;
+        make_room(&mut self.sent, &mut self.targets)?;
+        let part = give_in(&mut self.nodes, node as usize, place as usize, to)?;
+        let message = push_message(&mut self.sent, &mut self.targets, Message::Part(part), 0);
+        Ok(Outcome::Message(message))
+    }
+
+    /// The node sends a part of an item of its outbox again.
+    pub(crate) fn send_part(
+        &mut self,
+        node: u64,
+        to: u64,
+        number: u64,
+        part: u64,
+    ) -> Result<Outcome, Refusal>
+        ensures answer { SendPartIs node to number part self.old result self.new }
+        ensures step { Advances self.old result self.new }
+        ensures ring { KeepsRing self.old self.new }
+    {
+        self.can_act(node)?;
+        if to >= self.nodes.len() as u64 {
+            return Err(Refusal::Part(PartFault::NoPart));
+        }
+        let part = self.nodes[node as usize].resend_part(to, number, part)?;
+        let message = send(&mut self.sent, &mut self.targets, Message::Part(part), 0)?;
+        Ok(Outcome::Message(message))
+    }
+}

@@ -1,0 +1,57 @@
+//! Nodes that join.
+ghost use Rattle.std.specs.Prelude.{◌≡◌, [], map};
+ghost use Rattle.std.specs.List.{All};
+ghost use Rattle.chord_world.specs.State.{KeepsRing};
+ghost use Rattle.chord_world.specs.Steps.{CreateLeaves, Advances};
+ghost use Rattle.chord_world.specs.Joining.{JoinIs};
+
+use crate::members::is_used;
+use crate::outcome::Outcome;
+use crate::refusal::{PartFault, Refusal};
+use crate::steps::create::{add_node, room_for_node};
+use crate::world::World;
+use chord_ident::Id;
+use chord_links::Peer;
+use chord_node::Node;
+use chord_ring::join_behind;
+use chord_store::EntryStore;
+
+impl<S: EntryStore> World<S> {
+    /// A node joins behind a member, over the first store.
+    pub(crate) fn join(
+        &mut self,
+        stores: &mut Vec<S>,
+        id: Id,
+        behind: u64,
+    ) -> Result<Outcome, Refusal>
+        requires { All (λ s. S.content s ≡ []) stores.old.items }
+        ensures answer { JoinIs id behind (map S.limit stores.old.items) self.old result self.new }
+        ensures step { Advances self.old result self.new }
+        ensures ring { KeepsRing self.old self.new }
+        ensures stores { CreateLeaves result stores.old.items stores.new.items }
+    {
+        if self.nodes.is_empty() {
+            return Err(Refusal::NotCreated);
+        }
+        let Some(pred) = self.links_in_ring(behind) else {
+            return Err(Refusal::NoSuchNode);
+        };
+        if is_used(&self.nodes, id) {
+            return Err(Refusal::IdTaken);
+        }
+        if stores.is_empty() {
+            return Err(Refusal::NoStore);
+        }
+        let no = self.nodes.len() as u64;
+        let Ok(links) = join_behind(Peer { no, id }, &pred) else {
+            return Err(Refusal::Part(PartFault::NotBetween));
+        };
+        if room_for_node(&mut self.nodes, &mut self.crashed).is_err() {
+            return Err(Refusal::Memory);
+        }
+        let store = stores.remove(0);
+        let node = Node::newborn(self.alloc, links, store);
+        add_node(&mut self.nodes, &mut self.crashed, node);
+        Ok(Outcome::Node(no))
+    }
+}

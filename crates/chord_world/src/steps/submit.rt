@@ -1,0 +1,79 @@
+//! Calls that are submitted.
+ghost use Rattle.std.specs.Prelude.{◌≡◌, ◌<◌, length};
+ghost use Rattle.chord_world.specs.State.{KeepsRing};
+ghost use Rattle.chord_world.specs.Steps.{SubmitStepIs, Advances};
+ghost use Rattle.chord_world.specs.Sending.{MaySubmit, CanSubmit, SubmitsAt};
+
+use crate::outcome::Outcome;
+use crate::refusal::Refusal;
+use crate::steps::outgoing::make_room;
+use crate::world::World;
+use chord_caller::{Ask, CallerCore};
+use chord_map::Request;
+use chord_node::Message;
+use chord_store::EntryStore;
+use std::alloc::AllocError;
+
+/// Submits a copy of the request by the caller at the place, which may submit it, memory apart.
+fn submit_at(
+    callers: &mut Vec<CallerCore>,
+    place: usize,
+    request: &Request,
+) -> Result<Ask, AllocError>
+    requires place { place < length callers.old.items }
+    requires can { CanSubmit place request.now callers.old.items }
+    ensures { SubmitsAt place request.now callers.old.items result callers.new.items }
+{
+    let copy = request.try_copy()?;
+    let core = &mut callers[place];
+    match core.submit(copy) {
+        Ok(ask) => Ok(ask),
+        Err(_) => Err(AllocError),
+    }
+}
+
+impl<S: EntryStore> World<S> {
+    /// Whether the caller may submit the request at the node, memory apart.
+    fn may_submit(&self, caller: u64, via: u64, request: &Request) -> Result<(), Refusal>
+        ensures { MaySubmit caller via request.now self.now result }
+    {
+        let count = self.nodes.len() as u64;
+        if count == 0 {
+            return Err(Refusal::NotCreated);
+        }
+        if via >= count {
+            return Err(Refusal::NoSuchNode);
+        }
+        if caller >= self.callers.len() as u64 {
+            return Err(Refusal::NoSuchCaller);
+        }
+        match self.callers[caller as usize].refusal(request) {
+            Some(fault) => Err(Refusal::from(fault)),
+            None => Ok(()),
+        }
+    }
+
+    /// Submits a copy of the request by the caller, and sends it to the node.
+    pub(crate) fn submit(
+        &mut self,
+        caller: u64,
+        via: u64,
+        request: &Request,
+    ) -> Result<Outcome, Refusal>
+        ensures answer { SubmitStepIs caller via request.now self.old result self.new }
+        ensures step { Advances self.old result self.new }
+        ensures ring { KeepsRing self.old self.new }
+    {
+        self.may_submit(caller, via, request)?;
+        if make_room(&mut self.sent, &mut self.targets).is_err() {
+            return Err(Refusal::Memory);
+        }
+        let Ok(ask) = submit_at(&mut self.callers, caller as usize, request) else {
+            return Err(Refusal::Memory);
+        };
+        let number = self.sent.len() as u64;
+        self.sent.push_reserved(Message::Ask(ask));
+        self.targets.push_reserved(via);
+        Ok(Outcome::Message(number))
+    }
+}

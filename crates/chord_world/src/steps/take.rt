@@ -1,0 +1,175 @@
+//! Parts, and what comes of them, that are delivered.
+ghost use Rattle.std.specs.Prelude.{◌≡◌, ◌≢◌, ◌<◌, Some, [], length, slice_get};
+ghost use Rattle.std.specs.Vec.{vec_len, vec_capacity};
+ghost use Rattle.chord_handover.specs.declared.ticket.Ticket.{Ticket as TicketOf};
+ghost use Rattle.chord_handover.specs.Handover.{Part as PartOf};
+ghost use Rattle.chord_node.specs.declared.handovers.given.Given.TheVariants.{Clash};
+ghost use Rattle.chord_node.specs.declared.handovers.given.Back.TheVariants.{Clash as BackClash};
+ghost use Rattle.chord_model.specs.declared.message.Message.TheVariants.{Part as PartMessage, Got as GotMessage, Declined as DeclinedMessage};
+ghost use Rattle.chord_node.specs.Received.{PartIs, PartSteps, GotIs, BackIs, BackSteps};
+ghost use Rattle.chord_model.specs.World.{with_one};
+ghost use Rattle.chord_world.specs.State.{KeepsRing};
+ghost use Rattle.chord_world.specs.Steps.{Advances};
+ghost use Rattle.chord_world.specs.Delivered.{DeliverIs};
+ghost use Rattle.chord_world.specs.Handing.{DoesAt};
+ghost use Rattle.chord_world.specs.Taking.{IsNumbered, GotSteps, outcome_of_given, outcome_of_freed, outcome_of_back, confirmation, no_target};
+
+use crate::members::is_out;
+use crate::outcome::Outcome;
+use crate::refusal::{PartFault, Refusal};
+use crate::steps::outgoing::{make_room, push_message};
+use crate::world::World;
+use chord_handover::{Declined, Got, Part, Ticket};
+use chord_node::{Back, Given, Message, Node};
+use chord_store::EntryStore;
+use std::alloc::AllocError;
+
+/// The node of this number takes in a part.
+fn take_in<S: EntryStore>(
+    nodes: &mut Vec<Node<S>>,
+    number: usize,
+    part: &Part,
+) -> Result<Given, AllocError>
+    requires place { number < length nodes.old.items }
+    requires numbered { IsNumbered number nodes.old.items }
+    requires to { part.now.to ≡ number }
+    ensures { DoesAt (PartIs part.now) (PartSteps part.now) number nodes.old.items result nodes.new.items }
+{
+    let node = &mut nodes[number];
+    node.on_give(part)
+}
+
+/// The node of this number hears that its receiver has a handover.
+fn free_in<S: EntryStore>(nodes: &mut Vec<Node<S>>, number: usize, got: &Got) -> bool
+    requires place { number < length nodes.old.items }
+    requires numbered { IsNumbered number nodes.old.items }
+    requires from { got.now.from ≡ number }
+    ensures { DoesAt (GotIs got.now) (GotSteps got.now) number nodes.old.items result nodes.new.items }
+{
+    let node = &mut nodes[number];
+    node.on_got(got)
+}
+
+/// The node of this number hears that its receiver declined a handover.
+fn take_back_in<S: EntryStore>(
+    nodes: &mut Vec<Node<S>>,
+    number: usize,
+    declined: &Declined,
+) -> Result<Back, AllocError>
+    requires place { number < length nodes.old.items }
+    requires numbered { IsNumbered number nodes.old.items }
+    requires from { declined.now.from ≡ number }
+    ensures { DoesAt (BackIs declined.now) (BackSteps declined.now) number nodes.old.items result nodes.new.items }
+{
+    let node = &mut nodes[number];
+    node.on_declined(declined)
+}
+
+/// Sends what the answer to a part of this handover sends.
+fn confirm(sent: &mut Vec<Message>, targets: &mut Vec<u64>, ticket: Ticket, given: Given) -> Outcome
+    requires fits { given ≢ Clash }
+    requires sent { vec_len sent.old < vec_capacity sent.old }
+    requires targets { vec_len targets.old < vec_capacity targets.old }
+    ensures sent { sent.new.items ≡ with_one sent.old.items (confirmation ticket given) }
+    ensures targets { targets.new.items ≡ with_one targets.old.items (no_target (confirmation ticket given)) }
+    ensures outcome { outcome_of_given given (length sent.old.items) ≡ Some result }
+{
+    match given {
+        Given::Got => Outcome::Got(push_message(sent, targets, Message::Got(ticket), 0)),
+        Given::Declined => {
+            Outcome::Declined(push_message(sent, targets, Message::Declined(ticket), 0))
+        }
+        Given::Early => Outcome::Early,
+        Given::Clash => unreachable!(),
+        Given::Full => Outcome::NoRoom,
+        Given::Part => Outcome::Noted,
+    }
+}
+
+/// What came of a Got, as an outcome.
+fn outcome_of_got(freed: bool) -> Outcome
+    ensures { result ≡ outcome_of_freed freed }
+{
+    if freed {
+        Outcome::Freed
+    } else {
+        Outcome::Unknown
+    }
+}
+
+/// What came of a Declined, as an outcome.
+fn outcome_of_declined(back: Back) -> Outcome
+    requires { back ≢ BackClash }
+    ensures { outcome_of_back back ≡ Some result }
+{
+    match back {
+        Back::Held => Outcome::Held,
+        Back::Unknown => Outcome::Unknown,
+        Back::Clash => unreachable!(),
+        Back::Full => Outcome::NoRoom,
+    }
+}
+
+impl<S: EntryStore> World<S> {
+    /// A part is taken in by its receiver, which is `to`.
+    pub(crate) fn deliver_part(&mut self, place: usize, to: u64) -> Result<Outcome, Refusal>
+        requires part { (part : PartOf) × (slice_get self.old.known.sent place ≡ Some (PartMessage part)) × (part.to ≡ to) }
+        requires created { self.old.known.nodes ≢ [] }
+        ensures answer { DeliverIs place self.old result self.new }
+        ensures step { Advances self.old result self.new }
+        ensures ring { KeepsRing self.old self.new }
+    {
+        if is_out(&self.crashed, to) {
+            return Err(Refusal::Part(PartFault::Crashed));
+        }
+        if make_room(&mut self.sent, &mut self.targets).is_err() {
+            return Err(Refusal::Memory);
+        }
+        let Message::Part(part) = &self.sent[place] else {
+            unreachable!()
+        };
+        let ticket = Ticket::of(part);
+        chord_node::laws::no_delivery_clashes();
+        let Ok(given) = take_in(&mut self.nodes, to as usize, part) else {
+            return Err(Refusal::Memory);
+        };
+        Ok(confirm(&mut self.sent, &mut self.targets, ticket, given))
+    }
+
+    /// That a handover was taken is heard by its sender.
+    pub(crate) fn deliver_got(&mut self, place: usize, got: Got) -> Result<Outcome, Refusal>
+        requires got { slice_get self.old.known.sent place ≡ Some (GotMessage got) }
+        requires created { self.old.known.nodes ≢ [] }
+        ensures answer { DeliverIs place self.old result self.new }
+        ensures step { Advances self.old result self.new }
+        ensures ring { KeepsRing self.old self.new }
+    {
+        if is_out(&self.crashed, got.from) {
+            return Err(Refusal::Part(PartFault::Crashed));
+        }
+        let freed = free_in(&mut self.nodes, got.from as usize, &got);
+        Ok(outcome_of_got(freed))
+    }
+
+    /// That a handover was declined is heard by its sender.
+    pub(crate) fn deliver_declined(
+        &mut self,
+        place: usize,
+        declined: Declined,
+    ) -> Result<Outcome, Refusal>
+        requires declined { slice_get self.old.known.sent place ≡ Some (DeclinedMessage declined) }
+        requires created { self.old.known.nodes ≢ [] }
+        ensures answer { DeliverIs place self.old result self.new }
+        ensures step { Advances self.old result self.new }
+        ensures ring { KeepsRing self.old self.new }
+    {
+        if is_out(&self.crashed, declined.from) {
+            return Err(Refusal::Part(PartFault::Crashed));
+        }
+        chord_node::laws::no_delivery_clashes();
+        let Ok(back) = take_back_in(&mut self.nodes, declined.from as usize, &declined) else {
+            return Err(Refusal::Memory);
+        };
+        Ok(outcome_of_declined(back))
+    }
+}
