@@ -38,12 +38,32 @@ fn a_call_is_found_by_caller_and_number(rt: HostRuntime) -> Result<(), Fail> {
     Ok(())
 }
 
+/// Whether copies of the two are equal to them.
+fn copies_are_equal(alloc: Global) -> Option<bool> {
+    let dones = two(alloc).ok()?;
+    let copies = copy_dones(alloc, &dones).ok()?;
+    Some(copies.as_slice() == dones.as_slice())
+}
+
+/// Whether a copy of a call is equal to it.
+fn copy_is_equal(alloc: Global) -> Option<bool> {
+    let done = added(alloc, 1, 2).ok()?;
+    let copy = done.try_copy().ok()?;
+    Some(copy == done)
+}
+
+/// Whether two calls are equal of which each has the other's number as its caller.
+fn others_are_equal(alloc: Global) -> Option<bool> {
+    let first = added(alloc, 1, 2).ok()?;
+    let second = added(alloc, 2, 1).ok()?;
+    Some(first == second)
+}
+
 #[test]
 fn calls_are_copied(rt: HostRuntime) -> Result<(), Fail> {
     let alloc = rt.alloc();
-    let dones = two(alloc)?;
-    assert_eq!(rt; copy_dones(alloc, &dones)?, dones);
-    assert_eq!(rt; dones[1].try_copy()?, added(alloc, 1, 2)?);
-    assert_ne!(rt; added(alloc, 1, 2)?, added(alloc, 2, 1)?);
+    assert_eq!(rt; copies_are_equal(alloc), Some(true));
+    assert_eq!(rt; copy_is_equal(alloc), Some(true));
+    assert_eq!(rt; others_are_equal(alloc), Some(false));
     Ok(())
 }
