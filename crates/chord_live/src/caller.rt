@@ -351,9 +351,11 @@ impl<'a, J: Naming, S: EntryStore> Caller<'a, J, S> {
     {
         let ring = self.ring;
         match ring.carry(rt, via, parcel) {
-            Some((to, answer)) if to == self.no => self.own.take(&ring.table, answer, number),
-            Some((to, answer)) => {
-                ring.post(rt, Target::Caller(to), answer);
+            Some(carried) if carried.caller == self.no => {
+                self.own.take(&ring.table, carried.parcel, number)
+            }
+            Some(carried) => {
+                ring.post(rt, Target::Caller(carried.caller), carried.parcel);
                 Heard::Other
             }
             None => Heard::Other,

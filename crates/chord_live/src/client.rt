@@ -6,10 +6,13 @@ ghost use Rattle.chord_live.specs.Asking.{BeginIs};
 ghost use Rattle.chord_live.specs.Calling.{AwaitIs, CallIs, RecallIs};
 ghost use Rattle.chord_table.specs.Shown.{CallerShown};
 
+use crate::carried::Carried;
 use crate::fault::{AskFault, BeginFault, OpenClientFault, RetryFault, WaitFault};
+use crate::guesses::Guesses;
 use crate::owned_client::OwnedClient;
 use crate::ring::Ring;
 use crate::target::Target;
+use chord_ident::Id;
 use chord_map::{Reply, Request};
 use chord_store::EntryStore;
 use chord_table::{Naming, Parcel};
@@ -24,6 +27,7 @@ pub struct Client<'a, J: Naming, S: EntryStore> {
     ring: &'a Ring<J, S>,
     own: OwnedClient<J>,
     no: u64,
+    guesses: Guesses,
 }
 
 impl<'a, J: Naming, S: EntryStore> Model for Client<'a, J, S> {
@@ -49,7 +53,12 @@ impl<'a, J: Naming, S: EntryStore> Client<'a, J, S> {
         ensures ok { IfOk result (λ client. (client.caller ≡ new_caller client.caller.number window) × CallerShown client) }
     {
         let (no, own) = ring.open_client_seat(rt, window)?;
-        let mut client = Client { ring, own, no };
+        let mut client = Client {
+            ring,
+            own,
+            no,
+            guesses: Guesses::new(),
+        };
         client.look();
         Ok(client)
     }
@@ -135,6 +144,18 @@ impl<'a, J: Naming, S: EntryStore> Client<'a, J, S> {
         Err(WaitFault::NoAnswer)
     }
 
+    /// Takes what came of a parcel that was carried.
+    fn take(&mut self, rt: &impl Wait, carried: Carried<J>, number: u64) -> Result<Reply, WaitFault>
+        ensures { AwaitIs number self.old.caller result self.new.caller }
+    {
+        let ring = self.ring;
+        if carried.caller == self.no {
+            return self.own.take(&ring.table, carried.parcel, number);
+        }
+        ring.post(rt, Target::Caller(carried.caller), carried.parcel);
+        Err(WaitFault::NoAnswer)
+    }
+
     /// Carries a parcel from node to node, each event under that node's lock, and takes what comes back.
     fn carry(
         &mut self,
@@ -145,14 +166,40 @@ impl<'a, J: Naming, S: EntryStore> Client<'a, J, S> {
     ) -> Result<Reply, WaitFault>
         ensures { AwaitIs number self.old.caller result self.new.caller }
     {
-        let ring = self.ring;
-        match ring.carry(rt, via, parcel) {
-            Some((to, answer)) if to == self.no => self.own.take(&ring.table, answer, number),
-            Some((to, answer)) => {
-                ring.post(rt, Target::Caller(to), answer);
+        match self.ring.carry(rt, via, parcel) {
+            Some(carried) => self.take(rt, carried, number),
+            None => Err(WaitFault::NoAnswer),
+        }
+    }
+
+    /// The member that answered last for such an identifier, else `via`.
+    fn nearest(&self, id: Id, via: u64) -> u64 {
+        match self.guesses.guess(id) {
+            Some(no) if self.ring.is_live(no) => no,
+            _ => via,
+        }
+    }
+
+    /// Carries a new request, first to the node that is guessed, and notes which node answered.
+    fn carry_by_guess(
+        &mut self,
+        rt: &impl Wait,
+        id: Id,
+        via: u64,
+        parcel: Parcel<J>,
+        number: u64,
+    ) -> Result<Reply, WaitFault>
+        ensures { AwaitIs number self.old.caller result self.new.caller }
+    {
+        match self.ring.carry(rt, self.nearest(id, via), parcel) {
+            Some(carried) => {
+                self.guesses.note(id, carried.from);
+                self.take(rt, carried, number)
+            }
+            None => {
+                self.guesses.forget(id);
                 Err(WaitFault::NoAnswer)
             }
-            None => Err(WaitFault::NoAnswer),
         }
     }
 
@@ -209,10 +256,29 @@ impl<'a, J: Naming, S: EntryStore> Client<'a, J, S> {
         Err(WaitFault::NoAnswer)
     }
 
-    /// Carries a pending request up to as many times as the ring's settings say.
+    /// Waits for the reply to a request that was carried once, and carries it again as often as the ring's settings say.
+    fn wait_and_carry_on<R: Wait + Clock>(
+        &mut self,
+        rt: &R,
+        via: u64,
+        number: u64,
+    ) -> Result<Reply, WaitFault>
+        requires { is_pending number self.old.caller ≡ true }
+        ensures { AwaitIs number self.old.caller result self.new.caller }
+    {
+        let more = self.ring.settings.tries - 1;
+        match self.wait(rt, number) {
+            Err(WaitFault::NoAnswer) => {}
+            ended => return ended,
+        }
+        self.carry_on(rt, via, number, more)
+    }
+
+    /// Carries a new request up to as many times as the ring's settings say, the first time by the guess.
     fn bring<R: Wait + Clock>(
         &mut self,
         rt: &R,
+        id: Id,
         via: u64,
         parcel: Parcel<J>,
         number: u64,
@@ -220,12 +286,11 @@ impl<'a, J: Naming, S: EntryStore> Client<'a, J, S> {
         requires { is_pending number self.old.caller ≡ true }
         ensures { AwaitIs number self.old.caller result self.new.caller }
     {
-        let more = self.ring.settings.tries - 1;
-        match self.carry_or_wait(rt, via, parcel, number) {
+        match self.carry_by_guess(rt, id, via, parcel, number) {
             Err(WaitFault::NoAnswer) => {}
             ended => return ended,
         }
-        self.carry_on(rt, via, number, more)
+        self.wait_and_carry_on(rt, via, number)
     }
 
     /// Submits a request and carries it, as `call` does.
@@ -237,18 +302,20 @@ impl<'a, J: Naming, S: EntryStore> Client<'a, J, S> {
     ) -> Result<Reply, AskFault>
         ensures { CallIs request self.old.caller result self.new.caller }
     {
+        let id = Id::of_bytes(request.key());
         let (number, parcel) = match self.submit(via, request) {
             Ok(sent) => sent,
             Err(fault) => return Err(AskFault::from(fault)),
         };
-        match self.bring(rt, via, parcel, number) {
+        match self.bring(rt, id, via, parcel, number) {
             Ok(reply) => Ok(reply),
             Err(fault) => Err(AskFault::from(fault)),
         }
     }
 
     /// Submits a request and hands out its reply. The calling thread itself does each node's event, under that node's
-    /// lock: no worker is needed. Where no reply comes back, as while a handover is under way, it waits and tries again.
+    /// lock: no worker is needed. It begins at the member that answered last for identifiers with the same first byte,
+    /// else at `via`. Where no reply comes back, as while a handover is under way, it waits and tries again from `via`.
     /// A request without its reply stays pending; a reply to it that comes while nobody waits for it is not taken, and so
     /// is not lost: `retry` gets it from the holder, which keeps it.
     pub fn call<R: Wait + Clock>(
@@ -287,8 +354,8 @@ impl<'a, J: Naming, S: EntryStore> Client<'a, J, S> {
         }
     }
 
-    /// Sends a pending request again, under its number, and hands out its reply, as `call` does. It acts once, however
-    /// often it is sent: where it was executed before, the holder answers its kept reply.
+    /// Sends a pending request again from `via`, under its number, and hands out its reply, as `call` does. It acts once,
+    /// however often it is sent: where it was executed before, the holder answers its kept reply.
     pub fn retry<R: Wait + Clock>(
         &mut self,
         rt: &R,

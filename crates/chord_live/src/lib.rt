@@ -4,7 +4,7 @@
 //! [`Ring::work`] for each node on a thread of its own, and [`Ring::tick`] now and then. A [`Caller`] asks by
 //! `caller.ask(&rt, 0, request)`, through inboxes and workers, or by `caller.call(&rt, 0, request)`, which does each
 //! node's event on the calling thread. A [`Client`] calls in the same way, and its memory is bounded by its window: it
-//! keeps a request until its reply is handed out, and no reply.
+//! keeps a request until its reply is handed out, and no reply. It begins at the node that answered last near the key.
 //!
 //! Each node's lock holds the node beside its seat of the table, each caller stands beside its own, and each message
 //! under way is a parcel. So all that callers took stands in one history of one map of sets.
@@ -12,10 +12,12 @@
 
 mod blank;
 mod caller;
+mod carried;
 mod client;
 mod dealing;
 mod fault;
 mod gate;
+mod guesses;
 mod heard;
 mod locked;
 mod note_parcel;

@@ -1,5 +1,5 @@
 //! Places for nodes and callers over one table.
-ghost use Rattle.std.specs.Prelude.{◌≡◌, ◌<◌, ◌≤◌, [], IfOk, IfErr, vec_len};
+ghost use Rattle.std.specs.Prelude.{◌≡◌, ◌<◌, ◌≤◌, [], IfOk, IfErr, IfSome, vec_len};
 ghost use Rattle.chord_caller.specs.Answers.{new_caller};
 ghost use Rattle.chord_live.specs.Counts.{AreWithin};
 ghost use Rattle.chord_table.specs.Shown.{CallerShown};
@@ -71,10 +71,12 @@ impl<J: Naming, S: EntryStore> Ring<J, S> {
     }
 
     /// The links of a node, if it is there: what its upkeep knows of the ring at this moment.
-    pub fn links_of(&self, rt: &impl Wait, no: u64) -> Option<Links> {
+    pub fn links_of(&self, rt: &impl Wait, no: u64) -> Option<Links>
+        ensures { IfSome result (λ links. links.me.no ≡ no) }
+    {
         let slot = self.slots.get(no as usize)?;
         match &*slot.place.lock(rt) {
-            Place::Here(locked) => Some(*locked.links()),
+            Place::Here(locked) if locked.links().me().no == no => Some(*locked.links()),
             _ => None,
         }
     }

@@ -1,5 +1,6 @@
 //! Parcels of nodes, taken in by workers or by the callers themselves.
 
+use crate::carried::Carried;
 use crate::fault::NoSuchNode;
 use crate::gate::{Gate, Open};
 use crate::place::Place;
@@ -79,12 +80,7 @@ impl<J: Naming, S: EntryStore> Ring<J, S> {
     }
 
     /// Carries a parcel from node to node, each event under that node's lock, until one answers a caller.
-    pub(crate) fn carry(
-        &self,
-        rt: &impl Wait,
-        via: u64,
-        parcel: Parcel<J>,
-    ) -> Option<(u64, Parcel<J>)> {
+    pub(crate) fn carry(&self, rt: &impl Wait, via: u64, parcel: Parcel<J>) -> Option<Carried<J>> {
         let mut to = via;
         let mut passed = parcel;
         for _ in 0..HOPS {
@@ -93,7 +89,13 @@ impl<J: Naming, S: EntryStore> Ring<J, S> {
                     to = next;
                     passed = parcel;
                 }
-                (Target::Caller(no), answer) => return Some((no, answer)),
+                (Target::Caller(caller), parcel) => {
+                    return Some(Carried {
+                        from: to,
+                        caller,
+                        parcel,
+                    });
+                }
             }
         }
         None

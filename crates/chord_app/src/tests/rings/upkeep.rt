@@ -1,9 +1,9 @@
 //! Two nodes with a worker each, and rounds of ticks.
 ghost use Rattle.std.specs.Prelude.{◌≡◌};
 
-use super::{C, blank, founded, insert, is_added, is_told, opened, retrieve, settings};
+use super::{blank, founded, insert, is_added, is_told, opened, retrieve, settings};
 use chord_ident::Id;
-use chord_live::{Blank, Gate, Open, Ring};
+use chord_live::{Blank, Client, Gate, Open, Ring};
 use chord_map::Request;
 use chord_store::{CappedStore, EntryStore};
 use chord_table::Naming;
@@ -17,6 +17,9 @@ use std::thread;
 use std::thread::Threads;
 use std::time::{Clock, Duration};
 
+/// Lies between the identifiers of `abc` and `eq`, whose first bytes are equal.
+const M: u128 = 0xa99a0000000000000000000000000000;
+
 /// What is done once the ring is settled.
 #[derive(Clone, Copy, Debug, PartialEq, Eq)]
 enum Then {
@@ -26,6 +29,10 @@ enum Then {
     Crash,
     /// Node 1 leaves and retires.
     Leave,
+    /// A client asks for keys of both nodes, and node 0 crashes.
+    Guess,
+    /// Node 1, which answered a client, crashes.
+    GuessCrashed,
 }
 
 /// Holds worker 0 in the lock until told, for at most 10,000 turns of a millisecond.
@@ -72,7 +79,19 @@ fn a_node_leaves_and_retires(rt: HostRuntime) -> Result<(), Fail> {
     two_nodes::<Brand, _>(&rt, rt.alloc(), blank, Then::Leave)
 }
 
-/// Nodes A and C with a worker each.
+#[test]
+fn a_client_begins_where_it_was_answered(rt: HostRuntime) -> Result<(), Fail> {
+    let blank = blank(rt.alloc(), settings(2, 3, 20, 1_000))?;
+    two_nodes::<Brand, _>(&rt, rt.alloc(), blank, Then::Guess)
+}
+
+#[test]
+fn a_client_asks_no_crashed_node(rt: HostRuntime) -> Result<(), Fail> {
+    let blank = blank(rt.alloc(), settings(2, 3, 20, 1_000))?;
+    two_nodes::<Brand, _>(&rt, rt.alloc(), blank, Then::GuessCrashed)
+}
+
+/// Nodes A and M with a worker each.
 fn two_nodes<J: Naming + Send + Sync, R: Threads + Wait + Clock + Abort + Sync>(
     rt: &R,
     alloc: Global,
@@ -83,7 +102,7 @@ fn two_nodes<J: Naming + Send + Sync, R: Threads + Wait + Clock + Abort + Sync>(
 {
     let ring = founded::<J, CappedStore, R>(rt, blank, CappedStore::new(alloc, 4))?;
     assert!(rt;
-        ring.join(rt, Id::new(C), 0, CappedStore::new(alloc, 4))
+        ring.join(rt, Id::new(M), 0, CappedStore::new(alloc, 4))
             .is_ok()
     );
     let ring = &ring;
@@ -128,6 +147,8 @@ fn settle_and_then<
         Then::TwoLocks => two_locks(rt, alloc, ring, gate),
         Then::Crash => crash(rt, alloc, ring),
         Then::Leave => leave(rt, alloc, ring),
+        Then::Guess => guess(rt, alloc, ring),
+        Then::GuessCrashed => guess_crashed(rt, alloc, ring),
     }
 }
 
@@ -204,6 +225,52 @@ fn leave<J: Naming, S: EntryStore, R: Wait + Clock + Abort>(
     forgets(rt, ring)?;
     let seen = caller.ask(rt, 0, retrieve(alloc, b"abc")?);
     assert!(rt; is_told(seen, b"x"));
+    Ok(())
+}
+
+/// A client of the ring.
+fn client_of<'a, J: Naming, S: EntryStore, R: Wait>(
+    rt: &R,
+    ring: &'a Ring<J, S>,
+) -> Result<Client<'a, J, S>, Fail> {
+    match ring.open_client(rt, 1) {
+        Ok(client) => Ok(client),
+        Err(_) => Err(Fail::from("no client")),
+    }
+}
+
+/// `abc` lies at node 1, `eq` at node 0: each wrong guess is passed on. The client was answered by node 1 last, so it is
+/// answered there also where node 0, at which it asks, crashed.
+fn guess<J: Naming, S: EntryStore, R: Wait + Clock + Abort>(
+    rt: &R,
+    alloc: Global,
+    ring: &Ring<J, S>,
+) -> Result<(), Fail> {
+    let mut client = client_of(rt, ring)?;
+    let added = client.call(rt, 0, insert(alloc, b"abc", b"x")?);
+    assert!(rt; is_added(added));
+    let other = client.call(rt, 0, insert(alloc, b"eq", b"y")?);
+    assert!(rt; is_added(other));
+    let seen = client.call(rt, 0, retrieve(alloc, b"abc")?);
+    assert!(rt; is_told(seen, b"x"));
+    assert_eq!(rt; ring.crash(rt, 0), Ok(()));
+    let again = client.call(rt, 0, retrieve(alloc, b"abc")?);
+    assert!(rt; is_told(again, b"x"));
+    Ok(())
+}
+
+/// Node 1 answered for `abc` and crashes: `eq`, whose guess it is, is asked for at node 0.
+fn guess_crashed<J: Naming, S: EntryStore, R: Wait + Clock + Abort>(
+    rt: &R,
+    alloc: Global,
+    ring: &Ring<J, S>,
+) -> Result<(), Fail> {
+    let mut client = client_of(rt, ring)?;
+    let added = client.call(rt, 0, insert(alloc, b"abc", b"x")?);
+    assert!(rt; is_added(added));
+    assert_eq!(rt; ring.crash(rt, 1), Ok(()));
+    let other = client.call(rt, 0, insert(alloc, b"eq", b"y")?);
+    assert!(rt; is_added(other));
     Ok(())
 }
 
