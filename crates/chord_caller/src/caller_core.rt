@@ -54,6 +54,13 @@ impl CallerCore {
         }
     }
 
+    /// The caller's own number.
+    pub fn number(&self) -> u64
+        ensures { result ≡ self.now.number }
+    {
+        self.number
+    }
+
     /// The calls whose replies it took, in the order taken.
     pub fn mine(&self) -> &[Done]
         ensures { result.now ≡ self.now.mine }

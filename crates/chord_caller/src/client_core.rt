@@ -51,6 +51,14 @@ impl ClientCore {
         })
     }
 
+    /// The client's own number.
+    pub fn number(&self) -> u64
+        ensures answer { result ≡ self.now.number }
+        ensures callers { (caller : Caller) → IsCoreOf self.now caller → result ≡ caller.number }
+    {
+        self.number
+    }
+
     /// The greatest number with all at or below it taken.
     pub fn floor(&self) -> u64
         ensures answer { result ≡ self.now.floor }

@@ -65,6 +65,12 @@ fn a_window_of_one(rt: HostRuntime) {
     assert_eq!(rt; submits_one(rt.alloc()), Some(one));
 }
 
+#[test]
+fn a_caller_has_its_number(rt: HostRuntime) {
+    let core = CallerCore::new(rt.alloc(), 7, 1);
+    assert_eq!(rt; core.number(), 7);
+}
+
 /// Whether the call goes out again as it was.
 fn goes_out_again(alloc: Global) -> Option<bool> {
     let core = submitted(alloc, 7, 1, &[b"abc"])?;

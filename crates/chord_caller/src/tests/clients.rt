@@ -34,10 +34,10 @@ fn of_two(alloc: Global) -> Option<(ClientCore, bool, bool)> {
     Some((core, first, second))
 }
 
-/// Which request of a new client is pending, and why it sends none again.
-fn nothing_pending(alloc: Global) -> Option<(Option<u64>, Option<ResendFault>)> {
+/// The number of a new client, which request of it is pending, and why it sends none again.
+fn nothing_pending(alloc: Global) -> Option<(u64, Option<u64>, Option<ResendFault>)> {
     let core = ClientCore::new(alloc, 7, 2).ok()?;
-    Some((core.pending(), core.resend(1).err()))
+    Some((core.number(), core.pending(), core.resend(1).err()))
 }
 
 /// Whether two calls go out as they should.
@@ -48,7 +48,7 @@ fn sends_two(alloc: Global) -> Option<(bool, bool)> {
 
 #[test]
 fn a_client_sends_two_requests(rt: HostRuntime) {
-    let nothing = (None, Some(ResendFault::Idle));
+    let nothing = (7, None, Some(ResendFault::Idle));
     assert_eq!(rt; nothing_pending(rt.alloc()), Some(nothing));
     assert_eq!(rt; sends_two(rt.alloc()), Some((true, true)));
 }
