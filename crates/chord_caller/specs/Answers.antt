@@ -41,7 +41,7 @@ SubmitIs request old (Err WindowFull) new = IsRequest request × (floor_of old +
 SubmitIs request old (Err NumbersSpent) new = IsRequest request × HasWindow old × (2 ^ 64 ≤ next_number old) × (new ≡ old)
 SubmitIs request old (Err SubmitMemory) new = IsRequest request × HasWindow old × (next_number old < 2 ^ 64) × (new ≡ old)
 
--- the first refusal that fits, which is never want of memory; with none, only memory can be wanting
+-- the first refusal that fits, which is never being out of memory; with none, only that can come
 abbrev pub RefusalIs : Request → Caller → Option SubmitFault → Type 0
 RefusalIs request caller None = SubmitIs request caller (Err SubmitMemory) caller
 RefusalIs request caller (Some fault) = SubmitIs request caller (Err fault) caller × (fault ≢ SubmitMemory)

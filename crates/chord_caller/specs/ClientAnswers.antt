@@ -65,7 +65,7 @@ ClientSubmitIs request old (Err WindowFull) new = IsRequest request × (old.floo
 ClientSubmitIs request old (Err NumbersSpent) new = IsRequest request × HasRoom old × (2 ^ 64 ≤ next_of old) × (new ≡ old)
 ClientSubmitIs request old (Err SubmitMemory) new = IsRequest request × HasRoom old × (next_of old < 2 ^ 64) × (new ≡ old)
 
--- the first refusal that fits, which is never want of memory; with none, only memory can be wanting
+-- the first refusal that fits, which is never being out of memory; with none, only that can come
 abbrev pub ClientRefusalIs : Request → Client → Option SubmitFault → Type 0
 ClientRefusalIs request client None = ClientSubmitIs request client (Err SubmitMemory) client
 ClientRefusalIs request client (Some fault) = ClientSubmitIs request client (Err fault) client × (fault ≢ SubmitMemory)

@@ -123,7 +123,7 @@ impl CallerCore {
         }
     }
 
-    /// Why the request would be refused now, want of memory apart.
+    /// Why the request would be refused now, memory apart.
     pub fn refusal(&self, request: &Request) -> Option<SubmitFault>
         ensures { RefusalIs request.now self.now result }
     {

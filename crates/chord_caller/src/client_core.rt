@@ -87,7 +87,7 @@ impl ClientCore {
         }
     }
 
-    /// Why the request would be refused now, want of memory apart.
+    /// Why the request would be refused now, memory apart.
     pub fn refusal(&self, request: &Request) -> Option<SubmitFault>
         ensures answer { ClientRefusalIs request.now self.now result }
         ensures callers { (caller : Caller) → IsCoreOf self.now caller → RefusalIs request.now caller result }

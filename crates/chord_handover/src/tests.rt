@@ -1,6 +1,8 @@
 //! Worked values.
 ghost use Rattle.std.specs.Prelude.{◌+◌, ◌≤◌};
 
+mod growths;
+
 use crate::{Gather, Outbox, Parcelled, Part, Taken, Ticket, Verdict};
 use chord_ident::{Id, Span};
 use chord_map::{Bytes, Pair};

@@ -107,7 +107,7 @@ GiveIs place to old (Err give.NoSegment) new = (length old.held ≤ place) × (n
 GiveIs place to old (Err give.NumbersSpent) new = (place < length old.held) × (2 ^ 64 ≤ mark_of to old.given + 1) × (new ≡ old)
 GiveIs place to old (Err give.Memory) new = (place < length old.held) × (mark_of to old.given + 1 < 2 ^ 64) × (new ≡ old)
 
--- the segment at the place may be given, want of memory apart
+-- the segment at the place may be given, memory apart
 abbrev pub MayGive : ℕ → ℕ → Node → Result (Unit {0}) GiveFault → Type 0
 MayGive place to node (Ok may) = GiveIs place to node (Err give.Memory) node
 MayGive place to node (Err fault) = GiveIs place to node (Err fault) node

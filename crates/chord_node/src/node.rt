@@ -64,7 +64,7 @@ fn place_with(held: &[Segment], x: Id) -> Option<usize>
 }
 
 impl<S: EntryStore> Node<S> {
-    /// The first node of a ring, which holds the whole circle. Where memory is wanting the store comes back.
+    /// The first node of a ring, which holds the whole circle. Where it is out of memory the store comes back.
     pub fn found(alloc: Global, me: Peer, r: usize, store: S) -> Result<Node<S>, S>
         requires low { 2 ≤ r }
         requires high { r ≤ 16 }
@@ -255,7 +255,7 @@ impl<S: EntryStore> Node<S> {
         merge_segments(self.alloc, &mut self.held, place, other)
     }
 
-    /// Whether the held segment at the place may be given, want of memory apart.
+    /// Whether the held segment at the place may be given, memory apart.
     pub fn may_give(&self, place: usize, to: u64) -> Result<(), GiveFault>
         ensures { MayGive place to self.now result }
     {

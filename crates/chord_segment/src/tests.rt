@@ -1,5 +1,7 @@
 //! Worked values.
 
+mod growths;
+
 use crate::{CutFault, Done, JoinFault, Past, Segment};
 use chord_ident::{Id, Span};
 use chord_map::{Bytes, Reply, Request};

@@ -76,7 +76,7 @@ unfoldable pub questions : SessionState → List WireRequest → List Asked → 
 questions s [] given = []
 questions s (r ∷ requests) given = and_then (question_of (move_of s r) r) (questions (reaction s r given).state requests (reaction s r given).unused)
 
--- The asker answered each question once, in order, and so. Want of memory is no answer.
+-- The asker answered each question once, in order, and so. Being out of memory is no answer.
 abbrev pub AreAnswers : {A : Type 0} → (A → Question → Asked → A → Type 0) → A → List Question → List Asked → A → Type 0
 AreAnswers {A = A} answers a [] [] a' = a' ≡ a
 AreAnswers {A = A} answers a (q ∷ questions) (x ∷ given) a' = (b : A) × answers a q x b × (x ≢ asked.Memory) × AreAnswers answers b questions given a'

@@ -18,7 +18,7 @@ pub trait EntryStore: Drop {
     ghost limit: { Self → ℕ };
 
     /// Adds the value to the set under the key. A value that is there and a set that is full are
-    /// seen before the limit, and want of memory last.
+    /// seen before the limit, and being out of memory last.
     fn insert(&mut self, key: &[u8], value: &[u8]) -> Result<Inserted, StoreFault>
         ensures answer { InsertIs (record { key = key.now; value = value.now }) (content self.old) (limit self.old) result (content self.new) }
         ensures limit { limit self.new ≡ limit self.old };

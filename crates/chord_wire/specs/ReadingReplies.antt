@@ -107,7 +107,7 @@ abbrev pub Copies : {X Y : Type 0} → (X → Y) → Result X WireFault → Resu
 Copies view (Ok x) read = read ≡ Ok (view x)
 Copies view (Err e) read = (read ≡ Err e) ⊎ (e ≡ out_of_memory)
 
--- the same, where all faults come before want of memory
+-- the same, where all faults come before being out of memory
 abbrev pub CopiesLast : {X : Type 0} → Result X WireFault → Result X WireFault → Type 0
 CopiesLast (Ok x) read = read ≡ Ok x
 CopiesLast (Err e) read = (read ≡ Err e) ⊎ ((e ≡ out_of_memory) × IsOk read)

@@ -65,7 +65,7 @@ abbrev pub answer_body : Answer → List ℕ
 answer_body (answer.Reply number reply) = reply_body number reply
 answer_body (answer.Fault number code) = fault_body number code
 
--- what has a spelling: want of memory stands in no frame
+-- what has a spelling: being out of memory stands in no frame
 abbrev pub IsAnswer : Answer → Type 0
 IsAnswer (answer.Reply number reply) = (number < 2 ^ 64) × IsReply reply
 IsAnswer (answer.Fault number code) = (number < 2 ^ 64) × (code ≢ Memory)

@@ -44,7 +44,7 @@ pub const BAD_VALUE: u8 = 5;
 
 pub const TRAILING: u8 = 6;
 
-/// Want of memory, which stands in no frame.
+/// Out of memory, which stands in no frame.
 pub const MEMORY: u8 = 7;
 
 pub const NUMBER_REUSED: u8 = 8;

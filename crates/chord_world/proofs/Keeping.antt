@@ -85,7 +85,7 @@ with_more nodes crashed view = record view { known = record view.known { nodes =
 abbrev pub with_callers : List Caller → WorldState → WorldState
 with_callers callers view = record view { known = record view.known { callers = callers } }
 
--- where memory was wanting
+-- where there was no memory
 pub no_room : (view old : WorldState) (nodes : List Node) (flags : List Bool) → view ≡ old → nodes ≡ view.known.nodes → flags ≡ view.crashed → with_more nodes flags view ≡ old
 no_room view old nodes flags same n f = (λ i. with_more (n i) (f i) view) ∙ same
 

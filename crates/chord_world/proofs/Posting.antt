@@ -25,7 +25,7 @@ use Rattle.chord_world.specs.Sending.{CanSubmit, Submitted}
 use Rattle.chord_world.proofs.Placing.{caller_at_place, put_caller_place, callers_set, caller_number, calls_pushed}
 use Rattle.chord_world.proofs.Keeping.{further}
 
--- nothing but memory can be wanting
+-- only memory can be missing
 pub submit_memory : (request : Request) (core after : Caller) (fault : SubmitFault) → SubmitIs request core (Err Memory) core → SubmitIs request core (Err fault) after → after ≡ core
 submit_memory request core after (Bad KeyEmpty) can refused = absurd (let a = can.0.0.0 in let b = refused.0 in omega arith)
 submit_memory request core after (Bad KeyLong) can refused = absurd (let a = can.0.0.1 in let b = refused.0 in omega arith)

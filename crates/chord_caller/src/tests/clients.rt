@@ -153,7 +153,7 @@ fn a_client_hears_no_foreign_reply(rt: HostRuntime) {
     );
 }
 
-/// An insert, made again where memory was wanting.
+/// An insert, made again where there was no memory.
 fn request(alloc: Global) -> Option<Request> {
     match insert(alloc, b"a") {
         Ok(request) => Some(request),
@@ -161,7 +161,7 @@ fn request(alloc: Global) -> Option<Request> {
     }
 }
 
-/// The number of the call that is submitted, again where memory was wanting: it is not pending then.
+/// The number of the call that is submitted, again where there was no memory: it is not pending then.
 fn submits(alloc: Global, core: &mut ClientCore, number: u64) -> Option<u64> {
     match core.submit(request(alloc)?) {
         Ok(ask) => Some(ask.number),
@@ -172,7 +172,7 @@ fn submits(alloc: Global, core: &mut ClientCore, number: u64) -> Option<u64> {
     }
 }
 
-/// A client with a window of three, made again where memory was wanting.
+/// A client with a window of three, made again where there was no memory.
 fn of_three(alloc: Global) -> Option<ClientCore> {
     match ClientCore::new(alloc, 0, 3) {
         Ok(core) => Some(core),

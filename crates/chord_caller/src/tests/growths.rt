@@ -67,7 +67,7 @@ fn takes(rt: &impl Abort, core: &mut CallerCore, number: u64, last: u64) -> Resu
     Ok(())
 }
 
-// What the caller shows, asked for again where memory was wanting.
+// What the caller shows, asked for again where there was no memory.
 fn shown(core: &CallerCore) -> Result<Note, AllocError> {
     match core.show() {
         Ok(note) => Ok(note),

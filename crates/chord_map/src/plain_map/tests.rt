@@ -52,7 +52,7 @@ fn fills_a_set(rt: HostRuntime) -> Result<(), Fail> {
     Ok(())
 }
 
-// The request to add the value [n], made again where memory was wanting.
+// The request to add the value [n], made again where there was no memory.
 fn insert_of(alloc: Global, n: u8) -> Result<Request, AllocError> {
     match insert(alloc, b"a", &[n]) {
         Ok(request) => Ok(request),

@@ -23,7 +23,7 @@ fn holds_values_in_the_order_given(rt: HostRuntime) -> Result<(), Fail> {
     Ok(())
 }
 
-// The value [n], asked for again where memory was wanting.
+// The value [n], asked for again where there was no memory.
 fn value(alloc: Global, n: u8) -> Result<Bytes, AllocError> {
     match Bytes::from_slice(alloc, &[n]) {
         Ok(bytes) => Ok(bytes),

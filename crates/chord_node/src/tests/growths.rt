@@ -13,7 +13,7 @@ use chord_map::Reply;
 use chord_store::CappedStore;
 use std::alloc::{AllocError, Global};
 
-/// Node 0, which holds the whole circle, made again where memory was wanting.
+/// Node 0, which holds the whole circle, made again where there was no memory.
 fn founder(alloc: Global) -> Option<Node<CappedStore>> {
     match found(alloc, CappedStore::new(alloc, 1)) {
         Some(node) => Some(node),
@@ -21,7 +21,7 @@ fn founder(alloc: Global) -> Option<Node<CappedStore>> {
     }
 }
 
-/// Node 0 after it gave (A, C] to node 1, made again where memory was wanting.
+/// Node 0 after it gave (A, C] to node 1, made again where there was no memory.
 fn giver(alloc: Global) -> Option<(Node<CappedStore>, Part)> {
     match given_away(alloc, 1) {
         Some(given) => Some(given),
@@ -37,7 +37,7 @@ fn insert_x(alloc: Global) -> Result<Ask, AllocError> {
     }
 }
 
-/// What the node answers to the call, which comes again where memory was wanting.
+/// What the node answers to the call, which comes again where there was no memory.
 fn answered(node: &mut Node<CappedStore>, call: &Ask) -> Result<Answered, AllocError> {
     match node.on_ask(call) {
         Ok(answered) => Ok(answered),
@@ -58,7 +58,7 @@ fn a_refused_call_is_not_executed(rt: HostRuntime) {
     assert_eq!(rt; executes(rt.alloc()), Some(true));
 }
 
-/// Cuts at B, again where memory was wanting: the node holds the circle in one piece then.
+/// Cuts at B, again where there was no memory: the node holds the circle in one piece then.
 fn cut(node: &mut Node<CappedStore>) -> Result<(), CutAtFault> {
     match node.cut_at(0, Id::new(B)) {
         Err(CutAtFault::Memory) if node.span(0) == Some(span(A, A)) => node.cut_at(0, Id::new(B)),
@@ -66,7 +66,7 @@ fn cut(node: &mut Node<CappedStore>) -> Result<(), CutAtFault> {
     }
 }
 
-/// Merges what was cut at B, again where memory was wanting: the node holds it in two pieces then.
+/// Merges what was cut at B, again where there was no memory: the node holds it in two pieces then.
 fn merge(node: &mut Node<CappedStore>) -> Result<(), MergeFault> {
     let pieces = (Some(span(A, B)), Some(span(B, A)));
     match node.merge(0, 1) {
@@ -92,7 +92,7 @@ fn holds_all(node: &Node<CappedStore>) -> bool {
     node.span(0) == Some(span(A, A)) && node.kept_count() == 0
 }
 
-/// Gives to node 1 what it holds, again where memory was wanting: it holds the circle then.
+/// Gives to node 1 what it holds, again where there was no memory: it holds the circle then.
 fn give(node: &mut Node<CappedStore>) -> Result<Part, GiveFault> {
     match node.give(0, 1) {
         Err(GiveFault::Memory) if holds_all(node) => node.give(0, 1),
@@ -112,7 +112,7 @@ fn a_refused_give_keeps_the_segment(rt: HostRuntime) {
     assert_eq!(rt; gives(rt.alloc()), Some((1, Some((1, 1, span(A, A))))));
 }
 
-/// The part that was given to node 1, asked for again where memory was wanting.
+/// The part that was given to node 1, asked for again where there was no memory.
 fn resent(node: &Node<CappedStore>) -> Result<Part, ResendFault> {
     match node.resend_part(1, 1, 1) {
         Err(ResendFault::Memory) => node.resend_part(1, 1, 1),
@@ -132,7 +132,7 @@ fn a_refused_resend(rt: HostRuntime) {
     assert_eq!(rt; resends(rt.alloc()), Some(true));
 }
 
-/// What node 1 answers to a part, which comes again where memory was wanting: it took and holds nothing then.
+/// What node 1 answers to a part, which comes again where there was no memory: it took and holds nothing then.
 fn taken(node: &mut Node<CappedStore>, part: &Part) -> Option<Given> {
     match handed(node, part) {
         Ok(given) => given,
@@ -172,7 +172,7 @@ fn keeps(node: &Node<CappedStore>) -> bool {
     node.kept(0) == Some((1, 1, span(A, C))) && node.held_count() == 1
 }
 
-/// What comes of an item that node 1 declines, again where memory was wanting: the node keeps it then.
+/// What comes of an item that node 1 declines, again where there was no memory: the node keeps it then.
 fn returned(node: &mut Node<CappedStore>) -> Option<Back> {
     match taken_back(node, ticket(0, 1, 1)) {
         Ok(back) => back,

@@ -26,7 +26,7 @@ const ALL: There = There {
     odd: COUNT,
 };
 
-// Copies of all pairs, asked for again where memory was wanting.
+// Copies of all pairs, asked for again where there was no memory.
 fn all_pairs<S: EntryStore>(alloc: Global, store: &S) -> Result<Vec<Pair>, AllocError> {
     let id = Id::new(7);
     let circle = Span::new(id, id);
@@ -59,7 +59,7 @@ fn has_these<S: EntryStore>(alloc: Global, store: &S, there: There) -> bool {
     rest.next().is_none()
 }
 
-// Puts in a pair, and once more where memory was wanting and the store has what it had.
+// Puts in a pair, and once more where there was no memory and the store has what it had.
 fn put<S: EntryStore>(rt: &impl Abort, alloc: Global, store: &mut S, n: u8, there: There) {
     if let Err(fault) = store.insert(&[n / 3], &[n]) {
         assert_eq!(rt; fault, StoreFault::Memory, "at {n}");
@@ -82,7 +82,7 @@ fn put_all_in_turn<S: EntryStore>(rt: &impl Abort, alloc: Global, store: &mut S)
     }
 }
 
-// The values under the key [5], asked for again where memory was wanting.
+// The values under the key [5], asked for again where there was no memory.
 fn values<S: EntryStore>(alloc: Global, store: &S) -> Result<Values, AllocError> {
     match store.values(alloc, &[5]) {
         Ok(values) => Ok(values),
@@ -106,7 +106,7 @@ fn has_values<S: EntryStore>(alloc: Global, store: &S) -> bool {
     rest.next().is_none()
 }
 
-// A list of all pairs, each put in again where memory was wanting.
+// A list of all pairs, each put in again where there was no memory.
 fn pair_list(alloc: Global) -> Result<PairList, AllocError> {
     let mut list = PairList::new(alloc);
     for n in 0..COUNT {
@@ -117,7 +117,7 @@ fn pair_list(alloc: Global) -> Result<PairList, AllocError> {
     Ok(list)
 }
 
-// Puts in all pairs or none, and once more where memory was wanting. Answers whether a refused call left the store empty.
+// Puts in all pairs or none, and once more where there was no memory. Answers whether a refused call left the store empty.
 fn put_all_or_none<S: EntryStore>(alloc: Global, store: &mut S, list: &PairList) -> bool
     requires { S.content store.old ≡ [] }
 {

@@ -1,7 +1,7 @@
 //! A refused growth leaves all as it was, and a second try succeeds. With ample memory nothing is refused; the tests are
 //! run with each growth refused in turn too.
 
-use crate::tests::{A, B, added, cut_at_b, one, span};
+use super::{A, B, added, cut_at_b, one, span};
 use crate::{CutFault, Done, JoinFault, Past, Segment};
 use chord_ident::Id;
 use std::alloc::{AllocError, Global};

@@ -1,7 +1,7 @@
 //! A refused growth leaves all as it was, and a second try succeeds. With ample memory nothing is refused; the tests are
 //! run with each growth refused in turn too.
 
-use crate::tests::{A, empty_parcel, makes, note, part, two_parts};
+use super::{A, empty_parcel, makes, note, part, two_parts};
 use crate::{GiveFault, Outbox, Part, Taken};
 use chord_ident::{Id, Span};
 use std::alloc::{AllocError, Global};
