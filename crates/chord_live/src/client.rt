@@ -173,14 +173,15 @@ impl<'a, J: Naming, S: EntryStore> Client<'a, J, S> {
     }
 
     /// The member that answered last for such an identifier, else `via`.
-    fn nearest(&self, id: Id, via: u64) -> u64 {
+    fn first_node(&self, id: Id, via: u64) -> u64 {
         match self.guesses.guess(id) {
             Some(no) if self.ring.is_live(no) => no,
             _ => via,
         }
     }
 
-    /// Carries a new request, first to the node that is guessed, and notes which node answered.
+    /// Carries a new request, first to the node that is guessed, and notes which node answered. Where none did the guess is
+    /// forgotten.
     fn carry_by_guess(
         &mut self,
         rt: &impl Wait,
@@ -191,7 +192,7 @@ impl<'a, J: Naming, S: EntryStore> Client<'a, J, S> {
     ) -> Result<Reply, WaitFault>
         ensures { AwaitIs number self.old.caller result self.new.caller }
     {
-        match self.ring.carry(rt, self.nearest(id, via), parcel) {
+        match self.ring.carry(rt, self.first_node(id, via), parcel) {
             Some(carried) => {
                 self.guesses.note(id, carried.from);
                 self.take(rt, carried, number)

@@ -4,9 +4,9 @@ ghost use Rattle.chord_live.specs.Guesses.{no_guesses, guess_at, with_guess, sma
 
 use chord_ident::Id;
 
-/// For each value of an identifier's first byte the node that answered last, where one did. Numbers of nodes are below
-/// 64; one above 255 would have no place.
-#[derive(Clone, Copy, Debug, PartialEq, Eq)]
+/// For each value of an identifier's first byte the node that answered last, where one did. A number above 255 is not
+/// kept; those of a ring are below 64.
+#[derive(Drop)]
 pub struct Guesses {
     nodes: [Option<u8>; 256],
 }
