@@ -1,4 +1,5 @@
 pub mod Coming
 pub mod Counting
 pub mod Hearing
+pub mod Messages
 pub mod Sending

@@ -1,5 +1,5 @@
 -- What a caller of a ring answers, and what it knows afterwards.
-use Rattle.std.specs.Prelude.{◌≡◌, ◌⊎◌, ℕ, ◌^◌, ◌<◌, true, false, None, Some, is_some, List, ◌++◌, Result, Ok, Err}
+use Rattle.std.specs.Prelude.{◌≡◌, ◌⊎◌, ℕ, ◌+◌, ◌^◌, ◌<◌, Bool, true, false, ◌&&◌, eqb, count_by, None, Some, is_some, List, ◌++◌, Result, Ok, Err}
 use Rattle.std.specs.declared.alloc.AllocError.{AllocError}
 use Rattle.chord_caller.specs.Answers.{SubmitIs, HasWindow, is_pending}
 use Rattle.chord_caller.specs.Caller.{Caller, Note, next_number, submission_at, unknown, with_request}
@@ -18,8 +18,11 @@ use Rattle.chord_live.specs.declared.heard.Heard.TheVariants as heard
 use Rattle.chord_map.specs.Checked.{IsRequest}
 use Rattle.chord_map.specs.declared.request.Request.{Request}
 use Rattle.chord_map.specs.declared.reply.Reply.{Reply}
+use Rattle.chord_model.specs.declared.message.Message.{Message}
+use Rattle.chord_model.specs.declared.message.Message.TheVariants.{Full as FullMessage}
 use Rattle.chord_map.specs.History.{done_at}
 use Rattle.chord_map.specs.declared.done.Done.{Done}
+use Rattle.chord_table.specs.Views.{CallerSight}
 
 -- the caller took replies, none or more, and nothing else of it changed
 abbrev pub TookReplies : Caller → Caller → Type 0
@@ -33,6 +36,27 @@ IsTaken caller number reply = (done : Done) × (done_at caller.number number cal
 abbrev pub WaitsStill : ℕ → Caller → Caller → Type 0
 WaitsStill number old new = TookReplies old new × (is_pending number new ≡ is_pending number old)
 
+-- messages came, none or more
+abbrev pub TookMessages : CallerSight → CallerSight → Type 0
+TookMessages old new = (others : List Message) × (new.messages ≡ old.messages ++ others)
+
+-- the message says that a store has no room for this caller's request of the number
+abbrev pub says_full : ℕ → ℕ → Message → Bool
+says_full caller number (FullMessage other of) = eqb other caller && eqb of number
+says_full caller number message = false
+
+-- how many of the messages that came say so of the caller's own request of the number
+unfoldable pub full_count : ℕ → CallerSight → ℕ
+full_count number sight = count_by (says_full sight.caller.number number) sight.messages
+
+-- one more such message came
+abbrev pub WasToldFull : ℕ → CallerSight → CallerSight → Type 0
+WasToldFull number old new = full_count number new ≡ full_count number old + 1
+
+-- no such message came
+abbrev pub WasNotToldFull : ℕ → CallerSight → CallerSight → Type 0
+WasNotToldFull number old new = full_count number new ≡ full_count number old
+
 -- what came to a caller that waits for the reply to the request of the number
 abbrev pub HeardIs : ℕ → Caller → Heard → Caller → Type 0
 HeardIs number old (heard.Reply reply) new = TookReplies old new × IsTaken new number reply
@@ -42,6 +66,10 @@ HeardIs number old _ new = WaitsStill number old new
 abbrev pub WaitIs : ℕ → Caller → Result Reply WaitFault → Caller → Type 0
 WaitIs number old (Ok reply) new = TookReplies old new × IsTaken new number reply
 WaitIs number old (Err fault) new = WaitsStill number old new
+
+-- the caller would refuse the request for want of memory alone
+abbrev pub MaySubmit : Request → Caller → Type 0
+MaySubmit request caller = IsRequest request × HasWindow caller × (next_number caller < 2 ^ 64)
 
 -- the request is one that may go out now: it stood under the next number, and replies were taken since
 abbrev pub WasSubmitted : Request → Caller → Caller → Type 0

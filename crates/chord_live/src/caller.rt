@@ -1,8 +1,14 @@
 //! A caller that asks nodes.
-ghost use Rattle.std.specs.Prelude.{◌≡◌, ◌≤◌, ◌++◌, [], ◌∷◌, Ok, Err, None, true, IfOk, IfErr, IfSome, OnErr};
+ghost use Rattle.std.specs.Prelude.{◌≡◌, ◌≢◌, ◌≤◌, ◌++◌, [], ◌∷◌, Ok, Err, None, Some, true, IfOk, IfErr, IfSome, OnErr};
 ghost use Rattle.chord_caller.specs.Answers.{PendingIs, is_pending, new_caller};
-ghost use Rattle.chord_caller.specs.Caller.{floor_of, known};
-ghost use Rattle.chord_live.specs.Asking.{AskIs, BeginIs, CollectIs, HeardIs, MeetIs, RetryIs, WaitIs};
+ghost use Rattle.chord_caller.specs.Caller.{floor_of, known, next_number};
+ghost use Rattle.chord_live.specs.Asking.{AskIs, BeginIs, CollectIs, HeardIs, MaySubmit, MeetIs, RetryIs, TookMessages, WaitIs, WasNotToldFull, WasToldFull};
+ghost use Rattle.chord_live.specs.declared.fault.AskFault.TheVariants as AskFault;
+ghost use Rattle.chord_live.specs.declared.fault.BeginFault.TheVariants as BeginFault;
+ghost use Rattle.chord_live.specs.declared.fault.CollectFault.TheVariants as CollectFault;
+ghost use Rattle.chord_live.specs.declared.fault.RetryFault.TheVariants as RetryFault;
+ghost use Rattle.chord_live.specs.declared.fault.WaitFault.TheVariants as WaitFault;
+ghost use Rattle.chord_live.specs.declared.heard.Heard.TheVariants as Heard;
 ghost use Rattle.chord_model.specs.declared.message.Message.TheVariants.{Note as NoteMessage};
 ghost use Rattle.chord_table.specs.Shown.{CallerShown};
 
@@ -123,6 +129,9 @@ impl<'a, J: Naming, S: EntryStore> Caller<'a, J, S> {
     fn submit(&mut self, via: u64, request: Request) -> Result<(u64, Parcel<J>), BeginFault>
         ensures ok { IfOk result (λ sent. BeginIs request self.old.caller (Ok sent.0) self.new.caller) }
         ensures waits { IfOk result (λ sent. is_pending sent.0 self.new.caller ≡ true) }
+        ensures messages { self.new.messages ≡ self.old.messages }
+        ensures not_full { WasNotToldFull (next_number self.old.caller) self.old self.new }
+        ensures placed { J.name.slots ≤ via → MaySubmit request self.old.caller → result ≡ Err BeginFault.NoSuchNode }
         ensures err { IfErr result (λ fault. BeginIs request self.old.caller (Err fault) self.new.caller) }
         ensures same { OnErr result (self.new ≡ self.old) }
     {
@@ -141,6 +150,8 @@ impl<'a, J: Naming, S: EntryStore> Caller<'a, J, S> {
     /// Submits a request, sends it once, and waits for nothing. Answers its number.
     pub fn begin(&mut self, rt: &impl Wait, via: u64, request: Request) -> Result<u64, BeginFault>
         ensures answer { BeginIs request self.old.caller result self.new.caller }
+        ensures placed { J.name.slots ≤ via → MaySubmit request self.old.caller → result ≡ Err BeginFault.NoSuchNode }
+        ensures messages { self.new.messages ≡ self.old.messages }
         ensures shown { CallerShown self.new }
     {
         let begun = match self.submit(via, request) {
@@ -158,6 +169,9 @@ impl<'a, J: Naming, S: EntryStore> Caller<'a, J, S> {
     fn hear<R: Wait + Clock>(&mut self, rt: &R, limit: Duration, number: u64) -> Option<Heard>
         ensures some { IfSome result (λ heard. HeardIs number self.old.caller heard self.new.caller) }
         ensures none { result ≡ None → self.new ≡ self.old }
+        ensures came { TookMessages self.old self.new }
+        ensures full { result ≡ Some Heard.Full → WasToldFull number self.old self.new }
+        ensures not_full { result ≢ Some Heard.Full → WasNotToldFull number self.old self.new }
     {
         let ring = self.ring;
         match ring.receive(rt, &ring.inboxes[self.no as usize].parcels, limit) {
@@ -168,7 +182,10 @@ impl<'a, J: Naming, S: EntryStore> Caller<'a, J, S> {
 
     /// Waits for the reply to a pending request, as long as one try is to wait.
     fn wait<R: Wait + Clock>(&mut self, rt: &R, number: u64) -> Result<Reply, WaitFault>
-        ensures { WaitIs number self.old.caller result self.new.caller }
+        ensures answer { WaitIs number self.old.caller result self.new.caller }
+        ensures came { TookMessages self.old self.new }
+        ensures full { result ≡ Err WaitFault.Full → WasToldFull number self.old self.new }
+        ensures not_full { result ≢ Err WaitFault.Full → WasNotToldFull number self.old self.new }
     {
         let start = Instant::now(rt).ok();
         for _ in 0..u64::MAX {
@@ -187,7 +204,10 @@ impl<'a, J: Naming, S: EntryStore> Caller<'a, J, S> {
     /// Sends a pending request again, and waits.
     fn resend<R: Wait + Clock>(&mut self, rt: &R, via: u64, number: u64) -> Result<Reply, WaitFault>
         requires { is_pending number self.old.caller ≡ true }
-        ensures { WaitIs number self.old.caller result self.new.caller }
+        ensures answer { WaitIs number self.old.caller result self.new.caller }
+        ensures came { TookMessages self.old self.new }
+        ensures full { result ≡ Err WaitFault.Full → WasToldFull number self.old self.new }
+        ensures not_full { result ≢ Err WaitFault.Full → WasNotToldFull number self.old self.new }
     {
         match self.own.resend(&self.ring.table, number) {
             Ok(parcel) => self.ring.post(rt, Target::Node(via), parcel),
@@ -205,7 +225,10 @@ impl<'a, J: Naming, S: EntryStore> Caller<'a, J, S> {
         times: u64,
     ) -> Result<Reply, WaitFault>
         requires { is_pending number self.old.caller ≡ true }
-        ensures { WaitIs number self.old.caller result self.new.caller }
+        ensures answer { WaitIs number self.old.caller result self.new.caller }
+        ensures came { TookMessages self.old self.new }
+        ensures full { result ≡ Err WaitFault.Full → WasToldFull number self.old self.new }
+        ensures not_full { result ≢ Err WaitFault.Full → WasNotToldFull number self.old self.new }
     {
         for _ in 0..times {
             match self.resend(rt, via, number) {
@@ -220,7 +243,10 @@ impl<'a, J: Naming, S: EntryStore> Caller<'a, J, S> {
     /// Waits for the reply to a pending request, which was sent once, and sends it again where none comes.
     fn fetch<R: Wait + Clock>(&mut self, rt: &R, via: u64, number: u64) -> Result<Reply, WaitFault>
         requires { is_pending number self.old.caller ≡ true }
-        ensures { WaitIs number self.old.caller result self.new.caller }
+        ensures answer { WaitIs number self.old.caller result self.new.caller }
+        ensures came { TookMessages self.old self.new }
+        ensures full { result ≡ Err WaitFault.Full → WasToldFull number self.old self.new }
+        ensures not_full { result ≢ Err WaitFault.Full → WasNotToldFull number self.old self.new }
     {
         let more = self.ring.settings.tries - 1;
         match self.wait(rt, number) {
@@ -237,7 +263,11 @@ impl<'a, J: Naming, S: EntryStore> Caller<'a, J, S> {
         via: u64,
         request: Request,
     ) -> Result<Reply, AskFault>
-        ensures { AskIs request self.old.caller result self.new.caller }
+        ensures answer { AskIs request self.old.caller result self.new.caller }
+        ensures placed { J.name.slots ≤ via → MaySubmit request self.old.caller → result ≡ Err AskFault.NoSuchNode }
+        ensures came { TookMessages self.old self.new }
+        ensures full { result ≡ Err AskFault.Full → WasToldFull (next_number self.old.caller) self.old self.new }
+        ensures not_full { result ≢ Err AskFault.Full → WasNotToldFull (next_number self.old.caller) self.old self.new }
     {
         let (number, parcel) = match self.submit(via, request) {
             Ok(sent) => sent,
@@ -259,6 +289,10 @@ impl<'a, J: Naming, S: EntryStore> Caller<'a, J, S> {
         request: Request,
     ) -> Result<Reply, AskFault>
         ensures answer { AskIs request self.old.caller result self.new.caller }
+        ensures placed { J.name.slots ≤ via → MaySubmit request self.old.caller → result ≡ Err AskFault.NoSuchNode }
+        ensures came { TookMessages self.old self.new }
+        ensures full { result ≡ Err AskFault.Full → WasToldFull (next_number self.old.caller) self.old self.new }
+        ensures not_full { result ≢ Err AskFault.Full → WasNotToldFull (next_number self.old.caller) self.old self.new }
         ensures shown { CallerShown self.new }
     {
         let answered = self.submit_and_fetch(rt, via, request);
@@ -268,7 +302,10 @@ impl<'a, J: Naming, S: EntryStore> Caller<'a, J, S> {
 
     /// Waits for the reply to a pending request as long as `ask` does, and sends nothing.
     fn linger<R: Wait + Clock>(&mut self, rt: &R, number: u64) -> Result<Reply, WaitFault>
-        ensures { WaitIs number self.old.caller result self.new.caller }
+        ensures answer { WaitIs number self.old.caller result self.new.caller }
+        ensures came { TookMessages self.old self.new }
+        ensures full { result ≡ Err WaitFault.Full → WasToldFull number self.old self.new }
+        ensures not_full { result ≢ Err WaitFault.Full → WasNotToldFull number self.old self.new }
     {
         for _ in 0..self.ring.settings.tries {
             match self.wait(rt, number) {
@@ -282,7 +319,10 @@ impl<'a, J: Naming, S: EntryStore> Caller<'a, J, S> {
 
     /// The reply to a submitted request: the one that was taken, or the one that comes.
     fn find_or_wait<R: Wait + Clock>(&mut self, rt: &R, number: u64) -> Result<Reply, CollectFault>
-        ensures { CollectIs number self.old.caller result self.new.caller }
+        ensures answer { CollectIs number self.old.caller result self.new.caller }
+        ensures came { TookMessages self.old self.new }
+        ensures full { result ≡ Err CollectFault.Full → WasToldFull number self.old self.new }
+        ensures not_full { result ≢ Err CollectFault.Full → WasNotToldFull number self.old self.new }
     {
         if !self.own.was_submitted(number) {
             return Err(CollectFault::NotBegun);
@@ -301,6 +341,9 @@ impl<'a, J: Naming, S: EntryStore> Caller<'a, J, S> {
     /// The reply to a request that was submitted before. It waits as long as `ask` does, and sends nothing.
     pub fn collect<R: Wait + Clock>(&mut self, rt: &R, number: u64) -> Result<Reply, CollectFault>
         ensures answer { CollectIs number self.old.caller result self.new.caller }
+        ensures came { TookMessages self.old self.new }
+        ensures full { result ≡ Err CollectFault.Full → WasToldFull number self.old self.new }
+        ensures not_full { result ≢ Err CollectFault.Full → WasNotToldFull number self.old self.new }
         ensures shown { CallerShown self.new }
     {
         let collected = self.find_or_wait(rt, number);
@@ -315,7 +358,11 @@ impl<'a, J: Naming, S: EntryStore> Caller<'a, J, S> {
         via: u64,
         number: u64,
     ) -> Result<Reply, RetryFault>
-        ensures { RetryIs number self.old.caller result self.new.caller }
+        ensures answer { RetryIs number self.old.caller result self.new.caller }
+        ensures placed { J.name.slots ≤ via → is_pending number self.old.caller ≡ true → result ≡ Err RetryFault.NoSuchNode }
+        ensures came { TookMessages self.old self.new }
+        ensures full { result ≡ Err RetryFault.Full → WasToldFull number self.old self.new }
+        ensures not_full { result ≢ Err RetryFault.Full → WasNotToldFull number self.old self.new }
     {
         if !self.own.is_pending(number) {
             return Err(RetryFault::Idle);
@@ -338,6 +385,10 @@ impl<'a, J: Naming, S: EntryStore> Caller<'a, J, S> {
         number: u64,
     ) -> Result<Reply, RetryFault>
         ensures answer { RetryIs number self.old.caller result self.new.caller }
+        ensures placed { J.name.slots ≤ via → is_pending number self.old.caller ≡ true → result ≡ Err RetryFault.NoSuchNode }
+        ensures came { TookMessages self.old self.new }
+        ensures full { result ≡ Err RetryFault.Full → WasToldFull number self.old self.new }
+        ensures not_full { result ≢ Err RetryFault.Full → WasNotToldFull number self.old self.new }
         ensures shown { CallerShown self.new }
     {
         let answered = self.resend_pending(rt, via, number);
@@ -347,7 +398,10 @@ impl<'a, J: Naming, S: EntryStore> Caller<'a, J, S> {
 
     /// Carries a parcel from node to node, each event under that node's lock, and takes what comes back.
     fn carry(&mut self, rt: &impl Wait, via: u64, parcel: Parcel<J>, number: u64) -> Heard
-        ensures { HeardIs number self.old.caller result self.new.caller }
+        ensures answer { HeardIs number self.old.caller result self.new.caller }
+        ensures came { TookMessages self.old self.new }
+        ensures full { result ≡ Heard.Full → WasToldFull number self.old self.new }
+        ensures not_full { result ≢ Heard.Full → WasNotToldFull number self.old self.new }
     {
         let ring = self.ring;
         match ring.carry(rt, via, parcel) {
@@ -370,7 +424,10 @@ impl<'a, J: Naming, S: EntryStore> Caller<'a, J, S> {
         parcel: Parcel<J>,
         number: u64,
     ) -> Result<Reply, WaitFault>
-        ensures { WaitIs number self.old.caller result self.new.caller }
+        ensures answer { WaitIs number self.old.caller result self.new.caller }
+        ensures came { TookMessages self.old self.new }
+        ensures full { result ≡ Err WaitFault.Full → WasToldFull number self.old self.new }
+        ensures not_full { result ≢ Err WaitFault.Full → WasNotToldFull number self.old self.new }
     {
         match self.carry(rt, via, parcel, number) {
             Heard::Reply(reply) => return Ok(reply),
@@ -389,7 +446,10 @@ impl<'a, J: Naming, S: EntryStore> Caller<'a, J, S> {
         number: u64,
     ) -> Result<Reply, WaitFault>
         requires { is_pending number self.old.caller ≡ true }
-        ensures { WaitIs number self.old.caller result self.new.caller }
+        ensures answer { WaitIs number self.old.caller result self.new.caller }
+        ensures came { TookMessages self.old self.new }
+        ensures full { result ≡ Err WaitFault.Full → WasToldFull number self.old self.new }
+        ensures not_full { result ≢ Err WaitFault.Full → WasNotToldFull number self.old self.new }
     {
         match self.own.resend(&self.ring.table, number) {
             Ok(parcel) => self.carry_or_wait(rt, via, parcel, number),
@@ -406,7 +466,10 @@ impl<'a, J: Naming, S: EntryStore> Caller<'a, J, S> {
         times: u64,
     ) -> Result<Reply, WaitFault>
         requires { is_pending number self.old.caller ≡ true }
-        ensures { WaitIs number self.old.caller result self.new.caller }
+        ensures answer { WaitIs number self.old.caller result self.new.caller }
+        ensures came { TookMessages self.old self.new }
+        ensures full { result ≡ Err WaitFault.Full → WasToldFull number self.old self.new }
+        ensures not_full { result ≢ Err WaitFault.Full → WasNotToldFull number self.old self.new }
     {
         for _ in 0..times {
             match self.carry_again(rt, via, number) {
@@ -427,7 +490,10 @@ impl<'a, J: Naming, S: EntryStore> Caller<'a, J, S> {
         number: u64,
     ) -> Result<Reply, WaitFault>
         requires { is_pending number self.old.caller ≡ true }
-        ensures { WaitIs number self.old.caller result self.new.caller }
+        ensures answer { WaitIs number self.old.caller result self.new.caller }
+        ensures came { TookMessages self.old self.new }
+        ensures full { result ≡ Err WaitFault.Full → WasToldFull number self.old self.new }
+        ensures not_full { result ≢ Err WaitFault.Full → WasNotToldFull number self.old self.new }
     {
         let more = self.ring.settings.tries - 1;
         match self.carry_or_wait(rt, via, parcel, number) {
@@ -444,7 +510,11 @@ impl<'a, J: Naming, S: EntryStore> Caller<'a, J, S> {
         via: u64,
         request: Request,
     ) -> Result<Reply, AskFault>
-        ensures { AskIs request self.old.caller result self.new.caller }
+        ensures answer { AskIs request self.old.caller result self.new.caller }
+        ensures placed { J.name.slots ≤ via → MaySubmit request self.old.caller → result ≡ Err AskFault.NoSuchNode }
+        ensures came { TookMessages self.old self.new }
+        ensures full { result ≡ Err AskFault.Full → WasToldFull (next_number self.old.caller) self.old self.new }
+        ensures not_full { result ≢ Err AskFault.Full → WasNotToldFull (next_number self.old.caller) self.old self.new }
     {
         let (number, parcel) = match self.submit(via, request) {
             Ok(sent) => sent,
@@ -465,6 +535,10 @@ impl<'a, J: Naming, S: EntryStore> Caller<'a, J, S> {
         request: Request,
     ) -> Result<Reply, AskFault>
         ensures answer { AskIs request self.old.caller result self.new.caller }
+        ensures placed { J.name.slots ≤ via → MaySubmit request self.old.caller → result ≡ Err AskFault.NoSuchNode }
+        ensures came { TookMessages self.old self.new }
+        ensures full { result ≡ Err AskFault.Full → WasToldFull (next_number self.old.caller) self.old self.new }
+        ensures not_full { result ≢ Err AskFault.Full → WasNotToldFull (next_number self.old.caller) self.old self.new }
         ensures shown { CallerShown self.new }
     {
         let answered = self.submit_and_bring(rt, via, request);

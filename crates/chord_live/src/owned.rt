@@ -1,10 +1,11 @@
 //! A caller beside its seat.
-ghost use Rattle.std.specs.Prelude.{◌≡◌, ◌++◌, [], ◌∷◌, Contains, IfOk, IfErr, IfSome, OnErr, Ok, Err, None, true, is_some};
+ghost use Rattle.std.specs.Prelude.{◌≡◌, ◌≢◌, ◌↔◌, ◌++◌, [], ◌∷◌, Contains, IfOk, IfErr, IfSome, OnErr, Ok, Err, None, true, is_some};
 ghost use Rattle.chord_caller.specs.Answers.{SubmitIs, RefusalIs, TakeIs, PendingIs, is_pending};
 ghost use Rattle.chord_caller.specs.Caller.{known, floor_of, submission_at};
 ghost use Rattle.chord_caller.specs.declared.ask.Ask.{Ask as AskOf};
-ghost use Rattle.chord_model.specs.declared.message.Message.TheVariants.{Ask as AskMessage, Note as NoteMessage, Told as ToldMessage};
+ghost use Rattle.chord_model.specs.declared.message.Message.TheVariants.{Ask as AskMessage, Full as FullMessage, Note as NoteMessage, Told as ToldMessage};
 ghost use Rattle.chord_live.specs.Asking.{HeardIs, IsTaken, MeetIs};
+ghost use Rattle.chord_live.specs.declared.heard.Heard.TheVariants.{Full as HeardFull};
 ghost use Rattle.chord_map.specs.History.{done_at};
 ghost use Rattle.chord_table.specs.Shown.{CallerShown};
 
@@ -60,6 +61,7 @@ impl<J: Naming> Owned<J> {
     ) -> Result<(u64, Parcel<J>), SubmitFault>
         ensures ok { IfOk result (λ sent. (ask : AskOf) × SubmitIs request self.old.caller (Ok ask) self.new.caller × (sent.0 ≡ ask.number) × (sent.1 ≡ AskMessage ask)) }
         ensures waits { IfOk result (λ sent. is_pending sent.0 self.new.caller ≡ true) }
+        ensures messages { self.new.messages ≡ self.old.messages }
         ensures err { IfErr result (λ fault. SubmitIs request self.old.caller (Err fault) self.new.caller) }
         ensures same { OnErr result (self.new ≡ self.old) }
     {
@@ -171,6 +173,7 @@ impl<J: Naming> Owned<J> {
         requires { Contains self.old.messages (ToldMessage told) }
         ensures messages { self.new.messages ≡ self.old.messages }
         ensures heard { HeardIs number self.old.caller result self.new.caller }
+        ensures reply { result ≢ HeardFull }
     {
         if told.number != number {
             let _ = self.take_told(table, told).is_ok();
@@ -190,13 +193,12 @@ impl<J: Naming> Owned<J> {
     pub fn take(&mut self, table: &Shared<J>, parcel: Parcel<J>, number: u64) -> Heard
         ensures messages { self.new.messages ≡ self.old.messages ++ parcel ∷ [] }
         ensures heard { HeardIs number self.old.caller result self.new.caller }
+        ensures full { (result ≡ HeardFull) ↔ (parcel ≡ FullMessage self.new.caller.number number) }
     {
+        let own = self.core.number();
         match self.seat.receive(table, parcel) {
             Message::Told(told) => self.take_reply(table, told, number),
-            Message::Full {
-                caller: _,
-                number: of,
-            } if of == number => Heard::Full,
+            Message::Full { caller, number: of } if caller == own && of == number => Heard::Full,
             _ => Heard::Other,
         }
     }

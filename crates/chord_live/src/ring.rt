@@ -1,5 +1,5 @@
 //! Places for nodes and callers over one table.
-ghost use Rattle.std.specs.Prelude.{◌≡◌, ◌<◌, ◌≤◌, [], IfOk, IfErr, IfSome, vec_len};
+ghost use Rattle.std.specs.Prelude.{◌≡◌, ◌<◌, ◌≤◌, [], true, IfOk, IfErr, IfSome, vec_len};
 ghost use Rattle.chord_caller.specs.Answers.{new_caller};
 ghost use Rattle.chord_live.specs.Counts.{AreWithin};
 ghost use Rattle.chord_table.specs.Shown.{CallerShown};
@@ -48,7 +48,9 @@ pub struct Ring<J: Naming, S: EntryStore> {
 
 impl<J: Naming, S: EntryStore> Ring<J, S> {
     /// Whether a node of this number was admitted.
-    pub(crate) fn was(&self, no: u64) -> bool {
+    pub(crate) fn was(&self, no: u64) -> bool
+        ensures { result ≡ true → no < J.name.slots }
+    {
         no < self.nodes.load(Ordering::SeqCst) && no < self.slots.len() as u64
     }
 

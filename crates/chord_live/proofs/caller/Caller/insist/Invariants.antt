@@ -1,6 +1,6 @@
-use Rattle.chord_live.specs.Asking.{WaitsStill}
+use Rattle.chord_live.specs.Asking.{TookMessages, WaitsStill, WasNotToldFull}
 use Rattle.chord_live.proofs.caller.Caller.insist.Given as goal
 
--- the request waits as before
+-- the request waits as before; messages came, and none that says Full
 abbrev pub invariant-loop : goal.invariant-loop
-invariant-loop g l = WaitsStill l.number l.initial.self.caller l.self.caller
+invariant-loop g l = WaitsStill l.number l.initial.self.caller l.self.caller × TookMessages l.initial.self l.self × WasNotToldFull l.number l.initial.self l.self
