@@ -1,9 +1,13 @@
 //! A caller whose memory is bounded by its window.
-ghost use Rattle.std.specs.Prelude.{◌≡◌, ◌≤◌, Ok, Err, None, true, IfOk, IfErr, IfSome, OnErr};
+ghost use Rattle.std.specs.Prelude.{◌≡◌, ◌≢◌, ◌≤◌, Ok, Err, None, Some, true, IfOk, IfErr, IfSome, OnErr};
 ghost use Rattle.chord_caller.specs.Answers.{PendingIs, is_pending, new_caller};
-ghost use Rattle.chord_caller.specs.Caller.{floor_of};
-ghost use Rattle.chord_live.specs.Asking.{BeginIs};
+ghost use Rattle.chord_caller.specs.Caller.{floor_of, next_number};
+ghost use Rattle.chord_live.specs.Asking.{BeginIs, MaySubmit, TookMessages, WasNotToldFull, WasToldFull};
 ghost use Rattle.chord_live.specs.Calling.{AwaitIs, CallIs, RecallIs};
+ghost use Rattle.chord_live.specs.declared.fault.AskFault.TheVariants as AskFault;
+ghost use Rattle.chord_live.specs.declared.fault.BeginFault.TheVariants as BeginFault;
+ghost use Rattle.chord_live.specs.declared.fault.RetryFault.TheVariants as RetryFault;
+ghost use Rattle.chord_live.specs.declared.fault.WaitFault.TheVariants as WaitFault;
 ghost use Rattle.chord_table.specs.Shown.{CallerShown};
 
 use crate::carried::Carried;
@@ -96,6 +100,9 @@ impl<'a, J: Naming, S: EntryStore> Client<'a, J, S> {
     fn submit(&mut self, via: u64, request: Request) -> Result<(u64, Parcel<J>), BeginFault>
         ensures ok { IfOk result (λ sent. BeginIs request self.old.caller (Ok sent.0) self.new.caller) }
         ensures waits { IfOk result (λ sent. is_pending sent.0 self.new.caller ≡ true) }
+        ensures messages { self.new.messages ≡ self.old.messages }
+        ensures not_full { WasNotToldFull (next_number self.old.caller) self.old self.new }
+        ensures placed { J.name.slots ≤ via → MaySubmit request self.old.caller → result ≡ Err BeginFault.NoSuchNode }
         ensures err { IfErr result (λ fault. BeginIs request self.old.caller (Err fault) self.new.caller) }
         ensures same { OnErr result (self.new ≡ self.old) }
     {
@@ -120,6 +127,9 @@ impl<'a, J: Naming, S: EntryStore> Client<'a, J, S> {
     ) -> Option<Result<Reply, WaitFault>>
         ensures some { IfSome result (λ heard. AwaitIs number self.old.caller heard self.new.caller) }
         ensures none { result ≡ None → self.new ≡ self.old }
+        ensures came { TookMessages self.old self.new }
+        ensures full { result ≡ Some (Err WaitFault.Full) → WasToldFull number self.old self.new }
+        ensures not_full { result ≢ Some (Err WaitFault.Full) → WasNotToldFull number self.old self.new }
     {
         let ring = self.ring;
         match ring.receive(rt, &ring.inboxes[self.no as usize].parcels, limit) {
@@ -130,7 +140,10 @@ impl<'a, J: Naming, S: EntryStore> Client<'a, J, S> {
 
     /// Waits for the reply to a request, as long as one try is to wait.
     fn wait<R: Wait + Clock>(&mut self, rt: &R, number: u64) -> Result<Reply, WaitFault>
-        ensures { AwaitIs number self.old.caller result self.new.caller }
+        ensures answer { AwaitIs number self.old.caller result self.new.caller }
+        ensures came { TookMessages self.old self.new }
+        ensures full { result ≡ Err WaitFault.Full → WasToldFull number self.old self.new }
+        ensures not_full { result ≢ Err WaitFault.Full → WasNotToldFull number self.old self.new }
     {
         let start = Instant::now(rt).ok();
         for _ in 0..u64::MAX {
@@ -164,7 +177,10 @@ impl<'a, J: Naming, S: EntryStore> Client<'a, J, S> {
         parcel: Parcel<J>,
         number: u64,
     ) -> Result<Reply, WaitFault>
-        ensures { AwaitIs number self.old.caller result self.new.caller }
+        ensures answer { AwaitIs number self.old.caller result self.new.caller }
+        ensures came { TookMessages self.old self.new }
+        ensures full { result ≡ Err WaitFault.Full → WasToldFull number self.old self.new }
+        ensures not_full { result ≢ Err WaitFault.Full → WasNotToldFull number self.old self.new }
     {
         match self.ring.carry(rt, via, parcel) {
             Some(carried) => self.take(rt, carried, number),
@@ -212,7 +228,10 @@ impl<'a, J: Naming, S: EntryStore> Client<'a, J, S> {
         parcel: Parcel<J>,
         number: u64,
     ) -> Result<Reply, WaitFault>
-        ensures { AwaitIs number self.old.caller result self.new.caller }
+        ensures answer { AwaitIs number self.old.caller result self.new.caller }
+        ensures came { TookMessages self.old self.new }
+        ensures full { result ≡ Err WaitFault.Full → WasToldFull number self.old self.new }
+        ensures not_full { result ≢ Err WaitFault.Full → WasNotToldFull number self.old self.new }
     {
         match self.carry(rt, via, parcel, number) {
             Err(WaitFault::NoAnswer) => {}
@@ -229,7 +248,10 @@ impl<'a, J: Naming, S: EntryStore> Client<'a, J, S> {
         number: u64,
     ) -> Result<Reply, WaitFault>
         requires { is_pending number self.old.caller ≡ true }
-        ensures { AwaitIs number self.old.caller result self.new.caller }
+        ensures answer { AwaitIs number self.old.caller result self.new.caller }
+        ensures came { TookMessages self.old self.new }
+        ensures full { result ≡ Err WaitFault.Full → WasToldFull number self.old self.new }
+        ensures not_full { result ≢ Err WaitFault.Full → WasNotToldFull number self.old self.new }
     {
         match self.own.resend(&self.ring.table, number) {
             Ok(parcel) => self.carry_or_wait(rt, via, parcel, number),
@@ -246,7 +268,10 @@ impl<'a, J: Naming, S: EntryStore> Client<'a, J, S> {
         times: u64,
     ) -> Result<Reply, WaitFault>
         requires { is_pending number self.old.caller ≡ true }
-        ensures { AwaitIs number self.old.caller result self.new.caller }
+        ensures answer { AwaitIs number self.old.caller result self.new.caller }
+        ensures came { TookMessages self.old self.new }
+        ensures full { result ≡ Err WaitFault.Full → WasToldFull number self.old self.new }
+        ensures not_full { result ≢ Err WaitFault.Full → WasNotToldFull number self.old self.new }
     {
         for _ in 0..times {
             match self.carry_again(rt, via, number) {
@@ -285,7 +310,10 @@ impl<'a, J: Naming, S: EntryStore> Client<'a, J, S> {
         number: u64,
     ) -> Result<Reply, WaitFault>
         requires { is_pending number self.old.caller ≡ true }
-        ensures { AwaitIs number self.old.caller result self.new.caller }
+        ensures answer { AwaitIs number self.old.caller result self.new.caller }
+        ensures came { TookMessages self.old self.new }
+        ensures full { result ≡ Err WaitFault.Full → WasToldFull number self.old self.new }
+        ensures not_full { result ≢ Err WaitFault.Full → WasNotToldFull number self.old self.new }
     {
         match self.carry_by_guess(rt, id, via, parcel, number) {
             Err(WaitFault::NoAnswer) => {}
@@ -301,7 +329,11 @@ impl<'a, J: Naming, S: EntryStore> Client<'a, J, S> {
         via: u64,
         request: Request,
     ) -> Result<Reply, AskFault>
-        ensures { CallIs request self.old.caller result self.new.caller }
+        ensures answer { CallIs request self.old.caller result self.new.caller }
+        ensures placed { J.name.slots ≤ via → MaySubmit request self.old.caller → result ≡ Err AskFault.NoSuchNode }
+        ensures came { TookMessages self.old self.new }
+        ensures full { result ≡ Err AskFault.Full → WasToldFull (next_number self.old.caller) self.old self.new }
+        ensures not_full { result ≢ Err AskFault.Full → WasNotToldFull (next_number self.old.caller) self.old self.new }
     {
         let id = Id::of_bytes(request.key());
         let (number, parcel) = match self.submit(via, request) {
@@ -326,6 +358,10 @@ impl<'a, J: Naming, S: EntryStore> Client<'a, J, S> {
         request: Request,
     ) -> Result<Reply, AskFault>
         ensures answer { CallIs request self.old.caller result self.new.caller }
+        ensures placed { J.name.slots ≤ via → MaySubmit request self.old.caller → result ≡ Err AskFault.NoSuchNode }
+        ensures came { TookMessages self.old self.new }
+        ensures full { result ≡ Err AskFault.Full → WasToldFull (next_number self.old.caller) self.old self.new }
+        ensures not_full { result ≢ Err AskFault.Full → WasNotToldFull (next_number self.old.caller) self.old self.new }
         ensures shown { CallerShown self.new }
     {
         let answered = self.submit_and_bring(rt, via, request);
@@ -340,7 +376,11 @@ impl<'a, J: Naming, S: EntryStore> Client<'a, J, S> {
         via: u64,
         number: u64,
     ) -> Result<Reply, RetryFault>
-        ensures { RecallIs number self.old.caller result self.new.caller }
+        ensures answer { RecallIs number self.old.caller result self.new.caller }
+        ensures placed { J.name.slots ≤ via → is_pending number self.old.caller ≡ true → result ≡ Err RetryFault.NoSuchNode }
+        ensures came { TookMessages self.old self.new }
+        ensures full { result ≡ Err RetryFault.Full → WasToldFull number self.old self.new }
+        ensures not_full { result ≢ Err RetryFault.Full → WasNotToldFull number self.old self.new }
     {
         if !self.own.is_pending(number) {
             return Err(RetryFault::Idle);
@@ -364,6 +404,10 @@ impl<'a, J: Naming, S: EntryStore> Client<'a, J, S> {
         number: u64,
     ) -> Result<Reply, RetryFault>
         ensures answer { RecallIs number self.old.caller result self.new.caller }
+        ensures placed { J.name.slots ≤ via → is_pending number self.old.caller ≡ true → result ≡ Err RetryFault.NoSuchNode }
+        ensures came { TookMessages self.old self.new }
+        ensures full { result ≡ Err RetryFault.Full → WasToldFull number self.old self.new }
+        ensures not_full { result ≢ Err RetryFault.Full → WasNotToldFull number self.old self.new }
         ensures shown { CallerShown self.new }
     {
         let answered = self.bring_again(rt, via, number);

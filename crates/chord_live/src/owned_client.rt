@@ -1,11 +1,12 @@
 //! A client beside its seat.
-ghost use Rattle.std.specs.Prelude.{◌≡◌, ◌++◌, [], ◌∷◌, Contains, IfOk, IfErr, OnErr, Ok, Err, true};
+ghost use Rattle.std.specs.Prelude.{◌≡◌, ◌≢◌, ◌↔◌, ◌++◌, [], ◌∷◌, Contains, IfOk, IfErr, OnErr, Ok, Err, true};
 ghost use Rattle.chord_caller.specs.Answers.{SubmitIs, RefusalIs, PendingIs, is_pending};
 ghost use Rattle.chord_caller.specs.Caller.{floor_of};
 ghost use Rattle.chord_caller.specs.Client.{IsCoreOf};
 ghost use Rattle.chord_caller.specs.declared.ask.Ask.{Ask as AskOf};
-ghost use Rattle.chord_model.specs.declared.message.Message.TheVariants.{Ask as AskMessage, Told as ToldMessage};
+ghost use Rattle.chord_model.specs.declared.message.Message.TheVariants.{Ask as AskMessage, Full as FullMessage, Told as ToldMessage};
 ghost use Rattle.chord_live.specs.Calling.{AwaitIs};
+ghost use Rattle.chord_live.specs.declared.fault.WaitFault.TheVariants.{Full as WaitFull};
 ghost use Rattle.chord_table.specs.Shown.{CallerShown};
 
 use crate::fault::WaitFault;
@@ -59,6 +60,7 @@ impl<J: Naming> OwnedClient<J> {
     ) -> Result<(u64, Parcel<J>), SubmitFault>
         ensures ok { IfOk result (λ sent. (ask : AskOf) × SubmitIs request self.old.caller (Ok ask) self.new.caller × (sent.0 ≡ ask.number) × (sent.1 ≡ AskMessage ask)) }
         ensures waits { IfOk result (λ sent. is_pending sent.0 self.new.caller ≡ true) }
+        ensures messages { self.new.messages ≡ self.old.messages }
         ensures err { IfErr result (λ fault. SubmitIs request self.old.caller (Err fault) self.new.caller) }
         ensures same { OnErr result (self.new ≡ self.old) }
     {
@@ -118,6 +120,7 @@ impl<J: Naming> OwnedClient<J> {
         requires { Contains self.old.messages (ToldMessage told) }
         ensures messages { self.new.messages ≡ self.old.messages }
         ensures heard { AwaitIs told.number self.old.caller result self.new.caller }
+        ensures reply { result ≢ Err WaitFull }
     {
         self.seat.hear(table, &told);
         match self.core.take(told) {
@@ -138,13 +141,14 @@ impl<J: Naming> OwnedClient<J> {
     ) -> Result<Reply, WaitFault>
         ensures messages { self.new.messages ≡ self.old.messages ++ parcel ∷ [] }
         ensures heard { AwaitIs number self.old.caller result self.new.caller }
+        ensures full { (result ≡ Err WaitFull) ↔ (parcel ≡ FullMessage self.new.caller.number number) }
     {
+        let own = self.core.number();
         match self.seat.receive(table, parcel) {
             Message::Told(told) if told.number == number => self.take_told(table, told),
-            Message::Full {
-                caller: _,
-                number: of,
-            } if of == number => Err(WaitFault::Full),
+            Message::Full { caller, number: of } if caller == own && of == number => {
+                Err(WaitFault::Full)
+            }
             _ => Err(WaitFault::NoAnswer),
         }
     }
