@@ -159,7 +159,10 @@ impl<'a, J: Naming, S: EntryStore> Client<'a, J, S> {
 
     /// Takes what came of a parcel that was carried.
     fn take(&mut self, rt: &impl Wait, carried: Carried<J>, number: u64) -> Result<Reply, WaitFault>
-        ensures { AwaitIs number self.old.caller result self.new.caller }
+        ensures answer { AwaitIs number self.old.caller result self.new.caller }
+        ensures came { TookMessages self.old self.new }
+        ensures full { result ≡ Err WaitFault.Full → WasToldFull number self.old self.new }
+        ensures not_full { result ≢ Err WaitFault.Full → WasNotToldFull number self.old self.new }
     {
         let ring = self.ring;
         if carried.caller == self.no {
@@ -206,7 +209,10 @@ impl<'a, J: Naming, S: EntryStore> Client<'a, J, S> {
         parcel: Parcel<J>,
         number: u64,
     ) -> Result<Reply, WaitFault>
-        ensures { AwaitIs number self.old.caller result self.new.caller }
+        ensures answer { AwaitIs number self.old.caller result self.new.caller }
+        ensures came { TookMessages self.old self.new }
+        ensures full { result ≡ Err WaitFault.Full → WasToldFull number self.old self.new }
+        ensures not_full { result ≢ Err WaitFault.Full → WasNotToldFull number self.old self.new }
     {
         match self.ring.carry(rt, self.first_node(id, via), parcel) {
             Some(carried) => {
@@ -290,7 +296,10 @@ impl<'a, J: Naming, S: EntryStore> Client<'a, J, S> {
         number: u64,
     ) -> Result<Reply, WaitFault>
         requires { is_pending number self.old.caller ≡ true }
-        ensures { AwaitIs number self.old.caller result self.new.caller }
+        ensures answer { AwaitIs number self.old.caller result self.new.caller }
+        ensures came { TookMessages self.old self.new }
+        ensures full { result ≡ Err WaitFault.Full → WasToldFull number self.old self.new }
+        ensures not_full { result ≢ Err WaitFault.Full → WasNotToldFull number self.old self.new }
     {
         let more = self.ring.settings.tries - 1;
         match self.wait(rt, number) {
