@@ -191,11 +191,34 @@ impl<'a, J: Naming, S: EntryStore> Client<'a, J, S> {
         }
     }
 
+    /// The identifier of the key, where there is more than one node to ask.
+    fn id_to_guess(&self, request: &Request) -> Option<Id> {
+        if self.ring.was(1) {
+            Some(Id::of_bytes(request.key()))
+        } else {
+            None
+        }
+    }
+
     /// The member that answered last for such an identifier, else `via`.
-    fn first_node(&self, id: Id, via: u64) -> u64 {
+    fn first_node(&self, id: Option<Id>, via: u64) -> u64 {
+        let Some(id) = id else {
+            return via;
+        };
         match self.guesses.guess(id) {
             Some(no) if self.ring.is_live(no) => no,
             _ => via,
+        }
+    }
+
+    /// Notes which node answered, or that none did.
+    fn note_node(&mut self, id: Option<Id>, node: Option<u64>)
+        ensures { self.new ≡ self.old }
+    {
+        match (id, node) {
+            (Some(id), Some(no)) => self.guesses.note(id, no),
+            (Some(id), None) => self.guesses.forget(id),
+            (None, _) => {}
         }
     }
 
@@ -204,7 +227,7 @@ impl<'a, J: Naming, S: EntryStore> Client<'a, J, S> {
     fn carry_by_guess(
         &mut self,
         rt: &impl Wait,
-        id: Id,
+        id: Option<Id>,
         via: u64,
         parcel: Parcel<J>,
         number: u64,
@@ -216,11 +239,11 @@ impl<'a, J: Naming, S: EntryStore> Client<'a, J, S> {
     {
         match self.ring.carry(rt, self.first_node(id, via), parcel) {
             Some(carried) => {
-                self.guesses.note(id, carried.from);
+                self.note_node(id, Some(carried.from));
                 self.take(rt, carried, number)
             }
             None => {
-                self.guesses.forget(id);
+                self.note_node(id, None);
                 Err(WaitFault::NoAnswer)
             }
         }
@@ -313,7 +336,7 @@ impl<'a, J: Naming, S: EntryStore> Client<'a, J, S> {
     fn bring<R: Wait + Clock>(
         &mut self,
         rt: &R,
-        id: Id,
+        id: Option<Id>,
         via: u64,
         parcel: Parcel<J>,
         number: u64,
@@ -344,7 +367,7 @@ impl<'a, J: Naming, S: EntryStore> Client<'a, J, S> {
         ensures full { result ≡ Err AskFault.Full → WasToldFull (next_number self.old.caller) self.old self.new }
         ensures not_full { result ≢ Err AskFault.Full → WasNotToldFull (next_number self.old.caller) self.old self.new }
     {
-        let id = Id::of_bytes(request.key());
+        let id = self.id_to_guess(&request);
         let (number, parcel) = match self.submit(via, request) {
             Ok(sent) => sent,
             Err(fault) => return Err(AskFault::from(fault)),
