@@ -32,10 +32,10 @@ await() {
     echo "nobody listens" >&2 && exit 1
 }
 
-# cell SERVER KIND CONNECTIONS FLIGHT: requests a second of a server that is started for it.
+# cell SERVER KIND CONNECTIONS FLIGHT: into `rate`, the requests a second of a server that is started for it, at a port of its own.
 cell() {
+    local client=$1 hold='' server
     port=$((port + 1))
-    local client=$1 hold
     case $1 in
     redis) redis-server --port $port --save '' --appendonly no > /dev/null & ;;
     echo) "$room/client" echo $port & ;;
@@ -46,14 +46,14 @@ cell() {
         exec {hold}> "$room/input.$port"
         ;;
     esac
-    local server=$!
+    server=$!
     await
     case $2 in
     retrieve) "$room/client" load $client $port fill 4 16 100000 > /dev/null ;;
     retrieve100) "$room/client" load $client $port fill100 4 16 100000 > /dev/null ;;
     esac
-    "$room/client" load $client $port "$2" "$3" "$4" "$requests"
-    [ -z "${hold-}" ] || exec {hold}>&-
+    rate=$("$room/client" load $client $port "$2" "$3" "$4" "$requests")
+    [ -z "$hold" ] || exec {hold}>&-
     kill $server 2> /dev/null || true
     wait $server 2> /dev/null || true
 }
@@ -68,9 +68,11 @@ for kind in insert retrieve retrieve100; do
         [ $kind != insert ] || servers="1 16 echo"
         : > "$room/rows"
         for _ in $(seq "$rounds"); do
-            of_redis=$(cell redis $kind $shape)
+            cell redis $kind $shape
+            of_redis=$rate
             for server in $servers; do
-                echo "$server $(cell "$server" $kind $shape) $of_redis" >> "$room/rows"
+                cell "$server" $kind $shape
+                echo "$server $rate $of_redis" >> "$room/rows"
             done
         done
         line="  ${shape/ /x}"
