@@ -20,6 +20,7 @@ mod plan_runs;
 mod plans;
 mod rings;
 mod servers;
+mod stay_growths;
 mod stays;
 mod worlds;
 
