@@ -4,52 +4,83 @@ use crate::{Reply, Request, Values};
 use std::alloc::{AllocError, Global};
 use std::test::Fail;
 
-// The reply to a request that keeps the limits.
-fn reply(map: &mut PlainMap, request: Request) -> Result<Reply, Fail> {
-    request.check()?;
-    let reply = map.apply(&request)?;
-    Ok(reply)
+// The reply to the request, where it is one and memory is there.
+fn told(map: &mut PlainMap, request: &Request) -> Option<Reply> {
+    if request.check().is_err() {
+        return None;
+    }
+    map.apply(request).ok()
+}
+
+// Whether this is the reply to the request.
+fn tells(map: &mut PlainMap, request: Result<Request, AllocError>, reply: &Reply) -> Option<bool> {
+    Some(told(map, &request.ok()?)? == *reply)
+}
+
+// Whether the values found under `abc` are these.
+fn finds(alloc: Global, map: &mut PlainMap, values: Values) -> Option<bool> {
+    tells(map, retrieve(alloc, b"abc"), &Reply::Values(values))
+}
+
+// Whether x alone is found under `abc`, and a copy of the reply is equal to it.
+fn finds_x(alloc: Global, map: &mut PlainMap) -> Option<bool> {
+    let found = told(map, &retrieve(alloc, b"abc").ok()?)?;
+    let copy = found.try_copy().ok()?;
+    Some(found == one_value(alloc, b"x").ok()? && copy == found)
 }
 
 #[test]
-fn inserts_retrieves_and_removes(rt: HostRuntime) -> Result<(), Fail> {
+fn inserts_retrieves_and_removes(rt: HostRuntime) {
     let alloc = rt.alloc();
     let mut map = PlainMap::new(alloc);
-    let none = Reply::Values(Values::new(alloc));
-    let found = reply(&mut map, retrieve(alloc, b"abc")?)?;
-    assert_eq!(rt; found, none);
-    for expected in [Reply::Added, Reply::Present] {
-        let told = reply(&mut map, insert(alloc, b"abc", b"x")?)?;
-        assert_eq!(rt; told, expected);
+    assert_eq!(rt; finds(alloc, &mut map, Values::new(alloc)), Some(true));
+    for reply in [Reply::Added, Reply::Present] {
+        assert_eq!(rt;
+            tells(&mut map, insert(alloc, b"abc", b"x"), &reply),
+            Some(true)
+        );
     }
-    let found = reply(&mut map, retrieve(alloc, b"abc")?)?;
-    assert_eq!(rt; found, one_value(alloc, b"x")?);
-    assert_eq!(rt; found.try_copy()?, found);
-    for expected in [Reply::Removed, Reply::Absent] {
-        let told = reply(&mut map, remove(alloc, b"abc", b"x")?)?;
-        assert_eq!(rt; told, expected);
+    assert_eq!(rt; finds_x(alloc, &mut map), Some(true));
+    for reply in [Reply::Removed, Reply::Absent] {
+        assert_eq!(rt;
+            tells(&mut map, remove(alloc, b"abc", b"x"), &reply),
+            Some(true)
+        );
     }
-    Ok(())
 }
 
-#[test]
-fn fills_a_set(rt: HostRuntime) -> Result<(), Fail> {
-    let alloc = rt.alloc();
-    let mut map = PlainMap::new(alloc);
+// Whether each of the values 0000 to 0999 is added under `a`.
+fn is_filled(alloc: Global, map: &mut PlainMap) -> Option<bool> {
     for n in 0..1000u32 {
-        let value = format!(in alloc; "{n:04}")?;
-        let told = reply(&mut map, insert(alloc, b"a", value.as_bytes())?)?;
-        assert_eq!(rt; told, Reply::Added, "at {n}");
+        let value = format!(in alloc; "{n:04}").ok()?;
+        if !tells(map, insert(alloc, b"a", value.as_bytes()), &Reply::Added)? {
+            return Some(false);
+        }
     }
-    let told = reply(&mut map, insert(alloc, b"a", b"1000")?)?;
-    assert_eq!(rt; told, Reply::SetFull);
-    let told = reply(&mut map, insert(alloc, b"a", b"0999")?)?;
-    assert_eq!(rt; told, Reply::Present);
-    let told = reply(&mut map, remove(alloc, b"a", b"0000")?)?;
-    assert_eq!(rt; told, Reply::Removed);
-    let told = reply(&mut map, insert(alloc, b"a", b"1000")?)?;
-    assert_eq!(rt; told, Reply::Added);
-    Ok(())
+    Some(true)
+}
+
+#[test]
+fn fills_a_set(rt: HostRuntime) {
+    let alloc = rt.alloc();
+    let mut map = PlainMap::new(alloc);
+    assert_eq!(rt; is_filled(alloc, &mut map), Some(true));
+    assert_eq!(rt;
+        tells(&mut map, insert(alloc, b"a", b"1000"), &Reply::SetFull),
+        Some(true)
+    );
+    assert_eq!(rt;
+        tells(&mut map, insert(alloc, b"a", b"0999"), &Reply::Present),
+        Some(true)
+    );
+    assert_eq!(rt;
+        tells(&mut map, remove(alloc, b"a", b"0000"), &Reply::Removed),
+        Some(true)
+    );
+    assert_eq!(rt;
+        tells(&mut map, insert(alloc, b"a", b"1000"), &Reply::Added),
+        Some(true)
+    );
 }
 
 // The request to add the value [n], made again where there was no memory.
@@ -58,14 +89,6 @@ fn insert_of(alloc: Global, n: u8) -> Result<Request, AllocError> {
         Ok(request) => Ok(request),
         Err(_) => insert(alloc, b"a", &[n]),
     }
-}
-
-// The reply to the request, where it is one and memory is there.
-fn told(map: &mut PlainMap, request: &Request) -> Option<Reply> {
-    if request.check().is_err() {
-        return None;
-    }
-    map.apply(request).ok()
 }
 
 // Whether the values under `a` are [0], [1] and so on, below `end`.

@@ -1,33 +1,47 @@
 use crate::samples::{insert, one_value, remove, retrieve};
-use crate::{Reply, RequestFault};
+use crate::{Reply, Request, RequestFault};
+use std::alloc::{AllocError, Global};
 use std::test::Fail;
 
+/// What the check says of a request.
+fn checked(request: Result<Request, AllocError>) -> Option<Result<(), RequestFault>> {
+    Some(request.ok()?.check())
+}
+
 #[test]
-fn keeps_the_limits(rt: HostRuntime) -> Result<(), Fail> {
+fn keys_have_limits(rt: HostRuntime) {
+    let alloc = rt.alloc();
+    let long = [7u8; 256];
+    assert_eq!(rt;
+        checked(retrieve(alloc, &[])),
+        Some(Err(RequestFault::KeyEmpty))
+    );
+    assert_eq!(rt; checked(retrieve(alloc, &long[..1])), Some(Ok(())));
+    assert_eq!(rt; checked(retrieve(alloc, &long[..255])), Some(Ok(())));
+    assert_eq!(rt;
+        checked(retrieve(alloc, &long)),
+        Some(Err(RequestFault::KeyLong))
+    );
+}
+
+#[test]
+fn values_have_limits(rt: HostRuntime) {
     let alloc = rt.alloc();
     let long = [7u8; 4097];
-    assert_eq!(rt; retrieve(alloc, &[])?.check(), Err(RequestFault::KeyEmpty));
-    assert_eq!(rt; retrieve(alloc, &long[..1])?.check(), Ok(()));
-    assert_eq!(rt; retrieve(alloc, &long[..255])?.check(), Ok(()));
+    assert_eq!(rt; checked(insert(alloc, b"a", &[])), Some(Ok(())));
+    assert_eq!(rt; checked(insert(alloc, b"a", &long[..4096])), Some(Ok(())));
     assert_eq!(rt;
-        retrieve(alloc, &long[..256])?.check(),
-        Err(RequestFault::KeyLong)
-    );
-    assert_eq!(rt; insert(alloc, b"a", &[])?.check(), Ok(()));
-    assert_eq!(rt; insert(alloc, b"a", &long[..4096])?.check(), Ok(()));
-    assert_eq!(rt;
-        insert(alloc, b"a", &long)?.check(),
-        Err(RequestFault::ValueLong)
+        checked(insert(alloc, b"a", &long)),
+        Some(Err(RequestFault::ValueLong))
     );
     assert_eq!(rt;
-        remove(alloc, b"a", &long)?.check(),
-        Err(RequestFault::ValueLong)
+        checked(remove(alloc, b"a", &long)),
+        Some(Err(RequestFault::ValueLong))
     );
     assert_eq!(rt;
-        remove(alloc, &[], &long)?.check(),
-        Err(RequestFault::KeyEmpty)
+        checked(remove(alloc, &[], &long)),
+        Some(Err(RequestFault::KeyEmpty))
     );
-    Ok(())
 }
 
 #[test]
@@ -42,39 +56,105 @@ fn tells_its_fault(rt: HostRuntime) -> Result<(), Fail> {
     Ok(())
 }
 
-#[test]
-fn copies_and_compares(rt: HostRuntime) -> Result<(), Fail> {
-    let alloc = rt.alloc();
-    for request in [
-        insert(alloc, b"abc", b"x")?,
-        retrieve(alloc, b"abc")?,
-        remove(alloc, b"abc", b"x")?,
-    ] {
-        assert_eq!(rt; request.try_copy()?, request);
-        assert_eq!(rt; request.key(), b"abc".as_slice());
-        assert_ne!(rt; request, insert(alloc, b"abc", b"y")?);
-        assert_ne!(rt; request, retrieve(alloc, b"ab")?);
-    }
-    assert_eq!(rt; insert(alloc, b"abc", b"x")?.value(), b"x".as_slice());
-    assert_eq!(rt; retrieve(alloc, b"abc")?.value(), b"".as_slice());
-    Ok(())
+/// Whether a copy of the request is equal to it.
+fn is_its_copy(request: Result<Request, AllocError>) -> Option<bool> {
+    let request = request.ok()?;
+    let copy = request.try_copy().ok()?;
+    Some(copy == request)
+}
+
+/// Whether the requests are equal.
+fn are_equal(
+    first: Result<Request, AllocError>,
+    second: Result<Request, AllocError>,
+) -> Option<bool> {
+    Some(first.ok()? == second.ok()?)
+}
+
+/// Whether the request names this key and this value.
+fn names(request: Result<Request, AllocError>, key: &[u8], value: &[u8]) -> Option<bool> {
+    let request = request.ok()?;
+    Some(request.key() == key && request.value() == value)
 }
 
 #[test]
-fn knows_the_replies_of_its_kind(rt: HostRuntime) -> Result<(), Fail> {
+fn copies(rt: HostRuntime) {
     let alloc = rt.alloc();
-    let added = insert(alloc, b"a", b"x")?;
-    let found = retrieve(alloc, b"a")?;
-    let gone = remove(alloc, b"a", b"x")?;
-    for reply in [Reply::Added, Reply::Present, Reply::SetFull] {
-        assert!(rt; reply.fits(&added) && !reply.fits(&found) && !reply.fits(&gone));
-    }
-    for reply in [Reply::Removed, Reply::Absent] {
-        assert!(rt; !reply.fits(&added) && !reply.fits(&found) && reply.fits(&gone));
-    }
-    let values = one_value(alloc, b"x")?;
-    assert!(rt; !values.fits(&added) && values.fits(&found) && !values.fits(&gone));
-    assert_ne!(rt; values, one_value(alloc, b"y")?);
-    assert_ne!(rt; values, Reply::Added);
-    Ok(())
+    assert_eq!(rt; is_its_copy(insert(alloc, b"abc", b"x")), Some(true));
+    assert_eq!(rt; is_its_copy(retrieve(alloc, b"abc")), Some(true));
+    assert_eq!(rt; is_its_copy(remove(alloc, b"abc", b"x")), Some(true));
+}
+
+#[test]
+fn compares(rt: HostRuntime) {
+    let alloc = rt.alloc();
+    let insert_x = || insert(alloc, b"abc", b"x");
+    assert_eq!(rt; are_equal(insert_x(), insert_x()), Some(true));
+    assert_eq!(rt;
+        are_equal(insert_x(), insert(alloc, b"abc", b"y")),
+        Some(false)
+    );
+    assert_eq!(rt;
+        are_equal(insert_x(), remove(alloc, b"abc", b"x")),
+        Some(false)
+    );
+    assert_eq!(rt; are_equal(insert_x(), retrieve(alloc, b"abc")), Some(false));
+    assert_eq!(rt;
+        are_equal(retrieve(alloc, b"abc"), retrieve(alloc, b"ab")),
+        Some(false)
+    );
+}
+
+#[test]
+fn names_its_key_and_value(rt: HostRuntime) {
+    let alloc = rt.alloc();
+    assert_eq!(rt;
+        names(insert(alloc, b"abc", b"x"), b"abc", b"x"),
+        Some(true)
+    );
+    assert_eq!(rt;
+        names(remove(alloc, b"abc", b"x"), b"abc", b"x"),
+        Some(true)
+    );
+    assert_eq!(rt; names(retrieve(alloc, b"abc"), b"abc", b""), Some(true));
+}
+
+/// Whether the reply fits an insert, a retrieve and a remove.
+fn fitting(alloc: Global, reply: &Reply) -> Option<(bool, bool, bool)> {
+    let added = insert(alloc, b"a", b"x").ok()?;
+    let found = retrieve(alloc, b"a").ok()?;
+    let gone = remove(alloc, b"a", b"x").ok()?;
+    Some((reply.fits(&added), reply.fits(&found), reply.fits(&gone)))
+}
+
+/// The same of the reply with the value x.
+fn fitting_values(alloc: Global) -> Option<(bool, bool, bool)> {
+    let values = one_value(alloc, b"x").ok()?;
+    fitting(alloc, &values)
+}
+
+#[test]
+fn knows_the_replies_of_its_kind(rt: HostRuntime) {
+    let alloc = rt.alloc();
+    let of_insert = Some((true, false, false));
+    assert_eq!(rt; fitting(alloc, &Reply::Added), of_insert);
+    assert_eq!(rt; fitting(alloc, &Reply::Present), of_insert);
+    assert_eq!(rt; fitting(alloc, &Reply::SetFull), of_insert);
+    let of_remove = Some((false, false, true));
+    assert_eq!(rt; fitting(alloc, &Reply::Removed), of_remove);
+    assert_eq!(rt; fitting(alloc, &Reply::Absent), of_remove);
+    assert_eq!(rt; fitting_values(alloc), Some((false, true, false)));
+}
+
+/// Whether the reply with the value x is equal to itself, to the one with y, and to Added.
+fn equals(alloc: Global) -> Option<(bool, bool, bool)> {
+    let values = one_value(alloc, b"x").ok()?;
+    let same = one_value(alloc, b"x").ok()?;
+    let other = one_value(alloc, b"y").ok()?;
+    Some((values == same, values == other, values == Reply::Added))
+}
+
+#[test]
+fn replies_are_compared(rt: HostRuntime) {
+    assert_eq!(rt; equals(rt.alloc()), Some((true, false, false)));
 }

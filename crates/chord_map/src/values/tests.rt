@@ -3,24 +3,66 @@ use crate::Bytes;
 use std::alloc::{AllocError, Global};
 use std::test::Fail;
 
-#[test]
-fn holds_values_in_the_order_given(rt: HostRuntime) -> Result<(), Fail> {
-    let alloc = rt.alloc();
+// What was found of the values x, y and z, of which y was put between the others and then removed.
+#[derive(Clone, Copy, Debug, PartialEq, Eq)]
+struct Found {
+    count: usize,
+    copy_was_equal: bool,
+    copy_is_equal: bool,
+    removed_y: bool,
+    left: usize,
+    ends_in_z: bool,
+}
+
+fn found_of_three(alloc: Global) -> Option<Found> {
     let mut values = Values::new(alloc);
-    values.push(Bytes::from_slice(alloc, b"x")?)?;
-    values.push(Bytes::from_vec([122].to_vec(alloc)?))?;
-    values.insert(1, Bytes::from_slice(alloc, b"y")?)?;
-    assert_eq!(rt; values.as_slice().len(), 3);
-    let copy = Values::from_vec(values.try_copy()?.into_vec());
-    assert_eq!(rt; copy, values);
+    values.push(Bytes::from_slice(alloc, b"x").ok()?).ok()?;
+    let last = [122].to_vec(alloc).ok()?;
+    values.push(Bytes::from_vec(last)).ok()?;
+    let between = Bytes::from_slice(alloc, b"y").ok()?;
+    values.insert(1, between).ok()?;
+    let count = values.as_slice().len();
+    let copy = Values::from_vec(values.try_copy().ok()?.into_vec());
+    let copy_was_equal = copy == values;
     let middle = values.remove(1);
-    assert_eq!(rt; middle.into_vec().as_slice(), b"y".as_slice());
-    assert_ne!(rt; copy, values);
+    let copy_is_equal = copy == values;
     let rest = values.into_vec();
-    assert_eq!(rt; rest.len(), 2);
-    assert_eq!(rt; rest[1].as_slice(), b"z".as_slice());
-    assert_eq!(rt; rest[0].try_copy()?, rest[0]);
-    Ok(())
+    let ends_in_z = match rest.get(1) {
+        Some(last) => last.as_slice() == b"z".as_slice(),
+        None => false,
+    };
+    Some(Found {
+        count,
+        copy_was_equal,
+        copy_is_equal,
+        removed_y: middle.into_vec().as_slice() == b"y".as_slice(),
+        left: rest.len(),
+        ends_in_z,
+    })
+}
+
+#[test]
+fn holds_values_in_the_order_given(rt: HostRuntime) {
+    let expected = Found {
+        count: 3,
+        copy_was_equal: true,
+        copy_is_equal: false,
+        removed_y: true,
+        left: 2,
+        ends_in_z: true,
+    };
+    assert_eq!(rt; found_of_three(rt.alloc()), Some(expected));
+}
+
+// Whether a copy of some bytes is equal to them.
+fn bytes_are_copied(alloc: Global) -> Option<bool> {
+    let bytes = Bytes::from_slice(alloc, b"x").ok()?;
+    Some(bytes.try_copy().ok()? == bytes)
+}
+
+#[test]
+fn copies_bytes(rt: HostRuntime) {
+    assert_eq!(rt; bytes_are_copied(rt.alloc()), Some(true));
 }
 
 // The value [n], asked for again where there was no memory.
