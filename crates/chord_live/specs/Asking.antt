@@ -67,7 +67,7 @@ abbrev pub WaitIs : ℕ → Caller → Result Reply WaitFault → Caller → Typ
 WaitIs number old (Ok reply) new = TookReplies old new × IsTaken new number reply
 WaitIs number old (Err fault) new = WaitsStill number old new
 
--- the caller would refuse the request for want of memory alone
+-- the caller would refuse the request only where it is out of memory
 abbrev pub MaySubmit : Request → Caller → Type 0
 MaySubmit request caller = IsRequest request × HasWindow caller × (next_number caller < 2 ^ 64)
 
