@@ -1,4 +1,8 @@
-//! The program `chord`: a Chord key store on the console.
+//! The program `chord`: a Chord key store on the console and over loopback.
+//!
+//! `world` is a world of nodes and callers, which does a step a line ([`console`]); `run` a running ring that does what a
+//! plan says ([`plan`], [`run`]); `serve` a running ring that answers clients ([`serve`]); `ask` and `load` are such clients
+//! ([`ask`], [`load`]). [`command_line`] reads the arguments, and [`finish`] says with what status the program ends.
 #![tactic(auto)]
 
 mod ask;

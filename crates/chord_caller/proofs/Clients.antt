@@ -14,7 +14,7 @@ use Rattle.chord_caller.specs.Caller.{Submission, Caller, submission_at, is_take
 use Rattle.chord_caller.specs.Slots.{all_slots, slot_of, waiting, is_over, IsRaised}
 use Rattle.chord_caller.specs.Client.{Client, client_of, IsClient, new_client, count_of, slot_at, slot_in, waiting_at, IsCoreOf}
 use Rattle.chord_caller.specs.Answers.{new_caller, is_pending, PendingIs}
-use Rattle.chord_caller.specs.ClientAnswers.{with_waiting, IsSettled, ClientPendingIs}
+use Rattle.chord_caller.specs.ClientAnswers.{with_waiting, IsEnded, ClientPendingIs}
 use Rattle.chord_caller.proofs.Floors.{upto_is}
 use Rattle.chord_caller.proofs.Places.{got_last, got_set_same, got_set_other, either_is}
 
@@ -148,7 +148,7 @@ taken_after told request caller number =
     either_is caller.number number caller.mine (call ∷ [])
     ∙ ap (λ b. is_some (done_at caller.number number caller.mine) || b) (one_found caller.number number call)
 
-settled_slots : (told : Told) (request : Request) (client new : Client) (caller : Caller) → told.caller ≡ caller.number → IsSettled told.number request client new → IsCoreOf client caller
+settled_slots : (told : Told) (request : Request) (client new : Client) (caller : Caller) → told.caller ≡ caller.number → IsEnded told.number request client new → IsCoreOf client caller
     → (number : ℕ) → slot_at number new ≡ slot_in number (with_reply told request caller)
 settled_slots told request client new caller own settled core number =
     ⊎_elim
@@ -188,7 +188,7 @@ settled_slots told request client new caller own settled core number =
         ∙ got_set_other (all_slots client.floor client.slots) settled.place place Over (λ e. apart (ap suc e))
 
 -- a client that takes a reply is the core of the caller that does
-pub settle_core : (told : Told) (request : Request) (client new : Client) (caller : Caller) → told.caller ≡ client.number → IsSettled told.number request client new → IsCoreOf client caller
+pub settle_core : (told : Told) (request : Request) (client new : Client) (caller : Caller) → told.caller ≡ client.number → IsEnded told.number request client new → IsCoreOf client caller
     → IsCoreOf new (with_reply told request caller)
 settle_core told request client new caller own settled core =
     core_from new (with_reply told request caller) (settled.caller_is ∙ core.number_is) (settled.window_is ∙ core.window_is) settled.next
@@ -265,7 +265,7 @@ settled_keeps window floor room slots place floor' room' slots' h raised same =
 -- a slot that is settled is that of the number
 pub settled_from : (number window floor : ℕ) (slots : List Slot) (asked : ℕ) (request : Request) (floor' : ℕ) (slots' : List Slot)
     → waiting (slot_of floor slots asked) ≡ Some request → IsRaised floor (slice_set slots (asked - floor - 1) Over) floor' slots'
-    → IsSettled asked request (client_of number window floor slots) (client_of number window floor' slots')
+    → IsEnded asked request (client_of number window floor slots) (client_of number window floor' slots')
 settled_from number window floor slots zero request floor' slots' waits raised = absurd (none-some request waits)
 settled_from number window floor slots (suc place) request floor' slots' waits raised =
     let above = (waits_above floor slots (suc place) request waits).0 in

@@ -42,7 +42,7 @@ abbrev pub with_waiting : Request → Client → Client
 with_waiting request client = record client { slots = client.slots ++ Waiting request ∷ [] }
 
 -- the pending request of the number is over, all else stands, and the floor is as high as it can be
-pub record IsSettled (number : ℕ) (request : Request) (old new : Client) : Type 0 where
+pub record IsEnded (number : ℕ) (request : Request) (old new : Client) : Type 0 where
   pub place : ℕ
   pub number_is : number ≡ suc place
   pub waits : slot_at number old ≡ Some (Waiting request)
@@ -86,7 +86,7 @@ IsStrange told client =
 -- The reply to a pending request is handed out, one to a request that was over changes nothing, and no other is heard
 abbrev pub ClientTakeIs : Told → Client → Outcome → Client → Type 0
 ClientTakeIs told old (Fresh reply) new =
-    (request : Request) × (told.caller ≡ old.number) × (fits reply request ≡ true) × (reply ≡ told.reply) × IsSettled told.number request old new
+    (request : Request) × (told.caller ≡ old.number) × (fits reply request ≡ true) × (reply ≡ told.reply) × IsEnded told.number request old new
 ClientTakeIs told old Known new = (told.caller ≡ old.number) × (slot_at told.number old ≡ Some Over) × (new ≡ old)
 ClientTakeIs told old Foreign new = IsStrange told old × (new ≡ old)
 

@@ -24,7 +24,7 @@ upto_length of zero parts there filled low = omega arith
 upto_length of (suc place) parts there filled low =
     let a = at_place of (suc place) parts there (omega arith) (omega arith) in
     let f = filled a.0 a.3 in
-    let at : (a.0).part ≡ suc place = a.2 in
+    let at : (a.0).place ≡ suc place = a.2 in
     let count : (a.0).of ≡ of = f.0 in
     let full : length (a.0).pairs ≡ 64 = (f.1).full (omega arith) in
     let before = upto_length of place parts there filled (omega arith) in
@@ -61,7 +61,7 @@ chunk_is : (of k : ℕ) (parts : List Part) → AreAllThere of parts → AreFill
 chunk_is of k parts there filled low =
     let a = at_place of (suc k) parts there (omega arith) (omega arith) in
     let f = filled a.0 a.3 in
-    let at : (a.0).part ≡ suc k = a.2 in
+    let at : (a.0).place ≡ suc k = a.2 in
     let count : (a.0).of ≡ of = f.0 in
     let here = pairs_of (part_in (suc k) parts) in
     let same : length here ≡ length (a.0).pairs = ap (λ o. length (pairs_of o)) a.1 in
@@ -88,7 +88,7 @@ count_is : (of k : ℕ) (parts : List Part) → AreAllThere of parts → AreFill
 count_is of k parts there filled e =
     let a = at_place of of parts there (omega arith) (omega arith) in
     let f = filled a.0 a.3 in
-    let at : (a.0).part ≡ of = a.2 in
+    let at : (a.0).place ≡ of = a.2 in
     let count : (a.0).of ≡ of = f.0 in
     let here = pairs_of (part_in (suc k) parts) in
     let same : length (pairs_of (part_in of parts)) ≡ length (a.0).pairs = ap (λ o. length (pairs_of o)) a.1 in
@@ -114,22 +114,22 @@ like_part part noted x there =
     (has_pushed (filter (is_like part) noted) part x there)
 
 part_is : (x : Part) (from to number of : ℕ) (segment : Option Segment) (pairs : List Pair) → x.from ≡ from → x.to ≡ to → x.number ≡ number → x.of ≡ of → x.segment ≡ segment → x.pairs ≡ pairs
-    → x ≡ record { from = from; to = to; number = number; part = x.part; of = of; segment = segment; pairs = pairs }
+    → x ≡ record { from = from; to = to; number = number; place = x.place; of = of; segment = segment; pairs = pairs }
 part_is x from to number of segment pairs e1 e2 e3 e4 e5 e6 =
-    λ i. record { from = e1 i; to = e2 i; number = e3 i; part = x.part; of = e4 i; segment = e5 i; pairs = e6 i }
+    λ i. record { from = e1 i; to = e2 i; number = e3 i; place = x.place; of = e4 i; segment = e5 i; pairs = e6 i }
 
 not_some : (o : Option Segment) → is_some o ≡ false → o ≡ None
 not_some None h = refl
 not_some (Some segment) h = absurd (cc)
 
-segment_is : (part : Part) (noted : List Part) (segment : Segment) (x : Part) → segment_of (part_in 1 (gathered part noted)) ≡ Some segment → part_in x.part (gathered part noted) ≡ Some x
-    → is_some x.segment ≡ eqb x.part 1 → x.segment ≡ cond (eqb x.part 1) (Some segment) None
+segment_is : (part : Part) (noted : List Part) (segment : Segment) (x : Part) → segment_of (part_in 1 (gathered part noted)) ≡ Some segment → part_in x.place (gathered part noted) ≡ Some x
+    → is_some x.segment ≡ eqb x.place 1 → x.segment ≡ cond (eqb x.place 1) (Some segment) None
 segment_is part noted segment x first here rule =
-    by_test (eqb x.part 1)
+    by_test (eqb x.place 1)
     (λ t.
-    let at : part_in 1 (gathered part noted) ≡ Some x = ap (λ n. part_in n (gathered part noted)) (sym (eqb_is x.part 1 t)) ∙ here in
-    sym (ap segment_of at) ∙ first ∙ sym (cond-true (eqb x.part 1) (Some segment) None t))
-    (λ f. not_some x.segment (rule ∙ f) ∙ sym (cond-false (eqb x.part 1) (Some segment) None f))
+    let at : part_in 1 (gathered part noted) ≡ Some x = ap (λ n. part_in n (gathered part noted)) (sym (eqb_is x.place 1 t)) ∙ here in
+    sym (ap segment_of at) ∙ first ∙ sym (cond-true (eqb x.place 1) (Some segment) None t))
+    (λ f. not_some x.segment (rule ∙ f) ∙ sym (cond-false (eqb x.place 1) (Some segment) None f))
 
 -- parts that are fitting are those of the first one's segment and the pairs of all
 pub fitting_are : (part : Part) (noted : List Part) (segment : Segment) → AreOf part.of (gathered part noted) → AreAllThere part.of (gathered part noted)
@@ -145,21 +145,21 @@ fitting_are part noted segment agree there first fitting =
     let of : x.of ≡ part.of = (filled x h).0 in
     let some = rules.some in
     let within = rules.within in
-    let k : suc (x.part - 1) ≡ x.part = omega arith in
+    let k : suc (x.place - 1) ≡ x.place = omega arith in
     let last : part.of ≡ suc (part.of - 1) = omega arith in
-    let pairs : x.pairs ≡ chunk x.part (pairs_upto part.of all) =
-    sym (ap pairs_of fits.found) ∙ sym (chunk_is part.of (x.part - 1) all there filled (omega arith) ∙ ap (λ n. pairs_of (part_in n all)) k) in
-    part_is x part.from part.to part.number (parts_in (pairs_upto part.of all)) (cond (eqb x.part 1) (Some segment) None) (chunk x.part (pairs_upto part.of all))
+    let pairs : x.pairs ≡ chunk x.place (pairs_upto part.of all) =
+    sym (ap pairs_of fits.found) ∙ sym (chunk_is part.of (x.place - 1) all there filled (omega arith) ∙ ap (λ n. pairs_of (part_in n all)) k) in
+    part_is x part.from part.to part.number (parts_in (pairs_upto part.of all)) (cond (eqb x.place 1) (Some segment) None) (chunk x.place (pairs_upto part.of all))
     like.0 fits.receiver like.1 (of ∙ count_is part.of (part.of - 1) all there filled last) (segment_is part noted segment x first fits.found rules.first) pairs)
 
 -- a part of a handover has as many pairs as its place asks for
-part_filled : (x : Part) (pairs : List Pair) → IsPart x → x.of ≡ parts_in pairs → x.pairs ≡ chunk x.part pairs → IsFilled x
+part_filled : (x : Part) (pairs : List Pair) → IsPart x → x.of ≡ parts_in pairs → x.pairs ≡ chunk x.place pairs → IsFilled x
 part_filled x pairs rules of is =
     let some = rules.some in
     let within = rules.within in
-    let rest = length-drop (64 * (x.part - 1)) pairs in
-    let size : length x.pairs ≡ length (take 64 (drop (64 * (x.part - 1)) pairs)) = ap length is in
-    let taken = length-take 64 (drop (64 * (x.part - 1)) pairs) in
+    let rest = length-drop (64 * (x.place - 1)) pairs in
+    let size : length x.pairs ≡ length (take 64 (drop (64 * (x.place - 1)) pairs)) = ap length is in
+    let taken = length-take 64 (drop (64 * (x.place - 1)) pairs) in
     record { full = λ low. omega arith; most = λ high. omega arith; some = λ high more. omega arith }
 
 -- where each part is one of a segment and some pairs, each is fitting
@@ -169,11 +169,11 @@ are_fitting part noted segment pairs each x h rules =
     let all = gathered part noted in
     let P = IsPartOf (ticket_of_part part) segment pairs in
     let own : P x = each_all P all each x h in
-    let r = finds (λ (p : Part). eqb p.part x.part) all x h (eqb_same x.part x.part refl) in
-    let f = found (λ (p : Part). eqb p.part x.part) all r.0 r.1 in
+    let r = finds (λ (p : Part). eqb p.place x.place) all x h (eqb_same x.place x.place refl) in
+    let f = found (λ (p : Part). eqb p.place x.place) all r.0 r.1 in
     let other : P r.0 = each_all P all each r.0 f.1 in
     let handover = handed (ticket_of_part part) (record { segment = segment; pairs = pairs }) in
-    let same : r.0 ≡ x = other ∙ ap (part_at handover) (eqb_is (r.0).part x.part f.0) ∙ sym own in
+    let same : r.0 ≡ x = other ∙ ap (part_at handover) (eqb_is (r.0).place x.place f.0) ∙ sym own in
     record {
       receiver = ap (λ (p : Part). p.to) own;
       filled = part_filled x pairs rules (ap (λ (p : Part). p.of) own) (ap (λ (p : Part). p.pairs) own);

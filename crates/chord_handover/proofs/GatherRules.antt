@@ -95,29 +95,29 @@ find_filter p q (x ∷ xs) = filter_step p (q x) x (filter q xs) ∙ find_step (
 
 -- a noted part of this place
 abbrev pub is_noted_at : Part → ℕ → Part → Bool
-is_noted_at part place other = is_like part other && eqb other.part place
+is_noted_at part place other = is_like part other && eqb other.place place
 
 -- the part of a place is noted, or is this one
-pub part_in_is : (part : Part) (noted : List Part) (place : ℕ) → part_in place (gathered part noted) ≡ option_or (find (is_noted_at part place) noted) (cond (eqb part.part place) (Some part) None)
+pub part_in_is : (part : Part) (noted : List Part) (place : ℕ) → part_in place (gathered part noted) ≡ option_or (find (is_noted_at part place) noted) (cond (eqb part.place place) (Some part) None)
 part_in_is part noted place =
-    find-append (λ (p : Part). eqb p.part place) (filter (is_like part) noted) (part ∷ [])
-    ∙ ap (λ o. option_or o (cond (eqb part.part place) (Some part) None))
-    (find_filter (λ (p : Part). eqb p.part place) (is_like part) noted)
+    find-append (λ (p : Part). eqb p.place place) (filter (is_like part) noted) (part ∷ [])
+    ∙ ap (λ o. option_or o (cond (eqb part.place place) (Some part) None))
+    (find_filter (λ (p : Part). eqb p.place place) (is_like part) noted)
 
 -- places
 
-pub at_place : (of place : ℕ) (parts : List Part) → AreAllThere of parts → 1 ≤ place → place ≤ of → (x : Part) × (part_in place parts ≡ Some x) × (x.part ≡ place) × Has parts x
+pub at_place : (of place : ℕ) (parts : List Part) → AreAllThere of parts → 1 ≤ place → place ≤ of → (x : Part) × (part_in place parts ≡ Some x) × (x.place ≡ place) × Has parts x
 at_place of place parts there from upto =
     let a = there place from upto in
-    let r = finds (λ (p : Part). eqb p.part place) parts a.1 (has_contained parts a.1 (a.0, a.2, a.3)) (eqb_same (a.1).part place a.4) in
-    let f = found (λ (p : Part). eqb p.part place) parts r.0 r.1 in
-    (r.0, r.1, eqb_is (r.0).part place f.0, f.1)
+    let r = finds (λ (p : Part). eqb p.place place) parts a.1 (has_contained parts a.1 (a.0, a.2, a.3)) (eqb_same (a.1).place place a.4) in
+    let f = found (λ (p : Part). eqb p.place place) parts r.0 r.1 in
+    (r.0, r.1, eqb_is (r.0).place place f.0, f.1)
 
-pub place_there : (place : ℕ) (parts : List Part) (x : Part) → part_in place parts ≡ Some x → Any (λ (p : Part). p.part ≡ place) parts
+pub place_there : (place : ℕ) (parts : List Part) (x : Part) → part_in place parts ≡ Some x → Any (λ (p : Part). p.place ≡ place) parts
 place_there place parts x e =
-    let f = found (λ (p : Part). eqb p.part place) parts x e in
+    let f = found (λ (p : Part). eqb p.place place) parts x e in
     let c = contains_has parts x f.1 in
-    (c.0, x, c.1, c.2, eqb_is x.part place f.0)
+    (c.0, x, c.1, c.2, eqb_is x.place place f.0)
 
 -- a handover has no more parts than are there
 
@@ -127,9 +127,9 @@ within n k = leb 1 k && leb k n
 one_place : (n k : ℕ) → one_if (leb 1 k && leb k (suc n)) ≡ one_if (leb 1 k && leb k n) + one_if (eqb k (suc n))
 one_place n k = grind (arith, nat_tests)
 
-count_places : (n : ℕ) (xs : List Part) → count (λ (p : Part). leb 1 p.part && leb p.part (suc n)) xs ≡ count (λ (p : Part). leb 1 p.part && leb p.part n) xs + count (λ (p : Part). eqb p.part (suc n)) xs
+count_places : (n : ℕ) (xs : List Part) → count (λ (p : Part). leb 1 p.place && leb p.place (suc n)) xs ≡ count (λ (p : Part). leb 1 p.place && leb p.place n) xs + count (λ (p : Part). eqb p.place (suc n)) xs
 count_places n [] = refl
-count_places n (x ∷ xs) = omega (arith, one_place n x.part, count_places n xs)
+count_places n (x ∷ xs) = omega (arith, one_place n x.place, count_places n xs)
 
 has_count : {A : Type 0} (p : A → Bool) (xs : List A) (x : A) → Has xs x → p x ≡ true → 1 ≤ count p xs
 has_count p [] x h e = absurd h
@@ -144,18 +144,18 @@ count_upto : {A : Type 0} (p : A → Bool) (xs : List A) → count p xs ≤ leng
 count_upto p [] = omega arith
 count_upto p (x ∷ xs) = omega (arith, one_upto (p x), count_upto p xs)
 
-enough_places : (n of : ℕ) (parts : List Part) → AreAllThere of parts → n ≤ of → n ≤ count (λ (p : Part). leb 1 p.part && leb p.part n) parts
+enough_places : (n of : ℕ) (parts : List Part) → AreAllThere of parts → n ≤ of → n ≤ count (λ (p : Part). leb 1 p.place && leb p.place n) parts
 enough_places zero of parts there low = omega arith
 enough_places (suc n) of parts there low =
     let a = at_place of (suc n) parts there (omega arith) low in
-    let here = has_count (λ (p : Part). eqb p.part (suc n)) parts a.0 a.3 (eqb_same (a.0).part (suc n) a.2) in
+    let here = has_count (λ (p : Part). eqb p.place (suc n)) parts a.0 a.3 (eqb_same (a.0).place (suc n) a.2) in
     omega (arith, count_places n parts, enough_places n of parts there (omega arith))
 
 pub enough_parts : (part : Part) (noted : List Part) → AreAllThere part.of (gathered part noted) → part.of ≤ length (filter (is_like part) noted) + 1
 enough_parts part noted there =
     let all = gathered part noted in
     let low = enough_places part.of part.of all there (omega arith) in
-    omega (arith, count_upto (λ (p : Part). leb 1 p.part && leb p.part part.of) all, length-append (filter (is_like part) noted) (part ∷ []))
+    omega (arith, count_upto (λ (p : Part). leb 1 p.place && leb p.place part.of) all, length-append (filter (is_like part) noted) (part ∷ []))
 
 -- the parts of a handover are the parts of one parcel alone
 
@@ -163,7 +163,7 @@ found_part : (of : ℕ) (parts : List Part) (handover : Handover) (place : ℕ) 
     → part_in place parts ≡ Some (part_at handover place)
 found_part of parts handover place there whole from upto =
     let a = at_place of place parts there from upto in
-    let is = each_all (λ (p : Part). p ≡ part_at handover p.part) parts whole.each a.0 a.3 in
+    let is = each_all (λ (p : Part). p ≡ part_at handover p.place) parts whole.each a.0 a.3 in
     a.1 ∙ ap Some (is ∙ ap (part_at handover) a.2)
 
 pairs_are : (of : ℕ) (parts : List Part) (handover : Handover) (place : ℕ) → AreAllThere of parts → IsWhole parts handover → place ≤ of
@@ -182,7 +182,7 @@ pub whole_is : (part : Part) (noted : List Part) (parcelled : Parcelled) → Are
 whole_is part noted parcelled there whole =
     let all = gathered part noted in
     let handover = handed (ticket_of_part part) parcelled in
-    let own : part ≡ part_at handover part.part = each_all (λ (p : Part). p ≡ part_at handover p.part) all whole.each part (has_itself part noted) in
+    let own : part ≡ part_at handover part.place = each_all (λ (p : Part). p ≡ part_at handover p.place) all whole.each part (has_itself part noted) in
     let count : part.of ≡ parts_in parcelled.pairs = ap (λ (p : Part). p.of) own in (
       ap segment_of (found_part part.of all handover 1 there whole (omega arith) (omega arith)),
       pairs_are part.of all handover part.of there whole (omega arith) ∙ take_all (64 * part.of) parcelled.pairs (omega arith),
@@ -190,24 +190,24 @@ whole_is part noted parcelled there whole =
 
 -- where each part is the segment's and the pairs', they are the parts of that parcel
 pub whole_from : (part : Part) (noted : List Part) (parcelled : Parcelled) → AreAllThere part.of (gathered part noted)
-    → All (λ (other : Part). other ≡ part_at (handed (ticket_of_part part) parcelled) other.part) (gathered part noted) → IsWhole (gathered part noted) (handed (ticket_of_part part) parcelled)
+    → All (λ (other : Part). other ≡ part_at (handed (ticket_of_part part) parcelled) other.place) (gathered part noted) → IsWhole (gathered part noted) (handed (ticket_of_part part) parcelled)
 whole_from part noted parcelled there each =
     let all = gathered part noted in
     let handover = handed (ticket_of_part part) parcelled in
-    let own : part ≡ part_at handover part.part = each_all (λ (p : Part). p ≡ part_at handover p.part) all each part (has_itself part noted) in
+    let own : part ≡ part_at handover part.place = each_all (λ (p : Part). p ≡ part_at handover p.place) all each part (has_itself part noted) in
     let count : part.of ≡ parts_in parcelled.pairs = ap (λ (p : Part). p.of) own in
     record {
       each = each;
       all = λ place from upto.
           let a = at_place part.of place all there from (omega arith) in
           contains_has all (part_at handover place)
-          (subst (Has all) (each_all (λ (p : Part). p ≡ part_at handover p.part) all each a.0 a.3 ∙ ap (part_at handover) a.2) a.3);
+          (subst (Has all) (each_all (λ (p : Part). p ≡ part_at handover p.place) all each a.0 a.3 ∙ ap (part_at handover) a.2) a.3);
     }
 
 -- so they make one where these are a parcel
 pub are_whole : (part : Part) (noted : List Part) (segment : Segment) → AreAllThere part.of (gathered part noted)
     → IsParcelled (record { segment = segment; pairs = pairs_upto part.of (gathered part noted) })
-    → All (λ (other : Part). other ≡ part_at (handed (ticket_of_part part) (record { segment = segment; pairs = pairs_upto part.of (gathered part noted) })) other.part) (gathered part noted) → AreWhole part noted
+    → All (λ (other : Part). other ≡ part_at (handed (ticket_of_part part) (record { segment = segment; pairs = pairs_upto part.of (gathered part noted) })) other.place) (gathered part noted) → AreWhole part noted
 are_whole part noted segment there rules each =
     let parcelled : Parcelled = record { segment = segment; pairs = pairs_upto part.of (gathered part noted) } in
     (parcelled, rules, whole_from part noted parcelled there each)
@@ -215,7 +215,7 @@ are_whole part noted segment there rules each =
 -- no other parcel is sent in these parts
 pub makes_none : (part : Part) (noted : List Part) (segment : Segment) (pairs : List Pair) → AreAllThere part.of (gathered part noted)
     → segment_of (part_in 1 (gathered part noted)) ≡ Some segment → pairs_upto part.of (gathered part noted) ≡ pairs
-    → ¬ (IsParcelled (record { segment = segment; pairs = pairs }) × All (λ (other : Part). other ≡ part_at (handed (ticket_of_part part) (record { segment = segment; pairs = pairs })) other.part) (gathered part noted))
+    → ¬ (IsParcelled (record { segment = segment; pairs = pairs }) × All (λ (other : Part). other ≡ part_at (handed (ticket_of_part part) (record { segment = segment; pairs = pairs })) other.place) (gathered part noted))
     → MakeNone (ticket_of_part part) (gathered part noted)
 makes_none part noted segment pairs there first all unfit parcelled rules whole =
     let is = whole_is part noted parcelled there whole in
@@ -224,7 +224,7 @@ makes_none part noted segment pairs there first all unfit parcelled rules whole 
     let same : parcelled ≡ record { segment = segment; pairs = pairs } = λ i. record { segment = same_segment i; pairs = same_pairs i } in
     unfit (
       subst IsParcelled same rules,
-      subst (λ (p : Parcelled). All (λ (other : Part). other ≡ part_at (handed (ticket_of_part part) p) other.part) (gathered part noted)) same whole.each,
+      subst (λ (p : Parcelled). All (λ (other : Part). other ≡ part_at (handed (ticket_of_part part) p) other.place) (gathered part noted)) same whole.each,
     )
 
 -- nor any where the first part has no segment
@@ -238,17 +238,17 @@ makes_none_without part noted there none parcelled rules whole =
 
 pub noted_at : (part : Part) (noted : List Part) (place : ℕ) (found : Part) → Some found ≡ find (is_noted_at part place) noted → Some found ≡ part_in place (gathered part noted)
 noted_at part noted place found e =
-    sym (part_in_is part noted place ∙ ap (λ o. option_or o (cond (eqb part.part place) (Some part) None)) (sym e))
+    sym (part_in_is part noted place ∙ ap (λ o. option_or o (cond (eqb part.place place) (Some part) None)) (sym e))
 
-pub itself_at : (part : Part) (noted : List Part) (place : ℕ) → None ≡ find (is_noted_at part place) noted → part.part ≡ place → Some part ≡ part_in place (gathered part noted)
+pub itself_at : (part : Part) (noted : List Part) (place : ℕ) → None ≡ find (is_noted_at part place) noted → part.place ≡ place → Some part ≡ part_in place (gathered part noted)
 itself_at part noted place e here =
-    sym (part_in_is part noted place ∙ ap (λ o. option_or o (cond (eqb part.part place) (Some part) None)) (sym e)
-    ∙ cond-true (eqb part.part place) (Some part) None (eqb_same part.part place here))
+    sym (part_in_is part noted place ∙ ap (λ o. option_or o (cond (eqb part.place place) (Some part) None)) (sym e)
+    ∙ cond-true (eqb part.place place) (Some part) None (eqb_same part.place place here))
 
-pub none_at : (part : Part) (noted : List Part) (place : ℕ) → None ≡ find (is_noted_at part place) noted → (part.part ≡ place → ⊥) → None ≡ part_in place (gathered part noted)
+pub none_at : (part : Part) (noted : List Part) (place : ℕ) → None ≡ find (is_noted_at part place) noted → (part.place ≡ place → ⊥) → None ≡ part_in place (gathered part noted)
 none_at part noted place e apart =
-    sym (part_in_is part noted place ∙ ap (λ o. option_or o (cond (eqb part.part place) (Some part) None)) (sym e)
-    ∙ cond-false (eqb part.part place) (Some part) None (by_test (eqb part.part place) (λ t. absurd (apart (eqb_is part.part place t))) (λ f. f)))
+    sym (part_in_is part noted place ∙ ap (λ o. option_or o (cond (eqb part.place place) (Some part) None)) (sym e)
+    ∙ cond-false (eqb part.place place) (Some part) None (by_test (eqb part.place place) (λ t. absurd (apart (eqb_is part.place place t))) (λ f. f)))
 
 -- what a reference that may be there points to
 pub none_there : {A : Type 0} (o : Option (Bor A)) (p : Option A) → option_copied o ≡ p → is_some o ≡ false → p ≡ None
@@ -275,7 +275,7 @@ no_pairs_yet parts = refl
 
 -- it is one of the parts of that segment and those pairs
 abbrev pub IsPartOf : Ticket → Segment → List Pair → Part → Type 0
-IsPartOf ticket segment pairs other = other ≡ part_at (handed ticket (record { segment = segment; pairs = pairs })) other.part
+IsPartOf ticket segment pairs other = other ≡ part_at (handed ticket (record { segment = segment; pairs = pairs })) other.place
 
 -- what holds of each element passed holds of one more
 pub one_further : {A : Type 0} (P : A → Type 0) (xs : List A) (i : ℕ) (x : A) → i < length xs → x ≡ get_or xs i x → ((y : A) → Has (take i xs) y → P y) → P x → (y : A) → Has (take (i + 1) xs) y → P y

@@ -10,7 +10,7 @@ use Rattle.chord_map.proofs.Lists.{by_option, Has, has_pushed, has_filter, found
 use Rattle.chord_segment.specs.declared.mark.Mark.{Mark}
 use Rattle.chord_segment.specs.Marks.{mark_of, raise}
 use Rattle.chord_segment.proofs.MarkLemmas.{mark_of-raise_same}
-use Rattle.chord_segment.proofs.SegmentRules.{raise_grows}
+use Rattle.chord_segment.proofs.SegmentLemmas.{mark_grows}
 use Rattle.chord_handover.specs.Handover.{Item, is_item, item_at, without}
 use Rattle.chord_handover.specs.Outbox.{AreApart, IsOutbox}
 use Rattle.chord_handover.proofs.OutboxLemmas.{is_item_parts, item_at_is, without_none, DistinctItems_push, DistinctItems-without}
@@ -93,7 +93,7 @@ gave_keeps given items item h e = record {
       ⊎_elim
       (λ old.
       let low = each_all (λ (i : Item). i.number ≤ mark_of i.to given) items h.numbered other old in
-      let grown = raise_grows other.to item.to item.number given in
+      let grown = mark_grows other.to item.to item.number given in
       omega arith)
       (λ (new : item ≡ other).
       subst (λ (i : Item). i.number ≤ mark_of i.to (raise item.to item.number given)) new

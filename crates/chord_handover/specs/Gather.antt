@@ -14,7 +14,7 @@ AreOf of parts = All (λ part. part.of ≡ of) parts
 
 -- each place of so many has its part
 abbrev pub AreAllThere : ℕ → List Part → Type 0
-AreAllThere of parts = (place : ℕ) → 1 ≤ place → place ≤ of → Any (λ part. part.part ≡ place) parts
+AreAllThere of parts = (place : ℕ) → 1 ≤ place → place ≤ of → Any (λ part. part.place ≡ place) parts
 
 -- no parcel is sent in just these parts
 abbrev pub MakeNone : Ticket → List Part → Type 0
@@ -42,7 +42,7 @@ AreWhole part noted = (parcelled : Parcelled) × IsParcelled parcelled × Gather
 
 -- the part of a place
 abbrev pub part_in : ℕ → List Part → Option Part
-part_in place parts = find (λ (part : Part). part.part == place) parts
+part_in place parts = find (λ (part : Part). part.place == place) parts
 
 abbrev pub segment_of : Option Part → Option Segment
 segment_of None = None
@@ -61,4 +61,4 @@ pairs_upto (suc place) parts = pairs_upto place parts ++ pairs_of (part_in (suc 
 pub record IsFitting (part : Part) (parts : List Part) (other : Part) : Type 0 where
   pub receiver : other.to ≡ part.to
   pub filled : IsFilled other
-  pub found : part_in other.part parts ≡ Some other
+  pub found : part_in other.place parts ≡ Some other

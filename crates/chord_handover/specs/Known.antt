@@ -3,6 +3,6 @@ use Rattle.std.specs.Prelude.{Option, None, Some}
 use Rattle.chord_segment.specs.Segment.{Segment, RoomySegment}
 
 -- the segment, without its memory's room
-abbrev pub known_of : Option RoomySegment → Option Segment
-known_of None = None
-known_of (Some segment) = Some segment.known
+abbrev pub segment_in : Option RoomySegment → Option Segment
+segment_in None = None
+segment_in (Some segment) = Some segment.segment

@@ -16,7 +16,7 @@ pub record Outbox : Type 0 where
 
 -- an outbox as the program holds it, and whether its memory has room for one more item
 pub record RoomyOutbox : Type 0 where
-  pub known : Outbox
+  pub outbox : Outbox
   pub has_room : Bool
 
 -- no two items have one receiver and one number

@@ -14,7 +14,7 @@ pub record Taken : Type 0 where
 
 -- this as the program holds it, and whether its memory has room for one more sender
 pub record RoomyTaken : Type 0 where
-  pub known : Taken
+  pub taken : Taken
   pub has_room : Bool
 
 abbrev pub nothing_taken : Taken
@@ -35,7 +35,7 @@ marked from taken = record {
 
 -- whether a part of that sender, number and place is noted
 abbrev pub is_noted : Part → List Part → Bool
-is_noted part noted = list_any (λ (other : Part). (other.from == part.from) && (other.number == part.number) && (other.part == part.part)) noted
+is_noted part noted = list_any (λ (other : Part). (other.from == part.from) && (other.number == part.number) && (other.place == part.place)) noted
 
 -- the part noted, which changes nothing where it was noted
 abbrev pub with_noted : Part → Taken → Taken

@@ -4,7 +4,7 @@ ghost use Rattle.std.specs.List.{list_any};
 ghost use Rattle.std.specs.Option.{option_copied};
 ghost use Rattle.chord_handover.specs.Gather.{AreOf, AreAllThere, AreWhole, GatherIs, IsFitting, TellsParcel, part_in, segment_of, pairs_upto};
 ghost use Rattle.chord_handover.specs.Handover.{Part as PartOf, IsPart, part_at, gathered, ticket_of_part};
-ghost use Rattle.chord_handover.specs.Known.{known_of};
+ghost use Rattle.chord_handover.specs.Known.{segment_in};
 ghost use Rattle.chord_handover.specs.Parcelled.{IsParcelled, handed};
 ghost use Rattle.chord_handover.specs.Passed.{HasPassed, Goes};
 
@@ -60,11 +60,11 @@ fn count_noted(noted: &[Part], part: &Part) -> usize
 
 /// The noted part of this place.
 fn find_noted<'a>(noted: &'a [Part], part: &Part, place: u64) -> Option<&'a Part>
-    ensures { option_copied result ≡ find (λ (other : PartOf). (other.from == part.now.from) && (other.number == part.now.number) && (other.part == place)) noted.now }
+    ensures { option_copied result ≡ find (λ (other : PartOf). (other.from == part.now.from) && (other.number == part.now.number) && (other.place == place)) noted.now }
 {
     noted.iter().find(|other| other.from == part.from
         && other.number == part.number
-        && other.part == place)
+        && other.place == place)
 }
 
 /// The handover's part of this place.
@@ -73,7 +73,7 @@ fn find_part<'a>(noted: &'a [Part], part: &'a Part, place: u64) -> Option<&'a Pa
 {
     match find_noted(noted, part, place) {
         Some(other) => Some(other),
-        None if part.part == place => Some(part),
+        None if part.place == place => Some(part),
         None => None,
     }
 }
@@ -95,7 +95,7 @@ fn are_all_there(noted: &[Part], part: &Part) -> bool
 
 /// The segment that came with the first part.
 fn first_segment<'a>(noted: &'a [Part], part: &'a Part) -> Option<&'a Segment>
-    ensures { known_of (option_copied result) ≡ segment_of (part_in 1 (gathered part.now noted.now)) }
+    ensures { segment_in (option_copied result) ≡ segment_of (part_in 1 (gathered part.now noted.now)) }
 {
     find_part(noted, part, 1)?.segment.as_ref()
 }
@@ -133,7 +133,7 @@ fn pass_place<'a>(
     place: u64,
 ) -> Option<Run<'a>>
     requires { 1 ≤ place }
-    ensures { HasPassed segment.now.known (pairs_upto (place - 1) (gathered part.now noted.now)) run.entry → Goes segment.now.known (pairs_upto place (gathered part.now noted.now)) result }
+    ensures { HasPassed segment.now.segment (pairs_upto (place - 1) (gathered part.now noted.now)) run.entry → Goes segment.now.segment (pairs_upto place (gathered part.now noted.now)) result }
 {
     match find_part(noted, part, place) {
         Some(other) => run.walk(segment, &other.pairs),
@@ -143,7 +143,7 @@ fn pass_place<'a>(
 
 /// Whether the pairs of all parts, in order, are those of a parcel with this segment.
 fn are_parcelled<'a>(noted: &'a [Part], part: &'a Part, segment: &Segment) -> bool
-    ensures { IsTrue result ↔ IsParcelled (record { segment = segment.now.known; pairs = pairs_upto part.now.of (gathered part.now noted.now) }) }
+    ensures { IsTrue result ↔ IsParcelled (record { segment = segment.now.segment; pairs = pairs_upto part.now.of (gathered part.now noted.now) }) }
 {
     let mut run = Run::new();
     for i in 0..part.of {
@@ -161,7 +161,7 @@ fn is_fitting(noted: &[Part], part: &Part, other: &Part) -> bool
     ensures test { IsTrue result ↔ IsFitting part.now (gathered part.now noted.now) other.now }
     ensures rules { IsPart other.now }
 {
-    let Some(found) = find_part(noted, part, other.part) else {
+    let Some(found) = find_part(noted, part, other.place) else {
         return false;
     };
     other.to == part.to && other.is_filled() && other.equals(found)
@@ -171,8 +171,8 @@ fn is_fitting(noted: &[Part], part: &Part, other: &Part) -> bool
 fn are_parts_of(noted: &[Part], part: &Part, segment: &Segment) -> bool
     requires agree { AreOf part.now.of (gathered part.now noted.now) }
     requires there { AreAllThere part.now.of (gathered part.now noted.now) }
-    requires segment { segment_of (part_in 1 (gathered part.now noted.now)) ≡ Some segment.now.known }
-    ensures { IsTrue result ↔ All (λ (other : PartOf). other ≡ part_at (handed (ticket_of_part part.now) (record { segment = segment.now.known; pairs = pairs_upto part.now.of (gathered part.now noted.now) })) other.part) (gathered part.now noted.now) }
+    requires segment { segment_of (part_in 1 (gathered part.now noted.now)) ≡ Some segment.now.segment }
+    ensures { IsTrue result ↔ All (λ (other : PartOf). other ≡ part_at (handed (ticket_of_part part.now) (record { segment = segment.now.segment; pairs = pairs_upto part.now.of (gathered part.now noted.now) })) other.place) (gathered part.now noted.now) }
 {
     for other in noted {
         if other.from == part.from

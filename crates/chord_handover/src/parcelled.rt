@@ -1,7 +1,7 @@
 //! What is handed over.
 ghost use Rattle.std.specs.Prelude.{◌≡◌, ◌≤◌, ◌==◌, if◌then◌else◌, Some, None, IfOk};
 ghost use Rattle.chord_handover.specs.Handover.{parts_in, part_at};
-ghost use Rattle.chord_handover.specs.Known.{known_of};
+ghost use Rattle.chord_handover.specs.Known.{segment_in};
 ghost use Rattle.chord_handover.specs.Parcelled.{IsParcelled, handed};
 
 use crate::part::{Part, copy_chunk, count_parts};
@@ -23,23 +23,23 @@ impl Model for Parcelled {
 
     ghost Value = { ParcelledOf };
 
-    ghost view = { λ parcelled. record { segment = parcelled.segment.known; pairs = parcelled.pairs.items } };
+    ghost view = { λ parcelled. record { segment = parcelled.segment.segment; pairs = parcelled.pairs.items } };
 
-    ghost invariant = { λ parcelled. IsParcelled (record { segment = parcelled.segment.known; pairs = parcelled.pairs.items }) };
+    ghost invariant = { λ parcelled. IsParcelled (record { segment = parcelled.segment.segment; pairs = parcelled.pairs.items }) };
 }
 
 impl Parcelled {
     /// The segment with these pairs.
     pub fn new(segment: Segment, pairs: Vec<Pair>) -> Parcelled
-        requires { IsParcelled (record { segment = segment.known; pairs = pairs.items }) }
-        ensures { result ≡ record { segment = segment.known; pairs = pairs.items } }
+        requires { IsParcelled (record { segment = segment.segment; pairs = pairs.items }) }
+        ensures { result ≡ record { segment = segment.segment; pairs = pairs.items } }
     {
         Parcelled { segment, pairs }
     }
 
     /// Its segment.
     pub fn segment(&self) -> &Segment
-        ensures { result.now.known ≡ self.now.segment }
+        ensures { result.now.segment ≡ self.now.segment }
     {
         &self.segment
     }
@@ -54,7 +54,7 @@ impl Parcelled {
 
     /// The segment and the pairs.
     pub fn into_parts(self) -> (Segment, Vec<Pair>)
-        ensures segment { result.0.known ≡ self.segment }
+        ensures segment { result.0.segment ≡ self.segment }
         ensures pairs { result.1.items ≡ self.pairs }
         ensures rules { IsParcelled self }
     {
@@ -73,7 +73,7 @@ impl Parcelled {
             from: ticket.from,
             to: ticket.to,
             number: ticket.number,
-            part,
+            place: part,
             of: count_parts(&self.pairs),
             segment,
             pairs,
@@ -82,7 +82,7 @@ impl Parcelled {
 
     /// The segment goes with the first part.
     fn segment_for(&self, part: u64) -> Result<Option<Segment>, AllocError>
-        ensures { IfOk result (λ segment. known_of segment ≡ (if part == 1 then Some self.now.segment else None)) }
+        ensures { IfOk result (λ segment. segment_in segment ≡ (if part == 1 then Some self.now.segment else None)) }
     {
         if part != 1 {
             return Ok(None);

@@ -1,7 +1,7 @@
 //! Parts of handovers.
 ghost use Rattle.std.specs.Prelude.{◌≡◌, ◌↔◌, IsTrue, IfOk};
 ghost use Rattle.chord_handover.specs.Handover.{IsFilled, parts_in, chunk};
-ghost use Rattle.chord_handover.specs.Known.{known_of};
+ghost use Rattle.chord_handover.specs.Known.{segment_in};
 
 use crate::parcelled::copy_pairs;
 use crate::ticket::Ticket;
@@ -19,7 +19,7 @@ pub struct Part {
     pub from: u64,
     pub to: u64,
     pub number: u64,
-    pub part: u64,
+    pub place: u64,
     pub of: u64,
     pub segment: Option<Segment>,
     pub pairs: Vec<Pair>,
@@ -27,13 +27,13 @@ pub struct Part {
 
 impl Model for Part {
     ghost use Rattle.chord_handover.specs.Handover.{Part as PartOf, IsPart};
-    ghost use Rattle.chord_handover.specs.Known.{known_of};
+    ghost use Rattle.chord_handover.specs.Known.{segment_in};
 
     ghost Value = { PartOf };
 
-    ghost view = { λ part. record { from = part.from; to = part.to; number = part.number; part = part.part; of = part.of; segment = known_of part.segment; pairs = part.pairs.items } };
+    ghost view = { λ part. record { from = part.from; to = part.to; number = part.number; place = part.place; of = part.of; segment = segment_in part.segment; pairs = part.pairs.items } };
 
-    ghost invariant = { λ part. IsPart (record { from = part.from; to = part.to; number = part.number; part = part.part; of = part.of; segment = known_of part.segment; pairs = part.pairs.items }) };
+    ghost invariant = { λ part. IsPart (record { from = part.from; to = part.to; number = part.number; place = part.place; of = part.of; segment = segment_in part.segment; pairs = part.pairs.items }) };
 }
 
 impl Part {
@@ -42,7 +42,7 @@ impl Part {
         ensures { IsTrue result ↔ IsFilled self.now }
     {
         let count = self.pairs.len();
-        if self.part < self.of {
+        if self.place < self.of {
             count == PART_PAIRS
         } else {
             count <= PART_PAIRS && (count > 0 || self.of == 1)
@@ -54,7 +54,7 @@ impl Part {
         ensures { IsTrue result ↔ (self.now ≡ other.now) }
     {
         Ticket::of(self) == Ticket::of(other)
-            && self.part == other.part
+            && self.place == other.place
             && self.of == other.of
             && same_segments(&self.segment, &other.segment)
             && same_pairs(&self.pairs, &other.pairs)
@@ -70,7 +70,7 @@ impl Part {
             from: self.from,
             to: self.to,
             number: self.number,
-            part: self.part,
+            place: self.place,
             of: self.of,
             segment,
             pairs,
@@ -80,7 +80,7 @@ impl Part {
 
 /// An equal copy of a segment, if there is one.
 pub fn copy_segment(segment: &Option<Segment>) -> Result<Option<Segment>, AllocError>
-    ensures { IfOk result (λ copy. known_of copy ≡ known_of segment.now) }
+    ensures { IfOk result (λ copy. segment_in copy ≡ segment_in segment.now) }
 {
     match segment {
         Some(segment) => {
@@ -93,7 +93,7 @@ pub fn copy_segment(segment: &Option<Segment>) -> Result<Option<Segment>, AllocE
 
 /// Whether both are equal, or neither is there.
 fn same_segments(first: &Option<Segment>, second: &Option<Segment>) -> bool
-    ensures { IsTrue result ↔ (known_of first.now ≡ known_of second.now) }
+    ensures { IsTrue result ↔ (segment_in first.now ≡ segment_in second.now) }
 {
     match (first, second) {
         (Some(first), Some(second)) => first.equals(second),

@@ -31,7 +31,7 @@ impl<'a> Run<'a> {
 
     /// The walk with these pairs too. `None` where all of them are no pairs of a parcel of this segment.
     pub(crate) fn walk(self, segment: &Segment, pairs: &'a [Pair]) -> Option<Run<'a>>
-        ensures { (passed : List Pair) → HasPassed segment.now.known passed self.entry → Goes segment.now.known (passed ++ pairs.now) result }
+        ensures { (passed : List Pair) → HasPassed segment.now.segment passed self.entry → Goes segment.now.segment (passed ++ pairs.now) result }
     {
         let mut run = self;
         for pair in pairs {
@@ -45,7 +45,7 @@ impl<'a> Run<'a> {
 
     /// The walk with one more pair.
     fn step(self, segment: &Segment, pair: &'a Pair) -> Option<Run<'a>>
-        ensures { (passed : List Pair) → HasPassed segment.now.known passed self.entry → Goes segment.now.known (passed ++ pair.now ∷ []) result }
+        ensures { (passed : List Pair) → HasPassed segment.now.segment passed self.entry → Goes segment.now.segment (passed ++ pair.now ∷ []) result }
     {
         if !segment.span().contains(Id::of_bytes(pair.key.as_slice())) {
             return None;

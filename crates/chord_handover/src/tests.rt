@@ -69,7 +69,7 @@ fn an_item_without_pairs_has_one_part(rt: HostRuntime) -> Result<(), Fail> {
     let outbox = outbox_of(rt.alloc(), 3)?;
     let part = outbox.part(1, 1, 1)?.ok_or("no part")?;
     assert_eq!(rt; (part.from, part.to, part.number), (3, 1, 1));
-    assert_eq!(rt; (part.part, part.of), (1, 1));
+    assert_eq!(rt; (part.place, part.of), (1, 1));
     assert!(rt; part.segment.is_some());
     Ok(())
 }
@@ -130,7 +130,7 @@ fn part_of(alloc: Global, i: u64, of: u64, pairs: Vec<Pair>) -> Part
         from: 0,
         to: 1,
         number: 1,
-        part: i,
+        place: i,
         of,
         segment,
         pairs,

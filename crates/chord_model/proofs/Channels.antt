@@ -58,7 +58,7 @@ pub record GiveOk (nodes : List Node) (handover : Handover) : Type 0 where
 pub record PartOk (nodes : List Node) (part : Part) : Type 0 where
   pub given : part.number ≤ given_in nodes part.from part.to
   pub kept : gone_in nodes part.to ≡ false → taken_in nodes part.to part.from < part.number
-      → (item : Item) × (item_in nodes part.from part.to part.number ≡ Some item) × (part ≡ part_at (handover_of part.from item) part.part)
+      → (item : Item) × (item_in nodes part.from part.to part.number ≡ Some item) × (part ≡ part_at (handover_of part.from item) part.place)
 
 -- a part of a handover that is so is so
 pub part_ok : (nodes : List Node) (handover : Handover) (place : ℕ) → GiveOk nodes handover → PartOk nodes (part_at handover place)

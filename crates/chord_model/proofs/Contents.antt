@@ -6,18 +6,19 @@ use Rattle.chord_ident.proofs.Spans.{one_if, in_parts}
 use Rattle.chord_ident.specs.declared.id.Id.{Id}
 use Rattle.chord_ident.specs.declared.span.Span.{Span}
 use Rattle.chord_ident.specs.Circle.{in_span, cuts, key_id}
-use Rattle.chord_map.proofs.Lists.{by_test, Has, has_left, has_right, has_cases, has_pushed, has_last}
+use Rattle.chord_map.proofs.Lists.{by_test, Has}
 use Rattle.chord_map.proofs.MapLemmas.{has_filtered, has_put, by_same, by_other}
 use Rattle.chord_map.specs.declared.pair.Pair.{Pair}
 use Rattle.chord_map.specs.Map.{has_pair, key_of, put_all, reply_to, pairs_by, pairs_after}
 use Rattle.chord_model.proofs.Invariant.{TakenUpto, SegmentGood, Current}
 use Rattle.chord_map.proofs.HistoryLemmas.{replay_pushed, stands_pushed, stands_left, stands_last}
-use Rattle.chord_segment.proofs.SegmentLemmas.{mark_raised, mark_grows, mark_grows_all, mark_joins, raise_each, raise_all_each, above_has, above_is, above_or_below, inside_has, inside_back}
+use Rattle.chord_segment.proofs.SegmentLemmas.{above_has, above_is, above_or_below, inside_has, inside_back}
+use Rattle.chord_segment.proofs.Lifting.{mark_lifted, lift_grows, lift_all_grows, lift_all_reaches, lift_each, lift_all_each, placed_has, has_placed, placed_itself, placed_all_has, has_placed_all, placed_all_itself}
 use Rattle.chord_map.specs.declared.done.Done.{Done}
 use Rattle.chord_map.specs.History.{replay, done_at, StandsIn}
 use Rattle.chord_segment.specs.declared.mark.Mark.{Mark}
-use Rattle.chord_segment.specs.Marks.{raise, raise_all, mark_of}
-use Rattle.chord_segment.specs.Segment.{id_of, Segment, append, span_before, span_behind, part_of, span_joined, joined}
+use Rattle.chord_segment.specs.Marks.{lift, lift_all, mark_of}
+use Rattle.chord_segment.specs.Segment.{id_of, Segment, placed, placed_all, append, span_before, span_behind, part_of, span_joined, joined}
 use Rattle.chord_store.specs.Inside.{pairs_inside, pairs_outside}
 
 -- a span within another
@@ -81,16 +82,16 @@ pub joined_good : (callers : List Caller) (history : List Done) (first second : 
     → SegmentGood callers history (joined first second)
 unfolding joined
 joined_good callers history first second one other =
-    let floors : List Mark = raise_all second.floors first.floors in
-    let all : List Done = first.kept ++ second.kept in
+    let floors : List Mark = lift_all second.floors first.floors in
+    let all : List Done = placed_all second.kept first.kept in
     record {
-      floors = raise_all_each (TakenUpto callers) second.floors first.floors other.floors one.floors;
-      kept = λ done h. ⊎_elim (λ a. one.kept done a) (λ b. other.kept done b) (has_cases first.kept second.kept done (above_has floors all done h));
+      floors = lift_all_each (TakenUpto callers) second.floors first.floors other.floors one.floors;
+      kept = λ done h. ⊎_elim (λ a. one.kept done a) (λ b. other.kept done b) (placed_all_has second.kept first.kept done (above_has floors all done h));
       near = λ done h. (
         above_is floors all done h,
-        ⊎_elim (λ a. omega (arith, (one.near done a).1, mark_grows_all done.caller second.floors first.floors))
-            (λ b. omega (arith, (other.near done b).1, mark_joins done.caller second.floors first.floors))
-            (has_cases first.kept second.kept done (above_has floors all done h)),
+        ⊎_elim (λ a. omega (arith, (one.near done a).1, lift_all_grows done.caller second.floors first.floors))
+            (λ b. omega (arith, (other.near done b).1, lift_all_reaches done.caller second.floors first.floors))
+            (placed_all_has second.kept first.kept done (above_has floors all done h)),
       );
     }
 
@@ -101,12 +102,12 @@ unfolding joined
 joined_current history first second pairs parts one other = record {
   content = λ pair inside. ⊎_elim (λ a. one.content pair a) (λ b. other.content pair b) (parts (key_id pair.key) (key_id-below pair.key) inside);
   covered = λ done stands inside.
-      let floors : List Mark = raise_all second.floors first.floors in
+      let floors : List Mark = lift_all second.floors first.floors in
       ⊎_elim
-      (λ a. ⊎_elim (λ low. inl (le_trans low (mark_grows_all done.caller second.floors first.floors)))
-      (λ kept. above_or_below floors (first.kept ++ second.kept) done (has_left first.kept second.kept done kept)) (one.covered done stands a))
-      (λ b. ⊎_elim (λ low. inl (le_trans low (mark_joins done.caller second.floors first.floors)))
-      (λ kept. above_or_below floors (first.kept ++ second.kept) done (has_right first.kept second.kept done kept)) (other.covered done stands b))
+      (λ a. ⊎_elim (λ low. inl (le_trans low (lift_all_grows done.caller second.floors first.floors)))
+      (λ kept. above_or_below floors (placed_all second.kept first.kept) done (has_placed_all second.kept first.kept done kept)) (one.covered done stands a))
+      (λ b. ⊎_elim (λ low. inl (le_trans low (lift_all_reaches done.caller second.floors first.floors)))
+      (λ kept. above_or_below floors (placed_all second.kept first.kept) done (placed_all_itself second.kept first.kept done kept)) (other.covered done stands b))
       (parts (id_of done.request) (key_id-below (key_of done.request)) inside);
 }
 
@@ -200,12 +201,12 @@ unfolding append
 appended_current history done floor segment pairs same current = record {
   content = executed_content history done segment pairs same current;
   covered = λ past stands inside.
-      let floors : List Mark = raise done.caller floor segment.floors in
-      let all : List Done = segment.kept ++ done ∷ [] in
+      let floors : List Mark = lift done.caller floor segment.floors in
+      let all : List Done = placed done segment.kept in
       ⊎_elim
-      (λ there. ⊎_elim (λ low. inl (le_trans low (mark_grows past.caller done.caller floor segment.floors)))
-      (λ kept. above_or_below floors all past (has_left segment.kept (done ∷ []) past kept)) (current.covered past there inside))
-      (λ e. above_or_below floors all past (subst (Has all) e (has_last segment.kept done)))
+      (λ there. ⊎_elim (λ low. inl (le_trans low (lift_grows past.caller done.caller floor segment.floors)))
+      (λ kept. above_or_below floors all past (has_placed done segment.kept past kept)) (current.covered past there inside))
+      (λ e. above_or_below floors all past (subst (Has all) e (placed_itself done segment.kept)))
       (stands_pushed history done past stands);
 }
 
@@ -214,19 +215,19 @@ pub appended_good : (callers : List Caller) (history : List Done) (done : Done) 
     → SegmentGood callers (history ++ done ∷ []) (append done floor segment)
 unfolding append
 appended_good callers history done floor segment taken near fresh good =
-    let floors : List Mark = raise done.caller floor segment.floors in
-    let all : List Done = segment.kept ++ done ∷ [] in
-    let raised : mark_of done.caller floors ≡ max (mark_of done.caller segment.floors) floor = mark_raised done.caller floor segment.floors in
+    let floors : List Mark = lift done.caller floor segment.floors in
+    let all : List Done = placed done segment.kept in
+    let raised : mark_of done.caller floors ≡ max (mark_of done.caller segment.floors) floor = mark_lifted done.caller floor segment.floors in
     let is_near : done.number ≤ mark_of done.caller floors + 16 = omega arith in
     record {
-      floors = raise_each (TakenUpto callers) done.caller floor segment.floors taken good.floors;
+      floors = lift_each (TakenUpto callers) done.caller floor segment.floors taken good.floors;
       kept = λ past h.
           ⊎_elim (λ there. stands_left history (done ∷ []) past (good.kept past there)) (λ e. subst (StandsIn (history ++ done ∷ [])) e (stands_last history done fresh))
-          (has_pushed segment.kept done past (above_has floors all past h));
+          (placed_has done segment.kept past (above_has floors all past h));
       near = λ past h. (
         above_is floors all past h,
-        ⊎_elim (λ there. omega (arith, (good.near past there).1, mark_grows past.caller done.caller floor segment.floors))
+        ⊎_elim (λ there. omega (arith, (good.near past there).1, lift_grows past.caller done.caller floor segment.floors))
             (λ e. subst (λ (d : Done). d.number ≤ mark_of d.caller floors + 16) e is_near)
-            (has_pushed segment.kept done past (above_has floors all past h)),
+            (placed_has done segment.kept past (above_has floors all past h)),
       );
     }

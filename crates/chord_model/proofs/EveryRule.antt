@@ -25,8 +25,8 @@ use Rattle.chord_model.specs.World.{World, WorldStep, Reached, empty_world, node
 use Rattle.chord_model.specs.World.Run.{Stays, Goes_on}
 use Rattle.chord_map.specs.declared.done.Done.{Done}
 use Rattle.chord_map.specs.History.{done_at}
-use Rattle.chord_segment.specs.Marks.{mark_of, raise}
-use Rattle.chord_segment.specs.Segment.{Segment, append, above, before, behind, past_at, empty_segment}
+use Rattle.chord_segment.specs.Marks.{mark_of, raise, lift}
+use Rattle.chord_segment.specs.Segment.{Segment, append, above, placed, before, behind, past_at, empty_segment}
 use Rattle.chord_store.specs.Inside.{pairs_inside, pairs_outside}
 
 -- a step by this rule
@@ -363,8 +363,8 @@ is_whole : IsWhole (part ∷ part ∷ []) handover
 unfolding pairs_inside
 is_whole = record {
   each = all_each _ (part ∷ part ∷ []) (λ other h.
-      ⊎_elim (λ e. subst (λ (p : Part). p ≡ part_at handover p.part) e refl)
-      (λ more. ⊎_elim (λ e. subst (λ (p : Part). p ≡ part_at handover p.part) e refl) (λ none. absurd none) more) h);
+      ⊎_elim (λ e. subst (λ (p : Part). p ≡ part_at handover p.place) e refl)
+      (λ more. ⊎_elim (λ e. subst (λ (p : Part). p ≡ part_at handover p.place) e refl) (λ none. absurd none) more) h);
   all = λ place from below. let one : 1 ≡ place = omega arith in (0, omega arith, ap (part_at handover) one);
 }
 
@@ -413,7 +413,7 @@ executes = (
 )
 
 tells_again : Used (Rule.ByNode NodeRule.Tells_again) did_put told_again
-unfolding node_at put_node past_at mark_of done_at append above raise
+unfolding node_at put_node past_at mark_of done_at append above raise lift placed
 tells_again = (
   WorldStep.Acts 1 after_put after_put (Some (AskMessage ask_put)) _ None refl (0, omega arith, refl)
       (NodeStep.Tells_again ask_put with_put done_put (holds_key key with_put after_put.held held_put span_put) refl),
@@ -446,7 +446,7 @@ repeats = (
 )
 
 answers_full : Used (Rule.ByNode NodeRule.Answers_full) repeated full
-unfolding node_at put_node past_at mark_of done_at append above raise reply_to pairs_after insert_pair put_all pairs_inside pairs_outside
+unfolding node_at put_node past_at mark_of done_at append above raise lift placed reply_to pairs_after insert_pair put_all pairs_inside pairs_outside
 answers_full = (
   WorldStep.Acts 1 after_put after_put (Some (AskMessage ask_more)) _ None refl (10, omega arith, refl)
       (NodeStep.Answers_full ask_more with_put (holds_key (3 ∷ []) with_put after_put.held held_put span_put) refl refl (omega arith)),
@@ -466,7 +466,7 @@ submits_get = (
 )
 
 executes_get : Used (Rule.ByNode NodeRule.Executes) asked_get did_get
-unfolding node_at put_node past_at mark_of done_at append above raise
+unfolding node_at put_node past_at mark_of done_at append above raise lift placed
 executes_get = (
   WorldStep.Acts 1 after_put after_get (Some (AskMessage ask_get)) _ _ refl (13, omega arith, refl)
       (NodeStep.Executes ask_get with_put (holds_key key with_put after_put.held held_put span_put) refl),
@@ -474,7 +474,7 @@ executes_get = (
 )
 
 drops_seen : Used (Rule.ByNode NodeRule.Drops_seen) did_get seen
-unfolding node_at put_node past_at mark_of done_at append above raise
+unfolding node_at put_node past_at mark_of done_at append above raise lift placed
 drops_seen = (
   WorldStep.Acts 1 after_get after_get (Some (AskMessage ask_put)) None None refl (0, omega arith, refl)
       (NodeStep.Drops_seen ask_put with_get (holds_key key with_get after_get.held held_get span_get) refl),

@@ -27,7 +27,7 @@ use Rattle.chord_segment.specs.Marks.{mark_of}
 -- the parts are some of a parcel's, under this name
 record ArePartsOf (ticket : Ticket) (parts : List Part) (parcelled : Parcelled) : Type 0 where
   rules : IsParcelled parcelled
-  each : (part : Part) → Has parts part → part ≡ part_at (handed ticket parcelled) part.part
+  each : (part : Part) → Has parts part → part ≡ part_at (handed ticket parcelled) part.place
 
 -- so they tell its number of parts, and are all of them where each place has its part
 module _ (part : Part) (noted : List Part) (parcelled : Parcelled) (are : ArePartsOf (ticket_of_part part) (gathered part noted) parcelled) where
@@ -54,13 +54,13 @@ module _ (part : Part) (noted : List Part) (parcelled : Parcelled) (are : ArePar
 -- a part of an item that is kept under this name is a part of its parcel
 same_name : (nodes : List Node) (ticket : Ticket) (item theirs : Item) (part : Part) → item.to ≡ ticket.to → item.number ≡ ticket.number
     → item_in nodes ticket.from ticket.to ticket.number ≡ Some item → part.from ≡ ticket.from → part.to ≡ ticket.to → part.number ≡ ticket.number
-    → item_in nodes part.from part.to part.number ≡ Some theirs → part ≡ part_at (handover_of part.from theirs) part.part
-    → part ≡ part_at (handed ticket (parcel item)) part.part
+    → item_in nodes part.from part.to part.number ≡ Some theirs → part ≡ part_at (handover_of part.from theirs) part.place
+    → part ≡ part_at (handed ticket (parcel item)) part.place
 same_name nodes ticket item theirs part item_to item_number kept from to number found is =
     let same : theirs ≡ item = same_Some theirs item (sym found ∙ ((λ i. item_in nodes (from i) (to i) (number i)) ∙ kept)) in
     let renamed : handover_of ticket.from item ≡ handed ticket (parcel item) =
     λ i. record { from = ticket.from; to = item_to i; number = item_number i; segment = item.segment; pairs = item.pairs } in
-    is ∙ ap (λ (h : Handover). part_at h part.part) ((λ i. handover_of (from i) (same i)) ∙ renamed)
+    is ∙ ap (λ (h : Handover). part_at h part.place) ((λ i. handover_of (from i) (same i)) ∙ renamed)
 
 module _ (world : World) (reached : Reached world) (part : Part) (node : Node) (was : Contains world.sent (PartMessage part)) (at : node_at part.to world.nodes ≡ Some node)
     (next : IsNextFor node part) where
@@ -80,7 +80,7 @@ module _ (world : World) (reached : Reached world) (part : Part) (node : Node) (
       let is = item_at_is part.to part.number (sender.0).outbox item sender.2 in
       let stocks = stocks_reached world reached part.to node at in
       let one : (other : Part) → Contains world.sent (PartMessage other) → other.from ≡ part.from → other.to ≡ part.to → other.number ≡ part.number
-      → other ≡ part_at (handed (ticket_of_part part) (parcel item)) other.part =
+      → other ≡ part_at (handed (ticket_of_part part) (parcel item)) other.place =
       λ other other_was from to number.
       let theirs = (sound.channels.messages (PartMessage other) other_was).kept (rw to gone) (rw (to, from, number) above) in
       same_name world.nodes (ticket_of_part part) item theirs.0 other is.0 is.1 kept.1 from to number theirs.1 theirs.2 in (
@@ -93,7 +93,7 @@ module _ (world : World) (reached : Reached world) (part : Part) (node : Node) (
               let names = and_parts (eqb other.from part.from) (eqb other.number part.number) noted.1 in
               one other (sound.noted part.to node at other noted.0) (eqb_is other.from part.from names.0)
               (every_has _ node.noted other stocks.noted noted.0 ∙ node_number part.to world.nodes node at) (eqb_is other.number part.number names.1))
-              (λ last. ⊎_elim (λ same. subst (λ (p : Part). p ≡ part_at (handed (ticket_of_part part) (parcel item)) p.part) same (one part was refl refl refl)) (λ n. absurd n) last)
+              (λ last. ⊎_elim (λ same. subst (λ (p : Part). p ≡ part_at (handed (ticket_of_part part) (parcel item)) p.place) same (one part was refl refl refl)) (λ n. absurd n) last)
               (has_cases _ (part ∷ []) other h);
         },
       )

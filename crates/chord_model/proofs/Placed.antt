@@ -8,7 +8,7 @@ use Rattle.chord_handover.specs.Handover.{Handover, Item, is_item, item_at, with
 use Rattle.chord_ident.proofs.Spans.{one_if, in_parts}
 use Rattle.chord_ident.specs.declared.span.Span.{Span}
 use Rattle.chord_ident.specs.Circle.{in_span, cuts, key_id}
-use Rattle.chord_map.proofs.Each.{Each, Each-append, Each_push, Each-set, Each-insert, Each-remove, Each-slice_get, Each-map, Each-filter, Each-find, Each_filter_with, Each_any}
+use Rattle.chord_map.proofs.Each.{Each, Each_push, Each-set, Each-insert, Each-remove, Each-slice_get, Each-map, Each-filter, Each-find, Each_filter_with, Each_any}
 use Rattle.chord_map.specs.declared.pair.Pair.{Pair}
 use Rattle.chord_map.specs.declared.reply.Reply.{Reply}
 use Rattle.chord_map.specs.declared.request.Request.{Request}
@@ -25,7 +25,9 @@ use Rattle.chord_model.specs.declared.message.Message.{Message}
 use Rattle.chord_model.specs.Node.{Node, NodeStep, item_of, segment_with, append_at, done_of, cut_held, joined_held}
 use Rattle.chord_model.specs.Node.NodeStep.{Tells_again, Drops_seen, Executes, Answers_full, Forwards, Drops, Got_again, Declines, Notes, Takes, Waits, Frees, Takes_back, Keeps, Cuts, Joins, Gives, Gives_again, Links_change, Leaves, Retires}
 use Rattle.chord_model.specs.World.{node_at, WasSent}
-use Rattle.chord_segment.specs.Segment.{id_of, Segment, append, above, before, behind, joined, span_joined, dones_inside}
+use Rattle.chord_segment.specs.Segment.{id_of, Segment, placed, placed_all, append, above, before, behind, joined, span_joined, dones_inside}
+use Rattle.chord_segment.proofs.SegmentRules.{Each_placed}
+use Rattle.chord_segment.proofs.Joining.{Each_placed_all}
 use Rattle.chord_map.specs.declared.done.Done.{Done}
 use Rattle.chord_segment.specs.declared.mark.Mark.{Mark}
 use Rattle.chord_store.specs.Inside.{pairs_inside, pairs_outside}
@@ -111,7 +113,7 @@ segment_with_counts x held segment e = count_found (has x) held segment e
 kept_append : (done : Done) (floor : ℕ) (segment : Segment) → has (id_of done.request) segment ≡ true → KeptInside segment → KeptInside (append done floor segment)
 unfolding append above
 kept_append done floor segment here kept =
-    Each-filter (λ done. has (id_of done.request) segment ≡ true) _ (segment.kept ++ done ∷ []) (Each_push (λ done. has (id_of done.request) segment ≡ true) segment.kept done kept here)
+    Each-filter (λ done. has (id_of done.request) segment ≡ true) _ (placed done segment.kept) (Each_placed (λ done. has (id_of done.request) segment ≡ true) segment.kept done kept here)
 
 kept_step : (b : Bool) (segment new : Segment) (rest more : List Segment) → (b ≡ true → KeptInside new) → KeptInside segment → Each KeptInside rest → Each KeptInside more
     → Each KeptInside (cond b (new ∷ rest) (segment ∷ more))
@@ -148,8 +150,8 @@ kept_joined first second on on' meet cut kept kept' =
     ap (λ a. one_if (in_span (record { after = a; upto = second.span.upto }) x)) meet in
     omega arith in
     let P : Done → Type 0 = λ done. in_span whole (id_of done.request) ≡ true in
-    Each-filter P _ (first.kept ++ second.kept)
-    (Each-append P first.kept second.kept
+    Each-filter P _ (placed_all second.kept first.kept)
+    (Each_placed_all P second.kept first.kept
     (Each-map (λ done. has (id_of done.request) first ≡ true) P
     (λ done here. let p = parts (id_of done.request) (key_id-below (key_of done.request)) in let h = true_is_one (has (id_of done.request) first) here in
     one_is_true (in_span whole (id_of done.request)) (one_if (has (id_of done.request) second)) (omega arith)) first.kept kept)

@@ -101,18 +101,18 @@ SeenFirst earlier later =
     → StandsIn before seen
 
 -- no identifier lies in both spans
-abbrev pub IsApart : Span → Span → Type 0
-IsApart a b = (x : ℕ) → x < 2 ^ 128 → in_span a x ≡ true → in_span b x ≡ false
+abbrev pub AreDisjoint : Span → Span → Type 0
+AreDisjoint a b = (x : ℕ) → x < 2 ^ 128 → in_span a x ≡ true → in_span b x ≡ false
 
 -- the span meets none of the segments
 abbrev pub MeetsNone : Span → List Segment → Type 0
-MeetsNone span held = (place : ℕ) (segment : Segment) → slice_get held place ≡ Some segment → IsApart span segment.span
+MeetsNone span held = (place : ℕ) (segment : Segment) → slice_get held place ≡ Some segment → AreDisjoint span segment.span
 
 -- no two of the segments meet
 abbrev pub AllApart : List Segment → Type 0
 AllApart held =
     (place other : ℕ) (segment more : Segment) → slice_get held place ≡ Some segment → slice_get held other ≡ Some more
-    → place ≢ other → IsApart segment.span more.span
+    → place ≢ other → AreDisjoint segment.span more.span
 
 -- what a node holds: no two of its segments meet or keep one call, and its entries rise and lie in them
 pub record IsWellHeld (node : Node) : Type 0 where

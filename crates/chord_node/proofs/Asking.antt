@@ -21,7 +21,7 @@ use Rattle.chord_node.specs.declared.asks.answered.Answered.TheVariants as answe
 use Rattle.chord_model.specs.declared.message.Message.TheVariants.{Ask as AskMessage}
 use Rattle.chord_model.specs.Node.{Node, NodeStep, segment_with, append_at, done_of, told_of}
 use Rattle.chord_model.specs.Node.NodeStep.{Tells_again, Drops_seen, Executes, Answers_full, Forwards, Drops}
-use Rattle.chord_node.specs.View.{knowns}
+use Rattle.chord_node.specs.View.{segments_of}
 use Rattle.chord_map.proofs.Equal.{eqb_same}
 use Rattle.chord_node.specs.Passed.{peer_of, PassesOn}
 use Rattle.chord_node.specs.Asked.{adds, is_full_for, past_answer, past_done, segment_after, entries_after, AnswersIn, done_in, ask_done, after_done, sent_by, note_of, AnswersBy, TakesMemory, AsksMemory, AskIs, AskNotes, AskSteps, AskStepsNoting}
@@ -30,12 +30,12 @@ use Rattle.chord_node.specs.Asked.{adds, is_full_for, past_answer, past_done, se
 
 -- whether the segment's span contains x
 abbrev pub has : ℕ → RoomySegment → Bool
-has x segment = in_span segment.known.span x
+has x segment = in_span segment.segment.span x
 
-find_none : (x : ℕ) (held : List RoomySegment) → find (has x) held ≡ None → segment_with x (knowns held) ≡ None
+find_none : (x : ℕ) (held : List RoomySegment) → find (has x) held ≡ None → segment_with x (segments_of held) ≡ None
 unfolding segment_with
 find_none x [] e = refl
-find_none x (s ∷ held) e = step (has x s) s.known (find (has x) held) e (λ rest. find_none x held rest)
+find_none x (s ∷ held) e = step (has x s) s.segment (find (has x) held) e (λ rest. find_none x held rest)
   where
     step : (b : Bool) (k : Segment) (o : Option RoomySegment) {q : Option Segment} → cond b (Some s) o ≡ None → (o ≡ None → q ≡ None) → cond b (Some k) q ≡ None
     step true k o e next = cc
@@ -47,7 +47,7 @@ pub record IsPlace (x : ℕ) (held : List RoomySegment) (i : ℕ) (s : RoomySegm
   pub here : has x (get_or held i s) ≡ true
   pub before : (k : ℕ) → k < i → has x (get_or held k s) ≡ false
 
-pub with_here : (x : ℕ) (held : List RoomySegment) (i : ℕ) (s : RoomySegment) → IsPlace x held i s → segment_with x (knowns held) ≡ Some (get_or held i s).known
+pub with_here : (x : ℕ) (held : List RoomySegment) (i : ℕ) (s : RoomySegment) → IsPlace x held i s → segment_with x (segments_of held) ≡ Some (get_or held i s).segment
 unfolding segment_with
 with_here x [] i s p = absurd (let h = p.in_range in omega arith)
 with_here x (y ∷ held) zero s p = rw p.here refl
@@ -55,19 +55,19 @@ with_here x (y ∷ held) (suc i) s p =
     rw (p.before zero (omega arith)) (with_here x held i s (record { in_range = let h = p.in_range in omega arith; here = p.here; before = λ k h. p.before (suc k) (omega arith) }))
 
 pub put_here : (x : ℕ) (held : List RoomySegment) (i : ℕ) (s s' : RoomySegment) (done : Done) (floor : ℕ) → IsPlace x held i s
-    → s'.known ≡ append done floor (get_or held i s).known → knowns (set held i s') ≡ append_at x done floor (knowns held)
+    → s'.segment ≡ append done floor (get_or held i s).segment → segments_of (set held i s') ≡ append_at x done floor (segments_of held)
 unfolding append_at
 put_here x [] i s s' done floor p e = absurd (let h = p.in_range in omega arith)
-put_here x (y ∷ held) zero s s' done floor p e = rw p.here (ap (λ (k : Segment). k ∷ knowns held) e)
+put_here x (y ∷ held) zero s s' done floor p e = rw p.here (ap (λ (k : Segment). k ∷ segments_of held) e)
 put_here x (y ∷ held) (suc i) s s' done floor p e =
     rw (p.before zero (omega arith))
-    (ap (λ (ks : List Segment). y.known ∷ ks)
+    (ap (λ (ks : List Segment). y.segment ∷ ks)
     (put_here x held i s s' done floor (record { in_range = let h = p.in_range in omega arith; here = p.here; before = λ k h. p.before (suc k) (omega arith) }) e))
 
-pub put_same : (held : List RoomySegment) (i : ℕ) (s s' : RoomySegment) → i < length held → s'.known ≡ (get_or held i s).known → knowns (set held i s') ≡ knowns held
+pub put_same : (held : List RoomySegment) (i : ℕ) (s s' : RoomySegment) → i < length held → s'.segment ≡ (get_or held i s).segment → segments_of (set held i s') ≡ segments_of held
 put_same [] i s s' h e = absurd (omega arith)
-put_same (y ∷ held) zero s s' h e = ap (λ (k : Segment). k ∷ knowns held) e
-put_same (y ∷ held) (suc i) s s' h e = ap (λ (ks : List Segment). y.known ∷ ks) (put_same held i s s' (omega arith) e)
+put_same (y ∷ held) zero s s' h e = ap (λ (k : Segment). k ∷ segments_of held) e
+put_same (y ∷ held) (suc i) s s' h e = ap (λ (ks : List Segment). y.segment ∷ ks) (put_same held i s s' (omega arith) e)
 
 -- ---- the call that is executed
 
@@ -87,38 +87,38 @@ same_node old held pairs limit e f g = rw (e, f, g) refl
 
 -- the node after the call, if one was executed
 after_is : (did : Option Done) (ask : Ask) (old : Node) (held : List RoomySegment) (i : ℕ) (s s' : RoomySegment) (pairs : List Pair) (limit : ℕ)
-    → old.held ≡ knowns held → IsPlace (id_of ask.request) held i s → limit ≡ old.limit
+    → old.held ≡ segments_of held → IsPlace (id_of ask.request) held i s → limit ≡ old.limit
     → ((done : Done) → did ≡ Some done → done_of ask (reply_to ask.request old.entries) ≡ done)
-    → s'.known ≡ segment_after did ask (get_or held i s).known → pairs ≡ entries_after did ask old.entries
-    → ◌≡◌ {A = Node} (record old { held = knowns (set held i s'); entries = pairs; limit = limit }) (after_done did ask old)
+    → s'.segment ≡ segment_after did ask (get_or held i s).segment → pairs ≡ entries_after did ask old.entries
+    → ◌≡◌ {A = Node} (record old { held = segments_of (set held i s'); entries = pairs; limit = limit }) (after_done did ask old)
 after_is None ask old held i s s' pairs limit e place same is seg ent =
     same_node old _ pairs limit (put_same held i s s' place.in_range seg ∙ sym e) ent same
 after_is (Some done) ask old held i s s' pairs limit e place same is seg ent =
     let d = is done refl in
-    let put = put_here (id_of ask.request) held i s s' (done_of ask (reply_to ask.request old.entries)) ask.floor place (seg ∙ ap (λ (x : Done). append x ask.floor (get_or held i s).known) (sym d)) in
+    let put = put_here (id_of ask.request) held i s s' (done_of ask (reply_to ask.request old.entries)) ask.floor place (seg ∙ ap (λ (x : Done). append x ask.floor (get_or held i s).segment) (sym d)) in
     rw (put, ent, same, e) refl
 
 -- what the node answers where the segment with the key answered so
 pub asked_here : (ask : Ask) (noting : Bool) (old : Node) (held : List RoomySegment) (i : ℕ) (s s' : RoomySegment) (result : Result (Answered × Option Done) AllocError) (pairs : List Pair) (limit : ℕ)
-    → old.held ≡ knowns held → IsPlace (id_of ask.request) held i s → limit ≡ old.limit
-    → AnswersIn ask noting (get_or held i s).known old.entries old.limit result s'.known pairs
-    → AskNotes ask noting old result (record old { held = knowns (set held i s'); entries = pairs; limit = limit })
+    → old.held ≡ segments_of held → IsPlace (id_of ask.request) held i s → limit ≡ old.limit
+    → AnswersIn ask noting (get_or held i s).segment old.entries old.limit result s'.segment pairs
+    → AskNotes ask noting old result (record old { held = segments_of (set held i s'); entries = pairs; limit = limit })
 unfolding ask_done
 asked_here ask noting old held i s s' (Ok both) pairs limit e place same h =
-    let found : segment_with (id_of ask.request) old.held ≡ Some (get_or held i s).known = ap (segment_with (id_of ask.request)) e ∙ with_here (id_of ask.request) held i s place in
-    let done : Option Done = past_done (past_at ask.caller ask.number (get_or held i s).known) ask old.entries old.limit in
+    let found : segment_with (id_of ask.request) old.held ≡ Some (get_or held i s).segment = ap (segment_with (id_of ask.request)) e ∙ with_here (id_of ask.request) held i s place in
+    let done : Option Done = past_done (past_at ask.caller ask.number (get_or held i s).segment) ask old.entries old.limit in
     let did : done_in (segment_with (id_of ask.request) old.held) ask old ≡ done = ap (λ o. done_in o ask old) found in (
       (
         subst (λ o. AnswersBy o ask old both.0) (sym found) h.0,
         after_is done ask old held i s s' pairs limit e place same
-            (λ d is. past_done_is (past_at ask.caller ask.number (get_or held i s).known) ask old.entries old.limit d is) h.2 h.3
+            (λ d is. past_done_is (past_at ask.caller ask.number (get_or held i s).segment) ask old.entries old.limit d is) h.2 h.3
             ∙ ap (λ d. after_done d ask old) (sym did),
       ),
       h.1 ∙ ap (note_of noting) (sym did),
     )
 asked_here ask noting old held i s s' (Err fault) pairs limit e place same h =
-    let found : segment_with (id_of ask.request) old.held ≡ Some (get_or held i s).known = ap (segment_with (id_of ask.request)) e ∙ with_here (id_of ask.request) held i s place in
-    let answered : Answered = past_answer (past_at ask.caller ask.number (get_or held i s).known) ask old.entries old.limit in (
+    let found : segment_with (id_of ask.request) old.held ≡ Some (get_or held i s).segment = ap (segment_with (id_of ask.request)) e ∙ with_here (id_of ask.request) held i s place in
+    let answered : Answered = past_answer (past_at ask.caller ask.number (get_or held i s).segment) ask old.entries old.limit in (
       (answered, subst (λ o. AnswersBy o ask old answered) (sym found) refl, h.0),
       same_node old _ pairs limit (put_same held i s s' place.in_range h.1 ∙ sym e) h.2 same,
     )
@@ -128,7 +128,7 @@ note_none true = refl
 note_none false = refl
 
 -- what it answers where none has the key
-pub asked_elsewhere : (ask : Ask) (noting : Bool) (old : Node) (held : List RoomySegment) (answered : Answered) → old.held ≡ knowns held → find (has (id_of ask.request)) held ≡ None
+pub asked_elsewhere : (ask : Ask) (noting : Bool) (old : Node) (held : List RoomySegment) (answered : Answered) → old.held ≡ segments_of held → find (has (id_of ask.request)) held ≡ None
     → PassesOn old.links ask answered → AskNotes ask noting old (Ok (answered, None)) old
 unfolding ask_done
 asked_elsewhere ask noting old held answered e none passed =
@@ -138,7 +138,7 @@ asked_elsewhere ask noting old held answered e none passed =
     )
 
 -- out of memory where it would go on
-pub asked_no_further : (ask : Ask) (view old : Node) → view ≡ old → (held : List RoomySegment) → view.held ≡ knowns held → find (has (id_of ask.request)) held ≡ None
+pub asked_no_further : (ask : Ask) (view old : Node) → view ≡ old → (held : List RoomySegment) → view.held ≡ segments_of held → find (has (id_of ask.request)) held ≡ None
     → ((answered : Answered) × PassesOn view.links ask answered × TakesMemory answered) → AsksMemory ask old
 asked_no_further ask view old e held v none (answered, passed, takes) =
     let missed : segment_with (id_of ask.request) view.held ≡ None = ap (segment_with (id_of ask.request)) v ∙ find_none (id_of ask.request) held none in
@@ -217,28 +217,28 @@ find_from x held e =
     find_at (has x) held ∙ slice_get_past held (position_or_len (has x) held) (ltb-false _ _ (none_step _ _ e))
 
 -- a place is found just where a segment is
-holds_by : (x : ℕ) (held : List RoomySegment) (o : Option ℕ) → o ≡ position (has x) held → is_some o ≡ is_some (segment_with x (knowns held))
+holds_by : (x : ℕ) (held : List RoomySegment) (o : Option ℕ) → o ≡ position (has x) held → is_some o ≡ is_some (segment_with x (segments_of held))
 holds_by x held None e = sym (ap is_some (find_none x held (find_from x held (sym e))))
 holds_by x [] (Some i) e = cc
 holds_by x (s ∷ held) (Some i) e = sym (ap is_some (with_here x (s ∷ held) i (get_or (s ∷ held) i s) (place_from x (s ∷ held) i (get_or (s ∷ held) i s) e)))
 
-pub holds_at : (x : ℕ) (held : List RoomySegment) → is_some (position (has x) held) ≡ is_some (segment_with x (knowns held))
+pub holds_at : (x : ℕ) (held : List RoomySegment) → is_some (position (has x) held) ≡ is_some (segment_with x (segments_of held))
 holds_at x held = holds_by x held (position (has x) held) refl
 
 -- the same over the view of the fields, which is the old value, and what the store held
 pub asked_at : (ask : Ask) (noting : Bool) (view old : Node) → view ≡ old → (held : List RoomySegment) (i : ℕ) (s s' : RoomySegment) (result : Result (Answered × Option Done) AllocError)
     (pairs pairs' : List Pair) (limit limit' : ℕ)
-    → view.held ≡ knowns held → IsPlace (id_of ask.request) held i s → s ≡ get_or held i s → pairs ≡ view.entries → limit ≡ view.limit → limit' ≡ limit
-    → AnswersIn ask noting s.known pairs limit result s'.known pairs'
-    → AskNotes ask noting old result (record view { held = knowns (set held i s'); entries = pairs'; limit = limit' })
+    → view.held ≡ segments_of held → IsPlace (id_of ask.request) held i s → s ≡ get_or held i s → pairs ≡ view.entries → limit ≡ view.limit → limit' ≡ limit
+    → AnswersIn ask noting s.segment pairs limit result s'.segment pairs'
+    → AskNotes ask noting old result (record view { held = segments_of (set held i s'); entries = pairs'; limit = limit' })
 asked_at ask noting view old e held i s s' result pairs pairs' limit limit' v place at same_pairs same_limit same h =
-    let P : Node → Type 0 = λ old. AskNotes ask noting old result (record view { held = knowns (set held i s'); entries = pairs'; limit = limit' }) in
-    let Q : RoomySegment → Type 0 = λ r. AnswersIn ask noting r.known view.entries view.limit result s'.known pairs' in
-    let R : List Pair → Type 0 = λ ps. AnswersIn ask noting s.known ps limit result s'.known pairs' in
-    let T : ℕ → Type 0 = λ n. AnswersIn ask noting s.known view.entries n result s'.known pairs' in
+    let P : Node → Type 0 = λ old. AskNotes ask noting old result (record view { held = segments_of (set held i s'); entries = pairs'; limit = limit' }) in
+    let Q : RoomySegment → Type 0 = λ r. AnswersIn ask noting r.segment view.entries view.limit result s'.segment pairs' in
+    let R : List Pair → Type 0 = λ ps. AnswersIn ask noting s.segment ps limit result s'.segment pairs' in
+    let T : ℕ → Type 0 = λ n. AnswersIn ask noting s.segment view.entries n result s'.segment pairs' in
     subst P e (asked_here ask noting view held i s s' result pairs' limit' v place (same ∙ same_limit) (subst Q at (subst T same_limit (subst R same_pairs h))))
 
-pub asked_past : (ask : Ask) (noting : Bool) (view old : Node) → view ≡ old → (held : List RoomySegment) (answered : Answered) → view.held ≡ knowns held
+pub asked_past : (ask : Ask) (noting : Bool) (view old : Node) → view ≡ old → (held : List RoomySegment) (answered : Answered) → view.held ≡ segments_of held
     → find (has (id_of ask.request)) held ≡ None → PassesOn view.links ask answered → AskNotes ask noting old (Ok (answered, None)) old
 asked_past ask noting view old e held answered v none passed =
     let P : Node → Type 0 = λ old. AskNotes ask noting old (Ok (answered, None)) old in

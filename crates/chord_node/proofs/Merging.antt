@@ -9,9 +9,9 @@ use Rattle.chord_node.specs.declared.fault.MergeFault.{MergeFault}
 use Rattle.chord_node.specs.declared.fault.MergeFault.TheVariants as merge
 use Rattle.chord_model.specs.Node.{Node, NodeStep, joined_held}
 use Rattle.chord_model.specs.Node.NodeStep.{Joins}
-use Rattle.chord_node.specs.View.{knowns}
+use Rattle.chord_node.specs.View.{segments_of}
 use Rattle.chord_node.specs.Moves.{MoveSteps, merge_fault_of, MergeHeld, MergeIs, with_held}
-use Rattle.chord_node.proofs.Moving.{no_place, knowns_get, knowns_set, knowns_remove}
+use Rattle.chord_node.proofs.Moving.{no_place, segments_get, segments_set, segments_remove}
 
 set_same : (ks : List Segment) (i : ℕ) (k : Segment) → slice_get ks i ≡ Some k → set ks i k ≡ ks
 set_same [] i k e = cc
@@ -64,37 +64,37 @@ pub record Read (held : List RoomySegment) (p o : ℕ) (empty first second : Roo
   pub first_is : first ≡ get_or (set held o empty) p first
   pub second_is : second ≡ get_or held o second
 
-read_first : (held : List RoomySegment) (p o : ℕ) (empty first second : RoomySegment) → Read held p o empty first second → slice_get (knowns held) p ≡ Some first.known
+read_first : (held : List RoomySegment) (p o : ℕ) (empty first second : RoomySegment) → Read held p o empty first second → slice_get (segments_of held) p ≡ Some first.segment
 read_first held p o empty first second r =
-    sym (get_past (knowns held) p o empty.known r.apart) ∙ ap (λ (ks : List Segment). slice_get ks p) (sym (knowns_set held o empty))
-    ∙ knowns_get (set held o empty) p first r.first_in r.first_is
+    sym (get_past (segments_of held) p o empty.segment r.apart) ∙ ap (λ (ks : List Segment). slice_get ks p) (sym (segments_set held o empty))
+    ∙ segments_get (set held o empty) p first r.first_in r.first_is
 
 pub unmerged : (held : List RoomySegment) (p o : ℕ) (empty first second a n : RoomySegment) (fault : JoinFault) → Read held p o empty first second
-    → JoinIs first.known second.known (Err fault) a.known → n.known ≡ second.known
-    → knowns (set (set (set held o empty) p a) o n) ≡ knowns held
+    → JoinIs first.segment second.segment (Err fault) a.segment → n.segment ≡ second.segment
+    → segments_of (set (set (set held o empty) p a) o n) ≡ segments_of held
 unmerged held p o empty first second a n fault r h same =
-    knowns_set (set (set held o empty) p a) o n
-    ∙ ap (λ (ks : List Segment). set ks o n.known) (knowns_set (set held o empty) p a ∙ ap (λ (ks : List Segment). set ks p a.known) (knowns_set held o empty))
-    ∙ both_back (knowns held) p o a.known n.known empty.known r.apart
+    segments_set (set (set held o empty) p a) o n
+    ∙ ap (λ (ks : List Segment). set ks o n.segment) (segments_set (set held o empty) p a ∙ ap (λ (ks : List Segment). set ks p a.segment) (segments_set held o empty))
+    ∙ both_back (segments_of held) p o a.segment n.segment empty.segment r.apart
     (read_first held p o empty first second r ∙ ap (λ (k : Segment). Some k) (sym h.1))
-    (knowns_get held o second r.second_in r.second_is ∙ ap (λ (k : Segment). Some k) (sym same))
+    (segments_get held o second r.second_in r.second_is ∙ ap (λ (k : Segment). Some k) (sym same))
 
 pub merged : (held new : List RoomySegment) (p o : ℕ) (empty first second a : RoomySegment) → Read held p o empty first second
-    → JoinIs first.known second.known (Ok tt) a.known → new ≡ remove (set (set held o empty) p a) o
-    → MergeHeld p o (knowns held) (Ok tt) (knowns new)
+    → JoinIs first.segment second.segment (Ok tt) a.segment → new ≡ remove (set (set held o empty) p a) o
+    → MergeHeld p o (segments_of held) (Ok tt) (segments_of new)
 merged held new p o empty first second a r h e = (
-  first.known,
-  second.known,
+  first.segment,
+  second.segment,
   read_first held p o empty first second r,
-  knowns_get held o second r.second_in r.second_is,
+  segments_get held o second r.second_in r.second_is,
   r.apart,
   h.0,
   h.1,
   h.2,
-  ap knowns e ∙ knowns_remove (set (set held o empty) p a) o
-      ∙ ap (λ (ks : List Segment). remove ks o) (knowns_set (set held o empty) p a ∙ ap (λ (ks : List Segment). set ks p a.known) (knowns_set held o empty))
-      ∙ both_removed (knowns held) p o a.known empty.known r.apart
-      ∙ ap (λ (k : Segment). remove (set (knowns held) p k) o) h.3,
+  ap segments_of e ∙ segments_remove (set (set held o empty) p a) o
+      ∙ ap (λ (ks : List Segment). remove ks o) (segments_set (set held o empty) p a ∙ ap (λ (ks : List Segment). set ks p a.segment) (segments_set held o empty))
+      ∙ both_removed (segments_of held) p o a.segment empty.segment r.apart
+      ∙ ap (λ (k : Segment). remove (set (segments_of held) p k) o) h.3,
 )
 
 pub merge_at_is : (p o : ℕ) (view old : Node) → view ≡ old → (result : Result (Unit {0}) MergeFault) (held : List Segment)
@@ -119,12 +119,12 @@ refused_is old new p o first second join.Twice e f ne h same = ((first, second, 
 refused_is old new p o first second join.Memory e f ne h same = ((first, second, e, f, ne, h), same)
 
 pub refused : (held new : List RoomySegment) (p o : ℕ) (empty first second : RoomySegment) (a : Segment) (fault : JoinFault) (answer : MergeFault) → Read held p o empty first second
-    → JoinIs first.known second.known (Err fault) a → knowns new ≡ knowns held → answer ≡ merge_fault_of fault
-    → MergeHeld p o (knowns held) (Err answer) (knowns new)
+    → JoinIs first.segment second.segment (Err fault) a → segments_of new ≡ segments_of held → answer ≡ merge_fault_of fault
+    → MergeHeld p o (segments_of held) (Err answer) (segments_of new)
 refused held new p o empty first second a fault answer r h same e =
-    let Q : MergeFault → Type 0 = λ m. MergeHeld p o (knowns held) (Err m) (knowns new) in
+    let Q : MergeFault → Type 0 = λ m. MergeHeld p o (segments_of held) (Err m) (segments_of new) in
     subst Q (sym e)
-    (refused_is (knowns held) (knowns new) p o first.known second.known fault (read_first held p o empty first second r) (knowns_get held o second r.second_in r.second_is) r.apart h.0 same)
+    (refused_is (segments_of held) (segments_of new) p o first.segment second.segment fault (read_first held p o empty first second r) (segments_get held o second r.second_in r.second_is) r.apart h.0 same)
 
 pub merge_none : (p o : ℕ) (old new : List Segment) (result : Result (Unit {0}) MergeFault) → MergeHeld p o old result new → old ≡ [] → new ≡ []
 merge_none p o old new (Ok done) h none = absurd (no_place old p h.0 none h.2)

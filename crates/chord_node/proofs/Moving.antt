@@ -24,64 +24,64 @@ use Rattle.chord_model.specs.Node.{Node, NodeStep, cut_held}
 use Rattle.chord_model.specs.Node.NodeStep.{Cuts, Gives_again, Frees, Leaves, Retires}
 use Rattle.chord_node.specs.Rules.{HasStoreFor}
 use Rattle.chord_node.specs.Received.{GotIs}
-use Rattle.chord_node.specs.View.{knowns}
+use Rattle.chord_node.specs.View.{segments_of}
 use Rattle.chord_segment.specs.Segment.{Segment, RoomySegment, before, behind}
 
 -- ---- the held segments without their room
 
-pub knowns_get : (held : List RoomySegment) (i : ℕ) (s : RoomySegment) → i < length held → s ≡ get_or held i s → slice_get (knowns held) i ≡ Some s.known
-knowns_get [] i s h e = absurd (omega arith)
-knowns_get (y ∷ held) zero s h e = ap (λ (r : RoomySegment). Some r.known) (sym e)
-knowns_get (y ∷ held) (suc i) s h e = knowns_get held i s (omega arith) e
+pub segments_get : (held : List RoomySegment) (i : ℕ) (s : RoomySegment) → i < length held → s ≡ get_or held i s → slice_get (segments_of held) i ≡ Some s.segment
+segments_get [] i s h e = absurd (omega arith)
+segments_get (y ∷ held) zero s h e = ap (λ (r : RoomySegment). Some r.segment) (sym e)
+segments_get (y ∷ held) (suc i) s h e = segments_get held i s (omega arith) e
 
-pub knowns_set : (held : List RoomySegment) (i : ℕ) (s : RoomySegment) → knowns (set held i s) ≡ set (knowns held) i s.known
-knowns_set [] zero s = refl
-knowns_set [] (suc i) s = refl
-knowns_set (y ∷ held) zero s = refl
-knowns_set (y ∷ held) (suc i) s = ap (λ (ks : List Segment). y.known ∷ ks) (knowns_set held i s)
+pub segments_set : (held : List RoomySegment) (i : ℕ) (s : RoomySegment) → segments_of (set held i s) ≡ set (segments_of held) i s.segment
+segments_set [] zero s = refl
+segments_set [] (suc i) s = refl
+segments_set (y ∷ held) zero s = refl
+segments_set (y ∷ held) (suc i) s = ap (λ (ks : List Segment). y.segment ∷ ks) (segments_set held i s)
 
-pub knowns_insert : (held : List RoomySegment) (i : ℕ) (s : RoomySegment) → knowns (insert held i s) ≡ insert (knowns held) i s.known
-knowns_insert [] zero s = refl
-knowns_insert [] (suc i) s = refl
-knowns_insert (y ∷ held) zero s = refl
-knowns_insert (y ∷ held) (suc i) s = ap (λ (ks : List Segment). y.known ∷ ks) (knowns_insert held i s)
+pub segments_insert : (held : List RoomySegment) (i : ℕ) (s : RoomySegment) → segments_of (insert held i s) ≡ insert (segments_of held) i s.segment
+segments_insert [] zero s = refl
+segments_insert [] (suc i) s = refl
+segments_insert (y ∷ held) zero s = refl
+segments_insert (y ∷ held) (suc i) s = ap (λ (ks : List Segment). y.segment ∷ ks) (segments_insert held i s)
 
-pub knowns_remove : (held : List RoomySegment) (i : ℕ) → knowns (remove held i) ≡ remove (knowns held) i
-knowns_remove [] zero = refl
-knowns_remove [] (suc i) = refl
-knowns_remove (y ∷ held) zero = refl
-knowns_remove (y ∷ held) (suc i) = ap (λ (ks : List Segment). y.known ∷ ks) (knowns_remove held i)
+pub segments_remove : (held : List RoomySegment) (i : ℕ) → segments_of (remove held i) ≡ remove (segments_of held) i
+segments_remove [] zero = refl
+segments_remove [] (suc i) = refl
+segments_remove (y ∷ held) zero = refl
+segments_remove (y ∷ held) (suc i) = ap (λ (ks : List Segment). y.segment ∷ ks) (segments_remove held i)
 
-pub knowns_length : (held : List RoomySegment) → length (knowns held) ≡ length held
-knowns_length [] = refl
-knowns_length (y ∷ held) = omega (arith, knowns_length held)
+pub segments_length : (held : List RoomySegment) → length (segments_of held) ≡ length held
+segments_length [] = refl
+segments_length (y ∷ held) = omega (arith, segments_length held)
 
 -- a segment that comes to be held
-pub knowns_push : (held : List RoomySegment) (s : RoomySegment) → knowns (held ++ s ∷ []) ≡ knowns held ++ s.known ∷ []
-knowns_push [] s = refl
-knowns_push (y ∷ held) s = ap (λ (ks : List Segment). y.known ∷ ks) (knowns_push held s)
+pub segments_push : (held : List RoomySegment) (s : RoomySegment) → segments_of (held ++ s ∷ []) ≡ segments_of held ++ s.segment ∷ []
+segments_push [] s = refl
+segments_push (y ∷ held) s = ap (λ (ks : List Segment). y.segment ∷ ks) (segments_push held s)
 
-pub held_more : (held made new : List RoomySegment) (s : RoomySegment) (segment : Segment) → new ≡ made ++ s ∷ [] → made ≡ held → s.known ≡ segment
-    → knowns new ≡ knowns held ++ segment ∷ []
+pub held_more : (held made new : List RoomySegment) (s : RoomySegment) (segment : Segment) → new ≡ made ++ s ∷ [] → made ≡ held → s.segment ≡ segment
+    → segments_of new ≡ segments_of held ++ segment ∷ []
 held_more held made new s segment e f g =
-    ap knowns e ∙ knowns_push made s ∙ ap (λ (hs : List RoomySegment). knowns hs ++ s.known ∷ []) f ∙ ap (λ (k : Segment). knowns held ++ k ∷ []) g
+    ap segments_of e ∙ segments_push made s ∙ ap (λ (hs : List RoomySegment). segments_of hs ++ s.segment ∷ []) f ∙ ap (λ (k : Segment). segments_of held ++ k ∷ []) g
 
 -- the held segments after the cut
 pub cut_knowns : (held new : List RoomySegment) (i : ℕ) (s first second : RoomySegment) (at : Id) → new ≡ insert (set held i first) (i + 1) second
-    → first.known ≡ before at s.known → second.known ≡ behind at s.known → knowns new ≡ cut_held i s.known at (knowns held)
+    → first.segment ≡ before at s.segment → second.segment ≡ behind at s.segment → segments_of new ≡ cut_held i s.segment at (segments_of held)
 cut_knowns held new i s first second at e f g =
-    ap knowns e ∙ knowns_insert (set held i first) (i + 1) second
-    ∙ ap (λ (ks : List Segment). insert ks (i + 1) second.known) (knowns_set held i first)
-    ∙ ap (λ (k : Segment). insert (set (knowns held) i k) (i + 1) second.known) f
-    ∙ ap (λ (k : Segment). insert (set (knowns held) i (before at s.known)) (i + 1) k) g
+    ap segments_of e ∙ segments_insert (set held i first) (i + 1) second
+    ∙ ap (λ (ks : List Segment). insert ks (i + 1) second.segment) (segments_set held i first)
+    ∙ ap (λ (k : Segment). insert (set (segments_of held) i k) (i + 1) second.segment) f
+    ∙ ap (λ (k : Segment). insert (set (segments_of held) i (before at s.segment)) (i + 1) k) g
 
 -- what stands at a place, read twice
-pub same_at : (held held' : List RoomySegment) (i : ℕ) (a b : RoomySegment) → i < length held → held' ≡ held → a ≡ get_or held i a → b ≡ get_or held' i b → a.known ≡ b.known
+pub same_at : (held held' : List RoomySegment) (i : ℕ) (a b : RoomySegment) → i < length held → held' ≡ held → a ≡ get_or held i a → b ≡ get_or held' i b → a.segment ≡ b.segment
 same_at held held' i a b h e f g =
-    let first = knowns_get held i a h f in
+    let first = segments_get held i a h f in
     let h' : i < length held' = let l = ap (λ (hs : List RoomySegment). length hs) e in omega arith in
-    let second = ap (λ (hs : List RoomySegment). slice_get (knowns hs) i) (sym e) ∙ knowns_get held' i b h' g in
-    let both : Some a.known ≡ Some b.known = sym first ∙ second in
+    let second = ap (λ (hs : List RoomySegment). slice_get (segments_of hs) i) (sym e) ∙ segments_get held' i b h' g in
+    let both : Some a.segment ≡ Some b.segment = sym first ∙ second in
     cc
 
 -- ---- a cut

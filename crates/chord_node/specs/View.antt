@@ -6,8 +6,8 @@ use Rattle.chord_handover.specs.Handover.{Item}
 use Rattle.chord_segment.specs.Segment.{Segment, RoomySegment}
 
 -- the segments without their room
-abbrev pub knowns : List RoomySegment → List Segment
-knowns held = map (λ (segment : RoomySegment). segment.known) held
+abbrev pub segments_of : List RoomySegment → List Segment
+segments_of held = map (λ (segment : RoomySegment). segment.segment) held
 
 -- the receiver, the number and the span of an item of the outbox, if there is one
 abbrev pub kept_as : Option Item → Option (ℕ × ℕ × Span)

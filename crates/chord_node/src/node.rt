@@ -46,19 +46,19 @@ pub struct Node<S: EntryStore> {
 
 impl<S: EntryStore> Model for Node<S> {
     ghost use Rattle.chord_model.specs.Node.{Node as NodeOf};
-    ghost use Rattle.chord_node.specs.View.{knowns, entries_in, limit_in};
+    ghost use Rattle.chord_node.specs.View.{segments_of, entries_in, limit_in};
     ghost use Rattle.chord_node.specs.Rules.{IsNode};
 
     ghost Value = { NodeOf };
 
-    ghost view = { λ a. record { number = a.links.me.no; phase = a.phase; links = a.links; held = knowns a.held.items; entries = entries_in S.content a.store; limit = limit_in S.limit a.store; given = a.outbox.known.given; outbox = a.outbox.known.items; taken = a.taken.known.last; noted = a.taken.known.noted } };
+    ghost view = { λ a. record { number = a.links.me.no; phase = a.phase; links = a.links; held = segments_of a.held.items; entries = entries_in S.content a.store; limit = limit_in S.limit a.store; given = a.outbox.outbox.given; outbox = a.outbox.outbox.items; taken = a.taken.taken.last; noted = a.taken.taken.noted } };
 
-    ghost invariant = { λ a. IsNode S.content a.phase a.links.me.no (knowns a.held.items) a.store a.outbox.known };
+    ghost invariant = { λ a. IsNode S.content a.phase a.links.me.no (segments_of a.held.items) a.store a.outbox.outbox };
 }
 
 /// The place of the held segment whose span contains x.
 fn place_with(held: &[Segment], x: Id) -> Option<usize>
-    ensures { result ≡ position (λ (segment : RoomySegment). in_span segment.known.span x.number) held.now }
+    ensures { result ≡ position (λ (segment : RoomySegment). in_span segment.segment.span x.number) held.now }
 {
     held.iter().position(|segment| segment.span().contains(x))
 }

@@ -113,7 +113,7 @@ pub fn first_part(alloc: Global, ticket: Ticket, span: Span, of: u64) -> Part
         from: ticket.from,
         to: ticket.to,
         number: ticket.number,
-        part: 1,
+        place: 1,
         of,
         segment: Some(Segment::empty(alloc, span)),
         pairs: Vec::new(alloc),

@@ -10,7 +10,7 @@ use Rattle.chord_links.specs.Successors.{Skips}
 use Rattle.chord_ring.specs.Ring.{links_of, is_member, first_live, IsPrincipal}
 use Rattle.chord_ring.specs.Steps.{Ring}
 use Rattle.chord_ring.proofs.Lookups.{Updates, find_more}
-use Rattle.chord_ring.specs.Sound.{IsKnown, IdsSound, LinksSound, IsSound}
+use Rattle.chord_ring.specs.Sound.{IsPeerOf, IdsSound, LinksSound, IsSound}
 
 -- one node gets these links, new or in place of its own
 pub record Change (old new : Ring) (at : ℕ) (after : NodeLinks) : Type 0 where
@@ -26,7 +26,7 @@ pub record Change (old new : Ring) (at : ℕ) (after : NodeLinks) : Type 0 where
 
 -- what is known stays known
 pub known_more : (old new : List ℕ) → ((node id : ℕ) → slice_get old node ≡ Some id → slice_get new node ≡ Some id)
-    → (peers : List Peer) → AllByRecursion (IsKnown old) peers → AllByRecursion (IsKnown new) peers
+    → (peers : List Peer) → AllByRecursion (IsPeerOf old) peers → AllByRecursion (IsPeerOf new) peers
 known_more old new grows [] known = tt
 known_more old new grows (peer ∷ peers) known = (grows peer.no peer.id.number known.0, known_more old new grows peers known.1)
 
@@ -101,13 +101,13 @@ module _ (old new : Ring) (at : ℕ) (after : NodeLinks) (sound : IsSound old) (
               | inr changed ↦
                   subst (λ (n : ℕ). LinksSound new.ids n links) (sym changed.0) (subst (LinksSound new.ids at) changed.1 change.sound)
             ];
-        settled =
+        safe =
             record {
               live = λ node links is_its.
                   elim (member_before node links is_its) [
-                    | inl was ↦ still_live links.entries (sound.settled.live node links was)
+                    | inl was ↦ still_live links.entries (sound.safe.live node links was)
                     | inr changed ↦ subst (λ (l : NodeLinks). IsSome (first_live new.members l.entries)) changed.1 (still_live after.entries change.live)
                   ];
-              principal = (sound.settled.principal.0, principal_stays sound.settled.principal.0 sound.settled.principal.1);
+              principal = (sound.safe.principal.0, principal_stays sound.safe.principal.0 sound.safe.principal.1);
             };
       }

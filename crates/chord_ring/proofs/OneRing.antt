@@ -12,14 +12,14 @@ use Rattle.chord_links.specs.NodeLinks.{NodeLinks}
 use Rattle.chord_links.specs.Successors.{Rises, Skips}
 use Rattle.chord_ring.specs.Ring.{Members, links_of, is_member, first_live, next_of, IsPrincipal}
 use Rattle.chord_ring.specs.Steps.{Ring}
-use Rattle.chord_ring.specs.Sound.{IsKnown, IdsSound, IsSound}
+use Rattle.chord_ring.specs.Sound.{IsPeerOf, IdsSound, IsSound}
 use Rattle.chord_ring.proofs.Stepping.{member_on_circle}
 
 -- a live identifier that lies before the first live entry is skipped by the list
 pub skipped_before_first_live : (members : Members) (ids : List ℕ) (owner before past x : ℕ) (peers : List Peer) (found : Peer)
-    → IdsSound ids → owner < circle → x < circle → AllByRecursion (IsKnown ids) peers → Rises owner past peers
+    → IdsSound ids → owner < circle → x < circle → AllByRecursion (IsPeerOf ids) peers → Rises owner past peers
     → ((y : ℕ) → y < circle → past < walk owner y → walk owner y ≡ past + walk before y)
-    → ((peer : Peer) → IsKnown ids peer → peer.id.number ≡ x → is_member members peer.no ≡ true)
+    → ((peer : Peer) → IsPeerOf ids peer → peer.id.number ≡ x → is_member members peer.no ≡ true)
     → first_live members peers ≡ Some found → past < walk owner x → walk owner x < walk owner found.id.number
     → Skips before peers x
 skipped_before_first_live members ids owner before past x [] found sound owner_in x_in known rises sum live e after near = absurd (none-some found e)
@@ -50,14 +50,14 @@ skipped_before_first_live members ids owner before past x (peer ∷ peers) found
     ]
 
 -- the first live entry is one of the peers, known and live
-pub first_live_is : (members : Members) (ids : List ℕ) (peers : List Peer) (found : Peer) → AllByRecursion (IsKnown ids) peers
-    → first_live members peers ≡ Some found → IsKnown ids found × (is_member members found.no ≡ true)
+pub first_live_is : (members : Members) (ids : List ℕ) (peers : List Peer) (found : Peer) → AllByRecursion (IsPeerOf ids) peers
+    → first_live members peers ≡ Some found → IsPeerOf ids found × (is_member members found.no ≡ true)
 first_live_is members ids [] found known e = absurd (none-some found e)
 first_live_is members ids (peer ∷ peers) found known e =
     elim (cases_Bool (is_member members peer.no)) [
       | inl is_live ↦
           let same : peer ≡ found = same_Some peer found (sym (rw is_live refl) ∙ e) in
-          (subst (IsKnown ids) same known.0, subst (λ (p : Peer). is_member members p.no ≡ true) same is_live)
+          (subst (IsPeerOf ids) same known.0, subst (λ (p : Peer). is_member members p.no ≡ true) same is_live)
       | inr is_dead ↦ first_live_is members ids peers found known.1 (rw is_dead at e)
     ]
 
@@ -83,7 +83,7 @@ module _ (ring : Ring) (sound : IsSound ring) where
       same_peer links.me theirs.me (sound.ids.apart links.me.no theirs.me.no links.me.id.number mine.me_known (other_one.me_known ∙ ap Some (sym same))) same
 
   -- the member that a known live peer names has that peer as its own
-  pub live_links : (peer : Peer) → IsKnown ring.ids peer → is_member ring.members peer.no ≡ true
+  pub live_links : (peer : Peer) → IsPeerOf ring.ids peer → is_member ring.members peer.no ≡ true
       → (links : NodeLinks) × (links_of ring.members peer.no ≡ Some links) × (links.me ≡ peer)
   live_links peer known is_live =
       let (links, is_its) = links_from_member ring.members peer.no is_live in
@@ -96,7 +96,7 @@ module _ (ring : Ring) (sound : IsSound ring) where
   -- the next member from a member
   pub next_links : (node : ℕ) (from : NodeLinks) → links_of ring.members node ≡ Some from
       → (next : NodeLinks) × (links_of ring.members next.me.no ≡ Some next) × (next_of ring.members node ≡ Some next.me)
-  next_links node from is_its = go (first_live ring.members from.entries) refl (sound.settled.live node from is_its)
+  next_links node from is_its = go (first_live ring.members from.entries) refl (sound.safe.live node from is_its)
     where
       go : (found : Option Peer) → first_live ring.members from.entries ≡ found → is_some found ≡ true
           → (next : NodeLinks) × (links_of ring.members next.me.no ≡ Some next) × (next_of ring.members node ≡ Some next.me)

@@ -11,7 +11,7 @@ use Rattle.chord_links.specs.NodeLinks.{NodeLinks, first_entry}
 use Rattle.chord_links.specs.Successors.{Rises, rising_front}
 use Rattle.chord_links.proofs.Skipping.{OnCircle}
 use Rattle.chord_ring.specs.Ring.{Members, is_member, first_live}
-use Rattle.chord_ring.specs.Sound.{IsKnown, IdsSound}
+use Rattle.chord_ring.specs.Sound.{IsPeerOf, IdsSound}
 
 -- what holds of each peer holds of each of a front, and of the rising front
 pub each_take : (P : Peer → Type 0) (n : ℕ) (peers : List Peer) → AllByRecursion P peers → AllByRecursion P (take n peers)
@@ -26,7 +26,7 @@ each_rising_front P owner past (peer ∷ peers) each =
     (λ _. (each.0, each_rising_front P owner (walk owner peer.id.number) peers each.1)) (λ _. tt)
 
 -- known peers have identifiers on the circle
-pub OnCircle-known : (ids : List ℕ) → IdsSound ids → (peers : List Peer) → AllByRecursion (IsKnown ids) peers → OnCircle peers
+pub OnCircle-known : (ids : List ℕ) → IdsSound ids → (peers : List Peer) → AllByRecursion (IsPeerOf ids) peers → OnCircle peers
 OnCircle-known ids sound [] known = tt
 OnCircle-known ids sound (peer ∷ peers) known = (sound.fit peer.no peer.id.number known.0, OnCircle-known ids sound peers known.1)
 

@@ -51,7 +51,7 @@ IsSound-founded id r id_in positive =
             short = omega arith;
             positive = positive;
           }));
-      settled =
+      safe =
           record {
             live = λ node links is_its.
                 subst (λ (l : NodeLinks). IsSome (first_live (founded id r).members l.entries)) (founded_links id r node links is_its).1 refl;
@@ -69,9 +69,9 @@ IsSound-founded id r id_in positive =
           };
     }
 
--- a departure after which the others are settled keeps the ring sound and its principals
+-- a departure after which the others are safe keeps the ring sound and its principals
 pub Kept-departs : (old : Ring) (gone : ℕ) → IsSound old → CanDepart old.members gone → Kept old (without old gone)
-Kept-departs old gone sound (was, settled) =
+Kept-departs old gone sound (was, safe) =
     let within : gone < length old.members = go (links_of old.members gone) refl was in
     let updates : Updates old.members (slice_set old.members gone None) gone None = Updates-set old.members gone None within in
     let before : (node : ℕ) (links : NodeLinks) → links_of (slice_set old.members gone None) node ≡ Some links → links_of old.members node ≡ Some links =
@@ -86,7 +86,7 @@ Kept-departs old gone sound (was, settled) =
             ids = sound.ids;
             lengths = length-set old.members gone None ∙ sound.lengths;
             each = λ node links is_its. sound.each node links (before node links is_its);
-            settled = settled;
+            safe = safe;
           };
       principals = λ node principal still.
           let other : node ≢ gone =

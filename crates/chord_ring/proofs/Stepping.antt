@@ -17,7 +17,7 @@ use Rattle.chord_ring.specs.declared.ring_step.RingStep.TheVariants.{Join, Stabi
 use Rattle.chord_ring.specs.Ring.{Members, links_of, is_member, first_live, KeepsPrincipals}
 use Rattle.chord_ring.specs.Steps.{Ring, Joins, Stabilises, TakesCandidate, DropsDead, Rectifies, Step, joined, behind, without_head, with_links, gives_way, is_live}
 use Rattle.chord_ring.proofs.Lookups.{Updates, Updates-set, Updates-push, member_within}
-use Rattle.chord_ring.specs.Sound.{IsKnown, IdsSound, LinksSound, IsSound}
+use Rattle.chord_ring.specs.Sound.{IsPeerOf, IdsSound, LinksSound, IsSound}
 use Rattle.chord_ring.proofs.Peers.{each_take, each_rising_front, OnCircle-known, first_and_rest, live_first, Rises-past_less, slice_get-push_old, slice_get-push_new, IdsSound-push}
 use Rattle.chord_ring.proofs.Keeping.{Change, known_more, principal_stays, still_sound}
 
@@ -73,8 +73,8 @@ Kept-behind old at head links theirs sound is_its is_live near =
     (record {
       number = mine.number;
       me_known = mine.me_known;
-      known = each_take (IsKnown old.ids) links.r (theirs.me ∷ rest)
-          (copied.me_known, each_rising_front (IsKnown old.ids) links.me.id.number far theirs.entries copied.known);
+      known = each_take (IsPeerOf old.ids) links.r (theirs.me ∷ rest)
+          (copied.me_known, each_rising_front (IsPeerOf old.ids) links.me.id.number far theirs.entries copied.known);
       rises = Rises-take links.r links.me.id.number 0 (theirs.me ∷ rest)
           ((walk_range links.me.id.number theirs.me.id.number me_in head_in).0, Rises-rising_front links.me.id.number far theirs.entries);
       short = let e = length-take links.r (theirs.me ∷ rest) in omega arith;
@@ -91,7 +91,7 @@ pub Kept-stabilises : (old : Ring) (node head : ℕ) (new : Ring) → IsSound ol
 Kept-stabilises old node head new sound step =
     let rest : List Peer = drop 1 step.links.entries in
     let entries : step.links.entries ≡ step.theirs.me ∷ rest =
-    first_and_rest old.members step.links (sound.settled.live node step.links step.is_its) ∙ ap (λ (p : Peer). p ∷ rest) step.is_first in
+    first_and_rest old.members step.links (sound.safe.live node step.links step.is_its) ∙ ap (λ (p : Peer). p ∷ rest) step.is_first in
     subst (Kept old) (sym step.result)
     (Kept-behind old node head step.links step.theirs sound step.is_its step.is_live
     (λ x x_in between. subst (λ (l : List Peer). Skips step.links.me.id.number l x) (sym entries) (inl between)))
@@ -99,11 +99,11 @@ Kept-stabilises old node head new sound step =
 pub Kept-takes_candidate : (old : Ring) (node peer : ℕ) (new : Ring) → IsSound old → TakesCandidate old node peer new → Kept old new
 Kept-takes_candidate old node peer new sound step =
     let entries : step.links.entries ≡ first_entry step.links ∷ drop 1 step.links.entries =
-    first_and_rest old.members step.links (sound.settled.live node step.links step.is_its) in
+    first_and_rest old.members step.links (sound.safe.live node step.links step.is_its) in
     let me_in = member_on_circle old sound node step.links step.is_its in
     let peer_in = member_on_circle old sound peer step.theirs step.is_live in
-    let known : AllByRecursion (IsKnown old.ids) (first_entry step.links ∷ drop 1 step.links.entries) =
-    subst (AllByRecursion (IsKnown old.ids)) entries (sound.each node step.links step.is_its).known in
+    let known : AllByRecursion (IsPeerOf old.ids) (first_entry step.links ∷ drop 1 step.links.entries) =
+    subst (AllByRecursion (IsPeerOf old.ids)) entries (sound.each node step.links step.is_its).known in
     let closer = between_nearer step.links.me.id.number step.theirs.me.id.number (first_entry step.links).id.number me_in peer_in
     (OnCircle-known old.ids sound.ids (first_entry step.links ∷ drop 1 step.links.entries) known).0 step.is_between in
     subst (Kept old) (sym step.result)
@@ -118,13 +118,13 @@ Kept-drops_dead old node new sound step =
     let links = step.links in
     let first = first_entry links in
     let rest : List Peer = drop 1 links.entries in
-    let entries : links.entries ≡ first ∷ rest = first_and_rest old.members links (sound.settled.live node links step.is_its) in
+    let entries : links.entries ≡ first ∷ rest = first_and_rest old.members links (sound.safe.live node links step.is_its) in
     let mine : LinksSound old.ids node links = sound.each node links step.is_its in
-    let known : AllByRecursion (IsKnown old.ids) (first ∷ rest) = subst (AllByRecursion (IsKnown old.ids)) entries mine.known in
+    let known : AllByRecursion (IsPeerOf old.ids) (first ∷ rest) = subst (AllByRecursion (IsPeerOf old.ids)) entries mine.known in
     let rises : Rises links.me.id.number 0 (first ∷ rest) = subst (Rises links.me.id.number 0) entries mine.rises in
     let dead : is_member old.members first.no ≡ false = false_from_ne_true (is_member old.members first.no) step.is_dead in
     let live : IsSome (first_live old.members (first ∷ rest)) =
-    subst (λ (l : List Peer). IsSome (first_live old.members l)) entries (sound.settled.live node links step.is_its) in
+    subst (λ (l : List Peer). IsSome (first_live old.members l)) entries (sound.safe.live node links step.is_its) in
     subst (Kept old) (sym step.result)
     (Kept-with_links old node links (without_head links) sound step.is_its refl
     (record {
@@ -154,7 +154,7 @@ pub Kept-rectifies : (old : Ring) (node notifier : ℕ) (new : Ring) → IsSound
 Kept-rectifies old node notifier new sound step =
     let links = step.links in
     let mine : LinksSound old.ids node links = sound.each node links step.is_its in
-    let live : IsSome (first_live old.members links.entries) = sound.settled.live node links step.is_its in
+    let live : IsSome (first_live old.members links.entries) = sound.safe.live node links step.is_its in
     let found : NodeLinks = record links { predecessor = Some step.theirs.me } in
     subst (Kept old) (sym step.result)
     (cond_both (gives_way links.me step.theirs.me (is_live old.members links.predecessor) links.predecessor) found links (λ after. Kept old (with_links old node after))
@@ -185,7 +185,7 @@ Kept-fingers old node links fingers sound is_its =
       short = mine.short;
       positive = mine.positive;
     })
-    (sound.settled.live node links is_its) (λ other member member_is skips. (node, links, is_its, skips))
+    (sound.safe.live node links is_its) (λ other member member_is skips. (node, links, is_its, skips))
 
 pub Kept-joins : (old : Ring) (id pred : ℕ) (new : Ring) → IsSound old → Joins old id pred new → Kept old new
 Kept-joins old id pred new sound step =
@@ -194,9 +194,9 @@ Kept-joins old id pred new sound step =
     let peer : Peer = record { no = length old.ids; id = record { number = id } } in
     let after : NodeLinks = joined peer links in
     let rest : List Peer = drop 1 links.entries in
-    let entries : links.entries ≡ first ∷ rest = first_and_rest old.members links (sound.settled.live pred links step.is_its) in
+    let entries : links.entries ≡ first ∷ rest = first_and_rest old.members links (sound.safe.live pred links step.is_its) in
     let theirs : LinksSound old.ids pred links = sound.each pred links step.is_its in
-    let known : AllByRecursion (IsKnown old.ids) (first ∷ rest) = subst (AllByRecursion (IsKnown old.ids)) entries theirs.known in
+    let known : AllByRecursion (IsPeerOf old.ids) (first ∷ rest) = subst (AllByRecursion (IsPeerOf old.ids)) entries theirs.known in
     let on = OnCircle-known old.ids sound.ids (first ∷ rest) known in
     let pred_in = member_on_circle old sound pred links step.is_its in
     let rises : Rises links.me.id.number 0 (first ∷ rest) = subst (Rises links.me.id.number 0) entries theirs.rises in
@@ -217,12 +217,12 @@ Kept-joins old id pred new sound step =
           record {
             number = sym number;
             me_known = subst (λ (ids : List ℕ). slice_get ids (length old.ids) ≡ Some id) (sym step.ids) (slice_get-push_new old.ids id);
-            known = known_more old.ids new.ids grows (behind_predecessor id links.r links.entries) (subst (AllByRecursion (IsKnown old.ids)) (sym whole) known);
+            known = known_more old.ids new.ids grows (behind_predecessor id links.r links.entries) (subst (AllByRecursion (IsPeerOf old.ids)) (sym whole) known);
             rises = subst (Rises id 0) (sym whole) (Rises-joined id links.me.id.number first rest step.is_id pred_in on step.is_between rises);
             short = subst (λ (l : List Peer). length l ≤ links.r) (sym whole) short;
             positive = theirs.positive;
           };
-      live = subst (λ (l : List Peer). IsSome (first_live old.members l)) (entries ∙ sym whole) (sound.settled.live pred links step.is_its);
+      live = subst (λ (l : List Peer). IsSome (first_live old.members l)) (entries ∙ sym whole) (sound.safe.live pred links step.is_its);
       same_me = λ before e. absurd (let within = member_within old.members (length old.members) before e in omega arith);
       skips = λ other member is_its skips. (
         pred,

@@ -30,13 +30,13 @@ pub record IsPrincipal (members : Members) (node : ℕ) : Type 0 where
   pub unskipped : (other : ℕ) (theirs : NodeLinks) → links_of members other ≡ Some theirs → ¬ (Skips theirs.me.id.number theirs.entries links.me.id.number)
 
 -- each member's list has a live entry, and there is a principal
-pub record IsSettled (members : Members) : Type 0 where
+pub record IsSafe (members : Members) : Type 0 where
   pub live : (node : ℕ) (links : NodeLinks) → links_of members node ≡ Some links → IsSome (first_live members links.entries)
   pub principal : (node : ℕ) × IsPrincipal members node
 
--- the node is a member, and once it has departed the others are settled
+-- the node is a member, and once it has departed the others are safe
 abbrev pub CanDepart : Members → ℕ → Type 0
-CanDepart members node = IsTrue (is_member members node) × IsSettled (slice_set members node None)
+CanDepart members node = IsTrue (is_member members node) × IsSafe (slice_set members node None)
 
 -- each principal that is still a member is a principal still
 abbrev pub KeepsPrincipals : Members → Members → Type 0

@@ -5,12 +5,12 @@ use Rattle.std.specs.List.{AllByRecursion}
 use Rattle.chord_links.specs.declared.peer.Peer.{Peer}
 use Rattle.chord_links.specs.NodeLinks.{NodeLinks}
 use Rattle.chord_links.specs.Successors.{Rises}
-use Rattle.chord_ring.specs.Ring.{links_of, IsSettled}
+use Rattle.chord_ring.specs.Ring.{links_of, IsSafe}
 use Rattle.chord_ring.specs.Steps.{Ring}
 
 -- the peer is a node that ever was
-abbrev pub IsKnown : List ℕ → Peer → Type 0
-IsKnown ids peer = slice_get ids peer.no ≡ Some peer.id.number
+abbrev pub IsPeerOf : List ℕ → Peer → Type 0
+IsPeerOf ids peer = slice_get ids peer.no ≡ Some peer.id.number
 
 -- identifiers are on the circle, and no two nodes have the same
 pub record IdsSound (ids : List ℕ) : Type 0 where
@@ -20,8 +20,8 @@ pub record IdsSound (ids : List ℕ) : Type 0 where
 -- a member's links name nodes that were, at rising distance, and at most r
 pub record LinksSound (ids : List ℕ) (node : ℕ) (links : NodeLinks) : Type 0 where
   pub number : links.me.no ≡ node
-  pub me_known : IsKnown ids links.me
-  pub known : AllByRecursion (IsKnown ids) links.entries
+  pub me_known : IsPeerOf ids links.me
+  pub known : AllByRecursion (IsPeerOf ids) links.entries
   pub rises : Rises links.me.id.number 0 links.entries
   pub short : length links.entries ≤ links.r
   pub positive : 0 < links.r
@@ -30,4 +30,4 @@ pub record IsSound (ring : Ring) : Type 0 where
   pub ids : IdsSound ring.ids
   pub lengths : length ring.members ≡ length ring.ids
   pub each : (node : ℕ) (links : NodeLinks) → links_of ring.members node ≡ Some links → LinksSound ring.ids node links
-  pub settled : IsSettled ring.members
+  pub safe : IsSafe ring.members

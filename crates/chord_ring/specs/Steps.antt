@@ -119,7 +119,7 @@ founded id r = record { ids = id ∷ []; members = Some (alone (record { no = 0;
 abbrev pub without : Ring → ℕ → Ring
 without ring node = record ring { members = slice_set ring.members node None }
 
--- a ring that a list of steps and departures leads to, each departure leaving the others settled
+-- a ring that a list of steps and departures leads to, each departure leaving the others safe
 pub data IsReached : Ring → Type 0 where
   is_founded : (id r : ℕ) → id < 2 ^ 128 → 0 < r → IsReached (founded id r)
   after_step : {old new : Ring} (step : RingStep) → IsReached old → Step old step new → IsReached new

@@ -1,7 +1,7 @@
 //! The links of all nodes of one ring.
 ghost use Rattle.std.specs.Prelude.{◌≡◌, ◌<◌, ◌≤◌, ◌↔◌, length, IsTrue, IfOk, IfErr, OnOk, OnErr, None, Some, map, ◌≢◌};
 ghost use Rattle.std.specs.List.{Contains};
-ghost use Rattle.chord_ring.specs.Ring.{links_of, is_member, IsSettled, CanDepart, KeepsPrincipals, IsOneRing};
+ghost use Rattle.chord_ring.specs.Ring.{links_of, is_member, IsSafe, CanDepart, KeepsPrincipals, IsOneRing};
 ghost use Rattle.chord_ring.specs.Steps.{founded, without, with_links, Joins, Step};
 ghost use Rattle.chord_ring.specs.declared.ring_step.RingStep.{RingStep};
 ghost use Rattle.chord_ring.specs.Refusals.{AreOwn, JoinRefused, Refused, Did};
@@ -44,7 +44,7 @@ impl RingCore {
     /// Each member's list has a live entry, there is a principal, and the principals stand on one ring.
     #[tactic(auto, using(crate::proofs::Walking::one_ring))]
     pub fn stands_on_one_ring(&self)
-        ensures settled { IsSettled self.now.ring.members }
+        ensures safe { IsSafe self.now.ring.members }
         ensures one_ring { IsOneRing self.now.ring.members }
     {
         let _members = &self.members;

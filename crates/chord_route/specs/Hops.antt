@@ -9,15 +9,15 @@ use Rattle.chord_route.specs.declared.hop.Hop.{Hop}
 use Rattle.chord_route.specs.declared.hop.Hop.TheVariants.{Last, Near}
 
 -- the closest preceding finger, or the first entry where that is the node itself
-abbrev pub IsNear : NodeLinks → ℕ → Peer → Type 0
-IsNear links target node =
+abbrev pub IsNearHop : NodeLinks → ℕ → Peer → Type 0
+IsNearHop links target node =
     (closest : Peer) × IsClosestPreceding links.fingers target closest
     × (((closest ≢ links.me) × (node ≡ closest)) ⊎ ((closest ≡ links.me) × (node ≡ first_entry links)))
 
 -- last, to the first entry, where the target is within (me, first], else near
 abbrev pub IsNextHop : NodeLinks → ℕ → Hop → Type 0
 IsNextHop links target (Last node) = IsWithin links.me.id.number target (first_entry links).id.number × (node ≡ first_entry links)
-IsNextHop links target (Near node) = (¬ IsWithin links.me.id.number target (first_entry links).id.number) × IsNear links target node
+IsNextHop links target (Near node) = (¬ IsWithin links.me.id.number target (first_entry links).id.number) × IsNearHop links target node
 
 -- The last hop goes to the target's successor, from its predecessor; any other goes to a member whose distance to the target's
 -- predecessor has fewer binary digits.

@@ -1,21 +1,10 @@
--- When marks, and calls with their replies, are the same.
+-- When calls with their replies are the same.
 use Rattle.std.proofs.Common.{◌≡◌, ◌&&◌, eqb, ap}
 use Rattle.std.specs.Bool.{Decides}
 use Rattle.std.proofs.lemmas.Bool.{and_parts, and_from}
 use Rattle.chord_map.specs.Same.{same_request, same_reply, same_request-Decides, same_reply-Decides}
 use Rattle.chord_map.specs.declared.done.Done.{Done}
-use Rattle.chord_segment.specs.declared.mark.Mark.{Mark}
 use Rattle.chord_map.proofs.Equal.{eqb_same, eqb_is}
-
-pub marks_same : (a b : Mark) → Decides (eqb a.owner b.owner && eqb a.number b.number) (a ≡ b)
-marks_same a b = (
-  λ h.
-      let parts = and_parts (eqb a.owner b.owner) (eqb a.number b.number) h in
-      let owner = eqb_is a.owner b.owner parts.0 in
-      let number = eqb_is a.number b.number parts.1 in
-      λ i. record { owner = owner i; number = number i },
-  λ e. and_from (eqb a.owner b.owner) (eqb a.number b.number) (eqb_same a.owner b.owner (ap (λ (m : Mark). m.owner) e)) (eqb_same a.number b.number (ap (λ (m : Mark). m.number) e)),
-)
 
 pub dones_same : (a b : Done) → Decides (eqb a.caller b.caller && (eqb a.number b.number && (same_request a.request b.request && same_reply a.reply b.reply))) (a ≡ b)
 dones_same a b = (

@@ -17,13 +17,13 @@ CutRefused at segment CutMemory = cuts segment.span at ≡ true
 
 -- a cut leaves the part before the place and answers the part behind it, or nothing changes
 abbrev pub CutIs : Id → Segment → Result RoomySegment CutFault → Segment → Type 0
-CutIs at old (Ok second) new = (cuts old.span at ≡ true) × (new ≡ before at old) × (second.known ≡ behind at old)
+CutIs at old (Ok second) new = (cuts old.span at ≡ true) × (new ≡ before at old) × (second.segment ≡ behind at old)
 CutIs at old (Err fault) new = CutRefused at old fault × (new ≡ old)
 
 -- a cut answers both parts, or hands the segment back
 abbrev pub PartsAre : Id → Segment → Result (RoomySegment × RoomySegment) Uncut → Type 0
-PartsAre at segment (Ok parts) = (cuts segment.span at ≡ true) × ((parts.0).known ≡ before at segment) × ((parts.1).known ≡ behind at segment)
-PartsAre at segment (Err uncut) = CutRefused at segment uncut.fault × (uncut.segment.known ≡ segment)
+PartsAre at segment (Ok parts) = (cuts segment.span at ≡ true) × ((parts.0).segment ≡ before at segment) × ((parts.1).segment ≡ behind at segment)
+PartsAre at segment (Err uncut) = CutRefused at segment uncut.fault × (uncut.segment.segment ≡ segment)
 
 -- the second begins where the first ends
 abbrev pub IsNext : Segment → Segment → Type 0
@@ -47,5 +47,5 @@ JoinIs first second (Err fault) new = JoinRefused first second fault × (new ≡
 
 -- a join answers the one segment, or hands both back
 abbrev pub WholeIs : Segment → Segment → Result RoomySegment Unjoined → Type 0
-WholeIs first second (Ok whole) = IsNext first second × IsApart first second × (stands_twice first.kept second.kept ≡ false) × (whole.known ≡ joined first second)
-WholeIs first second (Err unjoined) = JoinRefused first second unjoined.fault × (unjoined.first.known ≡ first) × (unjoined.second.known ≡ second)
+WholeIs first second (Ok whole) = IsNext first second × IsApart first second × (stands_twice first.kept second.kept ≡ false) × (whole.segment ≡ joined first second)
+WholeIs first second (Err unjoined) = JoinRefused first second unjoined.fault × (unjoined.first.segment ≡ first) × (unjoined.second.segment ≡ second)

@@ -44,10 +44,15 @@ fn keep(segment: &mut Segment, done: Done, floor: u64) -> bool {
     false
 }
 
+/// Whether it keeps the call of this caller and number.
+pub fn keeps(segment: &Segment, caller: u64, number: u64) -> bool {
+    matches!(segment.find(caller, number), Past::Kept(_))
+}
+
 /// A segment that keeps that call alone.
 pub fn one(alloc: Global, span: Span, key: &[u8]) -> Result<Segment, AllocError> {
     let mut segment = Segment::empty(alloc, span);
-    segment.reserve()?;
+    segment.reserve(0)?;
     let done = added(alloc, 0, 1, key)?;
     if !keep(&mut segment, done, 0) {
         return Err(AllocError);
@@ -65,13 +70,12 @@ pub fn cut_at_b(segment: Segment) -> Result<(Segment, Segment), Fail> {
 fn what_is_kept_goes_by_key(rt: HostRuntime) -> Result<(), Fail> {
     let (before, behind) = cut_at_b(one(rt.alloc(), span(A, A), b"abc")?)?;
     assert_eq!(rt; before.span(), span(A, B));
-    assert_eq!(rt; before.kept().len(), 0);
+    assert!(rt; !keeps(&before, 0, 1));
     assert_eq!(rt; behind.span(), span(B, A));
-    assert_eq!(rt; behind.kept().len(), 1);
+    assert!(rt; keeps(&behind, 0, 1));
     let whole = before.join(behind).ok().ok_or("not joined")?;
     assert_eq!(rt; whole.span(), span(A, A));
-    assert_eq!(rt; whole.kept().len(), 1);
-    assert!(rt; matches!(whole.find(0, 1), Past::Kept(_)));
+    assert!(rt; keeps(&whole, 0, 1));
     Ok(())
 }
 
@@ -82,7 +86,6 @@ fn a_copy_is_the_same(rt: HostRuntime) -> Result<(), Fail> {
     assert!(rt; copy.equals(&whole));
     assert_eq!(rt; copy.span(), span(A, A));
     assert_eq!(rt; copy.floor(0), 0);
-    assert_eq!(rt; copy.kept().len(), 1);
     assert!(rt;
         matches!(copy.find(0, 1), Past::Kept(done) if done.request.key() == b"abc".as_slice())
     );
@@ -104,8 +107,8 @@ fn neighbours_keep_a_call_once(rt: HostRuntime) -> Result<(), Fail> {
     let second = one(rt.alloc(), span(C, A), b"b")?;
     let refused = first.join(second).err().ok_or("joined")?;
     assert_eq!(rt; refused.fault, JoinFault::Twice);
-    assert_eq!(rt; refused.first.kept().len(), 1);
-    assert_eq!(rt; refused.second.kept().len(), 1);
+    assert!(rt; keeps(&refused.first, 0, 1));
+    assert!(rt; keeps(&refused.second, 0, 1));
     Ok(())
 }
 
@@ -143,13 +146,61 @@ fn keep_added(
 fn floors_drop_what_was_taken(rt: HostRuntime) -> Result<(), Fail> {
     let mut segment = one(rt.alloc(), span(A, A), b"abc")?;
     assert!(rt; keep_added(&mut segment, rt.alloc(), 2, b"b", 0)?);
-    assert_eq!(rt; segment.kept().len(), 2);
+    assert!(rt; keeps(&segment, 0, 1));
+    assert!(rt; keeps(&segment, 0, 2));
     assert!(rt; keep_added(&mut segment, rt.alloc(), 3, b"a", 2)?);
     assert_eq!(rt; segment.floor(0), 2);
-    assert_eq!(rt; segment.kept().len(), 1);
+    assert!(rt; keeps(&segment, 0, 3));
     assert!(rt; matches!(segment.find(0, 1), Past::Seen));
     let (before, behind) = cut_at_b(segment)?;
     assert_eq!(rt; before.floor(0), 2);
     assert_eq!(rt; behind.floor(0), 2);
+    Ok(())
+}
+
+/// A segment of the whole circle that keeps the first call of each of these callers.
+fn kept_of(alloc: Global, span: Span, callers: &[u64], key: &[u8]) -> Result<Segment, AllocError> {
+    let mut segment = Segment::empty(alloc, span);
+    for caller in callers {
+        let done = added(alloc, *caller, 1, key)?;
+        if !keep(&mut segment, done, 0) {
+            return Err(AllocError);
+        }
+    }
+    Ok(segment)
+}
+
+#[test]
+fn callers_are_kept_apart(rt: HostRuntime) -> Result<(), Fail> {
+    let segment = kept_of(rt.alloc(), span(A, A), &[5, 3, 9], b"abc")?;
+    for caller in [3, 5, 9] {
+        assert!(rt; keeps(&segment, caller, 1));
+        assert!(rt; !keeps(&segment, caller + 1, 1));
+    }
+    let same = kept_of(rt.alloc(), span(A, A), &[9, 5, 3], b"abc")?;
+    assert!(rt; segment.equals(&same));
+    assert!(rt; !segment.equals(&kept_of(rt.alloc(), span(A, A), &[3, 5], b"abc")?));
+    Ok(())
+}
+
+#[test]
+fn a_readied_caller_is_not_seen(rt: HostRuntime) -> Result<(), Fail> {
+    let before = kept_of(rt.alloc(), span(A, A), &[5, 9], b"abc")?;
+    let mut segment = before.try_copy()?;
+    segment.reserve(7)?;
+    assert!(rt; segment.equals(&before) && before.equals(&segment));
+    assert_eq!(rt; segment.floor(7), 0);
+    assert!(rt; matches!(segment.find(7, 1), Past::New));
+    Ok(())
+}
+
+#[test]
+fn joined_callers_keep_both_parts(rt: HostRuntime) -> Result<(), Fail> {
+    let first = kept_of(rt.alloc(), span(A, C), &[5, 3], b"abc")?;
+    let second = kept_of(rt.alloc(), span(C, A), &[4, 7], b"b")?;
+    let whole = first.join(second).ok().ok_or("not joined")?;
+    for caller in [3, 4, 5, 7] {
+        assert!(rt; keeps(&whole, caller, 1));
+    }
     Ok(())
 }

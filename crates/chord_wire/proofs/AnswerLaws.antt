@@ -17,7 +17,7 @@ use Rattle.chord_map.specs.Checked.{IsValue}
 use Rattle.chord_wire.specs.Spelling.{IsBytes, frame, value_field}
 use Rattle.chord_wire.specs.Replies.{IsReply, IsAnswer, reply_kind, reply_fields, values_field, answer_body}
 use Rattle.chord_wire.specs.Reading.{◌>>=◌, number_at, value_at, body_at, TakesNext, IsDecided, with_more}
-use Rattle.chord_wire.specs.ReadingReplies.{is_above, or_fault, status_of, status_at, code_at, rising_at, values_at, answer_at, ended, answer_fields, answer_in, answer_of_body, next_answer}
+use Rattle.chord_wire.specs.ReadingReplies.{is_above, or_fault, status_of, status_at, code_at, rising_at, values_from, answer_at, ended, answer_fields, answer_in, answer_of_body, next_answer}
 use Rattle.chord_wire.proofs.Steps.{IsBytes-rest, IsBytes-front, IsBytes-back, bind_ok, guard_on, guard_then, ok_is, Takes, Takes-then, wide32, wide64, number_takes, number_again}
 use Rattle.std.specs.Prelude.{IfOk, IfSome}
 use Rattle.chord_wire.proofs.RequestLaws.{ends, body_takes, body_again, body_stays}
@@ -180,8 +180,8 @@ fault_takes number (code ∷ bytes) x fits e =
     subst (AnswerTaken 255 number (code ∷ bytes)) (ok_is (answer.Fault number a.0, bytes) x a.2)
     (record { parts = ap (λ (b : ℕ). b ∷ bytes) t.0; rest_fits = IsBytes-rest code bytes fits }, refl, refl, t.1)
 
-values_take : (number : ℕ) (bytes : List ℕ) (x : Answer × List ℕ) → IsBytes bytes → values_at number bytes ≡ Ok x → AnswerTaken 130 number bytes x
-unfolding values_at
+values_take : (number : ℕ) (bytes : List ℕ) (x : Answer × List ℕ) → IsBytes bytes → values_from number bytes ≡ Ok x → AnswerTaken 130 number bytes x
+unfolding values_from
 values_take number bytes x fits e =
     let a = bind_ok (number_at w32 (fault BadValue number) bytes) (λ count. cond (ltb 1000 count.0) (Err (fault BadValue number)) (rising_at number None count.0 count.1 >>= λ values. Ok (answer.Reply number (Values values.0), values.1))) x e in
     let g = guard_on (ltb 1000 a.0.0) (fault BadValue number) (rising_at number None a.0.0 a.0.1 >>= λ values. Ok (answer.Reply number (Values values.0), values.1)) x a.2 in
@@ -266,7 +266,7 @@ answer_taken (version ∷ kind ∷ bytes) a fits e =
 -- ---- a spelling is read again
 
 status_again : (number : ℕ) (reply : Reply) (rest : List ℕ) → IsReply reply → answer_at (reply_kind reply) number (reply_fields reply ++ rest) ≡ Ok (answer.Reply number reply, rest)
-unfolding answer_at status_at values_at
+unfolding answer_at status_at values_from
 status_again number Added rest fits = refl
 status_again number Present rest fits = refl
 status_again number SetFull rest fits = refl

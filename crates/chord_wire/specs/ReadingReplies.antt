@@ -57,8 +57,8 @@ rising_at number before (suc count) bytes = do
     Ok (value.0 ∷ others.0, others.1)) else Err (fault BadValue number)
 
 -- a count of at most 1,000, and the values
-unfoldable pub values_at : ℕ → List ℕ → Result (Answer × List ℕ) WireFault
-values_at number bytes = do
+unfoldable pub values_from : ℕ → List ℕ → Result (Answer × List ℕ) WireFault
+values_from number bytes = do
   count ← number_at w32 (fault BadValue number) bytes
   if nat_lt 1000 count.0 then Err (fault BadValue number) else (do
     values ← rising_at number None count.0 count.1
@@ -66,7 +66,7 @@ values_at number bytes = do
 
 -- what stands behind the number
 unfoldable pub answer_at : ℕ → ℕ → List ℕ → Result (Answer × List ℕ) WireFault
-answer_at kind number bytes = if kind == 130 then values_at number bytes else (if kind == 255 then code_at number bytes else status_at kind number bytes)
+answer_at kind number bytes = if kind == 130 then values_from number bytes else (if kind == 255 then code_at number bytes else status_at kind number bytes)
 
 -- nothing may stand behind the last field
 abbrev pub ended : ℕ → Result (Answer × List ℕ) WireFault → Result Answer WireFault

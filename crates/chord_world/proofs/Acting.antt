@@ -25,11 +25,11 @@ use Rattle.chord_world.proofs.Keeping.{further}
 -- the new world is one, by a step of the old one, and its ring is kept
 pub record After (old new : WorldState) : Type 0 where
   pub world : IsWorld new
-  pub step : WorldStep old.known new.known
+  pub step : WorldStep old.world new.world
   pub ring : KeepsRing old new
 
 -- nothing of the ring changed
-pub keeps_same : (view old new : WorldState) → view ≡ old → new.known.nodes ≡ view.known.nodes → new.crashed ≡ view.crashed → KeepsRing old new
+pub keeps_same : (view old new : WorldState) → view ≡ old → new.world.nodes ≡ view.world.nodes → new.crashed ≡ view.crashed → KeepsRing old new
 keeps_same view old new same nodes crashed =
     subst (λ w. KeepsRing w new) same
     (record {
@@ -58,33 +58,33 @@ calls_with nodes count sent (Some message) all here = calls_pushed nodes count s
 abbrev pub acted : Node → Option Message → Option ℕ → Option Done → WorldState → WorldState
 acted after sent target done view =
     record view {
-      known = record view.known { nodes = put_node after view.known.nodes; sent = with_one view.known.sent sent; history = with_one view.known.history done };
+      world = record view.world { nodes = put_node after view.world.nodes; sent = with_one view.world.sent sent; history = with_one view.world.history done };
       targets = with_one view.targets target;
     }
 
 -- the node at the place did a step
 pub record Acting (place : ℕ) (node after : Node) (taken sent : Option Message) (target : Option ℕ) (done : Option Done) (view : WorldState) : Type 0 where
-  pub here : slice_get view.known.nodes place ≡ Some node
+  pub here : slice_get view.world.nodes place ≡ Some node
   pub running : is_crashed place view ≡ false
   pub number : after.number ≡ node.number
-  pub was : WasSent view.known.sent taken
+  pub was : WasSent view.world.sent taken
   pub does : NodeStep node taken after sent done
-  pub call : SendsCall (length view.known.nodes) (length view.known.callers) sent
-  pub paired : length (with_one view.targets target) ≡ length (with_one view.known.sent sent)
-  pub ring : Kept (ring_of view) (ring_with (set view.known.nodes place after) view.crashed)
+  pub call : SendsCall (length view.world.nodes) (length view.world.callers) sent
+  pub paired : length (with_one view.targets target) ≡ length (with_one view.world.sent sent)
+  pub ring : Kept (ring_of view) (ring_with (set view.world.nodes place after) view.crashed)
 
 -- what the ring sees of the node stays
-pub ring_is : (place : ℕ) (node after : Node) (view : WorldState) → IsWorld view → slice_get view.known.nodes place ≡ Some node → after.links.me ≡ node.links.me
-    → member_links (is_crashed place view) after ≡ member_links (is_crashed place view) node → Kept (ring_of view) (ring_with (set view.known.nodes place after) view.crashed)
+pub ring_is : (place : ℕ) (node after : Node) (view : WorldState) → IsWorld view → slice_get view.world.nodes place ≡ Some node → after.links.me ≡ node.links.me
+    → member_links (is_crashed place view) after ≡ member_links (is_crashed place view) node → Kept (ring_of view) (ring_with (set view.world.nodes place after) view.crashed)
 ring_is place node after view kept here me links =
-    let ids = ids_same place node after view.known.nodes here me in
-    let members = members_same place node after view.known.nodes view.crashed kept.crashed here links in
+    let ids = ids_same place node after view.world.nodes here me in
+    let members = members_same place node after view.world.nodes view.crashed kept.crashed here links in
     subst (Kept (ring_of view)) (λ i. record { ids = sym ids i; members = sym members i })
-    (record { sound = kept.ring (node_there place view.known.nodes node here); principals = λ _ principal _. principal })
+    (record { sound = kept.ring (node_there place view.world.nodes node here); principals = λ _ principal _. principal })
 
 -- its links stay, and it is gone as it was
-pub ring_stays : (place : ℕ) (node after : Node) (view : WorldState) → IsWorld view → slice_get view.known.nodes place ≡ Some node
-    → is_gone after.phase ≡ is_gone node.phase → after.links ≡ node.links → Kept (ring_of view) (ring_with (set view.known.nodes place after) view.crashed)
+pub ring_stays : (place : ℕ) (node after : Node) (view : WorldState) → IsWorld view → slice_get view.world.nodes place ≡ Some node
+    → is_gone after.phase ≡ is_gone node.phase → after.links ≡ node.links → Kept (ring_of view) (ring_with (set view.world.nodes place after) view.crashed)
 ring_stays place node after view kept here gone links =
     ring_is place node after view kept here (ap (λ (l : NodeLinks). l.me) links) (λ i. links_unless (is_crashed place view || gone i) (links i))
 
@@ -92,21 +92,21 @@ pub acts : (place : ℕ) (node after : Node) (taken sent : Option Message) (targ
     → Acting place node after taken sent target done view → After view (acted after sent target done view)
 acts place node after taken sent target done view kept acting =
     let new = acted after sent target done view in
-    let at = acting.number ∙ node_number 0 place node view.known.nodes kept.nodes acting.here in
-    let put : put_node after view.known.nodes ≡ set view.known.nodes place after = put_node_place 0 place after view.known.nodes kept.nodes at in
-    let there : node_at place view.known.nodes ≡ Some node = node_at_place 0 place place view.known.nodes kept.nodes (omega arith) ∙ acting.here in
-    let count : length (put_node after view.known.nodes) ≡ length view.known.nodes = ap (λ (ns : List Node). length ns) put ∙ length-set view.known.nodes place after in
-    let ring : ring_of new ≡ ring_with (set view.known.nodes place after) view.crashed = ap (λ ns. ring_with ns view.crashed) put in
-    let did : WorldStep view.known new.known = Acts place node after taken sent done there acting.was acting.does in
+    let at = acting.number ∙ node_number 0 place node view.world.nodes kept.nodes acting.here in
+    let put : put_node after view.world.nodes ≡ set view.world.nodes place after = put_node_place 0 place after view.world.nodes kept.nodes at in
+    let there : node_at place view.world.nodes ≡ Some node = node_at_place 0 place place view.world.nodes kept.nodes (omega arith) ∙ acting.here in
+    let count : length (put_node after view.world.nodes) ≡ length view.world.nodes = ap (λ (ns : List Node). length ns) put ∙ length-set view.world.nodes place after in
+    let ring : ring_of new ≡ ring_with (set view.world.nodes place after) view.crashed = ap (λ ns. ring_with ns view.crashed) put in
+    let did : WorldStep view.world new.world = Acts place node after taken sent done there acting.was acting.does in
     record {
       world =
           record {
-            reached = further view.known new.known kept.reached did;
-            nodes = subst (NodesFrom 0) (sym put) (nodes_set 0 place after view.known.nodes kept.nodes at);
+            reached = further view.world new.world kept.reached did;
+            nodes = subst (NodesFrom 0) (sym put) (nodes_set 0 place after view.world.nodes kept.nodes at);
             callers = kept.callers;
             targets = acting.paired;
-            calls = subst (λ n. AreKnown n (length view.known.callers) (with_one view.known.sent sent)) (sym count)
-                (calls_with (length view.known.nodes) (length view.known.callers) view.known.sent sent kept.calls acting.call);
+            calls = subst (λ n. AreKnown n (length view.world.callers) (with_one view.world.sent sent)) (sym count)
+                (calls_with (length view.world.nodes) (length view.world.callers) view.world.sent sent kept.calls acting.call);
             crashed = kept.crashed ∙ sym count;
             ring = λ _. subst IsSound (sym ring) acting.ring.sound;
             low = kept.low;
@@ -121,7 +121,7 @@ acts place node after taken sent target done view kept acting =
             crashed = λ number out. (
               out,
               ap (λ ns. slice_get ns number) put
-                  ∙ get_other view.known.nodes place number after (λ same. true≢false (sym out ∙ ap (λ n. is_crashed n view) same ∙ acting.running)),
+                  ∙ get_other view.world.nodes place number after (λ same. true≢false (sym out ∙ ap (λ n. is_crashed n view) same ∙ acting.running)),
             );
           };
     }
@@ -133,23 +133,23 @@ acts_at place node after taken sent target done view old new same kept acting is
     subst (After old) (sym is) (subst (λ w. After w (acted after sent target done view)) same (acts place node after taken sent target done view kept acting))
 
 -- the nodes of the code
-pub put_is : (place : ℕ) (node after : Node) (nodes : List Node) (view : WorldState) → IsWorld view → slice_get view.known.nodes place ≡ Some node → after.number ≡ node.number
-    → nodes ≡ set view.known.nodes place after → nodes ≡ put_node after view.known.nodes
+pub put_is : (place : ℕ) (node after : Node) (nodes : List Node) (view : WorldState) → IsWorld view → slice_get view.world.nodes place ≡ Some node → after.number ≡ node.number
+    → nodes ≡ set view.world.nodes place after → nodes ≡ put_node after view.world.nodes
 put_is place node after nodes view kept here number is =
-    is ∙ sym (put_node_place 0 place after view.known.nodes kept.nodes (number ∙ node_number 0 place node view.known.nodes kept.nodes here))
+    is ∙ sym (put_node_place 0 place after view.world.nodes kept.nodes (number ∙ node_number 0 place node view.world.nodes kept.nodes here))
 
 -- ---- what the code reads of the ring
 
-pub count_is : (count : ℕ) (view old : WorldState) → view ≡ old → IsWorld view → count ≡ length view.known.nodes → count ≡ length (ring_of old).members
+pub count_is : (count : ℕ) (view old : WorldState) → view ≡ old → IsWorld view → count ≡ length view.world.nodes → count ≡ length (ring_of old).members
 count_is count view old same kept is =
-    is ∙ sym (members_length view.known.nodes view.crashed kept.crashed) ∙ ap (λ (w : WorldState). length (ring_of w).members) same
+    is ∙ sym (members_length view.world.nodes view.crashed kept.crashed) ∙ ap (λ (w : WorldState). length (ring_of w).members) same
 
-pub none_past : (number : ℕ) (view old : WorldState) → view ≡ old → IsWorld view → length view.known.nodes ≤ number → None ≡ links_of (ring_of old).members number
+pub none_past : (number : ℕ) (view old : WorldState) → view ≡ old → IsWorld view → length view.world.nodes ≤ number → None ≡ links_of (ring_of old).members number
 none_past number view old same kept past =
-    subst (λ w. None ≡ links_of (ring_of w).members number) same (sym (member_past number view.known.nodes view.crashed kept.crashed past))
+    subst (λ w. None ≡ links_of (ring_of w).members number) same (sym (member_past number view.world.nodes view.crashed kept.crashed past))
 
-pub links_here : (number : ℕ) (node : Node) (out : Bool) (view old : WorldState) → view ≡ old → IsWorld view → slice_get view.known.nodes number ≡ Some node → is_crashed number view ≡ out
+pub links_here : (number : ℕ) (node : Node) (out : Bool) (view old : WorldState) → view ≡ old → IsWorld view → slice_get view.world.nodes number ≡ Some node → is_crashed number view ≡ out
     → member_links out node ≡ links_of (ring_of old).members number
 links_here number node out view old same kept here is =
     subst (λ w. member_links out node ≡ links_of (ring_of w).members number) same
-    (ap (λ b. member_links b node) (sym is) ∙ sym (member_at number view.known.nodes view.crashed node kept.crashed here))
+    (ap (λ b. member_links b node) (sym is) ∙ sym (member_at number view.world.nodes view.crashed node kept.crashed here))

@@ -84,9 +84,9 @@ lengths targets sent ask answer.Full e = length_pushed targets 0 ∙ ap (λ n. n
 
 -- a delivered call, by what the node at its place did
 pub record Asked (place to : ℕ) (ask : Ask) (view : WorldState) (answered : Answered) (node after : Node) : Type 0 where
-  pub sent : slice_get view.known.sent place ≡ Some (AskMessage ask)
+  pub sent : slice_get view.world.sent place ≡ Some (AskMessage ask)
   pub target : slice_get view.targets place ≡ Some to
-  pub here : slice_get view.known.nodes to ≡ Some node
+  pub here : slice_get view.world.nodes to ≡ Some node
   pub answers : AskIs ask node (Ok answered) after
 
 done_phase : (did : Option Done) (ask : Ask) (node : Node) → (after_done did ask node).phase ≡ node.phase
@@ -105,11 +105,11 @@ answer_after place to ask view old answered node after new same kept asked runni
       here = asked.here;
       running = ap (is_crashed to) same ∙ running;
       number = answered_number ask node after answered asked.answers;
-      was = was_sent view.known.sent place (AskMessage ask) asked.sent;
+      was = was_sent view.world.sent place (AskMessage ask) asked.sent;
       does = asked_steps ask node (Ok answered) after asked.answers;
-      call = answer_call (length view.known.nodes) (length view.known.callers) ask node answered (segment_with (id_of ask.request) node.held) asked.answers.0
-          (call_at (length view.known.nodes) (length view.known.callers) view.known.sent place (AskMessage ask) kept.calls asked.sent);
-      paired = lengths view.targets view.known.sent ask answered kept.targets;
+      call = answer_call (length view.world.nodes) (length view.world.callers) ask node answered (segment_with (id_of ask.request) node.held) asked.answers.0
+          (call_at (length view.world.nodes) (length view.world.callers) view.world.sent place (AskMessage ask) kept.calls asked.sent);
+      paired = lengths view.targets view.world.sent ask answered kept.targets;
       ring = ring_stays to node after view kept asked.here
           (ap (λ (n : Node). is_gone n.phase) asked.answers.1 ∙ ap is_gone (done_phase (ask_done ask node) ask node))
           (ap (λ (n : Node). n.links) asked.answers.1 ∙ done_links (ask_done ask node) ask node);
@@ -117,25 +117,25 @@ answer_after place to ask view old answered node after new same kept asked runni
     is
 
 pub answer_delivers : (place to : ℕ) (ask : Ask) (view old : WorldState) (answered : Answered) (node after : Node) → view ≡ old → IsWorld view → Asked place to ask view answered node after
-    → is_crashed to old ≡ false → Delivers place old (outcome_of answered (length view.known.sent)) (with_answer ask node after answered view)
+    → is_crashed to old ≡ false → Delivers place old (outcome_of answered (length view.world.sent)) (with_answer ask node after answered view)
 answer_delivers place to ask view old answered node after same kept asked running =
-    subst (λ (w : WorldState). Delivers place w (outcome_of answered (length view.known.sent)) (with_answer ask node after answered view)) same
-    (To_node ask to node after answered asked.sent asked.target (node_at_place 0 to to view.known.nodes kept.nodes (omega arith) ∙ asked.here)
+    subst (λ (w : WorldState). Delivers place w (outcome_of answered (length view.world.sent)) (with_answer ask node after answered view)) same
+    (To_node ask to node after answered asked.sent asked.target (node_at_place 0 to to view.world.nodes kept.nodes (omega arith) ∙ asked.here)
     (ap (is_crashed to) same ∙ running) asked.answers)
 
 -- in the words of the code
 abbrev pub after_answer : List Node → List Message → List Done → List ℕ → WorldState → WorldState
-after_answer nodes sent history targets view = record view { known = record view.known { nodes = nodes; sent = sent; history = history }; targets = targets }
+after_answer nodes sent history targets view = record view { world = record view.world { nodes = nodes; sent = sent; history = history }; targets = targets }
 
 pub answered_is : (place to : ℕ) (ask : Ask) (view : WorldState) (answered : Answered) (did : Option Done) (nodes : List Node) (sent before : List Message) (history earlier : List Done) (targets known : List ℕ)
-    → IsWorld view → (done : Answers to ask view.known.nodes answered did nodes) → sent ≡ with_one before (message_by ask.caller ask.number answered) → before ≡ view.known.sent
-    → history ≡ with_one earlier did → earlier ≡ view.known.history → targets ≡ with_one known (target_of answered) → known ≡ view.targets
+    → IsWorld view → (done : Answers to ask view.world.nodes answered did nodes) → sent ≡ with_one before (message_by ask.caller ask.number answered) → before ≡ view.world.sent
+    → history ≡ with_one earlier did → earlier ≡ view.world.history → targets ≡ with_one known (target_of answered) → known ≡ view.targets
     → after_answer nodes sent history targets view ≡ with_answer ask done.node done.after answered view
 answered_is place to ask view answered did nodes sent before history earlier targets known kept done s s' h h' t t' =
-    let at = answered_number ask done.node done.after answered done.answers.0 ∙ node_number 0 to done.node view.known.nodes kept.nodes done.here in
-    let put : nodes ≡ put_node done.after view.known.nodes = done.new_is ∙ sym (put_node_place 0 to done.after view.known.nodes kept.nodes at) in
-    let messages : sent ≡ with_one view.known.sent (sent_by ask answered) = s ∙ ap (λ xs. with_one xs (message_by ask.caller ask.number answered)) s' ∙ ap (with_one view.known.sent) (message_is ask answered) in
-    let noted : history ≡ with_one view.known.history (ask_done ask done.node) = h ∙ ap (λ xs. with_one xs did) h' ∙ ap (with_one view.known.history) done.answers.1 in
+    let at = answered_number ask done.node done.after answered done.answers.0 ∙ node_number 0 to done.node view.world.nodes kept.nodes done.here in
+    let put : nodes ≡ put_node done.after view.world.nodes = done.new_is ∙ sym (put_node_place 0 to done.after view.world.nodes kept.nodes at) in
+    let messages : sent ≡ with_one view.world.sent (sent_by ask answered) = s ∙ ap (λ xs. with_one xs (message_by ask.caller ask.number answered)) s' ∙ ap (with_one view.world.sent) (message_is ask answered) in
+    let noted : history ≡ with_one view.world.history (ask_done ask done.node) = h ∙ ap (λ xs. with_one xs did) h' ∙ ap (with_one view.world.history) done.answers.1 in
     let nodes_of : targets ≡ with_one view.targets (target_of answered) = t ∙ ap (λ xs. with_one xs (target_of answered)) t' in
     λ i. after_answer (put i) (messages i) (noted i) (nodes_of i) view
 
@@ -151,15 +151,15 @@ heard_number told Known core after h = ap (λ (c : Caller). c.number) h.2
 
 -- a delivered reply, by what the caller at its place did
 pub record ToldTo (place : ℕ) (told : Told) (view : WorldState) (heard : Heard) (core after : Caller) : Type 0 where
-  pub sent : slice_get view.known.sent place ≡ Some (ToldMessage told)
-  pub here : slice_get view.known.callers told.caller ≡ Some core
+  pub sent : slice_get view.world.sent place ≡ Some (ToldMessage told)
+  pub here : slice_get view.world.callers told.caller ≡ Some core
   pub hears : TakeIs told core (Ok heard) after
 
 pub told_step : (place : ℕ) (told : Told) (view : WorldState) (heard : Heard) (core after : Caller) → IsWorld view → ToldTo place told view heard core after
-    → WorldStep view.known (with_heard after view).known
+    → WorldStep view.world (with_heard after view).world
 told_step place told view heard core after kept to =
-    Calls told.caller core after (Some (ToldLetter told)) None (caller_at_place 0 told.caller told.caller view.known.callers kept.callers (omega arith) ∙ to.here)
-    (was_sent view.known.sent place (ToldMessage told) to.sent) (heard_step told heard core after to.hears)
+    Calls told.caller core after (Some (ToldLetter told)) None (caller_at_place 0 told.caller told.caller view.world.callers kept.callers (omega arith) ∙ to.here)
+    (was_sent view.world.sent place (ToldMessage told) to.sent) (heard_step told heard core after to.hears)
 
 pub told_is_world : (place : ℕ) (told : Told) (view : WorldState) (heard : Heard) (core after : Caller) → IsWorld view → ToldTo place told view heard core after → IsWorld (with_heard after view)
 told_is_world place told view heard core after kept to =
@@ -169,17 +169,17 @@ pub told_delivers : (place : ℕ) (told : Told) (view old : WorldState) (heard :
     → Delivers place old (outcome_heard heard told.caller) (with_heard after view)
 told_delivers place told view old heard core after same kept to =
     subst (λ (w : WorldState). Delivers place w (outcome_heard heard told.caller) (with_heard after view)) same
-    (To_caller told core after heard to.sent (caller_at_place 0 told.caller told.caller view.known.callers kept.callers (omega arith) ∙ to.here) to.hears)
+    (To_caller told core after heard to.sent (caller_at_place 0 told.caller told.caller view.world.callers kept.callers (omega arith) ∙ to.here) to.hears)
 
 -- in the words of the code
 abbrev pub after_hearing : List Caller → WorldState → WorldState
-after_hearing callers view = record view { known = record view.known { callers = callers } }
+after_hearing callers view = record view { world = record view.world { callers = callers } }
 
-pub heard_is : (told : Told) (view : WorldState) (heard : Heard) (callers : List Caller) → IsWorld view → (did : Hears told.caller told view.known.callers heard callers)
+pub heard_is : (told : Told) (view : WorldState) (heard : Heard) (callers : List Caller) → IsWorld view → (did : Hears told.caller told view.world.callers heard callers)
     → after_hearing callers view ≡ with_heard did.after view
 heard_is told view heard callers kept did =
-    let at = heard_number told heard did.core did.after did.hears ∙ caller_number 0 told.caller did.core view.known.callers kept.callers did.here in
-    ap (λ (cs : List Caller). after_hearing cs view) (did.new_is ∙ sym (put_caller_place 0 told.caller did.after view.known.callers kept.callers at))
+    let at = heard_number told heard did.core did.after did.hears ∙ caller_number 0 told.caller did.core view.world.callers kept.callers did.here in
+    ap (λ (cs : List Caller). after_hearing cs view) (did.new_is ∙ sym (put_caller_place 0 told.caller did.after view.world.callers kept.callers at))
 
 -- a reply that was sent answers a request of its caller's own
 foreign_none : (told : Told) (core : Caller) → told.caller ≡ core.number → answers told.reply (submitted_by (Some core) told.number) ≡ true → IsForeign told core → ⊥
@@ -189,40 +189,40 @@ foreign_none told core own owed (inr (inl none)) =
 foreign_none told core own owed (inr (inr (submission, at, pending, unfit))) =
     let bad : false ≡ true = sym unfit ∙ sym (ap (λ o. answers told.reply (request_with o)) at) ∙ owed in cc
 
-pub told_owed : (told : Told) (place : ℕ) (view : WorldState) → IsWorld view → Headline view.known → slice_get view.known.sent place ≡ Some (ToldMessage told) → IsOwed told.caller told view.known.callers
+pub told_owed : (told : Told) (place : ℕ) (view : WorldState) → IsWorld view → Headline view.world → slice_get view.world.sent place ≡ Some (ToldMessage told) → IsOwed told.caller told view.world.callers
 told_owed told place view kept headline sent core here foreign =
-    let at : caller_at told.caller view.known.callers ≡ Some core = caller_at_place 0 told.caller told.caller view.known.callers kept.callers (omega arith) ∙ here in
-    let number = caller_number 0 told.caller core view.known.callers kept.callers here in
+    let at : caller_at told.caller view.world.callers ≡ Some core = caller_at_place 0 told.caller told.caller view.world.callers kept.callers (omega arith) ∙ here in
+    let number = caller_number 0 told.caller core view.world.callers kept.callers here in
     let owed : answers told.reply (submitted_by (Some core) told.number) ≡ true =
-    ap (λ o. answers told.reply (submitted_by o told.number)) (sym at) ∙ headline.history.owed told (was_sent view.known.sent place (ToldMessage told) sent) in
+    ap (λ o. answers told.reply (submitted_by o told.number)) (sym at) ∙ headline.history.owed told (was_sent view.world.sent place (ToldMessage told) sent) in
     foreign_none told core (omega arith) owed foreign
 
 -- ---- Full
 
-pub full_there : (place caller number : ℕ) (view : WorldState) → IsWorld view → slice_get view.known.sent place ≡ Some (FullMessage caller number)
-    → (core : Caller) × (slice_get view.known.callers caller ≡ Some core)
+pub full_there : (place caller number : ℕ) (view : WorldState) → IsWorld view → slice_get view.world.sent place ≡ Some (FullMessage caller number)
+    → (core : Caller) × (slice_get view.world.callers caller ≡ Some core)
 full_there place caller number view kept sent =
-    let within : caller < length view.known.callers = call_at (length view.known.nodes) (length view.known.callers) view.known.sent place (FullMessage caller number) kept.calls sent in
-    ⊎_elim (λ h. (h.0, h.2)) (λ h. absurd (let past = h.0 in omega arith)) (slice_get_cases view.known.callers caller).1
+    let within : caller < length view.world.callers = call_at (length view.world.nodes) (length view.world.callers) view.world.sent place (FullMessage caller number) kept.calls sent in
+    ⊎_elim (λ h. (h.0, h.2)) (λ h. absurd (let past = h.0 in omega arith)) (slice_get_cases view.world.callers caller).1
 
-pub full_delivers : (place caller number : ℕ) (view old : WorldState) → view ≡ old → IsWorld view → slice_get view.known.sent place ≡ Some (FullMessage caller number)
+pub full_delivers : (place caller number : ℕ) (view old : WorldState) → view ≡ old → IsWorld view → slice_get view.world.sent place ≡ Some (FullMessage caller number)
     → Delivers place old did.HeardFull old
 full_delivers place caller number view old same kept sent =
     let there = full_there place caller number view kept sent in
     subst (λ (w : WorldState). Delivers place w did.HeardFull w) same
-    (Full_to_caller caller number there.0 sent (caller_at_place 0 caller caller view.known.callers kept.callers (omega arith) ∙ there.1))
+    (Full_to_caller caller number there.0 sent (caller_at_place 0 caller caller view.world.callers kept.callers (omega arith) ∙ there.1))
 
-pub full_step : (place caller number : ℕ) (view old : WorldState) → view ≡ old → IsWorld view → slice_get view.known.sent place ≡ Some (FullMessage caller number)
-    → WorldStep old.known old.known
+pub full_step : (place caller number : ℕ) (view old : WorldState) → view ≡ old → IsWorld view → slice_get view.world.sent place ≡ Some (FullMessage caller number)
+    → WorldStep old.world old.world
 full_step place caller number view old same kept sent =
     let there = full_there place caller number view kept sent in
     let core = there.0 in
-    let at = caller_number 0 caller core view.known.callers kept.callers there.1 in
-    let put : put_caller core view.known.callers ≡ view.known.callers = put_caller_place 0 caller core view.known.callers kept.callers at ∙ set_same view.known.callers caller core there.1 in
-    subst (λ (w : WorldState). WorldStep w.known w.known) same
-    (subst (λ cs. WorldStep view.known (record view.known { callers = cs })) put
-    (Calls caller core core (Some (FullLetter caller number)) None (caller_at_place 0 caller caller view.known.callers kept.callers (omega arith) ∙ there.1)
-    (was_sent view.known.sent place (FullMessage caller number) sent) (Hears_full caller number)))
+    let at = caller_number 0 caller core view.world.callers kept.callers there.1 in
+    let put : put_caller core view.world.callers ≡ view.world.callers = put_caller_place 0 caller core view.world.callers kept.callers at ∙ set_same view.world.callers caller core there.1 in
+    subst (λ (w : WorldState). WorldStep w.world w.world) same
+    (subst (λ cs. WorldStep view.world (record view.world { callers = cs })) put
+    (Calls caller core core (Some (FullLetter caller number)) None (caller_at_place 0 caller caller view.world.callers kept.callers (omega arith) ∙ there.1)
+    (was_sent view.world.sent place (FullMessage caller number) sent) (Hears_full caller number)))
 
 -- ---- in the words of the code
 
@@ -241,41 +241,41 @@ pub read_is : {A : Type 0} (items before : List A) (place : ℕ) (x y : A) → i
 read_is items before place x y same within e here = let both : Some x ≡ Some y = sym (read items before place x same within e) ∙ here in cc
 
 -- the message that is asked for, over the view of the fields
-pub sent_here : (view old : WorldState) (place : ℕ) (message : Message) → view ≡ old → slice_get old.known.sent place ≡ Some message → slice_get view.known.sent place ≡ Some message
-sent_here view old place message same here = ap (λ (w : WorldState). slice_get w.known.sent place) same ∙ here
+pub sent_here : (view old : WorldState) (place : ℕ) (message : Message) → view ≡ old → slice_get old.world.sent place ≡ Some message → slice_get view.world.sent place ≡ Some message
+sent_here view old place message same here = ap (λ (w : WorldState). slice_get w.world.sent place) same ∙ here
 
-pub sent_there : (view old : WorldState) (place : ℕ) (message : Message) → view ≡ old → slice_get view.known.sent place ≡ Some message → slice_get old.known.sent place ≡ Some message
-sent_there view old place message same here = ap (λ (w : WorldState). slice_get w.known.sent place) (sym same) ∙ here
+pub sent_there : (view old : WorldState) (place : ℕ) (message : Message) → view ≡ old → slice_get view.world.sent place ≡ Some message → slice_get old.world.sent place ≡ Some message
+sent_there view old place message same here = ap (λ (w : WorldState). slice_get w.world.sent place) (sym same) ∙ here
 
-pub astray : (place to : ℕ) (ask : Ask) (view old : WorldState) → view ≡ old → IsWorld view → slice_get view.known.sent place ≡ Some (AskMessage ask) → slice_get view.targets place ≡ Some to
-    → length view.known.nodes ≤ to → IsAstray place old
+pub astray : (place to : ℕ) (ask : Ask) (view old : WorldState) → view ≡ old → IsWorld view → slice_get view.world.sent place ≡ Some (AskMessage ask) → slice_get view.targets place ≡ Some to
+    → length view.world.nodes ≤ to → IsAstray place old
 astray place to ask view old same kept sent target past =
     subst (IsAstray place) same
-    (record { ask = ask; to = to; sent = sent; target = target; missing = node_at_place 0 to to view.known.nodes kept.nodes (omega arith) ∙ slice_get_past view.known.nodes to past })
+    (record { ask = ask; to = to; sent = sent; target = target; missing = node_at_place 0 to to view.world.nodes kept.nodes (omega arith) ∙ slice_get_past view.world.nodes to past })
 
-pub for_crashed : (place to : ℕ) (ask : Ask) (node : Node) (view old : WorldState) → view ≡ old → IsWorld view → slice_get view.known.sent place ≡ Some (AskMessage ask) → slice_get view.targets place ≡ Some to
-    → slice_get view.known.nodes to ≡ Some node → is_crashed to old ≡ true → IsForCrashed place old
+pub for_crashed : (place to : ℕ) (ask : Ask) (node : Node) (view old : WorldState) → view ≡ old → IsWorld view → slice_get view.world.sent place ≡ Some (AskMessage ask) → slice_get view.targets place ≡ Some to
+    → slice_get view.world.nodes to ≡ Some node → is_crashed to old ≡ true → IsForCrashed place old
 for_crashed place to ask node view old same kept sent target here out =
     subst (IsForCrashed place) same
     (record {
       to = to;
       node = node;
       is_for = Ask_for ask to sent target;
-      here = node_at_place 0 to to view.known.nodes kept.nodes (omega arith) ∙ here;
+      here = node_at_place 0 to to view.world.nodes kept.nodes (omega arith) ∙ here;
       crashed = ap (is_crashed to) same ∙ out;
     })
 
 -- the calls that are delivered
-pub asked_of : (place to : ℕ) (ask : Ask) (view : WorldState) (answered : Answered) (did : Option Done) (nodes : List Node) → slice_get view.known.sent place ≡ Some (AskMessage ask)
-    → slice_get view.targets place ≡ Some to → (done : Answers to ask view.known.nodes answered did nodes) → Asked place to ask view answered done.node done.after
+pub asked_of : (place to : ℕ) (ask : Ask) (view : WorldState) (answered : Answered) (did : Option Done) (nodes : List Node) → slice_get view.world.sent place ≡ Some (AskMessage ask)
+    → slice_get view.targets place ≡ Some to → (done : Answers to ask view.world.nodes answered did nodes) → Asked place to ask view answered done.node done.after
 asked_of place to ask view answered did nodes sent target done = record { sent = sent; target = target; here = done.here; answers = done.answers.0 }
 
 pub world_after : (view new next : WorldState) → new ≡ next → IsWorld next → IsWorld new
 world_after view new next e h = subst IsWorld (sym e) h
 
-pub step_after : (view old new next : WorldState) → view ≡ old → new ≡ next → WorldStep view.known next.known → WorldStep old.known new.known
+pub step_after : (view old new next : WorldState) → view ≡ old → new ≡ next → WorldStep view.world next.world → WorldStep old.world new.world
 step_after view old new next same e h =
-    subst (λ (w : WorldState). WorldStep w.known new.known) same (subst (λ (w : WorldState). WorldStep view.known w.known) (sym e) h)
+    subst (λ (w : WorldState). WorldStep w.world new.world) same (subst (λ (w : WorldState). WorldStep view.world w.world) (sym e) h)
 
 pub delivers_after : (place : ℕ) (old new next : WorldState) (outcome outcome' : Outcome) → new ≡ next → outcome ≡ outcome' → Delivers place old outcome' next → Delivers place old outcome new
 delivers_after place old new next outcome outcome' e f h =
@@ -284,20 +284,20 @@ delivers_after place old new next outcome outcome' e f h =
 pub told_copy : (told : Told) (reply : Reply) → reply ≡ told.reply → ◌≡◌ {A = Told} (record { caller = told.caller; number = told.number; reply = reply }) told
 told_copy told reply e = λ i. record { caller = told.caller; number = told.number; reply = e i }
 
-pub same_fields : (view : WorldState) (nodes : List Node) (sent : List Message) (history : List Done) (targets : List ℕ) → nodes ≡ view.known.nodes → sent ≡ view.known.sent
-    → history ≡ view.known.history → targets ≡ view.targets → after_answer nodes sent history targets view ≡ view
+pub same_fields : (view : WorldState) (nodes : List Node) (sent : List Message) (history : List Done) (targets : List ℕ) → nodes ≡ view.world.nodes → sent ≡ view.world.sent
+    → history ≡ view.world.history → targets ≡ view.targets → after_answer nodes sent history targets view ≡ view
 same_fields view nodes sent history targets n s h t = λ i. after_answer (n i) (s i) (h i) (t i) view
 
 -- out of memory for a message that takes some
 pub stays : (view old new : WorldState) (place : ℕ) → view ≡ old → TakesMemory place view → new ≡ view → TakesMemory place old × (new ≡ old)
 stays view old new place same takes e = (subst (TakesMemory place) same takes, e ∙ same)
 
-pub ask_takes : (place to : ℕ) (ask : Ask) (view old : WorldState) → view ≡ old → IsWorld view → slice_get view.known.sent place ≡ Some (AskMessage ask)
-    → slice_get view.targets place ≡ Some to → to < length view.known.nodes → is_crashed to old ≡ false → TakesMemory place view
+pub ask_takes : (place to : ℕ) (ask : Ask) (view old : WorldState) → view ≡ old → IsWorld view → slice_get view.world.sent place ≡ Some (AskMessage ask)
+    → slice_get view.targets place ≡ Some to → to < length view.world.nodes → is_crashed to old ≡ false → TakesMemory place view
 ask_takes place to ask view old same kept sent target within running =
-    let found = slice_get_there view.known.nodes to within in
-    Ask_takes ask to found.0 sent target (node_at_place 0 to to view.known.nodes kept.nodes (omega arith) ∙ found.1) (ap (is_crashed to) same ∙ running)
+    let found = slice_get_there view.world.nodes to within in
+    Ask_takes ask to found.0 sent target (node_at_place 0 to to view.world.nodes kept.nodes (omega arith) ∙ found.1) (ap (is_crashed to) same ∙ running)
 
-pub told_to : (place : ℕ) (told : Told) (view : WorldState) (heard : Heard) (callers : List Caller) → slice_get view.known.sent place ≡ Some (ToldMessage told)
-    → (did : Hears told.caller told view.known.callers heard callers) → ToldTo place told view heard did.core did.after
+pub told_to : (place : ℕ) (told : Told) (view : WorldState) (heard : Heard) (callers : List Caller) → slice_get view.world.sent place ≡ Some (ToldMessage told)
+    → (did : Hears told.caller told view.world.callers heard callers) → ToldTo place told view heard did.core did.after
 told_to place told view heard callers sent did = record { sent = sent; here = did.here; hears = did.hears }

@@ -46,7 +46,7 @@ use Rattle.chord_world.proofs.Posting.{set_same, length_pushed}
 
 -- ---- who acts
 
-pub has_node : (place : ℕ) (view old : WorldState) → view ≡ old → IsWorld view → place < length view.known.nodes → HasNode place old
+pub has_node : (place : ℕ) (view old : WorldState) → view ≡ old → IsWorld view → place < length view.world.nodes → HasNode place old
 has_node place view old same kept within = let found = node_within place view old same kept within in record { node = found.0; here = found.1 }
 
 pub is_zero : (n : ℕ) → true ≡ (n == 0) → n ≡ 0
@@ -58,15 +58,15 @@ no_nodes [] e = refl
 no_nodes (node ∷ nodes) e = absurd (omega arith)
 
 -- there is no node
-pub uncreated : (view old : WorldState) → view ≡ old → length view.known.nodes ≡ 0 → old.known.nodes ≡ []
-uncreated view old same none = ap (λ (w : WorldState). w.known.nodes) (sym same) ∙ no_nodes view.known.nodes none
+pub uncreated : (view old : WorldState) → view ≡ old → length view.world.nodes ≡ 0 → old.world.nodes ≡ []
+uncreated view old same none = ap (λ (w : WorldState). w.world.nodes) (sym same) ∙ no_nodes view.world.nodes none
 
 -- the node that may act is at its place
-pub acts_within : (place : ℕ) (view old : WorldState) → view ≡ old → IsWorld view → HasNode place old → place < length view.known.nodes
+pub acts_within : (place : ℕ) (view old : WorldState) → view ≡ old → IsWorld view → HasNode place old → place < length view.world.nodes
 acts_within place view old same kept has =
-    let here : slice_get view.known.nodes place ≡ Some has.node =
-    sym (node_at_place 0 place place view.known.nodes kept.nodes (omega arith)) ∙ ap (λ (w : WorldState). node_at place w.known.nodes) same ∙ has.here in
-    slice_get_within view.known.nodes place has.node here
+    let here : slice_get view.world.nodes place ≡ Some has.node =
+    sym (node_at_place 0 place place view.world.nodes kept.nodes (omega arith)) ∙ ap (λ (w : WorldState). node_at place w.world.nodes) same ∙ has.here in
+    slice_get_within view.world.nodes place has.node here
 
 pub not_there : (place : ℕ) (old : WorldState) (refusal : Refusal) (result : Result (Unit {0}) Refusal) → IsMissing place old refusal → IsErrAnd result (λ e. e ≡ refusal) → ActIs place old result
 not_there place old refusal (Ok done) missing is = absurd is
@@ -117,8 +117,8 @@ kept_leave fault node after h = h.1
 -- ---- a node that does a step, with no call executed
 
 pub hands : (place : ℕ) (node after : Node) (taken sent : Option Message) (target : Option ℕ) (view old new : WorldState) → view ≡ old → IsWorld view
-    → slice_get view.known.nodes place ≡ Some node → is_crashed place old ≡ false → IsStill node after → WasSent view.known.sent taken → NodeStep node taken after sent None
-    → SendsCall (length view.known.nodes) (length view.known.callers) sent → length (with_one view.targets target) ≡ length (with_one view.known.sent sent)
+    → slice_get view.world.nodes place ≡ Some node → is_crashed place old ≡ false → IsStill node after → WasSent view.world.sent taken → NodeStep node taken after sent None
+    → SendsCall (length view.world.nodes) (length view.world.callers) sent → length (with_one view.targets target) ≡ length (with_one view.world.sent sent)
     → new ≡ acted after sent target None view → After old new
 hands place node after taken sent target view old new same kept here running still was does call paired is =
     acts_at place node after taken sent target None view old new same kept
@@ -136,19 +136,19 @@ hands place node after taken sent target view old new same kept here running sti
 
 -- ---- a node that changes, and sends nothing
 
-pub nodes_are : {A : Type 0} (Is Steps : Call A) (place : ℕ) (result : A) (view : WorldState) (nodes : List Node) → IsWorld view → (does : DoesAt Is Steps place view.known.nodes result nodes)
+pub nodes_are : {A : Type 0} (Is Steps : Call A) (place : ℕ) (result : A) (view : WorldState) (nodes : List Node) → IsWorld view → (does : DoesAt Is Steps place view.world.nodes result nodes)
     → does.after.number ≡ does.node.number → with_nodes nodes view ≡ acted does.after None None None view
 nodes_are Is Steps place result view nodes kept does number =
     ap (λ ns. with_nodes ns view) (put_is place does.node does.after nodes view kept does.here number does.new_is)
 
 pub moves : {E : Type 0} (Is : Call (Result (Unit {0}) E)) (place : ℕ) (view old : WorldState) (nodes : List Node) → view ≡ old → IsWorld view → is_crashed place old ≡ false
-    → (does : DoesAt Is MoveSteps place view.known.nodes (Ok tt) nodes) → IsStill does.node does.after → After old (with_nodes nodes view)
+    → (does : DoesAt Is MoveSteps place view.world.nodes (Ok tt) nodes) → IsStill does.node does.after → After old (with_nodes nodes view)
 moves Is place view old nodes same kept running does still =
     hands place does.node does.after None None None view old (with_nodes nodes view) same kept does.here running still tt does.steps tt kept.targets
     (nodes_are Is MoveSteps place (Ok tt) view nodes kept does still.number)
 
 pub moved : {E : Type 0} (Is Steps : Call (Result (Unit {0}) E)) (place : ℕ) (view old : WorldState) (nodes : List Node) → view ≡ old → IsWorld view → is_crashed place old ≡ false
-    → (does : DoesAt Is Steps place view.known.nodes (Ok tt) nodes) → does.after.number ≡ does.node.number → Moved Is place old (with_nodes nodes view)
+    → (does : DoesAt Is Steps place view.world.nodes (Ok tt) nodes) → does.after.number ≡ does.node.number → Moved Is place old (with_nodes nodes view)
 moved Is Steps place view old nodes same kept running does number =
     subst (λ w. Moved Is place w (with_nodes nodes view)) same
     (record {
@@ -166,7 +166,7 @@ pub nodes_stay : {A : Type 0} (Is Steps : Call A) (place : ℕ) (result : A) (ol
 nodes_stay Is Steps place result old nodes does stays = does.new_is ∙ ap (set old place) stays ∙ set_same old place does.node does.here
 
 pub refused : {A E : Type 0} (Is Steps : Call (Result A E)) (refusal_of : E → Refusal) (place : ℕ) (fault : E) (refusal : Refusal) (view old : WorldState) (nodes : List Node) → view ≡ old → IsWorld view
-    → is_crashed place old ≡ false → (does : DoesAt Is Steps place view.known.nodes (Err fault) nodes) → does.after ≡ does.node → refusal ≡ refusal_of fault → RefusedBy Is refusal_of place old refusal
+    → is_crashed place old ≡ false → (does : DoesAt Is Steps place view.world.nodes (Err fault) nodes) → does.after ≡ does.node → refusal ≡ refusal_of fault → RefusedBy Is refusal_of place old refusal
 refused Is Steps refusal_of place fault refusal view old nodes same kept running does stays told = record {
   node = does.node;
   fault = fault;
@@ -177,12 +177,12 @@ refused Is Steps refusal_of place fault refusal view old nodes same kept running
 }
 
 pub move_refused : {E : Type 0} (Is : Call (Result (Unit {0}) E)) (refusal_of : E → Refusal) (place : ℕ) (fault : E) (view old : WorldState) (nodes : List Node) (result : Result Outcome Refusal)
-    → view ≡ old → IsWorld view → is_crashed place old ≡ false → (does : DoesAt Is MoveSteps place view.known.nodes (Err fault) nodes) → does.after ≡ does.node
+    → view ≡ old → IsWorld view → is_crashed place old ≡ false → (does : DoesAt Is MoveSteps place view.world.nodes (Err fault) nodes) → does.after ≡ does.node
     → IsErrAnd result (λ e. e ≡ refusal_of fault) → MoveIs Is refusal_of place old result (with_nodes nodes view)
 move_refused Is refusal_of place fault view old nodes (Ok outcome) same kept running does stays is = absurd is
 move_refused Is refusal_of place fault view old nodes (Err e) same kept running does stays is = (
   inr (refused Is MoveSteps refusal_of place fault e view old nodes same kept running does stays is),
-  ap (λ ns. with_nodes ns view) (nodes_stay Is MoveSteps place (Err fault) view.known.nodes nodes does stays) ∙ same,
+  ap (λ ns. with_nodes ns view) (nodes_stay Is MoveSteps place (Err fault) view.world.nodes nodes does stays) ∙ same,
 )
 
 -- the node of this number does nothing
@@ -205,19 +205,19 @@ pub record Stepped (Is : WorldState → Result Outcome Refusal → WorldState �
   pub ring : KeepsRing old new
 
 -- a node that refused leaves the world as it was
-pub left_world : {A : Type 0} (Is Steps : Call A) (place : ℕ) (result : A) (view : WorldState) (nodes : List Node) → IsWorld view → DoesAt Is Steps place view.known.nodes result nodes
+pub left_world : {A : Type 0} (Is Steps : Call A) (place : ℕ) (result : A) (view : WorldState) (nodes : List Node) → IsWorld view → DoesAt Is Steps place view.world.nodes result nodes
     → ((node after : Node) → Is node result after → after ≡ node) → IsWorld (with_nodes nodes view)
 left_world Is Steps place result view nodes kept does stays =
-    subst (λ ns. IsWorld (with_nodes ns view)) (sym (nodes_stay Is Steps place result view.known.nodes nodes does (stays does.node does.after does.is))) kept
+    subst (λ ns. IsWorld (with_nodes ns view)) (sym (nodes_stay Is Steps place result view.world.nodes nodes does (stays does.node does.after does.is))) kept
 
-pub left_step : {A : Type 0} (Is Steps : Call A) (place : ℕ) (did : A) (P : Refusal → Type 0) (view old : WorldState) (nodes : List Node) (result : Result Outcome Refusal) → view ≡ old → DoesAt Is Steps place view.known.nodes did nodes
+pub left_step : {A : Type 0} (Is Steps : Call A) (place : ℕ) (did : A) (P : Refusal → Type 0) (view old : WorldState) (nodes : List Node) (result : Result Outcome Refusal) → view ≡ old → DoesAt Is Steps place view.world.nodes did nodes
     → ((node after : Node) → Is node did after → after ≡ node) → IsErrAnd result P → (Advances old result (with_nodes nodes view)) × KeepsRing old (with_nodes nodes view)
 left_step Is Steps place did P view old nodes result same does stays is =
-    let left = nodes_stay Is Steps place did view.known.nodes nodes does (stays does.node does.after does.is) in
+    let left = nodes_stay Is Steps place did view.world.nodes nodes does (stays does.node does.after does.is) in
     (advances_not old (with_nodes nodes view) P result is (ap (λ ns. with_nodes ns view) left ∙ same), keeps_same view old (with_nodes nodes view) same left refl)
 
 pub move_refuses : {E : Type 0} (Is : Call (Result (Unit {0}) E)) (refusal_of : E → Refusal) (place : ℕ) (fault : E) (view old : WorldState) (nodes : List Node) (result : Result Outcome Refusal) → view ≡ old → IsWorld view
-    → is_crashed place old ≡ false → DoesAt Is MoveSteps place view.known.nodes (Err fault) nodes → ((node after : Node) → Is node (Err fault) after → after ≡ node) → IsErrAnd result (λ e. e ≡ refusal_of fault)
+    → is_crashed place old ≡ false → DoesAt Is MoveSteps place view.world.nodes (Err fault) nodes → ((node after : Node) → Is node (Err fault) after → after ≡ node) → IsErrAnd result (λ e. e ≡ refusal_of fault)
     → Stepped (MoveIs Is refusal_of place) old result (with_nodes nodes view)
 move_refuses Is refusal_of place fault view old nodes result same kept running does stays is =
     let left = left_step Is MoveSteps place (Err fault) (λ e. e ≡ refusal_of fault) view old nodes result same does stays is in
@@ -225,14 +225,14 @@ move_refuses Is refusal_of place fault view old nodes result same kept running d
 
 -- a node that moved
 pub move_does : {E : Type 0} (Is : Call (Result (Unit {0}) E)) (refusal_of : E → Refusal) (place : ℕ) (view old : WorldState) (nodes : List Node) → view ≡ old → IsWorld view → is_crashed place old ≡ false
-    → DoesAt Is MoveSteps place view.known.nodes (Ok tt) nodes → ((node after : Node) → Is node (Ok tt) after → IsStill node after) → Stepped (MoveIs Is refusal_of place) old (Ok did.Done) (with_nodes nodes view)
+    → DoesAt Is MoveSteps place view.world.nodes (Ok tt) nodes → ((node after : Node) → Is node (Ok tt) after → IsStill node after) → Stepped (MoveIs Is refusal_of place) old (Ok did.Done) (with_nodes nodes view)
 move_does Is refusal_of place view old nodes same kept running does stays =
     let still = stays does.node does.after does.is in
     let after = moves Is place view old nodes same kept running does still in
     record { answer = moved Is MoveSteps place view old nodes same kept running does still.number; step = after.step; ring = after.ring }
 
 pub moved_world : {E : Type 0} (Is : Call (Result (Unit {0}) E)) (place : ℕ) (view old : WorldState) (nodes : List Node) → view ≡ old → IsWorld view → is_crashed place old ≡ false
-    → DoesAt Is MoveSteps place view.known.nodes (Ok tt) nodes → ((node after : Node) → Is node (Ok tt) after → IsStill node after) → IsWorld (with_nodes nodes view)
+    → DoesAt Is MoveSteps place view.world.nodes (Ok tt) nodes → ((node after : Node) → Is node (Ok tt) after → IsStill node after) → IsWorld (with_nodes nodes view)
 moved_world Is place view old nodes same kept running does stays = (moves Is place view old nodes same kept running does (stays does.node does.after does.is)).world
 
 -- ---- a part that goes out
@@ -256,24 +256,24 @@ resent_ends from to number part (Some parcelled) q e =
 abbrev pub after_sending : Node → Part → WorldState → WorldState
 after_sending after part view = with_sent (PartMessage part) 0 (with_node after view)
 
-pub part_known : (place to : ℕ) (node : Node) (part : Part) (view : WorldState) → IsWorld view → slice_get view.known.nodes place ≡ Some node → to < length view.known.nodes
-    → (part.from ≡ node.number) × (part.to ≡ to) → (part.from < length view.known.nodes) × (part.to < length view.known.nodes)
+pub part_known : (place to : ℕ) (node : Node) (part : Part) (view : WorldState) → IsWorld view → slice_get view.world.nodes place ≡ Some node → to < length view.world.nodes
+    → (part.from ≡ node.number) × (part.to ≡ to) → (part.from < length view.world.nodes) × (part.to < length view.world.nodes)
 part_known place to node part view kept here there ends =
-    let at = node_number 0 place node view.known.nodes kept.nodes here in
-    let within = slice_get_within view.known.nodes place node here in
+    let at = node_number 0 place node view.world.nodes kept.nodes here in
+    let within = slice_get_within view.world.nodes place node here in
     let from = ends.0 in
     let goes = ends.1 in
     (omega arith, omega arith)
 
-pub sends_after : (place to : ℕ) (node after : Node) (part : Part) (view old new : WorldState) → view ≡ old → IsWorld view → slice_get view.known.nodes place ≡ Some node → is_crashed place old ≡ false
-    → to < length view.known.nodes → IsStill node after → (part.from ≡ node.number) × (part.to ≡ to) → NodeStep node None after (Some (PartMessage part)) None → new ≡ after_sending after part view
+pub sends_after : (place to : ℕ) (node after : Node) (part : Part) (view old new : WorldState) → view ≡ old → IsWorld view → slice_get view.world.nodes place ≡ Some node → is_crashed place old ≡ false
+    → to < length view.world.nodes → IsStill node after → (part.from ≡ node.number) × (part.to ≡ to) → NodeStep node None after (Some (PartMessage part)) None → new ≡ after_sending after part view
     → After old new
 sends_after place to node after part view old new same kept here running there still ends does is =
     hands place node after None (Some (PartMessage part)) (Some 0) view old new same kept here running still tt does (part_known place to node part view kept here there ends)
-    (length_pushed view.targets 0 ∙ ap (λ n. n + 1) kept.targets ∙ sym (length_pushed view.known.sent (PartMessage part))) is
+    (length_pushed view.targets 0 ∙ ap (λ n. n + 1) kept.targets ∙ sym (length_pushed view.world.sent (PartMessage part))) is
 
 pub sends_part : {E : Type 0} (Is : Call (Result Part E)) (place number : ℕ) (node after : Node) (part : Part) (view old new : WorldState) → view ≡ old → IsWorld view
-    → slice_get view.known.nodes place ≡ Some node → is_crashed place old ≡ false → Is node (Ok part) after → number ≡ length view.known.sent → new ≡ after_sending after part view
+    → slice_get view.world.nodes place ≡ Some node → is_crashed place old ≡ false → Is node (Ok part) after → number ≡ length view.world.sent → new ≡ after_sending after part view
     → SendsPart Is place old number new
 sends_part Is place number node after part view old new same kept here running does at is =
     subst (λ w. SendsPart Is place w number new) same
@@ -281,27 +281,27 @@ sends_part Is place number node after part view old new same kept here running d
 
 -- in the words of the code
 abbrev pub after_giving : List Node → List Message → List ℕ → WorldState → WorldState
-after_giving nodes sent targets view = record view { known = record view.known { nodes = nodes; sent = sent }; targets = targets }
+after_giving nodes sent targets view = record view { world = record view.world { nodes = nodes; sent = sent }; targets = targets }
 
 pub giving_is : (place to slot : ℕ) (part : Part) (view : WorldState) (nodes : List Node) (sent before : List Message) (targets earlier : List ℕ) → IsWorld view
-    → (does : DoesAt (GiveIs slot to) SendSteps place view.known.nodes (Ok part) nodes) → sent ≡ before ++ PartMessage part ∷ [] → before ≡ view.known.sent → targets ≡ earlier ++ 0 ∷ [] → earlier ≡ view.targets
+    → (does : DoesAt (GiveIs slot to) SendSteps place view.world.nodes (Ok part) nodes) → sent ≡ before ++ PartMessage part ∷ [] → before ≡ view.world.sent → targets ≡ earlier ++ 0 ∷ [] → earlier ≡ view.targets
     → after_giving nodes sent targets view ≡ after_sending does.after part view
 giving_is place to slot part view nodes sent before targets earlier kept does s s' t t' =
     let still = still_give slot to part does.node does.after does.is in
-    let put : nodes ≡ put_node does.after view.known.nodes = put_is place does.node does.after nodes view kept does.here still.number does.new_is in
-    let messages : sent ≡ view.known.sent ++ PartMessage part ∷ [] = s ∙ ap (λ (xs : List Message). xs ++ PartMessage part ∷ []) s' in
+    let put : nodes ≡ put_node does.after view.world.nodes = put_is place does.node does.after nodes view kept does.here still.number does.new_is in
+    let messages : sent ≡ view.world.sent ++ PartMessage part ∷ [] = s ∙ ap (λ (xs : List Message). xs ++ PartMessage part ∷ []) s' in
     let goes : targets ≡ view.targets ++ 0 ∷ [] = t ∙ ap (λ (xs : List ℕ). xs ++ 0 ∷ []) t' in
     λ i. after_giving (put i) (messages i) (goes i) view
 
-pub gives : (place to slot : ℕ) (part : Part) (view old new : WorldState) (nodes : List Node) → view ≡ old → IsWorld view → is_crashed place old ≡ false → to < length view.known.nodes
-    → (does : DoesAt (GiveIs slot to) SendSteps place view.known.nodes (Ok part) nodes) → new ≡ after_sending does.after part view → After old new
+pub gives : (place to slot : ℕ) (part : Part) (view old new : WorldState) (nodes : List Node) → view ≡ old → IsWorld view → is_crashed place old ≡ false → to < length view.world.nodes
+    → (does : DoesAt (GiveIs slot to) SendSteps place view.world.nodes (Ok part) nodes) → new ≡ after_sending does.after part view → After old new
 gives place to slot part view old new nodes same kept running there does is =
     sends_after place to does.node does.after part view old new same kept does.here running there (still_give slot to part does.node does.after does.is)
     (give_ends slot to part does.node does.after does.is) does.steps is
 
 -- a refused give
 pub give_refused : (place to slot : ℕ) (node : Node) (fault : GiveFault) (view old new : WorldState) (result : Result Outcome Refusal) → view ≡ old → IsWorld view → HasNode to old → is_crashed place old ≡ false
-    → slice_get view.known.nodes place ≡ Some node → GiveIs slot to node (Err fault) node → IsErrAnd result (λ e. e ≡ refusal_of_give fault) → new ≡ old → GiveStepIs place slot to old result new
+    → slice_get view.world.nodes place ≡ Some node → GiveIs slot to node (Err fault) node → IsErrAnd result (λ e. e ≡ refusal_of_give fault) → new ≡ old → GiveStepIs place slot to old result new
 give_refused place to slot node fault view old new (Ok outcome) same kept there running here why is e = absurd is
 give_refused place to slot node fault view old new (Err refusal) same kept there running here why is e =
     (inr (there, record { node = node; fault = fault; here = node_stands place view old node same kept here; running = running; is = why; told = is }), e)
@@ -321,12 +321,12 @@ give_kept place to give.NumbersSpent node after h = h.2
 give_kept place to give.Memory node after h = h.2
 
 pub give_stays : (place to slot : ℕ) (fault : GiveFault) (view : WorldState) (nodes : List Node) (sent : List Message) (targets : List ℕ)
-    → (does : DoesAt (GiveIs slot to) SendSteps place view.known.nodes (Err fault) nodes) → sent ≡ view.known.sent → targets ≡ view.targets → after_giving nodes sent targets view ≡ view
+    → (does : DoesAt (GiveIs slot to) SendSteps place view.world.nodes (Err fault) nodes) → sent ≡ view.world.sent → targets ≡ view.targets → after_giving nodes sent targets view ≡ view
 give_stays place to slot fault view nodes sent targets does s t =
-    let n = nodes_stay (GiveIs slot to) SendSteps place (Err fault) view.known.nodes nodes does (give_kept slot to fault does.node does.after does.is) in λ i. after_giving (n i) (s i) (t i) view
+    let n = nodes_stay (GiveIs slot to) SendSteps place (Err fault) view.world.nodes nodes does (give_kept slot to fault does.node does.after does.is) in λ i. after_giving (n i) (s i) (t i) view
 
 pub give_refused_at : (place to slot : ℕ) (fault : GiveFault) (view old : WorldState) (nodes : List Node) (sent : List Message) (targets : List ℕ) (result : Result Outcome Refusal) → view ≡ old → IsWorld view
-    → HasNode to old → is_crashed place old ≡ false → (does : DoesAt (GiveIs slot to) SendSteps place view.known.nodes (Err fault) nodes) → sent ≡ view.known.sent → targets ≡ view.targets
+    → HasNode to old → is_crashed place old ≡ false → (does : DoesAt (GiveIs slot to) SendSteps place view.world.nodes (Err fault) nodes) → sent ≡ view.world.sent → targets ≡ view.targets
     → IsErrAnd result (λ e. e ≡ refusal_of_give fault) → GiveStepIs place slot to old result (after_giving nodes sent targets view)
 give_refused_at place to slot fault view old nodes sent targets result same kept there running does s t is =
     give_refused place to slot does.node fault view old (after_giving nodes sent targets view) result same kept there running does.here
@@ -340,20 +340,20 @@ part_not place to item slot old refusal (Ok outcome) cannot is = absurd is
 part_not place to item slot old refusal (Err e) cannot is = (inl (subst (CannotAct place old) (sym is) cannot), refl)
 
 pub part_refused : (place to item slot : ℕ) (node : Node) (fault : ResendFault) (view old new : WorldState) (result : Result Outcome Refusal) → view ≡ old → IsWorld view → HasNode to old
-    → is_crashed place old ≡ false → slice_get view.known.nodes place ≡ Some node → ResendIs to item slot node (Err fault) → IsErrAnd result (λ e. e ≡ refusal_of_resend fault) → new ≡ old
+    → is_crashed place old ≡ false → slice_get view.world.nodes place ≡ Some node → ResendIs to item slot node (Err fault) → IsErrAnd result (λ e. e ≡ refusal_of_resend fault) → new ≡ old
     → SendPartIs place to item slot old result new
 part_refused place to item slot node fault view old new (Ok outcome) same kept there running here why is e = absurd is
 part_refused place to item slot node fault view old new (Err refusal) same kept there running here why is e =
     (inr (inr (there, record { node = node; fault = fault; here = node_stands place view old node same kept here; running = running; is = (why, refl); told = is })), e)
 
 -- a node that stays as it is
-pub same_node : (place : ℕ) (node : Node) (view : WorldState) → IsWorld view → slice_get view.known.nodes place ≡ Some node → with_node node view ≡ view
+pub same_node : (place : ℕ) (node : Node) (view : WorldState) → IsWorld view → slice_get view.world.nodes place ≡ Some node → with_node node view ≡ view
 same_node place node view kept here =
     ap (λ ns. with_nodes ns view)
-    (put_node_place 0 place node view.known.nodes kept.nodes (node_number 0 place node view.known.nodes kept.nodes here) ∙ set_same view.known.nodes place node here)
+    (put_node_place 0 place node view.world.nodes kept.nodes (node_number 0 place node view.world.nodes kept.nodes here) ∙ set_same view.world.nodes place node here)
 
-pub resends : (place to item slot : ℕ) (node : Node) (part : Part) (view old new : WorldState) → view ≡ old → IsWorld view → slice_get view.known.nodes place ≡ Some node → is_crashed place old ≡ false
-    → to < length view.known.nodes → ResendIs to item slot node (Ok part) → NodeStep node None node (Some (PartMessage part)) None → new ≡ after_sending node part view → After old new
+pub resends : (place to item slot : ℕ) (node : Node) (part : Part) (view old new : WorldState) → view ≡ old → IsWorld view → slice_get view.world.nodes place ≡ Some node → is_crashed place old ≡ false
+    → to < length view.world.nodes → ResendIs to item slot node (Ok part) → NodeStep node None node (Some (PartMessage part)) None → new ≡ after_sending node part view → After old new
 resends place to item slot node part view old new same kept here running there is steps e =
     sends_after place to node node part view old new same kept here running there (record { number = refl; gone = refl; links = refl })
     (resent_ends node.number to item slot (parcel_of (item_at to item node.outbox)) part is) steps e
@@ -374,24 +374,24 @@ kept_retire retire.NotLeaving node after h = h.1
 kept_retire retire.NotEmpty node after h = h.2
 
 pub retire_refused : (place : ℕ) (fault : RetireFault) (view old : WorldState) (nodes : List Node) (result : Result Outcome Refusal) → view ≡ old → IsWorld view → is_crashed place old ≡ false
-    → ¬ (IsNeeded place old) → (does : DoesAt RetireIs MoveSteps place view.known.nodes (Err fault) nodes) → IsErrAnd result (λ e. e ≡ refusal_of_retire fault)
+    → ¬ (IsNeeded place old) → (does : DoesAt RetireIs MoveSteps place view.world.nodes (Err fault) nodes) → IsErrAnd result (λ e. e ≡ refusal_of_retire fault)
     → RetireStepIs place old result (with_nodes nodes view)
 retire_refused place fault view old nodes (Ok outcome) same kept running unneeded does is = absurd is
 retire_refused place fault view old nodes (Err e) same kept running unneeded does is =
     subst (λ r. RetireStepIs place old (Err r) (with_nodes nodes view)) (sym is) (because fault does)
   where
-    because : (why : RetireFault) → DoesAt RetireIs MoveSteps place view.known.nodes (Err why) nodes → RetireStepIs place old (Err (refusal_of_retire why)) (with_nodes nodes view)
+    because : (why : RetireFault) → DoesAt RetireIs MoveSteps place view.world.nodes (Err why) nodes → RetireStepIs place old (Err (refusal_of_retire why)) (with_nodes nodes view)
     because retire.NotLeaving did = (
       inr (unneeded, refused RetireIs MoveSteps refusal_of_retire place retire.NotLeaving _ view old nodes same kept running did (kept_retire retire.NotLeaving did.node did.after did.is) refl),
-      ap (λ ns. with_nodes ns view) (nodes_stay RetireIs MoveSteps place (Err retire.NotLeaving) view.known.nodes nodes did (kept_retire retire.NotLeaving did.node did.after did.is)) ∙ same,
+      ap (λ ns. with_nodes ns view) (nodes_stay RetireIs MoveSteps place (Err retire.NotLeaving) view.world.nodes nodes did (kept_retire retire.NotLeaving did.node did.after did.is)) ∙ same,
     )
     because retire.NotEmpty did = (
       inr (unneeded, refused RetireIs MoveSteps refusal_of_retire place retire.NotEmpty _ view old nodes same kept running did (kept_retire retire.NotEmpty did.node did.after did.is) refl),
-      ap (λ ns. with_nodes ns view) (nodes_stay RetireIs MoveSteps place (Err retire.NotEmpty) view.known.nodes nodes did (kept_retire retire.NotEmpty did.node did.after did.is)) ∙ same,
+      ap (λ ns. with_nodes ns view) (nodes_stay RetireIs MoveSteps place (Err retire.NotEmpty) view.world.nodes nodes did (kept_retire retire.NotEmpty did.node did.after did.is)) ∙ same,
     )
 
 -- a leaving node that runs is a member
-pub leaving_member : (place : ℕ) (node : Node) (view old : WorldState) → view ≡ old → IsWorld view → slice_get view.known.nodes place ≡ Some node → is_crashed place old ≡ false → node.phase ≡ phase.Leaving
+pub leaving_member : (place : ℕ) (node : Node) (view old : WorldState) → view ≡ old → IsWorld view → slice_get view.world.nodes place ≡ Some node → is_crashed place old ≡ false → node.phase ≡ phase.Leaving
     → is_member (ring_of old).members place ≡ true
 leaving_member place node view old same kept here running leaving =
     ap is_some (sym (links_here place node (is_crashed place view) view old same kept here refl)) ∙ refl_member
@@ -408,12 +408,12 @@ can_of place old (inl none) member = absurd (true≢false (sym member ∙ none))
 can_of place old (inr can) member = can
 
 pub can_retire : (place : ℕ) (view old : WorldState) (nodes : List Node) → view ≡ old → IsWorld view → is_crashed place old ≡ false → NeededIs place old false
-    → (does : DoesAt RetireIs MoveSteps place view.known.nodes (Ok tt) nodes) → CanDepart (ring_of old).members place
+    → (does : DoesAt RetireIs MoveSteps place view.world.nodes (Ok tt) nodes) → CanDepart (ring_of old).members place
 can_retire place view old nodes same kept running needed does =
     can_of place old needed (leaving_member place does.node view old same kept does.here running does.is.0)
 
 pub retires_after : (place : ℕ) (view old : WorldState) (nodes : List Node) → view ≡ old → IsWorld view → is_crashed place old ≡ false → NeededIs place old false
-    → (does : DoesAt RetireIs MoveSteps place view.known.nodes (Ok tt) nodes) → After old (with_nodes nodes view)
+    → (does : DoesAt RetireIs MoveSteps place view.world.nodes (Ok tt) nodes) → After old (with_nodes nodes view)
 retires_after place view old nodes same kept running needed does =
     let can = can_retire place view old nodes same kept running needed does in
     subst (λ w. After w (with_nodes nodes view)) same
@@ -426,7 +426,7 @@ retires_after place view old nodes same kept running needed does =
       sends_none = does.is.2;
       can = subst (λ (w : WorldState). CanDepart (ring_of w).members place) (sym same) can;
     })
-    (does.new_is ∙ ap (set view.known.nodes place) does.is.4))
+    (does.new_is ∙ ap (set view.world.nodes place) does.is.4))
 
 pub retire_number : (node after : Node) → RetireIs node (Ok tt) after → after.number ≡ node.number
 retire_number node after h = ap (λ (n : Node). n.number) h.4

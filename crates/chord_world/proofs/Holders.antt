@@ -153,11 +153,11 @@ no_holder x (node ∷ nodes) one e =
     let there : node ∷ nodes ≢ [] = λ same. cc in
     let some = (one there).1 in cc
 
-pub holder_is : (x : ℕ) (view state : WorldState) → view ≡ state → (nodes : List Node) → nodes ≡ view.known.nodes → (o : Option Holder)
-    → (view.known.nodes ≢ [] → HasOneHolder x view.known.nodes)
+pub holder_is : (x : ℕ) (view state : WorldState) → view ≡ state → (nodes : List Node) → nodes ≡ view.world.nodes → (o : Option Holder)
+    → (view.world.nodes ≢ [] → HasOneHolder x view.world.nodes)
     → IfSome o (λ found. Contains (holders x nodes) found) → IfNone o (holders x nodes ≡ []) → HolderIs x state o
 holder_is x view state e nodes same None one some none =
-    subst (λ (s : WorldState). HolderIs x s None) e (no_holder x view.known.nodes one (subst (λ (ns : List Node). holders x ns ≡ []) same none))
+    subst (λ (s : WorldState). HolderIs x s None) e (no_holder x view.world.nodes one (subst (λ (ns : List Node). holders x ns ≡ []) same none))
 holder_is x view state e nodes same (Some found) one some none =
     subst (λ (s : WorldState). HolderIs x s (Some found)) e
-    (some_holder x view.known.nodes found one (subst (λ (ns : List Node). Contains (holders x ns) found) same some))
+    (some_holder x view.world.nodes found one (subst (λ (ns : List Node). Contains (holders x ns) found) same some))

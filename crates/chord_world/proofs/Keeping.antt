@@ -30,20 +30,20 @@ new_is_world r low high = record { reached = ∣ Stays ∣₁; nodes = tt; calle
 
 -- ---- a first node
 
-pub founds : (id : Id) (limit : ℕ) (old : WorldState) → id.number < 2 ^ 128 → old.known.nodes ≡ [] → WorldStep old.known (with_founder id limit old).known
+pub founds : (id : Id) (limit : ℕ) (old : WorldState) → id.number < 2 ^ 128 → old.world.nodes ≡ [] → WorldStep old.world (with_founder id limit old).world
 founds id limit old circle none = Creates (alone (record { no = 0; id = id }) old.r) limit circle none
 
 founded_ring : (id : Id) (r limit : ℕ) → ring_with (founder (alone (record { no = 0; id = id }) r) limit ∷ []) (false ∷ []) ≡ founded id.number r
 unfolding members_of ids_of
 founded_ring id r limit = refl
 
-pub founded_is_world : (id : Id) (limit : ℕ) (old : WorldState) → id.number < 2 ^ 128 → old.known.nodes ≡ [] → IsWorld old → IsWorld (with_founder id limit old)
+pub founded_is_world : (id : Id) (limit : ℕ) (old : WorldState) → id.number < 2 ^ 128 → old.world.nodes ≡ [] → IsWorld old → IsWorld (with_founder id limit old)
 founded_is_world id limit old circle none kept = record {
-  reached = further old.known (with_founder id limit old).known kept.reached (founds id limit old circle none);
+  reached = further old.world (with_founder id limit old).world kept.reached (founds id limit old circle none);
   nodes = (refl, tt);
   callers = kept.callers;
   targets = kept.targets;
-  calls = calls_of_more (length old.known.nodes) 1 (length old.known.callers) (length old.known.callers) old.known.sent
+  calls = calls_of_more (length old.world.nodes) 1 (length old.world.callers) (length old.world.callers) old.world.sent
       (let empty = ap (λ (ns : List Node). length ns) none in omega arith) (omega arith) kept.calls;
   crashed = refl;
   ring = λ _. subst IsSound (sym (founded_ring id old.r limit)) (IsSound-founded id.number old.r circle (let low = kept.low in omega arith));
@@ -53,19 +53,19 @@ founded_is_world id limit old circle none kept = record {
 
 -- ---- a caller
 
-pub opens : (window : ℕ) (old : WorldState) → IsWindow window → IsWorld old → WorldStep old.known (with_caller window old).known
+pub opens : (window : ℕ) (old : WorldState) → IsWindow window → IsWorld old → WorldStep old.world (with_caller window old).world
 opens window old fits kept =
-    Opens (length old.known.callers) window fits.0 fits.1
-    (caller_at_place 0 (length old.known.callers) (length old.known.callers) old.known.callers kept.callers (omega arith)
-    ∙ slice_get_past old.known.callers (length old.known.callers) (omega arith))
+    Opens (length old.world.callers) window fits.0 fits.1
+    (caller_at_place 0 (length old.world.callers) (length old.world.callers) old.world.callers kept.callers (omega arith)
+    ∙ slice_get_past old.world.callers (length old.world.callers) (omega arith))
 
 pub opened_is_world : (window : ℕ) (old : WorldState) → IsWindow window → IsWorld old → IsWorld (with_caller window old)
 opened_is_world window old fits kept = record {
-  reached = further old.known (with_caller window old).known kept.reached (opens window old fits kept);
+  reached = further old.world (with_caller window old).world kept.reached (opens window old fits kept);
   nodes = kept.nodes;
-  callers = callers_pushed 0 (new_caller (length old.known.callers) window) old.known.callers kept.callers (omega arith);
+  callers = callers_pushed 0 (new_caller (length old.world.callers) window) old.world.callers kept.callers (omega arith);
   targets = kept.targets;
-  calls = calls_of_more (length old.known.nodes) (length old.known.nodes) (length old.known.callers) _ old.known.sent (omega arith) (let more = length-append old.known.callers (new_caller (length old.known.callers) window ∷ []) in omega arith) kept.calls;
+  calls = calls_of_more (length old.world.nodes) (length old.world.nodes) (length old.world.callers) _ old.world.sent (omega arith) (let more = length-append old.world.callers (new_caller (length old.world.callers) window ∷ []) in omega arith) kept.calls;
   crashed = kept.crashed;
   ring = kept.ring;
   low = kept.low;
@@ -76,28 +76,28 @@ opened_is_world window old fits kept = record {
 
 -- the world with these nodes
 abbrev pub with_nodes : List Node → WorldState → WorldState
-with_nodes nodes view = record view { known = record view.known { nodes = nodes } }
+with_nodes nodes view = record view { world = record view.world { nodes = nodes } }
 
 -- and with these flags
 abbrev pub with_more : List Node → List Bool → WorldState → WorldState
-with_more nodes crashed view = record view { known = record view.known { nodes = nodes }; crashed = crashed }
+with_more nodes crashed view = record view { world = record view.world { nodes = nodes }; crashed = crashed }
 
 abbrev pub with_callers : List Caller → WorldState → WorldState
-with_callers callers view = record view { known = record view.known { callers = callers } }
+with_callers callers view = record view { world = record view.world { callers = callers } }
 
 -- where there was no memory
-pub no_room : (view old : WorldState) (nodes : List Node) (flags : List Bool) → view ≡ old → nodes ≡ view.known.nodes → flags ≡ view.crashed → with_more nodes flags view ≡ old
+pub no_room : (view old : WorldState) (nodes : List Node) (flags : List Bool) → view ≡ old → nodes ≡ view.world.nodes → flags ≡ view.crashed → with_more nodes flags view ≡ old
 no_room view old nodes flags same n f = (λ i. with_more (n i) (f i) view) ∙ same
 
 -- a first node, in the words of the code
-pub founded_items : (id : Id) (limit : ℕ) (view : WorldState) (nodes before : List Node) (node : Node) → view.known.nodes ≡ []
-    → nodes ≡ before ++ node ∷ [] → before ≡ view.known.nodes → node ≡ founder (alone (record { no = 0; id = id }) view.r) limit
+pub founded_items : (id : Id) (limit : ℕ) (view : WorldState) (nodes before : List Node) (node : Node) → view.world.nodes ≡ []
+    → nodes ≡ before ++ node ∷ [] → before ≡ view.world.nodes → node ≡ founder (alone (record { no = 0; id = id }) view.r) limit
     → nodes ≡ founder (alone (record { no = 0; id = id }) view.r) limit ∷ []
 founded_items id limit view nodes before node none items same is =
     items ∙ ap (λ (ns : List Node). ns ++ node ∷ []) (same ∙ none) ∙ ap (λ (n : Node). n ∷ []) is
 
 -- the flags of the nodes, of which there were none
-pub founded_flags : (view : WorldState) (flags before : List Bool) → IsWorld view → view.known.nodes ≡ [] → flags ≡ before ++ false ∷ [] → before ≡ view.crashed → flags ≡ false ∷ []
+pub founded_flags : (view : WorldState) (flags before : List Bool) → IsWorld view → view.world.nodes ≡ [] → flags ≡ before ++ false ∷ [] → before ≡ view.crashed → flags ≡ false ∷ []
 founded_flags view flags before kept none is same =
     is ∙ ap (λ fs. fs ++ false ∷ []) (same ∙ no_flags view.crashed (kept.crashed ∙ ap (λ (ns : List Node). length ns) none))
   where
@@ -105,7 +105,7 @@ founded_flags view flags before kept none is same =
     no_flags [] e = refl
     no_flags (f ∷ fs) e = absurd (omega arith)
 
-pub founded_at : (id : Id) (limit : ℕ) (view : WorldState) (nodes : List Node) (flags : List Bool) → id.number < 2 ^ 128 → view.known.nodes ≡ [] → IsWorld view
+pub founded_at : (id : Id) (limit : ℕ) (view : WorldState) (nodes : List Node) (flags : List Bool) → id.number < 2 ^ 128 → view.world.nodes ≡ [] → IsWorld view
     → nodes ≡ founder (alone (record { no = 0; id = id }) view.r) limit ∷ [] → flags ≡ false ∷ [] → IsWorld (with_more nodes flags view)
 founded_at id limit view nodes flags circle none kept is flagged =
     subst IsWorld (λ i. with_more (sym is i) (sym flagged i) view) (founded_is_world id limit view circle none kept)
@@ -118,43 +118,43 @@ pub map_some : {S : Type 0} (f : S → ℕ) (xs : List S) → 0 < length xs → 
 map_some f [] some e = omega arith
 map_some f (x ∷ xs) some e = cc
 
-pub founded_answer : (id : Id) (limits : List ℕ) (limit : ℕ) (view old : WorldState) (nodes : List Node) (flags : List Bool) → view ≡ old → view.known.nodes ≡ []
+pub founded_answer : (id : Id) (limits : List ℕ) (limit : ℕ) (view old : WorldState) (nodes : List Node) (flags : List Bool) → view ≡ old → view.world.nodes ≡ []
     → slice_get limits 0 ≡ Some limit → nodes ≡ founder (alone (record { no = 0; id = id }) view.r) limit ∷ [] → flags ≡ false ∷ []
     → CreateIs id limits old (Ok (did.Node 0)) (with_more nodes flags view)
 founded_answer id limits limit view old nodes flags same none first is flagged =
     subst (λ w. CreateIs id limits w (Ok (did.Node 0)) (with_more nodes flags view)) same
     (none, refl, (limit, first, λ i. with_more (is i) (flagged i) view))
 
-pub founded_step : (id : Id) (limit : ℕ) (view old : WorldState) (nodes : List Node) (flags : List Bool) → view ≡ old → id.number < 2 ^ 128 → view.known.nodes ≡ []
-    → nodes ≡ founder (alone (record { no = 0; id = id }) view.r) limit ∷ [] → WorldStep old.known (with_more nodes flags view).known
+pub founded_step : (id : Id) (limit : ℕ) (view old : WorldState) (nodes : List Node) (flags : List Bool) → view ≡ old → id.number < 2 ^ 128 → view.world.nodes ≡ []
+    → nodes ≡ founder (alone (record { no = 0; id = id }) view.r) limit ∷ [] → WorldStep old.world (with_more nodes flags view).world
 founded_step id limit view old nodes flags same circle none is =
-    subst (λ w. WorldStep w.known (with_more nodes flags view).known) same
-    (subst (λ ns. WorldStep view.known (with_more ns flags view).known) (sym is) (founds id limit view circle none))
+    subst (λ w. WorldStep w.world (with_more nodes flags view).world) same
+    (subst (λ ns. WorldStep view.world (with_more ns flags view).world) (sym is) (founds id limit view circle none))
 
 -- there was no ring before
-pub founded_keeps : (view old : WorldState) (nodes : List Node) (flags : List Bool) → view ≡ old → IsWorld view → view.known.nodes ≡ [] → KeepsRing old (with_more nodes flags view)
+pub founded_keeps : (view old : WorldState) (nodes : List Node) (flags : List Bool) → view ≡ old → IsWorld view → view.world.nodes ≡ [] → KeepsRing old (with_more nodes flags view)
 founded_keeps view old nodes flags same kept none =
     subst (λ w. KeepsRing w (with_more nodes flags view)) same
     (record {
       principals = λ node principal still.
-          absurd (none-some principal.links (sym (member_past node view.known.nodes view.crashed kept.crashed (let empty = ap (λ (ns : List Node). length ns) none in omega arith)) ∙ principal.is_its));
+          absurd (none-some principal.links (sym (member_past node view.world.nodes view.crashed kept.crashed (let empty = ap (λ (ns : List Node). length ns) none in omega arith)) ∙ principal.is_its));
       crashed = λ number out.
           absurd (let within = flag_within view.crashed number out in let empty = ap (λ (ns : List Node). length ns) none in let count = kept.crashed in omega arith);
     })
 
 -- a caller, in the words of the code
 pub opened_items : (window number : ℕ) (view : WorldState) (callers before : List Caller) (caller : Caller)
-    → callers ≡ before ++ caller ∷ [] → before ≡ view.known.callers → caller ≡ new_caller number window → number ≡ length view.known.callers
-    → callers ≡ view.known.callers ++ new_caller (length view.known.callers) window ∷ []
+    → callers ≡ before ++ caller ∷ [] → before ≡ view.world.callers → caller ≡ new_caller number window → number ≡ length view.world.callers
+    → callers ≡ view.world.callers ++ new_caller (length view.world.callers) window ∷ []
 opened_items window number view callers before caller items same is at =
-    items ∙ ap (λ (cs : List Caller). cs ++ caller ∷ []) same ∙ ap (λ (x : Caller). view.known.callers ++ x ∷ []) (is ∙ ap (λ n. new_caller n window) at)
+    items ∙ ap (λ (cs : List Caller). cs ++ caller ∷ []) same ∙ ap (λ (x : Caller). view.world.callers ++ x ∷ []) (is ∙ ap (λ n. new_caller n window) at)
 
 pub opened_at : (window : ℕ) (view : WorldState) (callers : List Caller) → IsWindow window → IsWorld view
-    → callers ≡ view.known.callers ++ new_caller (length view.known.callers) window ∷ [] → IsWorld (with_callers callers view)
+    → callers ≡ view.world.callers ++ new_caller (length view.world.callers) window ∷ [] → IsWorld (with_callers callers view)
 opened_at window view callers fits kept is = subst (λ cs. IsWorld (with_callers cs view)) (sym is) (opened_is_world window view fits kept)
 
 pub opened_step : (window : ℕ) (view old : WorldState) (callers : List Caller) → view ≡ old → IsWindow window → IsWorld view
-    → callers ≡ view.known.callers ++ new_caller (length view.known.callers) window ∷ [] → WorldStep old.known (with_callers callers view).known
+    → callers ≡ view.world.callers ++ new_caller (length view.world.callers) window ∷ [] → WorldStep old.world (with_callers callers view).world
 opened_step window view old callers same fits kept is =
-    subst (λ w. WorldStep w.known (with_callers callers view).known) same
-    (subst (λ cs. WorldStep view.known (with_callers cs view).known) (sym is) (opens window view fits kept))
+    subst (λ w. WorldStep w.world (with_callers callers view).world) same
+    (subst (λ cs. WorldStep view.world (with_callers cs view).world) (sym is) (opens window view fits kept))

@@ -18,18 +18,18 @@ use Rattle.chord_world.proofs.Keeping.{with_nodes}
 use Rattle.chord_world.proofs.Acting.{After, node_there, ring_is, acts_at}
 use Rattle.chord_world.proofs.Posting.{slice_get_there}
 
-pub node_stands : (place : ℕ) (view old : WorldState) (node : Node) → view ≡ old → IsWorld view → slice_get view.known.nodes place ≡ Some node → node_at place old.known.nodes ≡ Some node
+pub node_stands : (place : ℕ) (view old : WorldState) (node : Node) → view ≡ old → IsWorld view → slice_get view.world.nodes place ≡ Some node → node_at place old.world.nodes ≡ Some node
 node_stands place view old node same kept here =
-    subst (λ (w : WorldState). node_at place w.known.nodes ≡ Some node) same (node_at_place 0 place place view.known.nodes kept.nodes (omega arith) ∙ here)
+    subst (λ (w : WorldState). node_at place w.world.nodes ≡ Some node) same (node_at_place 0 place place view.world.nodes kept.nodes (omega arith) ∙ here)
 
-pub node_missing : (place : ℕ) (view old : WorldState) → view ≡ old → IsWorld view → length view.known.nodes ≤ place → node_at place old.known.nodes ≡ None
+pub node_missing : (place : ℕ) (view old : WorldState) → view ≡ old → IsWorld view → length view.world.nodes ≤ place → node_at place old.world.nodes ≡ None
 node_missing place view old same kept past =
-    subst (λ (w : WorldState). node_at place w.known.nodes ≡ None) same
-    (node_at_place 0 place place view.known.nodes kept.nodes (omega arith) ∙ slice_get_past view.known.nodes place past)
+    subst (λ (w : WorldState). node_at place w.world.nodes ≡ None) same
+    (node_at_place 0 place place view.world.nodes kept.nodes (omega arith) ∙ slice_get_past view.world.nodes place past)
 
 -- the ring after it: the same but for the fingers
-pointed_ring : (place finger : ℕ) (peer : Peer) (node : Node) (view : WorldState) → IsWorld view → slice_get view.known.nodes place ≡ Some node → is_crashed place view ≡ false
-    → Kept (ring_of view) (ring_with (set view.known.nodes place (pointed finger peer node)) view.crashed)
+pointed_ring : (place finger : ℕ) (peer : Peer) (node : Node) (view : WorldState) → IsWorld view → slice_get view.world.nodes place ≡ Some node → is_crashed place view ≡ false
+    → Kept (ring_of view) (ring_with (set view.world.nodes place (pointed finger peer node)) view.crashed)
 pointed_ring place finger peer node view kept here running =
     let after = pointed finger peer node in
     elim (cases_Bool (is_gone node.phase)) [
@@ -38,9 +38,9 @@ pointed_ring place finger peer node view kept here running =
           ∙ gone_both (is_crashed place view) after.links node.links
           ∙ sym (ap (λ g. links_unless (is_crashed place view || g) node.links) gone))
       | inr staying ↦
-          let sound = kept.ring (node_there place view.known.nodes node here) in
-          let member = member_at place view.known.nodes view.crashed node kept.crashed here ∙ ap (λ out. member_links out node) running ∙ ap (λ g. links_unless g node.links) staying in
-          subst (Kept (ring_of view)) (sym (ring_relinked place node after.links view.known.nodes view.crashed kept.crashed here running staying refl))
+          let sound = kept.ring (node_there place view.world.nodes node here) in
+          let member = member_at place view.world.nodes view.crashed node kept.crashed here ∙ ap (λ out. member_links out node) running ∙ ap (λ g. links_unless g node.links) staying in
+          subst (Kept (ring_of view)) (sym (ring_relinked place node after.links view.world.nodes view.crashed kept.crashed here running staying refl))
           (Kept-fingers (ring_of view) place node.links after.links.fingers sound member)
     ]
   where
@@ -48,7 +48,7 @@ pointed_ring place finger peer node view kept here running =
     gone_both true links other = refl
     gone_both false links other = refl
 
-pub pointed_after : (place finger : ℕ) (peer : Peer) (node : Node) (view old new : WorldState) → view ≡ old → IsWorld view → slice_get view.known.nodes place ≡ Some node → is_crashed place old ≡ false
+pub pointed_after : (place finger : ℕ) (peer : Peer) (node : Node) (view old new : WorldState) → view ≡ old → IsWorld view → slice_get view.world.nodes place ≡ Some node → is_crashed place old ≡ false
     → new ≡ with_node (pointed finger peer node) view → After old new
 pointed_after place finger peer node view old new same kept here running is =
     let runs : is_crashed place view ≡ false = ap (is_crashed place) same ∙ running in
@@ -66,20 +66,20 @@ pointed_after place finger peer node view old new same kept here running is =
     is
 
 -- in the words of the code
-pub pointed_is : (place finger : ℕ) (peer : Peer) (view : WorldState) (nodes : List Node) → IsWorld view → (points : PointsAt place finger peer view.known.nodes nodes)
+pub pointed_is : (place finger : ℕ) (peer : Peer) (view : WorldState) (nodes : List Node) → IsWorld view → (points : PointsAt place finger peer view.world.nodes nodes)
     → with_nodes nodes view ≡ with_node (pointed finger peer points.node) view
 pointed_is place finger peer view nodes kept points =
-    let at = node_number 0 place points.node view.known.nodes kept.nodes points.here in
-    let put : nodes ≡ put_node (pointed finger peer points.node) view.known.nodes = points.new_is ∙ sym (put_node_place 0 place (pointed finger peer points.node) view.known.nodes kept.nodes at) in
+    let at = node_number 0 place points.node view.world.nodes kept.nodes points.here in
+    let put : nodes ≡ put_node (pointed finger peer points.node) view.world.nodes = points.new_is ∙ sym (put_node_place 0 place (pointed finger peer points.node) view.world.nodes kept.nodes at) in
     ap (λ (ns : List Node). with_nodes ns view) put
 
-pub node_within : (place : ℕ) (view old : WorldState) → view ≡ old → IsWorld view → place < length view.known.nodes → (node : Node) × (node_at place old.known.nodes ≡ Some node)
+pub node_within : (place : ℕ) (view old : WorldState) → view ≡ old → IsWorld view → place < length view.world.nodes → (node : Node) × (node_at place old.world.nodes ≡ Some node)
 node_within place view old same kept within =
-    let found = slice_get_there view.known.nodes place within in
+    let found = slice_get_there view.world.nodes place within in
     (found.0, node_stands place view old found.0 same kept found.1)
 
 pub points_after : (place finger to : ℕ) (other : Node) (peer : Peer) (view old : WorldState) (nodes : List Node) → view ≡ old → IsWorld view → IsFinger finger → is_crashed place old ≡ false
-    → slice_get view.known.nodes to ≡ Some other → peer ≡ other.links.me → (points : PointsAt place finger peer view.known.nodes nodes) → Points place finger to old (with_nodes nodes view)
+    → slice_get view.world.nodes to ≡ Some other → peer ≡ other.links.me → (points : PointsAt place finger peer view.world.nodes nodes) → Points place finger to old (with_nodes nodes view)
 points_after place finger to other peer view old nodes same kept fits running there me points =
     subst (λ w. Points place finger to w (with_nodes nodes view)) same
     (record {

@@ -52,23 +52,23 @@ set_same (y ∷ xs) zero x e = let same : y ≡ x = cc in ap (λ z. z ∷ xs) (s
 set_same (y ∷ xs) (suc place) x e = ap (λ zs. y ∷ zs) (set_same xs place x e)
 
 -- the caller that stands at its place
-pub caller_there : (caller via : ℕ) (view old : WorldState) (core : Caller) → view ≡ old → IsWorld view → via < length view.known.nodes → slice_get view.known.callers caller ≡ Some core
+pub caller_there : (caller via : ℕ) (view old : WorldState) (core : Caller) → view ≡ old → IsWorld view → via < length view.world.nodes → slice_get view.world.callers caller ≡ Some core
     → IsThere caller via old core
 caller_there caller via view old core same kept node here =
-    subst (λ w. IsThere caller via w core) same (node, caller_at_place 0 caller caller view.known.callers kept.callers (omega arith) ∙ here)
+    subst (λ w. IsThere caller via w core) same (node, caller_at_place 0 caller caller view.world.callers kept.callers (omega arith) ∙ here)
 
-pub caller_stands : (caller : ℕ) (view old : WorldState) (core : Caller) → view ≡ old → IsWorld view → slice_get view.known.callers caller ≡ Some core → caller_at caller old.known.callers ≡ Some core
+pub caller_stands : (caller : ℕ) (view old : WorldState) (core : Caller) → view ≡ old → IsWorld view → slice_get view.world.callers caller ≡ Some core → caller_at caller old.world.callers ≡ Some core
 caller_stands caller view old core same kept here =
-    subst (λ (w : WorldState). caller_at caller w.known.callers ≡ Some core) same (caller_at_place 0 caller caller view.known.callers kept.callers (omega arith) ∙ here)
+    subst (λ (w : WorldState). caller_at caller w.world.callers ≡ Some core) same (caller_at_place 0 caller caller view.world.callers kept.callers (omega arith) ∙ here)
 
-pub caller_missing : (caller : ℕ) (view old : WorldState) → view ≡ old → IsWorld view → length view.known.callers ≤ caller → caller_at caller old.known.callers ≡ None
+pub caller_missing : (caller : ℕ) (view old : WorldState) → view ≡ old → IsWorld view → length view.world.callers ≤ caller → caller_at caller old.world.callers ≡ None
 caller_missing caller view old same kept past =
-    subst (λ (w : WorldState). caller_at caller w.known.callers ≡ None) same
-    (caller_at_place 0 caller caller view.known.callers kept.callers (omega arith) ∙ slice_get_past view.known.callers caller past)
+    subst (λ (w : WorldState). caller_at caller w.world.callers ≡ None) same
+    (caller_at_place 0 caller caller view.world.callers kept.callers (omega arith) ∙ slice_get_past view.world.callers caller past)
 
-pub caller_within : (caller : ℕ) (view old : WorldState) → view ≡ old → IsWorld view → caller < length view.known.callers → (core : Caller) × (caller_at caller old.known.callers ≡ Some core)
+pub caller_within : (caller : ℕ) (view old : WorldState) → view ≡ old → IsWorld view → caller < length view.world.callers → (core : Caller) × (caller_at caller old.world.callers ≡ Some core)
 caller_within caller view old same kept within =
-    let found = slice_get_there view.known.callers caller within in
+    let found = slice_get_there view.world.callers caller within in
     (found.0, caller_stands caller view old found.0 same kept found.1)
 
 pub not_zero : (n : ℕ) → false ≡ (n == 0) → 0 < n
@@ -76,14 +76,14 @@ not_zero zero e = cc
 not_zero (suc n) e = omega arith
 
 -- a node is there
-pub created : (view old : WorldState) → view ≡ old → 0 < length view.known.nodes → old.known.nodes ≢ []
-created view old same some none = let count = ap (λ (w : WorldState). length w.known.nodes) same in let empty = ap (λ (ns : List Node). length ns) none in omega arith
+pub created : (view old : WorldState) → view ≡ old → 0 < length view.world.nodes → old.world.nodes ≢ []
+created view old same some none = let count = ap (λ (w : WorldState). length w.world.nodes) same in let empty = ap (λ (ns : List Node). length ns) none in omega arith
 
 -- from the world to its callers
-pub can_submit : (caller via : ℕ) (request : Request) (view old : WorldState) → view ≡ old → IsWorld view → RefusesCall caller via request old Memory → CanSubmit caller request view.known.callers
+pub can_submit : (caller via : ℕ) (request : Request) (view old : WorldState) → view ≡ old → IsWorld view → RefusesCall caller via request old Memory → CanSubmit caller request view.world.callers
 can_submit caller via request view old same kept may = record {
   core = may.core;
-  here = sym (caller_at_place 0 caller caller view.known.callers kept.callers (omega arith)) ∙ ap (λ (w : WorldState). caller_at caller w.known.callers) same ∙ may.there.1;
+  here = sym (caller_at_place 0 caller caller view.world.callers kept.callers (omega arith)) ∙ ap (λ (w : WorldState). caller_at caller w.world.callers) same ∙ may.there.1;
   can = may.refuses;
 }
 
@@ -93,7 +93,7 @@ pub sent_number : (request : Request) (core after : Caller) (ask : Ask) → Subm
 sent_number request core after ask submits = ap (λ (c : Caller). c.number) submits.4
 
 pub sends_step : (caller via : ℕ) (request : Request) (old : WorldState) (core after : Caller) (ask : Ask) → IsThere caller via old core → SubmitIs request core (Ok ask) after
-    → WorldStep old.known (with_ask after ask via old).known
+    → WorldStep old.world (with_ask after ask via old).world
 sends_step caller via request old core after ask there submits = Calls caller core after None (Some (AskLetter ask)) there.1 tt (submit_steps request core ask after submits)
 
 pub length_pushed : {A : Type 0} (xs : List A) (x : A) → length (xs ++ x ∷ []) ≡ length xs + 1
@@ -102,20 +102,20 @@ length_pushed xs x = length-append xs (x ∷ [])
 pub sent_is_world : (caller via : ℕ) (request : Request) (old : WorldState) (core after : Caller) (ask : Ask) → IsThere caller via old core → SubmitIs request core (Ok ask) after
     → IsWorld old → IsWorld (with_ask after ask via old)
 sent_is_world caller via request old core after ask there submits kept =
-    let here : slice_get old.known.callers caller ≡ Some core = sym (caller_at_place 0 caller caller old.known.callers kept.callers (omega arith)) ∙ there.1 in
-    let at = caller_number 0 caller core old.known.callers kept.callers here in
+    let here : slice_get old.world.callers caller ≡ Some core = sym (caller_at_place 0 caller caller old.world.callers kept.callers (omega arith)) ∙ there.1 in
+    let at = caller_number 0 caller core old.world.callers kept.callers here in
     let number : core.number ≡ caller = omega arith in
     let number' : after.number ≡ caller = sent_number request core after ask submits ∙ number in
-    let within : caller < length old.known.callers = slice_get_within old.known.callers caller core here in
-    let put : put_caller after old.known.callers ≡ set old.known.callers caller after = put_caller_place 0 caller after old.known.callers kept.callers (omega arith) in
+    let within : caller < length old.world.callers = slice_get_within old.world.callers caller core here in
+    let put : put_caller after old.world.callers ≡ set old.world.callers caller after = put_caller_place 0 caller after old.world.callers kept.callers (omega arith) in
     let own : ask.caller ≡ caller = submits.3.caller ∙ number in
-    let count : length (put_caller after old.known.callers) ≡ length old.known.callers = ap (λ (cs : List Caller). length cs) put ∙ length-set old.known.callers caller after in
+    let count : length (put_caller after old.world.callers) ≡ length old.world.callers = ap (λ (cs : List Caller). length cs) put ∙ length-set old.world.callers caller after in
     record {
-      reached = further old.known (with_ask after ask via old).known kept.reached (sends_step caller via request old core after ask there submits);
+      reached = further old.world (with_ask after ask via old).world kept.reached (sends_step caller via request old core after ask there submits);
       nodes = kept.nodes;
-      callers = subst (CallersFrom 0) (sym put) (callers_set 0 caller after old.known.callers kept.callers (omega arith));
-      targets = length_pushed old.targets via ∙ ap (λ n. n + 1) kept.targets ∙ sym (length_pushed old.known.sent (AskMessage ask));
-      calls = subst (λ n. AreKnown (length old.known.nodes) n (old.known.sent ++ AskMessage ask ∷ [])) (sym count) (calls_pushed (length old.known.nodes) (length old.known.callers) old.known.sent (AskMessage ask) kept.calls (omega arith));
+      callers = subst (CallersFrom 0) (sym put) (callers_set 0 caller after old.world.callers kept.callers (omega arith));
+      targets = length_pushed old.targets via ∙ ap (λ n. n + 1) kept.targets ∙ sym (length_pushed old.world.sent (AskMessage ask));
+      calls = subst (λ n. AreKnown (length old.world.nodes) n (old.world.sent ++ AskMessage ask ∷ [])) (sym count) (calls_pushed (length old.world.nodes) (length old.world.callers) old.world.sent (AskMessage ask) kept.calls (omega arith));
       crashed = kept.crashed;
       ring = kept.ring;
       low = kept.low;
@@ -124,25 +124,25 @@ sent_is_world caller via request old core after ask there submits kept =
 
 -- in the words of the code: the callers, the messages and the targets as they are then
 abbrev pub posted : List Caller → List Message → List ℕ → WorldState → WorldState
-posted callers sent targets view = record view { known = record view.known { callers = callers; sent = sent }; targets = targets }
+posted callers sent targets view = record view { world = record view.world { callers = callers; sent = sent }; targets = targets }
 
 pub posted_is : (caller via : ℕ) (request : Request) (view : WorldState) (callers : List Caller) (sent before : List Message) (targets earlier : List ℕ) (ask : Ask) → IsWorld view
-    → (did : Submitted caller request view.known.callers ask callers) → sent ≡ before ++ AskMessage ask ∷ [] → before ≡ view.known.sent → targets ≡ earlier ++ via ∷ [] → earlier ≡ view.targets
+    → (did : Submitted caller request view.world.callers ask callers) → sent ≡ before ++ AskMessage ask ∷ [] → before ≡ view.world.sent → targets ≡ earlier ++ via ∷ [] → earlier ≡ view.targets
     → posted callers sent targets view ≡ with_ask did.after ask via view
 posted_is caller via request view callers sent before targets earlier ask kept did s s' t t' =
-    let at = sent_number request did.core did.after ask did.submits ∙ caller_number 0 caller did.core view.known.callers kept.callers did.here in
+    let at = sent_number request did.core did.after ask did.submits ∙ caller_number 0 caller did.core view.world.callers kept.callers did.here in
     let number : did.after.number ≡ caller = omega arith in
-    let put : callers ≡ put_caller did.after view.known.callers = did.new_is ∙ sym (put_caller_place 0 caller did.after view.known.callers kept.callers (omega arith)) in
-    let messages : sent ≡ view.known.sent ++ AskMessage ask ∷ [] = s ∙ ap (λ (xs : List Message). xs ++ AskMessage ask ∷ []) s' in
+    let put : callers ≡ put_caller did.after view.world.callers = did.new_is ∙ sym (put_caller_place 0 caller did.after view.world.callers kept.callers (omega arith)) in
+    let messages : sent ≡ view.world.sent ++ AskMessage ask ∷ [] = s ∙ ap (λ (xs : List Message). xs ++ AskMessage ask ∷ []) s' in
     let nodes : targets ≡ view.targets ++ via ∷ [] = t ∙ ap (λ (xs : List ℕ). xs ++ via ∷ []) t' in
     λ i. posted (put i) (messages i) (nodes i) view
 
-pub there_of : (caller via : ℕ) (request : Request) (view : WorldState) (ask : Ask) (callers : List Caller) → IsWorld view → via < length view.known.nodes
-    → (did : Submitted caller request view.known.callers ask callers) → IsThere caller via view did.core
-there_of caller via request view ask callers kept node did = (node, caller_at_place 0 caller caller view.known.callers kept.callers (omega arith) ∙ did.here)
+pub there_of : (caller via : ℕ) (request : Request) (view : WorldState) (ask : Ask) (callers : List Caller) → IsWorld view → via < length view.world.nodes
+    → (did : Submitted caller request view.world.callers ask callers) → IsThere caller via view did.core
+there_of caller via request view ask callers kept node did = (node, caller_at_place 0 caller caller view.world.callers kept.callers (omega arith) ∙ did.here)
 
-pub posted_sends : (caller via number : ℕ) (request : Request) (view old : WorldState) (callers : List Caller) (ask : Ask) (new : WorldState) → view ≡ old → IsWorld view → via < length view.known.nodes
-    → (did : Submitted caller request view.known.callers ask callers) → number ≡ length view.known.sent → new ≡ with_ask did.after ask via view → Sends caller via request old number new
+pub posted_sends : (caller via number : ℕ) (request : Request) (view old : WorldState) (callers : List Caller) (ask : Ask) (new : WorldState) → view ≡ old → IsWorld view → via < length view.world.nodes
+    → (did : Submitted caller request view.world.callers ask callers) → number ≡ length view.world.sent → new ≡ with_ask did.after ask via view → Sends caller via request old number new
 posted_sends caller via number request view old callers ask new same kept node did at is =
     subst (λ w. Sends caller via request w number new) same
     (record { core = did.core; after = did.after; ask = ask; there = there_of caller via request view ask callers kept node did; submits = did.submits; numbered = at; new_is = is })
@@ -159,16 +159,16 @@ pub submit_refused : (caller via : ℕ) (request : Request) (old : WorldState) (
 submit_refused caller via request old fault refusal e h = subst (λ x. SubmitStepIs caller via request old (Err x) old) (sym e) (refused_by caller via request old fault h)
 
 -- all of it, over the view of the fields
-pub node_there : (caller via : ℕ) (request : Request) (view old : WorldState) → view ≡ old → RefusesCall caller via request old Memory → via < length view.known.nodes
-node_there caller via request view old same may = subst (λ (w : WorldState). via < length w.known.nodes) (sym same) may.there.0
+pub node_there : (caller via : ℕ) (request : Request) (view old : WorldState) → view ≡ old → RefusesCall caller via request old Memory → via < length view.world.nodes
+node_there caller via request view old same may = subst (λ (w : WorldState). via < length w.world.nodes) (sym same) may.there.0
 
-pub posted_is_world : (caller via : ℕ) (request : Request) (view : WorldState) (callers : List Caller) (ask : Ask) (new : WorldState) → IsWorld view → via < length view.known.nodes
-    → (did : Submitted caller request view.known.callers ask callers) → new ≡ with_ask did.after ask via view → IsWorld new
+pub posted_is_world : (caller via : ℕ) (request : Request) (view : WorldState) (callers : List Caller) (ask : Ask) (new : WorldState) → IsWorld view → via < length view.world.nodes
+    → (did : Submitted caller request view.world.callers ask callers) → new ≡ with_ask did.after ask via view → IsWorld new
 posted_is_world caller via request view callers ask new kept node did is =
     subst IsWorld (sym is) (sent_is_world caller via request view did.core did.after ask (there_of caller via request view ask callers kept node did) did.submits kept)
 
-pub posted_step : (caller via : ℕ) (request : Request) (view old : WorldState) (callers : List Caller) (ask : Ask) (new : WorldState) → view ≡ old → IsWorld view → via < length view.known.nodes
-    → (did : Submitted caller request view.known.callers ask callers) → new ≡ with_ask did.after ask via view → WorldStep old.known new.known
+pub posted_step : (caller via : ℕ) (request : Request) (view old : WorldState) (callers : List Caller) (ask : Ask) (new : WorldState) → view ≡ old → IsWorld view → via < length view.world.nodes
+    → (did : Submitted caller request view.world.callers ask callers) → new ≡ with_ask did.after ask via view → WorldStep old.world new.world
 posted_step caller via request view old callers ask new same kept node did is =
-    subst (λ (w : WorldState). WorldStep w.known new.known) same
-    (subst (λ (w : WorldState). WorldStep view.known w.known) (sym is) (sends_step caller via request view did.core did.after ask (there_of caller via request view ask callers kept node did) did.submits))
+    subst (λ (w : WorldState). WorldStep w.world new.world) same
+    (subst (λ (w : WorldState). WorldStep view.world w.world) (sym is) (sends_step caller via request view did.core did.after ask (there_of caller via request view ask callers kept node did) did.submits))

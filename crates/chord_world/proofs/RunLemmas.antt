@@ -72,11 +72,11 @@ pub limits_after : {S : Type 0} (f : S → ℕ) (step : Step) (answer : Answer) 
 limits_after f step answer result stores left e h = limits_by f step answer stores left (subst (λ r. StoresLeft step r stores left) (sym e) h)
 
 -- the run goes on, or stays where it is
-run_by : (first : World) (middle last : WorldState) (result : Result Outcome Refusal) → ∥ Run first middle.known ∥₁ → Advances middle result last → ∥ Run first last.known ∥₁
+run_by : (first : World) (middle last : WorldState) (result : Result Outcome Refusal) → ∥ Run first middle.world ∥₁ → Advances middle result last → ∥ Run first last.world ∥₁
 run_by first middle last (Ok outcome) run step = ∥∥₁_map run (λ r. Goes_on r step)
-run_by first middle last (Err refusal) run same = subst (λ (w : WorldState). ∥ Run first w.known ∥₁) (sym same) run
+run_by first middle last (Err refusal) run same = subst (λ (w : WorldState). ∥ Run first w.world ∥₁) (sym same) run
 
-pub run_more : (first : World) (middle last : WorldState) (step : Step) (result : Result Outcome Refusal) → ∥ Run first middle.known ∥₁ → AdvancesBy step middle result last → ∥ Run first last.known ∥₁
+pub run_more : (first : World) (middle last : WorldState) (step : Step) (result : Result Outcome Refusal) → ∥ Run first middle.world ∥₁ → AdvancesBy step middle result last → ∥ Run first last.world ∥₁
 run_more first middle last (Crash node) result run same = subst (λ w. ∥ Run first w ∥₁) (sym same) run
 run_more first middle last (Create id) result run step = run_by first middle last result run step
 run_more first middle last (Join id behind) result run step = run_by first middle last result run step

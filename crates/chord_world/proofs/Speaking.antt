@@ -32,20 +32,20 @@ use Rattle.chord_world.proofs.Posting.{length_pushed, got, set_same, posted, cal
 put_here : (place : ℕ) (core : Caller) (callers : List Caller) → CallersFrom 0 callers → slice_get callers place ≡ Some core → put_caller core callers ≡ callers
 put_here place core callers numbered here = put_caller_place 0 place core callers numbered (caller_number 0 place core callers numbered here) ∙ set_same callers place core here
 
-pub sent_step : (place to : ℕ) (core : Caller) (letter : Letter) (view : WorldState) → IsWorld view → slice_get view.known.callers place ≡ Some core → CallerStep core None core (Some letter)
-    → WorldStep view.known (with_sent (message_of letter) to view).known
+pub sent_step : (place to : ℕ) (core : Caller) (letter : Letter) (view : WorldState) → IsWorld view → slice_get view.world.callers place ≡ Some core → CallerStep core None core (Some letter)
+    → WorldStep view.world (with_sent (message_of letter) to view).world
 sent_step place to core letter view kept here step =
-    subst (λ (callers : List Caller). WorldStep view.known (record view.known { callers = callers; sent = view.known.sent ++ message_of letter ∷ [] })) (put_here place core view.known.callers kept.callers here)
-    (Calls place core core None (Some letter) (caller_at_place 0 place place view.known.callers kept.callers (omega arith) ∙ here) tt step)
+    subst (λ (callers : List Caller). WorldStep view.world (record view.world { callers = callers; sent = view.world.sent ++ message_of letter ∷ [] })) (put_here place core view.world.callers kept.callers here)
+    (Calls place core core None (Some letter) (caller_at_place 0 place place view.world.callers kept.callers (omega arith) ∙ here) tt step)
 
-pub sent_is_world : (place to : ℕ) (core : Caller) (letter : Letter) (view : WorldState) → IsWorld view → slice_get view.known.callers place ≡ Some core → CallerStep core None core (Some letter)
-    → IsKnown (length view.known.nodes) (length view.known.callers) (message_of letter) → IsWorld (with_sent (message_of letter) to view)
+pub sent_is_world : (place to : ℕ) (core : Caller) (letter : Letter) (view : WorldState) → IsWorld view → slice_get view.world.callers place ≡ Some core → CallerStep core None core (Some letter)
+    → IsKnown (length view.world.nodes) (length view.world.callers) (message_of letter) → IsWorld (with_sent (message_of letter) to view)
 sent_is_world place to core letter view kept here step call = record {
-  reached = further view.known (with_sent (message_of letter) to view).known kept.reached (sent_step place to core letter view kept here step);
+  reached = further view.world (with_sent (message_of letter) to view).world kept.reached (sent_step place to core letter view kept here step);
   nodes = kept.nodes;
   callers = kept.callers;
-  targets = length_pushed view.targets to ∙ ap (λ n. n + 1) kept.targets ∙ sym (length_pushed view.known.sent (message_of letter));
-  calls = calls_pushed (length view.known.nodes) (length view.known.callers) view.known.sent (message_of letter) kept.calls call;
+  targets = length_pushed view.targets to ∙ ap (λ n. n + 1) kept.targets ∙ sym (length_pushed view.world.sent (message_of letter));
+  calls = calls_pushed (length view.world.nodes) (length view.world.callers) view.world.sent (message_of letter) kept.calls call;
   crashed = kept.crashed;
   ring = kept.ring;
   low = kept.low;
@@ -53,27 +53,27 @@ sent_is_world place to core letter view kept here step call = record {
 }
 
 -- in the words of the code
-pub sent_now : (message : Message) (to : ℕ) (view : WorldState) (number : ℕ) (sent : List Message) (targets : List ℕ) → SentIs message to view.known.sent view.targets (Ok number) sent targets
-    → posted view.known.callers sent targets view ≡ with_sent message to view
-sent_now message to view number sent targets h = λ i. posted view.known.callers (h.1 i) (h.2 i) view
+pub sent_now : (message : Message) (to : ℕ) (view : WorldState) (number : ℕ) (sent : List Message) (targets : List ℕ) → SentIs message to view.world.sent view.targets (Ok number) sent targets
+    → posted view.world.callers sent targets view ≡ with_sent message to view
+sent_now message to view number sent targets h = λ i. posted view.world.callers (h.1 i) (h.2 i) view
 
-pub sent_not : (message : Message) (to : ℕ) (view : WorldState) (refused : AllocError) (sent : List Message) (targets : List ℕ) → SentIs message to view.known.sent view.targets (Err refused) sent targets
-    → posted view.known.callers sent targets view ≡ view
-sent_not message to view refused sent targets h = λ i. posted view.known.callers (h.0 i) (h.1 i) view
+pub sent_not : (message : Message) (to : ℕ) (view : WorldState) (refused : AllocError) (sent : List Message) (targets : List ℕ) → SentIs message to view.world.sent view.targets (Err refused) sent targets
+    → posted view.world.callers sent targets view ≡ view
+sent_not message to view refused sent targets h = λ i. posted view.world.callers (h.0 i) (h.1 i) view
 
 -- the call that goes out again is the caller's own
-pub again_call : (named : Option ℕ) (place : ℕ) (core : Caller) (ask : Ask) (view : WorldState) → IsWorld view → slice_get view.known.callers place ≡ Some core → AsksAgain named core ask
-    → IsKnown (length view.known.nodes) (length view.known.callers) (AskMessage ask)
+pub again_call : (named : Option ℕ) (place : ℕ) (core : Caller) (ask : Ask) (view : WorldState) → IsWorld view → slice_get view.world.callers place ≡ Some core → AsksAgain named core ask
+    → IsKnown (length view.world.nodes) (length view.world.callers) (AskMessage ask)
 again_call named place core ask view kept here asks =
-    let within = slice_get_within view.known.callers place core here in
-    let number = caller_number 0 place core view.known.callers kept.callers here in
+    let within = slice_get_within view.world.callers place core here in
+    let number = caller_number 0 place core view.world.callers kept.callers here in
     let own = asks.resends.3.caller in
     omega arith
 
-pub note_call : (place : ℕ) (core : Caller) (view : WorldState) → IsWorld view → slice_get view.known.callers place ≡ Some core → IsKnown (length view.known.nodes) (length view.known.callers) (NoteMessage (note_of core))
+pub note_call : (place : ℕ) (core : Caller) (view : WorldState) → IsWorld view → slice_get view.world.callers place ≡ Some core → IsKnown (length view.world.nodes) (length view.world.callers) (NoteMessage (note_of core))
 note_call place core view kept here =
-    let within = slice_get_within view.known.callers place core here in
-    let number = caller_number 0 place core view.known.callers kept.callers here in
+    let within = slice_get_within view.world.callers place core here in
+    let number = caller_number 0 place core view.world.callers kept.callers here in
     omega arith
 
 pub again_step : (named : Option ℕ) (core : Caller) (ask : Ask) → AsksAgain named core ask → CallerStep core None core (Some (AskLetter ask))
@@ -81,36 +81,36 @@ again_step named core ask asks = resend_steps asks.number core ask asks.resends
 
 -- ---- a caller that takes something in
 
-pub heard_is_world : (place : ℕ) (core after : Caller) (view : WorldState) → IsWorld view → slice_get view.known.callers place ≡ Some core → after.number ≡ core.number
-    → WorldStep view.known (with_heard after view).known → IsWorld (with_heard after view)
+pub heard_is_world : (place : ℕ) (core after : Caller) (view : WorldState) → IsWorld view → slice_get view.world.callers place ≡ Some core → after.number ≡ core.number
+    → WorldStep view.world (with_heard after view).world → IsWorld (with_heard after view)
 heard_is_world place core after view kept here same step =
-    let at = same ∙ caller_number 0 place core view.known.callers kept.callers here in
-    let put : put_caller after view.known.callers ≡ set view.known.callers place after = put_caller_place 0 place after view.known.callers kept.callers at in
-    let count : length (put_caller after view.known.callers) ≡ length view.known.callers = ap (λ (cs : List Caller). length cs) put ∙ length-set view.known.callers place after in
+    let at = same ∙ caller_number 0 place core view.world.callers kept.callers here in
+    let put : put_caller after view.world.callers ≡ set view.world.callers place after = put_caller_place 0 place after view.world.callers kept.callers at in
+    let count : length (put_caller after view.world.callers) ≡ length view.world.callers = ap (λ (cs : List Caller). length cs) put ∙ length-set view.world.callers place after in
     record {
-      reached = further view.known (with_heard after view).known kept.reached step;
+      reached = further view.world (with_heard after view).world kept.reached step;
       nodes = kept.nodes;
-      callers = subst (CallersFrom 0) (sym put) (callers_set 0 place after view.known.callers kept.callers at);
+      callers = subst (CallersFrom 0) (sym put) (callers_set 0 place after view.world.callers kept.callers at);
       targets = kept.targets;
-      calls = subst (λ n. AreKnown (length view.known.nodes) n view.known.sent) (sym count) kept.calls;
+      calls = subst (λ n. AreKnown (length view.world.nodes) n view.world.sent) (sym count) kept.calls;
       crashed = kept.crashed;
       ring = kept.ring;
       low = kept.low;
       high = kept.high;
     }
 
-pub met_step : (place : ℕ) (note : Note) (core : Caller) (view : WorldState) → IsWorld view → slice_get view.known.callers place ≡ Some core → Contains view.known.sent (NoteMessage note)
-    → WorldStep view.known (with_heard (with_note note core) view).known
+pub met_step : (place : ℕ) (note : Note) (core : Caller) (view : WorldState) → IsWorld view → slice_get view.world.callers place ≡ Some core → Contains view.world.sent (NoteMessage note)
+    → WorldStep view.world (with_heard (with_note note core) view).world
 met_step place note core view kept here sent =
-    Calls place core (with_note note core) (Some (NoteLetter note)) None (caller_at_place 0 place place view.known.callers kept.callers (omega arith) ∙ here) sent (Meets note)
+    Calls place core (with_note note core) (Some (NoteLetter note)) None (caller_at_place 0 place place view.world.callers kept.callers (omega arith) ∙ here) sent (Meets note)
 
 -- in the words of the code
-pub met_is : (place : ℕ) (note : Note) (view : WorldState) (callers : List Caller) → IsWorld view → (met : Met place note view.known.callers callers)
-    → posted callers view.known.sent view.targets view ≡ with_heard (with_note note met.core) view
+pub met_is : (place : ℕ) (note : Note) (view : WorldState) (callers : List Caller) → IsWorld view → (met : Met place note view.world.callers callers)
+    → posted callers view.world.sent view.targets view ≡ with_heard (with_note note met.core) view
 met_is place note view callers kept met =
-    let at = caller_number 0 place met.core view.known.callers kept.callers met.here in
-    let put : callers ≡ put_caller (with_note note met.core) view.known.callers = met.new_is ∙ sym (put_caller_place 0 place (with_note note met.core) view.known.callers kept.callers at) in
-    λ i. posted (put i) view.known.sent view.targets view
+    let at = caller_number 0 place met.core view.world.callers kept.callers met.here in
+    let put : callers ≡ put_caller (with_note note met.core) view.world.callers = met.new_is ∙ sym (put_caller_place 0 place (with_note note met.core) view.world.callers kept.callers at) in
+    λ i. posted (put i) view.world.sent view.targets view
 
 -- ---- what the callers answer
 
@@ -125,15 +125,15 @@ meets_from place note old core after (Err refused) within e ok err =
     ap (λ (c : Caller). set old place c) err ∙ set_same old place core (got old place core within e)
 
 -- the caller of the code, at its place
-pub caller_index : (caller : ℕ) (view old : WorldState) (core : Caller) → view ≡ old → IsWorld view → caller_at caller old.known.callers ≡ Some core → slice_get view.known.callers caller ≡ Some core
+pub caller_index : (caller : ℕ) (view old : WorldState) (core : Caller) → view ≡ old → IsWorld view → caller_at caller old.world.callers ≡ Some core → slice_get view.world.callers caller ≡ Some core
 caller_index caller view old core same kept here =
-    sym (caller_at_place 0 caller caller view.known.callers kept.callers (omega arith)) ∙ ap (λ (w : WorldState). caller_at caller w.known.callers) same ∙ here
+    sym (caller_at_place 0 caller caller view.world.callers kept.callers (omega arith)) ∙ ap (λ (w : WorldState). caller_at caller w.world.callers) same ∙ here
 
-pub caller_in : (caller : ℕ) (view old : WorldState) (core : Caller) → view ≡ old → IsWorld view → caller_at caller old.known.callers ≡ Some core → caller < length view.known.callers
-caller_in caller view old core same kept here = slice_get_within view.known.callers caller core (caller_index caller view old core same kept here)
+pub caller_in : (caller : ℕ) (view old : WorldState) (core : Caller) → view ≡ old → IsWorld view → caller_at caller old.world.callers ≡ Some core → caller < length view.world.callers
+caller_in caller view old core same kept here = slice_get_within view.world.callers caller core (caller_index caller view old core same kept here)
 
 -- the caller that is read is the one that is there
-pub there_now : (caller via : ℕ) (view old : WorldState) (core found : Caller) → view ≡ old → IsWorld view → IsThere caller via old core → slice_get view.known.callers caller ≡ Some found → IsThere caller via old found
+pub there_now : (caller via : ℕ) (view old : WorldState) (core found : Caller) → view ≡ old → IsWorld view → IsThere caller via old core → slice_get view.world.callers caller ≡ Some found → IsThere caller via old found
 there_now caller via view old core found same kept there here = (there.0, caller_stands caller view old found same kept here)
 
 again_because : (caller via : ℕ) (named : Option ℕ) (old : WorldState) (core : Caller) (refusal : Refusal) → IsThere caller via old core → CannotAskAgain named core refusal
@@ -156,39 +156,39 @@ asks_pending named core ask asks = record {
 }
 
 pub again_memory : (caller via : ℕ) (named : Option ℕ) (view old : WorldState) (core : Caller) (ask : Ask) (denied : AllocError) (sent : List Message) (targets : List ℕ) (result : Result Outcome Refusal)
-    → view ≡ old → IsThere caller via old core → AsksAgain named core ask → SentIs (AskMessage ask) via view.known.sent view.targets (Err denied) sent targets
-    → IsErrAnd result (λ e. e ≡ refused.Memory) → ResendStepIs caller via named old result (posted view.known.callers sent targets view)
+    → view ≡ old → IsThere caller via old core → AsksAgain named core ask → SentIs (AskMessage ask) via view.world.sent view.targets (Err denied) sent targets
+    → IsErrAnd result (λ e. e ≡ refused.Memory) → ResendStepIs caller via named old result (posted view.world.callers sent targets view)
 again_memory caller via named view old core ask denied sent targets (Ok outcome) same there asks stays is = absurd is
 again_memory caller via named view old core ask denied sent targets (Err e) same there asks stays is =
-    subst (λ r. ResendStepIs caller via named old (Err r) (posted view.known.callers sent targets view)) (sym is)
+    subst (λ r. ResendStepIs caller via named old (Err r) (posted view.world.callers sent targets view)) (sym is)
     ((core, there, asks_pending named core ask asks), sent_not (AskMessage ask) via view denied sent targets stays ∙ same)
 
 pub again_sends : (caller via number : ℕ) (named : Option ℕ) (view old : WorldState) (core : Caller) (ask : Ask) (sent : List Message) (targets : List ℕ) → view ≡ old → IsThere caller via old core
-    → AsksAgain named core ask → SentIs (AskMessage ask) via view.known.sent view.targets (Ok number) sent targets → SendsAgain caller via named old number (posted view.known.callers sent targets view)
+    → AsksAgain named core ask → SentIs (AskMessage ask) via view.world.sent view.targets (Ok number) sent targets → SendsAgain caller via named old number (posted view.world.callers sent targets view)
 again_sends caller via number named view old core ask sent targets same there asks goes = record {
   core = core;
   ask = ask;
   there = there;
   asks = asks;
-  numbered = goes.0 ∙ ap (λ (w : WorldState). length w.known.sent) same;
+  numbered = goes.0 ∙ ap (λ (w : WorldState). length w.world.sent) same;
   new_is = sent_now (AskMessage ask) via view number sent targets goes ∙ ap (with_sent (AskMessage ask) via) same;
 }
 
 -- a note that goes out
-pub show_sends : (caller number : ℕ) (view old : WorldState) (core : Caller) (note : Note) (sent : List Message) (targets : List ℕ) → view ≡ old → caller_at caller old.known.callers ≡ Some core
-    → note ≡ note_of core → SentIs (NoteMessage note) 0 view.known.sent view.targets (Ok number) sent targets → SendsNote caller old number (posted view.known.callers sent targets view)
+pub show_sends : (caller number : ℕ) (view old : WorldState) (core : Caller) (note : Note) (sent : List Message) (targets : List ℕ) → view ≡ old → caller_at caller old.world.callers ≡ Some core
+    → note ≡ note_of core → SentIs (NoteMessage note) 0 view.world.sent view.targets (Ok number) sent targets → SendsNote caller old number (posted view.world.callers sent targets view)
 show_sends caller number view old core note sent targets same here is goes = record {
   core = core;
   here = here;
-  numbered = goes.0 ∙ ap (λ (w : WorldState). length w.known.sent) same;
+  numbered = goes.0 ∙ ap (λ (w : WorldState). length w.world.sent) same;
   new_is = sent_now (NoteMessage note) 0 view number sent targets goes ∙ ap (with_sent (NoteMessage note) 0) same ∙ ap (λ n. with_sent (NoteMessage n) 0 old) is;
 }
 
 -- the note of the code is the one that was sent
-pub meets_after : (caller message : ℕ) (view old : WorldState) (note : Note) (callers : List Caller) → view ≡ old → IsWorld view → slice_get view.known.sent message ≡ Some (NoteMessage note)
-    → (met : Met caller note view.known.callers callers) → MeetsNote caller message old (posted callers view.known.sent view.targets view)
+pub meets_after : (caller message : ℕ) (view old : WorldState) (note : Note) (callers : List Caller) → view ≡ old → IsWorld view → slice_get view.world.sent message ≡ Some (NoteMessage note)
+    → (met : Met caller note view.world.callers callers) → MeetsNote caller message old (posted callers view.world.sent view.targets view)
 meets_after caller message view old note callers same kept sent met =
-    subst (λ w. MeetsNote caller message w (posted callers view.known.sent view.targets view)) same
+    subst (λ w. MeetsNote caller message w (posted callers view.world.sent view.targets view)) same
     (record {
       core = met.core;
       note = note;
@@ -198,9 +198,9 @@ meets_after caller message view old note callers same kept sent met =
     })
 
 pub meets_not : (caller message : ℕ) (view old : WorldState) (note : Note) (callers : List Caller) (result : Result Outcome Refusal) → view ≡ old → CallerIs caller old (Ok tt)
-    → slice_get old.known.sent message ≡ Some (NoteMessage note) → callers ≡ view.known.callers → IsErrAnd result (λ e. e ≡ refused.Memory)
-    → MeetIs caller message old result (posted callers view.known.sent view.targets view)
+    → slice_get old.world.sent message ≡ Some (NoteMessage note) → callers ≡ view.world.callers → IsErrAnd result (λ e. e ≡ refused.Memory)
+    → MeetIs caller message old result (posted callers view.world.sent view.targets view)
 meets_not caller message view old note callers (Ok outcome) same there sent stays is = absurd is
 meets_not caller message view old note callers (Err e) same there sent stays is =
-    subst (λ r. MeetIs caller message old (Err r) (posted callers view.known.sent view.targets view)) (sym is)
-    (there, (note, sent), ap (λ cs. posted cs view.known.sent view.targets view) stays ∙ same)
+    subst (λ r. MeetIs caller message old (Err r) (posted callers view.world.sent view.targets view)) (sym is)
+    (there, (note, sent), ap (λ cs. posted cs view.world.sent view.targets view) stays ∙ same)

@@ -55,27 +55,27 @@ still_back declined back.Full node after h = still_same node after h.4
 
 -- ---- the node and the place
 
-pub numbered : (place : ℕ) (view : WorldState) → IsWorld view → IsNumbered place view.known.nodes
-numbered place view kept node here = let at = node_number 0 place node view.known.nodes kept.nodes here in omega arith
+pub numbered : (place : ℕ) (view : WorldState) → IsWorld view → IsNumbered place view.world.nodes
+numbered place view kept node here = let at = node_number 0 place node view.world.nodes kept.nodes here in omega arith
 
 -- the message at the place is this one
-pub same_part : (view : WorldState) (place : ℕ) (part other : Part) → slice_get view.known.sent place ≡ Some (PartMessage part) → slice_get view.known.sent place ≡ Some (PartMessage other) → part ≡ other
+pub same_part : (view : WorldState) (place : ℕ) (part other : Part) → slice_get view.world.sent place ≡ Some (PartMessage part) → slice_get view.world.sent place ≡ Some (PartMessage other) → part ≡ other
 same_part view place part other e f = let same : Some (PartMessage part) ≡ Some (PartMessage other) = sym e ∙ f in cc
 
-pub part_ends : (view : WorldState) (place : ℕ) (part : Part) → IsWorld view → slice_get view.known.sent place ≡ Some (PartMessage part)
-    → (part.from < length view.known.nodes) × (part.to < length view.known.nodes)
-part_ends view place part kept sent = call_at (length view.known.nodes) (length view.known.callers) view.known.sent place (PartMessage part) kept.calls sent
+pub part_ends : (view : WorldState) (place : ℕ) (part : Part) → IsWorld view → slice_get view.world.sent place ≡ Some (PartMessage part)
+    → (part.from < length view.world.nodes) × (part.to < length view.world.nodes)
+part_ends view place part kept sent = call_at (length view.world.nodes) (length view.world.callers) view.world.sent place (PartMessage part) kept.calls sent
 
-pub got_ends : (view : WorldState) (place : ℕ) (got : Ticket) → IsWorld view → slice_get view.known.sent place ≡ Some (GotMessage got)
-    → (got.from < length view.known.nodes) × (got.to < length view.known.nodes)
-got_ends view place got kept sent = call_at (length view.known.nodes) (length view.known.callers) view.known.sent place (GotMessage got) kept.calls sent
+pub got_ends : (view : WorldState) (place : ℕ) (got : Ticket) → IsWorld view → slice_get view.world.sent place ≡ Some (GotMessage got)
+    → (got.from < length view.world.nodes) × (got.to < length view.world.nodes)
+got_ends view place got kept sent = call_at (length view.world.nodes) (length view.world.callers) view.world.sent place (GotMessage got) kept.calls sent
 
-pub declined_ends : (view : WorldState) (place : ℕ) (declined : Ticket) → IsWorld view → slice_get view.known.sent place ≡ Some (DeclinedMessage declined)
-    → (declined.from < length view.known.nodes) × (declined.to < length view.known.nodes)
-declined_ends view place declined kept sent = call_at (length view.known.nodes) (length view.known.callers) view.known.sent place (DeclinedMessage declined) kept.calls sent
+pub declined_ends : (view : WorldState) (place : ℕ) (declined : Ticket) → IsWorld view → slice_get view.world.sent place ≡ Some (DeclinedMessage declined)
+    → (declined.from < length view.world.nodes) × (declined.to < length view.world.nodes)
+declined_ends view place declined kept sent = call_at (length view.world.nodes) (length view.world.callers) view.world.sent place (DeclinedMessage declined) kept.calls sent
 
 -- the node that it is for crashed
-pub for_out : (place to : ℕ) (view old : WorldState) → view ≡ old → IsWorld view → to < length view.known.nodes → IsFor place view to → is_crashed to old ≡ true → IsForCrashed place old
+pub for_out : (place to : ℕ) (view old : WorldState) → view ≡ old → IsWorld view → to < length view.world.nodes → IsFor place view to → is_crashed to old ≡ true → IsForCrashed place old
 for_out place to view old same kept within is_for out =
     let found = node_within to view old same kept within in
     record { to = to; node = found.0; is_for = subst (λ w. IsFor place w to) same is_for; here = found.1; crashed = out }
@@ -104,23 +104,23 @@ reply_lengths targets sent (Some message) e = length_pushed targets 0 ∙ ap (λ
 
 -- in the words of the code
 abbrev pub after_part : List Node → List Message → List ℕ → WorldState → WorldState
-after_part nodes sent targets view = record view { known = record view.known { nodes = nodes; sent = sent }; targets = targets }
+after_part nodes sent targets view = record view { world = record view.world { nodes = nodes; sent = sent }; targets = targets }
 
 -- a part that its receiver took in
 pub record TookPart (place to : ℕ) (part : Part) (answer : Given) (view : WorldState) (nodes : List Node) : Type 0 where
-  pub sent : slice_get view.known.sent place ≡ Some (PartMessage part)
+  pub sent : slice_get view.world.sent place ≡ Some (PartMessage part)
   pub own : part.to ≡ to
-  pub does : DoesAt (PartIs part) (PartSteps part) to view.known.nodes (Ok answer) nodes
+  pub does : DoesAt (PartIs part) (PartSteps part) to view.world.nodes (Ok answer) nodes
 
 pub part_is : (place to : ℕ) (part : Part) (answer : Given) (ticket : Ticket) (view : WorldState) (nodes : List Node) (sent before : List Message) (targets earlier : List ℕ) → IsWorld view
-    → (took : TookPart place to part answer view nodes) → ticket ≡ ticket_of_part part → sent ≡ with_one before (confirmation ticket answer) → before ≡ view.known.sent
+    → (took : TookPart place to part answer view nodes) → ticket ≡ ticket_of_part part → sent ≡ with_one before (confirmation ticket answer) → before ≡ view.world.sent
     → targets ≡ with_one earlier (no_target (confirmation ticket answer)) → earlier ≡ view.targets
     → after_part nodes sent targets view ≡ acted took.does.after (sent_for part answer) (no_target (sent_for part answer)) None view
 part_is place to part answer ticket view nodes sent before targets earlier kept took named s s' t t' =
     let still = still_part part answer took.does.node took.does.after took.does.is in
     let message : confirmation ticket answer ≡ sent_for part answer = ap (λ n. confirmation n answer) named ∙ confirmed part answer in
-    let put : nodes ≡ put_node took.does.after view.known.nodes = put_is to took.does.node took.does.after nodes view kept took.does.here still.number took.does.new_is in
-    let messages : sent ≡ with_one view.known.sent (sent_for part answer) = s ∙ ap (λ m. with_one before m) message ∙ ap (λ xs. with_one xs (sent_for part answer)) s' in
+    let put : nodes ≡ put_node took.does.after view.world.nodes = put_is to took.does.node took.does.after nodes view kept took.does.here still.number took.does.new_is in
+    let messages : sent ≡ with_one view.world.sent (sent_for part answer) = s ∙ ap (λ m. with_one before m) message ∙ ap (λ xs. with_one xs (sent_for part answer)) s' in
     let goes : targets ≡ with_one view.targets (no_target (sent_for part answer)) = t ∙ ap (λ m. with_one earlier (no_target m)) message ∙ ap (λ xs. with_one xs (no_target (sent_for part answer))) t' in
     λ i. after_part (put i) (messages i) (goes i) view
 
@@ -129,59 +129,59 @@ pub part_after : (place to : ℕ) (part : Part) (answer : Given) (view old new :
 part_after place to part answer view old new nodes same kept running took is =
     let ends = part_ends view place part kept took.sent in
     hands to took.does.node took.does.after (Some (PartMessage part)) (sent_for part answer) (no_target (sent_for part answer)) view old new same kept took.does.here running
-    (still_part part answer took.does.node took.does.after took.does.is) (was_sent view.known.sent place (PartMessage part) took.sent) took.does.steps
-    (known_reply (length view.known.nodes) (length view.known.callers) part answer ends.0 ends.1)
-    (reply_lengths view.targets view.known.sent (sent_for part answer) kept.targets) is
+    (still_part part answer took.does.node took.does.after took.does.is) (was_sent view.world.sent place (PartMessage part) took.sent) took.does.steps
+    (known_reply (length view.world.nodes) (length view.world.callers) part answer ends.0 ends.1)
+    (reply_lengths view.targets view.world.sent (sent_for part answer) kept.targets) is
 
 pub part_delivers : (place to : ℕ) (part : Part) (answer : Given) (view old new : WorldState) (nodes : List Node) (outcome : Outcome) → view ≡ old → IsWorld view → is_crashed to old ≡ false
     → (took : TookPart place to part answer view nodes) → new ≡ acted took.does.after (sent_for part answer) (no_target (sent_for part answer)) None view
-    → outcome_of_given answer (length view.known.sent) ≡ Some outcome → Delivers place old outcome new
+    → outcome_of_given answer (length view.world.sent) ≡ Some outcome → Delivers place old outcome new
 part_delivers place to part answer view old new nodes outcome same kept running took is told =
     subst (λ w. Delivers place w outcome new) same
     (subst (Delivers place view outcome) (sym is)
     (Part_to_node part took.does.node took.does.after answer outcome took.sent
-    (ap (λ n. node_at n view.known.nodes) took.own ∙ node_stands to view view took.does.node refl kept took.does.here)
+    (ap (λ n. node_at n view.world.nodes) took.own ∙ node_stands to view view took.does.node refl kept took.does.here)
     (ap (λ n. is_crashed n view) took.own ∙ ap (is_crashed to) same ∙ running) took.does.is told))
 
 -- the part that came, by what was read at its place
 pub record Came (place to : ℕ) (part : Part) (view : WorldState) : Type 0 where
-  pub sent : slice_get view.known.sent place ≡ Some (PartMessage part)
+  pub sent : slice_get view.world.sent place ≡ Some (PartMessage part)
   pub own : part.to ≡ to
 
-pub came : (place to : ℕ) (view old : WorldState) (asked part : Part) (items : List Message) (read_as : Message) → view ≡ old → slice_get old.known.sent place ≡ Some (PartMessage asked)
-    → asked.to ≡ to → items ≡ view.known.sent → read_as ≡ get_or items place read_as → read_as ≡ PartMessage part → Came place to part view
+pub came : (place to : ℕ) (view old : WorldState) (asked part : Part) (items : List Message) (read_as : Message) → view ≡ old → slice_get old.world.sent place ≡ Some (PartMessage asked)
+    → asked.to ≡ to → items ≡ view.world.sent → read_as ≡ get_or items place read_as → read_as ≡ PartMessage part → Came place to part view
 came place to view old asked part items read_as same here own is_sent is_read is_part =
     let asked_here = sent_here view old place (PartMessage asked) same here in
-    let within = slice_get_within view.known.sent place (PartMessage asked) asked_here in
+    let within = slice_get_within view.world.sent place (PartMessage asked) asked_here in
     let room = ap length is_sent in
-    let sent = read items view.known.sent place read_as is_sent (omega arith) is_read ∙ ap (λ m. Some m) is_part in
+    let sent = read items view.world.sent place read_as is_sent (omega arith) is_read ∙ ap (λ m. Some m) is_part in
     record { sent = sent; own = ap (λ (p : Part). p.to) (same_part view place part asked sent asked_here) ∙ own }
 
 -- no answer to a part that was sent is a clash
 pub part_fits : (place to : ℕ) (part : Part) (answer : Given) (view : WorldState) (nodes : List Node) → IsWorld view → Came place to part view
-    → DoesAt (PartIs part) (PartSteps part) to view.known.nodes (Ok answer) nodes
+    → DoesAt (PartIs part) (PartSteps part) to view.world.nodes (Ok answer) nodes
     → ((world : World) (part : Part) (node new : Node) → ∥ Reached world ∥₁ → Contains world.sent (PartMessage part)
     → node_at part.to world.nodes ≡ Some node → ¬ PartIs part node (Ok given.Clash) new) → answer ≢ given.Clash
 part_fits place to part answer view nodes kept it does law clash =
-    law view.known part does.node does.after kept.reached (was_sent view.known.sent place (PartMessage part) it.sent)
-    (ap (λ n. node_at n view.known.nodes) it.own ∙ node_stands to view view does.node refl kept does.here)
+    law view.world part does.node does.after kept.reached (was_sent view.world.sent place (PartMessage part) it.sent)
+    (ap (λ n. node_at n view.world.nodes) it.own ∙ node_stands to view view does.node refl kept does.here)
     (subst (λ a. PartIs part does.node (Ok a) does.after) clash does.is)
 
-pub back_fits : (place : ℕ) (declined : Ticket) (answer : Back) (view : WorldState) (nodes : List Node) → IsWorld view → slice_get view.known.sent place ≡ Some (DeclinedMessage declined)
-    → DoesAt (BackIs declined) (BackSteps declined) declined.from view.known.nodes (Ok answer) nodes
+pub back_fits : (place : ℕ) (declined : Ticket) (answer : Back) (view : WorldState) (nodes : List Node) → IsWorld view → slice_get view.world.sent place ≡ Some (DeclinedMessage declined)
+    → DoesAt (BackIs declined) (BackSteps declined) declined.from view.world.nodes (Ok answer) nodes
     → ((world : World) (ticket : Ticket) (node new : Node) → ∥ Reached world ∥₁ → Contains world.sent (DeclinedMessage ticket)
     → node_at ticket.from world.nodes ≡ Some node → ¬ BackIs ticket node (Ok back.Clash) new) → answer ≢ back.Clash
 back_fits place declined answer view nodes kept sent does law clash =
-    law view.known declined does.node does.after kept.reached (was_sent view.known.sent place (DeclinedMessage declined) sent)
+    law view.world declined does.node does.after kept.reached (was_sent view.world.sent place (DeclinedMessage declined) sent)
     (node_stands declined.from view view does.node refl kept does.here)
     (subst (λ a. BackIs declined does.node (Ok a) does.after) clash does.is)
 
 -- the place of the part's receiver
-pub receiver_place : (place to : ℕ) (view old : WorldState) (asked : Part) → view ≡ old → IsWorld view → slice_get old.known.sent place ≡ Some (PartMessage asked) → asked.to ≡ to
-    → to < length view.known.nodes
+pub receiver_place : (place to : ℕ) (view old : WorldState) (asked : Part) → view ≡ old → IsWorld view → slice_get old.world.sent place ≡ Some (PartMessage asked) → asked.to ≡ to
+    → to < length view.world.nodes
 receiver_place place to view old asked same kept here own =
     let ends = part_ends view place asked kept (sent_here view old place (PartMessage asked) same here) in
-    subst (λ n. n < length view.known.nodes) own ends.1
+    subst (λ n. n < length view.world.nodes) own ends.1
 
 -- the receiver was refused memory
 pub part_stays : (part : Part) (fault : AllocError) (node after : Node) → PartIs part node (Err fault) after → after ≡ node
@@ -190,7 +190,7 @@ part_stays part fault node after h = h.2
 pub back_stays : (declined : Ticket) (fault : AllocError) (node after : Node) → BackIs declined node (Err fault) after → after ≡ node
 back_stays declined fault node after h = h.4
 
-pub part_takes : (place to : ℕ) (part : Part) (view old : WorldState) → view ≡ old → IsWorld view → slice_get view.known.sent place ≡ Some (PartMessage part)
+pub part_takes : (place to : ℕ) (part : Part) (view old : WorldState) → view ≡ old → IsWorld view → slice_get view.world.sent place ≡ Some (PartMessage part)
     → part.to ≡ to → is_crashed to old ≡ false → TakesMemory place view
 part_takes place to part view old same kept sent own running =
     let ends = part_ends view place part kept sent in
@@ -198,7 +198,7 @@ part_takes place to part view old same kept sent own running =
     Part_takes part found.0 sent found.1 (ap (λ n. is_crashed n view) own ∙ ap (is_crashed to) same ∙ running)
 
 pub back_takes : (place : ℕ) (declined : Ticket) (fault : AllocError) (view old : WorldState) (node after : Node) → view ≡ old → IsWorld view
-    → slice_get view.known.sent place ≡ Some (DeclinedMessage declined) → slice_get view.known.nodes declined.from ≡ Some node → is_crashed declined.from old ≡ false
+    → slice_get view.world.sent place ≡ Some (DeclinedMessage declined) → slice_get view.world.nodes declined.from ≡ Some node → is_crashed declined.from old ≡ false
     → BackIs declined node (Err fault) after → TakesMemory place view
 back_takes place declined fault view old node after same kept sent here running (item, there, clear, fits, is) =
     Declined_takes declined node sent (node_stands declined.from view view node refl kept here) (ap (is_crashed declined.from) same ∙ running) (item, there, clear, fits, refl)
@@ -206,14 +206,14 @@ back_takes place declined fault view old node after same kept sent here running 
 -- ---- what comes of it
 
 pub got_after : (place : ℕ) (got : Ticket) (found : Bool) (view old : WorldState) (nodes : List Node) → view ≡ old → IsWorld view → is_crashed got.from old ≡ false
-    → slice_get view.known.sent place ≡ Some (GotMessage got) → (does : DoesAt (GotIs got) (GotSteps got) got.from view.known.nodes found nodes) → After old (with_nodes nodes view)
+    → slice_get view.world.sent place ≡ Some (GotMessage got) → (does : DoesAt (GotIs got) (GotSteps got) got.from view.world.nodes found nodes) → After old (with_nodes nodes view)
 got_after place got found view old nodes same kept running sent does =
     let still = still_got got found does.node does.after does.is in
     hands got.from does.node does.after (Some (GotMessage got)) None None view old (with_nodes nodes view) same kept does.here running still
-    (was_sent view.known.sent place (GotMessage got) sent) does.steps tt kept.targets (nodes_are (GotIs got) (GotSteps got) got.from found view nodes kept does still.number)
+    (was_sent view.world.sent place (GotMessage got) sent) does.steps tt kept.targets (nodes_are (GotIs got) (GotSteps got) got.from found view nodes kept does still.number)
 
 pub got_delivers : (place : ℕ) (got : Ticket) (found : Bool) (view old : WorldState) (nodes : List Node) (outcome : Outcome) → view ≡ old → IsWorld view → is_crashed got.from old ≡ false
-    → slice_get view.known.sent place ≡ Some (GotMessage got) → (does : DoesAt (GotIs got) (GotSteps got) got.from view.known.nodes found nodes)
+    → slice_get view.world.sent place ≡ Some (GotMessage got) → (does : DoesAt (GotIs got) (GotSteps got) got.from view.world.nodes found nodes)
     → outcome ≡ outcome_of_freed found → Delivers place old outcome (with_nodes nodes view)
 got_delivers place got found view old nodes outcome same kept running sent does told =
     let still = still_got got found does.node does.after does.is in
@@ -224,16 +224,16 @@ got_delivers place got found view old nodes outcome same kept running sent does 
     (Got_to_node got does.node does.after found sent (node_stands got.from view view does.node refl kept does.here) (ap (is_crashed got.from) same ∙ running) does.is)))
 
 pub back_after : (place : ℕ) (declined : Ticket) (answer : Back) (view old : WorldState) (nodes : List Node) → view ≡ old → IsWorld view → is_crashed declined.from old ≡ false
-    → slice_get view.known.sent place ≡ Some (DeclinedMessage declined) → (does : DoesAt (BackIs declined) (BackSteps declined) declined.from view.known.nodes (Ok answer) nodes)
+    → slice_get view.world.sent place ≡ Some (DeclinedMessage declined) → (does : DoesAt (BackIs declined) (BackSteps declined) declined.from view.world.nodes (Ok answer) nodes)
     → After old (with_nodes nodes view)
 back_after place declined answer view old nodes same kept running sent does =
     let still = still_back declined answer does.node does.after does.is in
     hands declined.from does.node does.after (Some (DeclinedMessage declined)) None None view old (with_nodes nodes view) same kept does.here running still
-    (was_sent view.known.sent place (DeclinedMessage declined) sent) does.steps tt kept.targets
+    (was_sent view.world.sent place (DeclinedMessage declined) sent) does.steps tt kept.targets
     (nodes_are (BackIs declined) (BackSteps declined) declined.from (Ok answer) view nodes kept does still.number)
 
 pub back_delivers : (place : ℕ) (declined : Ticket) (answer : Back) (view old : WorldState) (nodes : List Node) (outcome : Outcome) → view ≡ old → IsWorld view → is_crashed declined.from old ≡ false
-    → slice_get view.known.sent place ≡ Some (DeclinedMessage declined) → (does : DoesAt (BackIs declined) (BackSteps declined) declined.from view.known.nodes (Ok answer) nodes)
+    → slice_get view.world.sent place ≡ Some (DeclinedMessage declined) → (does : DoesAt (BackIs declined) (BackSteps declined) declined.from view.world.nodes (Ok answer) nodes)
     → outcome_of_back answer ≡ Some outcome → Delivers place old outcome (with_nodes nodes view)
 back_delivers place declined answer view old nodes outcome same kept running sent does told =
     let still = still_back declined answer does.node does.after does.is in

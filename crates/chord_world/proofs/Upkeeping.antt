@@ -37,17 +37,17 @@ pub record AfterUpkeep (step : RingStep) (place : ℕ) (old new : WorldState) : 
   pub moves : Moves step place old new
 
 upkept_here : (step : RingStep) (place : ℕ) (links : NodeLinks) (view : WorldState) (nodes : List Node) → IsWorld view → AreOwn (ring_of view) place links
-    → Step (ring_of view) step (with_links (ring_of view) place links) → RelinksAt place links view.known.nodes nodes → AfterUpkeep step place view (with_nodes nodes view)
+    → Step (ring_of view) step (with_links (ring_of view) place links) → RelinksAt place links view.world.nodes nodes → AfterUpkeep step place view (with_nodes nodes view)
 upkept_here step place links view nodes kept own moves relinks =
-    let member = member_node place view.known.nodes view.crashed own.0 kept.crashed own.1 in
+    let member = member_node place view.world.nodes view.crashed own.0 kept.crashed own.1 in
     let node = relinks.node in
     let after : Node = record node { links = links } in
     let one : member.node ≡ node = same_Some member.node node (sym member.here ∙ relinks.here) in
     let staying : is_gone node.phase ≡ false = ap (λ (n : Node). is_gone n.phase) (sym one) ∙ member.staying in
     let me : links.me ≡ node.links.me = own.2 ∙ ap (λ (l : NodeLinks). l.me) (sym member.links_are ∙ ap (λ (n : Node). n.links) one) in
-    let put : nodes ≡ put_node after view.known.nodes = put_is place node after nodes view kept relinks.here refl relinks.new_is in
-    let ring : ring_with (set view.known.nodes place after) view.crashed ≡ with_links (ring_of view) place links =
-    ring_relinked place node links view.known.nodes view.crashed kept.crashed relinks.here member.running staying me in
+    let put : nodes ≡ put_node after view.world.nodes = put_is place node after nodes view kept relinks.here refl relinks.new_is in
+    let ring : ring_with (set view.world.nodes place after) view.crashed ≡ with_links (ring_of view) place links =
+    ring_relinked place node links view.world.nodes view.crashed kept.crashed relinks.here member.running staying me in
     record {
       after = acts_at place node after None None None None view view (with_nodes nodes view) refl kept
           (record {
@@ -59,32 +59,32 @@ upkept_here step place links view nodes kept own moves relinks =
             call = tt;
             paired = kept.targets;
             ring = subst (Kept (ring_of view)) (sym ring)
-                (Kept-step (ring_of view) (with_links (ring_of view) place links) step (kept.ring (node_there place view.known.nodes node relinks.here)) moves);
+                (Kept-step (ring_of view) (with_links (ring_of view) place links) step (kept.ring (node_there place view.world.nodes node relinks.here)) moves);
           })
           (ap (λ ns. with_nodes ns view) put);
       moves =
           record {
             node = node;
             links = links;
-            here = node_at_place 0 place place view.known.nodes kept.nodes (omega arith) ∙ relinks.here;
+            here = node_at_place 0 place place view.world.nodes kept.nodes (omega arith) ∙ relinks.here;
             moves = subst (Step (ring_of view) step) (sym (ap (λ ns. ring_with ns view.crashed) relinks.new_is ∙ ring)) moves;
             new_is = ap (λ ns. with_nodes ns view) put;
           };
     }
 
 pub upkept : (step : RingStep) (place : ℕ) (links : NodeLinks) (view old : WorldState) (nodes : List Node) → view ≡ old → IsWorld view → AreOwn (ring_of old) place links
-    → Step (ring_of old) step (with_links (ring_of old) place links) → RelinksAt place links view.known.nodes nodes → AfterUpkeep step place old (with_nodes nodes view)
+    → Step (ring_of old) step (with_links (ring_of old) place links) → RelinksAt place links view.world.nodes nodes → AfterUpkeep step place old (with_nodes nodes view)
 upkept step place links view old nodes same kept own moves relinks =
     subst (λ w. AfterUpkeep step place w (with_nodes nodes view)) same
     (upkept_here step place links view nodes kept (subst (λ w. AreOwn (ring_of w) place links) (sym same) own)
     (subst (λ w. Step (ring_of w) step (with_links (ring_of w) place links)) (sym same) moves) relinks)
 
 -- the node is there, and the links are its own
-pub own_fits : (place : ℕ) (links : NodeLinks) (view old : WorldState) → view ≡ old → IsWorld view → AreOwn (ring_of old) place links → (place < length view.known.nodes) × FitAt place links view.known.nodes
+pub own_fits : (place : ℕ) (links : NodeLinks) (view old : WorldState) → view ≡ old → IsWorld view → AreOwn (ring_of old) place links → (place < length view.world.nodes) × FitAt place links view.world.nodes
 own_fits place links view old same kept own' =
     let own : AreOwn (ring_of view) place links = subst (λ w. AreOwn (ring_of w) place links) (sym same) own' in
-    let member = member_node place view.known.nodes view.crashed own.0 kept.crashed own.1 in (
-      slice_get_within view.known.nodes place member.node member.here,
+    let member = member_node place view.world.nodes view.crashed own.0 kept.crashed own.1 in (
+      slice_get_within view.world.nodes place member.node member.here,
       λ node here.
           let is : own.0 ≡ node.links = sym member.links_are ∙ ap (λ (n : Node). n.links) (same_Some member.node node (sym member.here ∙ here)) in
           (own.2 ∙ ap (λ (l : NodeLinks). l.me) is, own.3 ∙ ap (λ (l : NodeLinks). l.r) is),
@@ -106,15 +106,15 @@ pub out_within : (number : ℕ) (view old : WorldState) → view ≡ old → IsW
 out_within number view old same kept can' =
     let can : CanDepart (ring_of view).members number = subst (λ w. CanDepart (ring_of w).members number) (sym same) can' in
     let found = links_from_member (ring_of view).members number can.0 in
-    let member = member_node number view.known.nodes view.crashed found.0 kept.crashed found.1 in
-    let within = slice_get_within view.known.nodes number member.node member.here in
+    let member = member_node number view.world.nodes view.crashed found.0 kept.crashed found.1 in
+    let within = slice_get_within view.world.nodes number member.node member.here in
     let count = kept.crashed in
     omega arith
 
-crashed_here : (place : ℕ) (view : WorldState) → IsWorld view → view.known.nodes ≢ [] → CanDepart (ring_of view).members place → AfterCrash place view (with_crash place view)
+crashed_here : (place : ℕ) (view : WorldState) → IsWorld view → view.world.nodes ≢ [] → CanDepart (ring_of view).members place → AfterCrash place view (with_crash place view)
 crashed_here place view kept created can =
     let ring : ring_of (with_crash place view) ≡ without (ring_of view) place =
-    (λ i. record { ids = ids_of view.known.nodes; members = members_crash place view.known.nodes view.crashed kept.crashed i }) in
+    (λ i. record { ids = ids_of view.world.nodes; members = members_crash place view.world.nodes view.crashed kept.crashed i }) in
     let kept_ring : Kept (ring_of view) (without (ring_of view) place) = Kept-departs (ring_of view) place (kept.ring created) can in
     record {
       world =
@@ -137,12 +137,12 @@ crashed_here place view kept created can =
           };
     }
 
-pub crashes : (place : ℕ) (view old : WorldState) (flags : List Bool) → view ≡ old → IsWorld view → old.known.nodes ≢ [] → CanDepart (ring_of old).members place
+pub crashes : (place : ℕ) (view old : WorldState) (flags : List Bool) → view ≡ old → IsWorld view → old.world.nodes ≢ [] → CanDepart (ring_of old).members place
     → flags ≡ set view.crashed place true → AfterCrash place old (with_flags flags view)
 crashes place view old flags same kept created can is =
     subst (λ w. AfterCrash place w (with_flags flags view)) same
     (subst (λ fs. AfterCrash place view (with_flags fs view)) (sym is)
-    (crashed_here place view kept (subst (λ (w : WorldState). w.known.nodes ≢ []) (sym same) created) (subst (λ w. CanDepart (ring_of w).members place) (sym same) can)))
+    (crashed_here place view kept (subst (λ (w : WorldState). w.world.nodes ≢ []) (sym same) created) (subst (λ w. CanDepart (ring_of w).members place) (sym same) can)))
 
 -- ---- a node that is gone
 
@@ -151,14 +151,14 @@ retired node = record node { phase = phase.Gone; limit = 0; noted = [] }
 
 -- a member that is leaving, holds nothing and can depart
 pub record MayRetire (place : ℕ) (node : Node) (old : WorldState) : Type 0 where
-  pub here : slice_get old.known.nodes place ≡ Some node
+  pub here : slice_get old.world.nodes place ≡ Some node
   pub running : is_crashed place old ≡ false
   pub leaving : node.phase ≡ phase.Leaving
   pub holds_none : node.held ≡ []
   pub sends_none : node.outbox ≡ []
   pub can : CanDepart (ring_of old).members place
 
-pub retires : (place : ℕ) (node : Node) (view : WorldState) (nodes : List Node) → IsWorld view → MayRetire place node view → nodes ≡ set view.known.nodes place (retired node)
+pub retires : (place : ℕ) (node : Node) (view : WorldState) (nodes : List Node) → IsWorld view → MayRetire place node view → nodes ≡ set view.world.nodes place (retired node)
     → After view (with_nodes nodes view)
 retires place node view nodes kept may is =
     acts_at place node (retired node) None None None None view view (with_nodes nodes view) refl kept
@@ -170,8 +170,8 @@ retires place node view nodes kept may is =
       does = Retires may.leaving may.holds_none may.sends_none;
       call = tt;
       paired = kept.targets;
-      ring = subst (Kept (ring_of view)) (sym (ring_departed place node (retired node) view.known.nodes view.crashed kept.crashed may.here refl refl))
-          (Kept-departs (ring_of view) place (kept.ring (node_there place view.known.nodes node may.here)) may.can);
+      ring = subst (Kept (ring_of view)) (sym (ring_departed place node (retired node) view.world.nodes view.crashed kept.crashed may.here refl refl))
+          (Kept-departs (ring_of view) place (kept.ring (node_there place view.world.nodes node may.here)) may.can);
     })
     (ap (λ ns. with_nodes ns view) (put_is place node (retired node) nodes view kept may.here refl is))
 
@@ -196,13 +196,13 @@ abbrev link : Id → ℕ → NodeLinks → NodeLinks
 link id number pred = joined (record { no = number; id = id }) pred
 
 joined_here : (id : Id) (behind limit : ℕ) (pred : NodeLinks) (view : WorldState) → IsWorld view → MayJoin id behind pred view
-    → AfterJoin id behind limit view (length view.known.nodes) (with_newborn (link id (length view.known.nodes) pred) limit view)
+    → AfterJoin id behind limit view (length view.world.nodes) (with_newborn (link id (length view.world.nodes) pred) limit view)
 joined_here id behind limit pred view kept may =
-    let number = length view.known.nodes in
+    let number = length view.world.nodes in
     let links : NodeLinks = link id number pred in
     let new : WorldState = with_newborn links limit view in
-    let member = member_node behind view.known.nodes view.crashed pred kept.crashed may.is_its in
-    let created = node_there behind view.known.nodes member.node member.here in
+    let member = member_node behind view.world.nodes view.crashed pred kept.crashed may.is_its in
+    let created = node_there behind view.world.nodes member.node member.here in
     let joins : Joins (ring_of view) id.number behind (ring_of new) =
     record {
       links = pred;
@@ -210,26 +210,26 @@ joined_here id behind limit pred view kept may =
       is_id = may.is_id;
       is_unused = may.is_unused;
       is_between = may.is_between;
-      ids = ids_pushed view.known.nodes (newborn links limit);
-      members = members_pushed (newborn links limit) view.known.nodes view.crashed kept.crashed
-          ∙ ap (λ n. members_of view.known.nodes view.crashed ++ Some (link id n pred) ∷ []) (sym (ids_length view.known.nodes));
+      ids = ids_pushed view.world.nodes (newborn links limit);
+      members = members_pushed (newborn links limit) view.world.nodes view.crashed kept.crashed
+          ∙ ap (λ n. members_of view.world.nodes view.crashed ++ Some (link id n pred) ∷ []) (sym (ids_length view.world.nodes));
     } in
     let kept_ring : Kept (ring_of view) (ring_of new) = Kept-joins (ring_of view) id.number behind (ring_of new) (kept.ring created) joins in
-    let none : node_at number view.known.nodes ≡ None =
-    node_at_place 0 number number view.known.nodes kept.nodes (omega arith) ∙ slice_get_past view.known.nodes number (omega arith) in
-    let did : WorldStep view.known new.known = JoinsWorld links limit may.is_id created none in
+    let none : node_at number view.world.nodes ≡ None =
+    node_at_place 0 number number view.world.nodes kept.nodes (omega arith) ∙ slice_get_past view.world.nodes number (omega arith) in
+    let did : WorldStep view.world new.world = JoinsWorld links limit may.is_id created none in
     record {
       after =
           record {
             world =
                 record {
-                  reached = further view.known new.known kept.reached did;
-                  nodes = nodes_pushed 0 (newborn links limit) view.known.nodes kept.nodes (omega arith);
+                  reached = further view.world new.world kept.reached did;
+                  nodes = nodes_pushed 0 (newborn links limit) view.world.nodes kept.nodes (omega arith);
                   callers = kept.callers;
                   targets = kept.targets;
-                  calls = calls_of_more (length view.known.nodes) _ (length view.known.callers) (length view.known.callers) view.known.sent
-                      (let more = length_push view.known.nodes (newborn links limit) in omega arith) (omega arith) kept.calls;
-                  crashed = length_push view.crashed false ∙ ap (λ n. n + 1) kept.crashed ∙ sym (length_push view.known.nodes (newborn links limit));
+                  calls = calls_of_more (length view.world.nodes) _ (length view.world.callers) (length view.world.callers) view.world.sent
+                      (let more = length_push view.world.nodes (newborn links limit) in omega arith) (omega arith) kept.calls;
+                  crashed = length_push view.crashed false ∙ ap (λ n. n + 1) kept.crashed ∙ sym (length_push view.world.nodes (newborn links limit));
                   ring = λ _. kept_ring.sound;
                   low = kept.low;
                   high = kept.high;
@@ -240,7 +240,7 @@ joined_here id behind limit pred view kept may =
                   principals = kept_ring.principals;
                   crashed = λ at out. (
                     flag_pushed view.crashed at out,
-                    get_pushed view.known.nodes at (newborn links limit)
+                    get_pushed view.world.nodes at (newborn links limit)
                         (let within = flag_within view.crashed at out in let same = kept.crashed in omega arith),
                   );
                 };
@@ -249,26 +249,26 @@ joined_here id behind limit pred view kept may =
     }
 
 -- no node had the identifier, by what the code read
-pub unused_is : (id : ℕ) (view old : WorldState) (read : List Node) (used : Bool) → view ≡ old → read ≡ view.known.nodes → (Contains (map id_of_node read) id → used ≡ true) → used ≡ false
+pub unused_is : (id : ℕ) (view old : WorldState) (read : List Node) (used : Bool) → view ≡ old → read ≡ view.world.nodes → (Contains (map id_of_node read) id → used ≡ true) → used ≡ false
     → ¬ (Contains (ring_of old).ids id)
 unused_is id view old read used same is none e has =
-    let path : (ring_of old).ids ≡ map id_of_node read = ap (λ w. (ring_of w).ids) (sym same) ∙ sym (ids_are view.known.nodes) ∙ ap (map id_of_node) (sym is) in
+    let path : (ring_of old).ids ≡ map id_of_node read = ap (λ w. (ring_of w).ids) (sym same) ∙ sym (ids_are view.world.nodes) ∙ ap (map id_of_node) (sym is) in
     true≢false (sym (none (subst (λ ids. Contains ids id) path has)) ∙ e)
 
-pub used_is : (id : ℕ) (view old : WorldState) (read : List Node) → view ≡ old → read ≡ view.known.nodes → Contains (map id_of_node read) id → Contains (ring_of old).ids id
+pub used_is : (id : ℕ) (view old : WorldState) (read : List Node) → view ≡ old → read ≡ view.world.nodes → Contains (map id_of_node read) id → Contains (ring_of old).ids id
 used_is id view old read same is has =
-    let path : (ring_of old).ids ≡ map id_of_node read = ap (λ w. (ring_of w).ids) (sym same) ∙ sym (ids_are view.known.nodes) ∙ ap (map id_of_node) (sym is) in
+    let path : (ring_of old).ids ≡ map id_of_node read = ap (λ w. (ring_of w).ids) (sym same) ∙ sym (ids_are view.world.nodes) ∙ ap (map id_of_node) (sym is) in
     subst (λ ids. Contains ids id) (sym path) has
 
 -- in the words of the code
 pub joins_at : (id : Id) (behind limit number : ℕ) (pred links : NodeLinks) (view old : WorldState) (nodes : List Node) (crashed : List Bool) → view ≡ old → IsWorld view → MayJoin id behind pred old
-    → number ≡ length view.known.nodes → links ≡ joined (record { no = number; id = id }) pred → nodes ≡ view.known.nodes ++ newborn links limit ∷ [] → crashed ≡ view.crashed ++ false ∷ []
+    → number ≡ length view.world.nodes → links ≡ joined (record { no = number; id = id }) pred → nodes ≡ view.world.nodes ++ newborn links limit ∷ [] → crashed ≡ view.crashed ++ false ∷ []
     → AfterJoin id behind limit old number (with_more nodes crashed view)
 joins_at id behind limit number pred links view old nodes crashed same kept may numbered is pushed flagged =
-    let links_are : links ≡ link id (length view.known.nodes) pred = is ∙ ap (λ n. link id n pred) numbered in
-    let nodes_are : nodes ≡ view.known.nodes ++ newborn (link id (length view.known.nodes) pred) limit ∷ [] =
-    pushed ∙ ap (λ (l : NodeLinks). view.known.nodes ++ newborn l limit ∷ []) links_are in
+    let links_are : links ≡ link id (length view.world.nodes) pred = is ∙ ap (λ n. link id n pred) numbered in
+    let nodes_are : nodes ≡ view.world.nodes ++ newborn (link id (length view.world.nodes) pred) limit ∷ [] =
+    pushed ∙ ap (λ (l : NodeLinks). view.world.nodes ++ newborn l limit ∷ []) links_are in
     subst (λ w. AfterJoin id behind limit w number (with_more nodes crashed view)) same
     (subst (λ n. AfterJoin id behind limit view n (with_more nodes crashed view)) (sym numbered)
-    (subst (AfterJoin id behind limit view (length view.known.nodes)) (λ i. with_more (sym nodes_are i) (sym flagged i) view)
+    (subst (AfterJoin id behind limit view (length view.world.nodes)) (λ i. with_more (sym nodes_are i) (sym flagged i) view)
     (joined_here id behind limit pred view kept (subst (MayJoin id behind pred) (sym same) may))))

@@ -11,22 +11,22 @@ use Rattle.chord_world.specs.declared.outcome.Outcome.{Outcome}
 use Rattle.chord_world.specs.declared.outcome.Outcome.TheVariants as did
 use Rattle.chord_world.specs.declared.refusal.Refusal.{Refusal}
 use Rattle.chord_world.specs.declared.refusal.Refusal.TheVariants as refused
-use Rattle.chord_world.specs.declared.refusal.PartFault.TheVariants as part
+use Rattle.chord_world.specs.declared.refusal.StepFault.TheVariants as step_fault
 use Rattle.chord_world.specs.State.{WorldState, IsThere, with_heard, with_sent}
 
 -- the caller and the node are there, or the first refusal that fits is answered
 abbrev pub AreThere : ℕ → ℕ → WorldState → Result (Unit {0}) Refusal → Type 0
 AreThere caller via state (Ok there) = (core : Caller) × IsThere caller via state core
-AreThere caller via state (Err refused.NotCreated) = state.known.nodes ≡ []
-AreThere caller via state (Err refused.NoSuchNode) = (state.known.nodes ≢ []) × (length state.known.nodes ≤ via)
-AreThere caller via state (Err refused.NoSuchCaller) = (via < length state.known.nodes) × (caller_at caller state.known.callers ≡ None)
+AreThere caller via state (Err refused.NotCreated) = state.world.nodes ≡ []
+AreThere caller via state (Err refused.NoSuchNode) = (state.world.nodes ≢ []) × (length state.world.nodes ≤ via)
+AreThere caller via state (Err refused.NoSuchCaller) = (via < length state.world.nodes) × (caller_at caller state.world.callers ≡ None)
 AreThere caller via state (Err refusal) = ⊥
 
 -- the same without a node
 abbrev pub CallerIs : ℕ → WorldState → Result (Unit {0}) Refusal → Type 0
-CallerIs caller state (Ok there) = (state.known.nodes ≢ []) × ((core : Caller) × (caller_at caller state.known.callers ≡ Some core))
-CallerIs caller state (Err refused.NotCreated) = state.known.nodes ≡ []
-CallerIs caller state (Err refused.NoSuchCaller) = (state.known.nodes ≢ []) × (caller_at caller state.known.callers ≡ None)
+CallerIs caller state (Ok there) = (state.world.nodes ≢ []) × ((core : Caller) × (caller_at caller state.world.callers ≡ Some core))
+CallerIs caller state (Err refused.NotCreated) = state.world.nodes ≡ []
+CallerIs caller state (Err refused.NoSuchCaller) = (state.world.nodes ≢ []) × (caller_at caller state.world.callers ≡ None)
 CallerIs caller state (Err refusal) = ⊥
 
 -- ---- a request again
@@ -55,7 +55,7 @@ pub record AsksAgain (named : Option ℕ) (core : Caller) (ask : Ask) : Type 0 w
 
 -- why it does not
 pub data CannotAskAgain (named : Option ℕ) (core : Caller) : Refusal → Type 0 where
-  Is_idle : IsIdle named core → CannotAskAgain named core (refused.Part part.Idle)
+  Is_idle : IsIdle named core → CannotAskAgain named core (refused.Step step_fault.Idle)
   No_memory : IsWaiting named core → CannotAskAgain named core refused.Memory
 
 abbrev pub AgainIs : Option ℕ → Caller → Result Ask Refusal → Type 0
@@ -68,13 +68,13 @@ pub record SendsAgain (caller via : ℕ) (named : Option ℕ) (old : WorldState)
   pub ask : Ask
   pub there : IsThere caller via old core
   pub asks : AsksAgain named core ask
-  pub numbered : message ≡ length old.known.sent
+  pub numbered : message ≡ length old.world.sent
   pub new_is : new ≡ with_sent (AskMessage ask) via old
 
 abbrev pub ResendStepIs : ℕ → ℕ → Option ℕ → WorldState → Result Outcome Refusal → WorldState → Type 0
 ResendStepIs caller via named old (Ok (did.Message message)) new = SendsAgain caller via named old message new
 ResendStepIs caller via named old (Ok outcome) new = ⊥
-ResendStepIs caller via named old (Err (refused.Part part.Idle)) new = ((core : Caller) × IsThere caller via old core × IsIdle named core) × (new ≡ old)
+ResendStepIs caller via named old (Err (refused.Step step_fault.Idle)) new = ((core : Caller) × IsThere caller via old core × IsIdle named core) × (new ≡ old)
 ResendStepIs caller via named old (Err refused.Memory) new = ((core : Caller) × IsThere caller via old core × IsWaiting named core) × (new ≡ old)
 ResendStepIs caller via named old (Err refusal) new = AreThere caller via old (Err refusal) × (new ≡ old)
 
@@ -87,8 +87,8 @@ note_of core = record { caller = core.number; done = known core }
 -- the note went out under this number
 pub record SendsNote (caller : ℕ) (old : WorldState) (message : ℕ) (new : WorldState) : Type 0 where
   pub core : Caller
-  pub here : caller_at caller old.known.callers ≡ Some core
-  pub numbered : message ≡ length old.known.sent
+  pub here : caller_at caller old.world.callers ≡ Some core
+  pub numbered : message ≡ length old.world.sent
   pub new_is : new ≡ with_sent (NoteMessage (note_of core)) 0 old
 
 abbrev pub ShowIs : ℕ → WorldState → Result Outcome Refusal → WorldState → Type 0
@@ -105,21 +105,21 @@ with_note note core = record core { told = core.told ++ unknown core note.done }
 pub record MeetsNote (caller message : ℕ) (old new : WorldState) : Type 0 where
   pub core : Caller
   pub note : Note
-  pub here : caller_at caller old.known.callers ≡ Some core
-  pub sent : slice_get old.known.sent message ≡ Some (NoteMessage note)
+  pub here : caller_at caller old.world.callers ≡ Some core
+  pub sent : slice_get old.world.sent message ≡ Some (NoteMessage note)
   pub new_is : new ≡ with_heard (with_note note core) old
 
 -- no note was sent under this number
 abbrev pub IsNoNote : ℕ → WorldState → Type 0
-IsNoNote message state = (message < length state.known.sent) × ((note : Note) → slice_get state.known.sent message ≢ Some (NoteMessage note))
+IsNoNote message state = (message < length state.world.sent) × ((note : Note) → slice_get state.world.sent message ≢ Some (NoteMessage note))
 
 abbrev pub MeetIs : ℕ → ℕ → WorldState → Result Outcome Refusal → WorldState → Type 0
 MeetIs caller message old (Ok did.Met) new = MeetsNote caller message old new
 MeetIs caller message old (Ok outcome) new = ⊥
-MeetIs caller message old (Err refused.NoSuchMessage) new = CallerIs caller old (Ok tt) × (length old.known.sent ≤ message) × (new ≡ old)
-MeetIs caller message old (Err (refused.Part part.NotNote)) new = CallerIs caller old (Ok tt) × IsNoNote message old × (new ≡ old)
+MeetIs caller message old (Err refused.NoSuchMessage) new = CallerIs caller old (Ok tt) × (length old.world.sent ≤ message) × (new ≡ old)
+MeetIs caller message old (Err (refused.Step step_fault.NotNote)) new = CallerIs caller old (Ok tt) × IsNoNote message old × (new ≡ old)
 MeetIs caller message old (Err refused.Memory) new =
-    CallerIs caller old (Ok tt) × ((note : Note) × (slice_get old.known.sent message ≡ Some (NoteMessage note))) × (new ≡ old)
+    CallerIs caller old (Ok tt) × ((note : Note) × (slice_get old.world.sent message ≡ Some (NoteMessage note))) × (new ≡ old)
 MeetIs caller message old (Err refusal) new = CallerIs caller old (Err refusal) × (new ≡ old)
 
 -- ---- how it comes about

@@ -21,7 +21,7 @@ use Rattle.chord_world.specs.declared.outcome.Outcome.{Outcome}
 use Rattle.chord_world.specs.declared.outcome.Outcome.TheVariants as did
 use Rattle.chord_world.specs.declared.refusal.Refusal.{Refusal}
 use Rattle.chord_world.specs.declared.refusal.Refusal.TheVariants as refused
-use Rattle.chord_world.specs.declared.refusal.PartFault.TheVariants as part
+use Rattle.chord_world.specs.declared.refusal.StepFault.TheVariants as step_fault
 use Rattle.chord_world.specs.State.{WorldState, with_heard, is_crashed}
 use Rattle.chord_world.specs.Linking.{with_node}
 use Rattle.chord_world.specs.Taking.{outcome_of_given, outcome_of_freed, outcome_of_back, with_reply}
@@ -44,10 +44,10 @@ target_of answer.Full = Some 0
 abbrev pub with_answer : Ask → Node → Node → Answered → WorldState → WorldState
 with_answer ask node after answered old =
     record old {
-      known = record old.known {
-        nodes = put_node after old.known.nodes;
-        sent = with_one old.known.sent (sent_by ask answered);
-        history = with_one old.known.history (ask_done ask node);
+      world = record old.world {
+        nodes = put_node after old.world.nodes;
+        sent = with_one old.world.sent (sent_by ask answered);
+        history = with_one old.world.history (ask_done ask node);
       };
       targets = with_one old.targets (target_of answered);
     }
@@ -60,71 +60,71 @@ outcome_heard KnownReply caller = did.Known
 -- What comes of the message of this number, where it is delivered.
 pub data Delivers (message : ℕ) (old : WorldState) : Outcome → WorldState → Type 0 where
   -- a call comes to its node
-  To_node : (ask : Ask) (to : ℕ) (node after : Node) (answered : Answered) → slice_get old.known.sent message ≡ Some (AskMessage ask)
-      → slice_get old.targets message ≡ Some to → node_at to old.known.nodes ≡ Some node → is_crashed to old ≡ false → AskIs ask node (Ok answered) after
-      → Delivers message old (outcome_of answered (length old.known.sent)) (with_answer ask node after answered old)
+  To_node : (ask : Ask) (to : ℕ) (node after : Node) (answered : Answered) → slice_get old.world.sent message ≡ Some (AskMessage ask)
+      → slice_get old.targets message ≡ Some to → node_at to old.world.nodes ≡ Some node → is_crashed to old ≡ false → AskIs ask node (Ok answered) after
+      → Delivers message old (outcome_of answered (length old.world.sent)) (with_answer ask node after answered old)
   -- a reply comes to its caller
-  To_caller : (told : Told) (core after : Caller) (heard : Heard) → slice_get old.known.sent message ≡ Some (ToldMessage told)
-      → caller_at told.caller old.known.callers ≡ Some core → TakeIs told core (Ok heard) after
+  To_caller : (told : Told) (core after : Caller) (heard : Heard) → slice_get old.world.sent message ≡ Some (ToldMessage told)
+      → caller_at told.caller old.world.callers ≡ Some core → TakeIs told core (Ok heard) after
       → Delivers message old (outcome_heard heard told.caller) (with_heard after old)
   -- a part comes to its receiver
-  Part_to_node : (part : Part) (node after : Node) (given : Given) (outcome : Outcome) → slice_get old.known.sent message ≡ Some (PartMessage part)
-      → node_at part.to old.known.nodes ≡ Some node → is_crashed part.to old ≡ false → PartIs part node (Ok given) after
-      → outcome_of_given given (length old.known.sent) ≡ Some outcome → Delivers message old outcome (with_reply after (sent_for part given) old)
+  Part_to_node : (part : Part) (node after : Node) (given : Given) (outcome : Outcome) → slice_get old.world.sent message ≡ Some (PartMessage part)
+      → node_at part.to old.world.nodes ≡ Some node → is_crashed part.to old ≡ false → PartIs part node (Ok given) after
+      → outcome_of_given given (length old.world.sent) ≡ Some outcome → Delivers message old outcome (with_reply after (sent_for part given) old)
   -- that a handover was taken comes to its sender
-  Got_to_node : (got : Ticket) (node after : Node) (found : Bool) → slice_get old.known.sent message ≡ Some (GotMessage got)
-      → node_at got.from old.known.nodes ≡ Some node → is_crashed got.from old ≡ false → GotIs got node found after
+  Got_to_node : (got : Ticket) (node after : Node) (found : Bool) → slice_get old.world.sent message ≡ Some (GotMessage got)
+      → node_at got.from old.world.nodes ≡ Some node → is_crashed got.from old ≡ false → GotIs got node found after
       → Delivers message old (outcome_of_freed found) (with_node after old)
   -- so does that it was declined
-  Declined_to_node : (declined : Ticket) (node after : Node) (back : Back) (outcome : Outcome) → slice_get old.known.sent message ≡ Some (DeclinedMessage declined)
-      → node_at declined.from old.known.nodes ≡ Some node → is_crashed declined.from old ≡ false → BackIs declined node (Ok back) after
+  Declined_to_node : (declined : Ticket) (node after : Node) (back : Back) (outcome : Outcome) → slice_get old.world.sent message ≡ Some (DeclinedMessage declined)
+      → node_at declined.from old.world.nodes ≡ Some node → is_crashed declined.from old ≡ false → BackIs declined node (Ok back) after
       → outcome_of_back back ≡ Some outcome → Delivers message old outcome (with_node after old)
   -- a caller hears that a store was full
-  Full_to_caller : (caller number : ℕ) (core : Caller) → slice_get old.known.sent message ≡ Some (FullMessage caller number)
-      → caller_at caller old.known.callers ≡ Some core → Delivers message old did.HeardFull old
+  Full_to_caller : (caller number : ℕ) (core : Caller) → slice_get old.world.sent message ≡ Some (FullMessage caller number)
+      → caller_at caller old.world.callers ≡ Some core → Delivers message old did.HeardFull old
 
 -- the call of this number is for a node that is not there
 pub record IsAstray (message : ℕ) (old : WorldState) : Type 0 where
   pub ask : Ask
   pub to : ℕ
-  pub sent : slice_get old.known.sent message ≡ Some (AskMessage ask)
+  pub sent : slice_get old.world.sent message ≡ Some (AskMessage ask)
   pub target : slice_get old.targets message ≡ Some to
-  pub missing : node_at to old.known.nodes ≡ None
+  pub missing : node_at to old.world.nodes ≡ None
 
 -- the message of this number is for this node
 pub data IsFor (message : ℕ) (old : WorldState) : ℕ → Type 0 where
-  Ask_for : (ask : Ask) (to : ℕ) → slice_get old.known.sent message ≡ Some (AskMessage ask) → slice_get old.targets message ≡ Some to → IsFor message old to
-  Part_for : (part : Part) → slice_get old.known.sent message ≡ Some (PartMessage part) → IsFor message old part.to
-  Got_for : (got : Ticket) → slice_get old.known.sent message ≡ Some (GotMessage got) → IsFor message old got.from
-  Declined_for : (declined : Ticket) → slice_get old.known.sent message ≡ Some (DeclinedMessage declined) → IsFor message old declined.from
+  Ask_for : (ask : Ask) (to : ℕ) → slice_get old.world.sent message ≡ Some (AskMessage ask) → slice_get old.targets message ≡ Some to → IsFor message old to
+  Part_for : (part : Part) → slice_get old.world.sent message ≡ Some (PartMessage part) → IsFor message old part.to
+  Got_for : (got : Ticket) → slice_get old.world.sent message ≡ Some (GotMessage got) → IsFor message old got.from
+  Declined_for : (declined : Ticket) → slice_get old.world.sent message ≡ Some (DeclinedMessage declined) → IsFor message old declined.from
 
 -- the message of this number is for a node that crashed
 pub record IsForCrashed (message : ℕ) (old : WorldState) : Type 0 where
   pub to : ℕ
   pub node : Node
   pub is_for : IsFor message old to
-  pub here : node_at to old.known.nodes ≡ Some node
+  pub here : node_at to old.world.nodes ≡ Some node
   pub crashed : is_crashed to old ≡ true
 
 -- the message of this number copies something, or makes something grow, where it is taken in
 pub data TakesMemory (message : ℕ) (old : WorldState) : Type 0 where
-  Ask_takes : (ask : Ask) (to : ℕ) (node : Node) → slice_get old.known.sent message ≡ Some (AskMessage ask) → slice_get old.targets message ≡ Some to
-      → node_at to old.known.nodes ≡ Some node → is_crashed to old ≡ false → TakesMemory message old
-  Told_takes : (told : Told) → slice_get old.known.sent message ≡ Some (ToldMessage told) → TakesMemory message old
-  Part_takes : (part : Part) (node : Node) → slice_get old.known.sent message ≡ Some (PartMessage part) → node_at part.to old.known.nodes ≡ Some node
+  Ask_takes : (ask : Ask) (to : ℕ) (node : Node) → slice_get old.world.sent message ≡ Some (AskMessage ask) → slice_get old.targets message ≡ Some to
+      → node_at to old.world.nodes ≡ Some node → is_crashed to old ≡ false → TakesMemory message old
+  Told_takes : (told : Told) → slice_get old.world.sent message ≡ Some (ToldMessage told) → TakesMemory message old
+  Part_takes : (part : Part) (node : Node) → slice_get old.world.sent message ≡ Some (PartMessage part) → node_at part.to old.world.nodes ≡ Some node
       → is_crashed part.to old ≡ false → TakesMemory message old
-  Declined_takes : (declined : Ticket) (node : Node) → slice_get old.known.sent message ≡ Some (DeclinedMessage declined)
-      → node_at declined.from old.known.nodes ≡ Some node → is_crashed declined.from old ≡ false → BackIs declined node (Err alloc_error) node
+  Declined_takes : (declined : Ticket) (node : Node) → slice_get old.world.sent message ≡ Some (DeclinedMessage declined)
+      → node_at declined.from old.world.nodes ≡ Some node → is_crashed declined.from old ≡ false → BackIs declined node (Err alloc_error) node
       → TakesMemory message old
 
 -- what a World answers where the message of this number is delivered
 abbrev pub DeliverIs : ℕ → WorldState → Result Outcome Refusal → WorldState → Type 0
 DeliverIs message old (Ok outcome) new = Delivers message old outcome new
-DeliverIs message old (Err refused.NotCreated) new = (old.known.nodes ≡ []) × (new ≡ old)
+DeliverIs message old (Err refused.NotCreated) new = (old.world.nodes ≡ []) × (new ≡ old)
 DeliverIs message old (Err refused.NoSuchNode) new = IsAstray message old × (new ≡ old)
-DeliverIs message old (Err refused.NoSuchMessage) new = (old.known.nodes ≢ []) × (length old.known.sent ≤ message) × (new ≡ old)
-DeliverIs message old (Err (refused.Part part.Crashed)) new = IsForCrashed message old × (new ≡ old)
-DeliverIs message old (Err (refused.Part part.NeedsMeet)) new =
-    ((note : Note) × (slice_get old.known.sent message ≡ Some (NoteMessage note))) × (new ≡ old)
+DeliverIs message old (Err refused.NoSuchMessage) new = (old.world.nodes ≢ []) × (length old.world.sent ≤ message) × (new ≡ old)
+DeliverIs message old (Err (refused.Step step_fault.Crashed)) new = IsForCrashed message old × (new ≡ old)
+DeliverIs message old (Err (refused.Step step_fault.NeedsMeet)) new =
+    ((note : Note) × (slice_get old.world.sent message ≡ Some (NoteMessage note))) × (new ≡ old)
 DeliverIs message old (Err refused.Memory) new = TakesMemory message old × (new ≡ old)
 DeliverIs message old (Err refusal) new = ⊥

@@ -21,7 +21,7 @@ use Rattle.chord_world.specs.declared.outcome.Outcome.{Outcome}
 use Rattle.chord_world.specs.declared.outcome.Outcome.TheVariants as did
 use Rattle.chord_world.specs.declared.refusal.Refusal.{Refusal}
 use Rattle.chord_world.specs.declared.refusal.Refusal.TheVariants as refused
-use Rattle.chord_world.specs.declared.refusal.PartFault.TheVariants as part
+use Rattle.chord_world.specs.declared.refusal.StepFault.TheVariants as step_fault
 use Rattle.chord_world.specs.State.{WorldState, ring_of, with_sent, is_crashed}
 use Rattle.chord_world.specs.Linking.{with_node}
 
@@ -29,13 +29,13 @@ use Rattle.chord_world.specs.Linking.{with_node}
 
 -- no node has this number
 pub data IsMissing (number : ℕ) (state : WorldState) : Refusal → Type 0 where
-  Uncreated : state.known.nodes ≡ [] → IsMissing number state refused.NotCreated
-  Missing : state.known.nodes ≢ [] → node_at number state.known.nodes ≡ None → IsMissing number state refused.NoSuchNode
+  Uncreated : state.world.nodes ≡ [] → IsMissing number state refused.NotCreated
+  Missing : state.world.nodes ≢ [] → node_at number state.world.nodes ≡ None → IsMissing number state refused.NoSuchNode
 
 -- a node has it
 pub record HasNode (number : ℕ) (state : WorldState) : Type 0 where
   pub node : Node
-  pub here : node_at number state.known.nodes ≡ Some node
+  pub here : node_at number state.world.nodes ≡ Some node
 
 abbrev pub ThereIs : ℕ → WorldState → Result (Unit {0}) Refusal → Type 0
 ThereIs number state (Ok there) = HasNode number state
@@ -44,7 +44,7 @@ ThereIs number state (Err refusal) = IsMissing number state refusal
 -- the node of this number does nothing
 pub data CannotAct (number : ℕ) (state : WorldState) : Refusal → Type 0 where
   Is_missing : (refusal : Refusal) → IsMissing number state refusal → CannotAct number state refusal
-  Is_crashed : HasNode number state → is_crashed number state ≡ true → CannotAct number state (refused.Part part.Crashed)
+  Is_crashed : HasNode number state → is_crashed number state ≡ true → CannotAct number state (refused.Step step_fault.Crashed)
 
 -- it is there, and has not crashed
 abbrev pub CanAct : ℕ → WorldState → Type 0
@@ -64,7 +64,7 @@ Call A = Node → A → Node → Type 0
 pub record Moved {E : Type 0} (Is : Call (Result (Unit {0}) E)) (number : ℕ) (old new : WorldState) : Type 0 where
   pub node : Node
   pub after : Node
-  pub here : node_at number old.known.nodes ≡ Some node
+  pub here : node_at number old.world.nodes ≡ Some node
   pub running : is_crashed number old ≡ false
   pub is : Is node (Ok tt) after
   pub new_is : new ≡ with_node after old
@@ -73,7 +73,7 @@ pub record Moved {E : Type 0} (Is : Call (Result (Unit {0}) E)) (number : ℕ) (
 pub record RefusedBy {A E : Type 0} (Is : Call (Result A E)) (refusal_of : E → Refusal) (number : ℕ) (old : WorldState) (refusal : Refusal) : Type 0 where
   pub node : Node
   pub fault : E
-  pub here : node_at number old.known.nodes ≡ Some node
+  pub here : node_at number old.world.nodes ≡ Some node
   pub running : is_crashed number old ≡ false
   pub is : Is node (Err fault) node
   pub told : refusal ≡ refusal_of fault
@@ -90,16 +90,16 @@ pub record SendsPart {E : Type 0} (Is : Call (Result Part E)) (number : ℕ) (ol
   pub node : Node
   pub after : Node
   pub part : Part
-  pub here : node_at number old.known.nodes ≡ Some node
+  pub here : node_at number old.world.nodes ≡ Some node
   pub running : is_crashed number old ≡ false
   pub is : Is node (Ok part) after
-  pub numbered : message ≡ length old.known.sent
+  pub numbered : message ≡ length old.world.sent
   pub new_is : new ≡ with_sent (PartMessage part) 0 (with_node after old)
 
 -- the first part of a segment that is given
 abbrev pub refusal_of_give : GiveFault → Refusal
-refusal_of_give give.NoSegment = refused.Part part.NoSegment
-refusal_of_give give.NumbersSpent = refused.Part part.NumbersSpent
+refusal_of_give give.NoSegment = refused.Step step_fault.NoSegment
+refusal_of_give give.NumbersSpent = refused.Step step_fault.NumbersSpent
 refusal_of_give give.Memory = refused.Memory
 
 -- the giver or the receiver is not there, or the giver crashed
@@ -114,7 +114,7 @@ GiveStepIs number place to old (Err refusal) new =
 
 -- a part again
 abbrev pub refusal_of_resend : ResendFault → Refusal
-refusal_of_resend resend.NoPart = refused.Part part.NoPart
+refusal_of_resend resend.NoPart = refused.Step step_fault.NoPart
 refusal_of_resend resend.Memory = refused.Memory
 
 -- the node stays as it is
@@ -124,7 +124,7 @@ Resends to number part node result after = ResendIs to number part node result �
 -- there is no such part, or no receiver that it could be for
 abbrev pub RefusesPart : ℕ → ℕ → ℕ → ℕ → WorldState → Refusal → Type 0
 RefusesPart number to item place old refusal =
-    (CanAct number old × (node_at to old.known.nodes ≡ None) × (refusal ≡ refused.Part part.NoPart))
+    (CanAct number old × (node_at to old.world.nodes ≡ None) × (refusal ≡ refused.Step step_fault.NoPart))
     ⊎ (HasNode to old × RefusedBy (Resends to item place) refusal_of_resend number old refusal)
 
 abbrev pub SendPartIs : ℕ → ℕ → ℕ → ℕ → WorldState → Result Outcome Refusal → WorldState → Type 0
@@ -135,23 +135,23 @@ SendPartIs number to item place old (Err refusal) new = (CannotAct number old re
 -- ---- refusals
 
 abbrev pub refusal_of_cut : CutAtFault → Refusal
-refusal_of_cut cut.NoSegment = refused.Part part.NoSegment
-refusal_of_cut cut.NotInside = refused.Part part.NotInside
+refusal_of_cut cut.NoSegment = refused.Step step_fault.NoSegment
+refusal_of_cut cut.NotInside = refused.Step step_fault.NotInside
 refusal_of_cut cut.Memory = refused.Memory
 
 abbrev pub refusal_of_merge : MergeFault → Refusal
-refusal_of_merge merge.NoSegment = refused.Part part.NoSegment
-refusal_of_merge merge.NotAdjacent = refused.Part part.NotAdjacent
-refusal_of_merge merge.Overlap = refused.Part part.Overlap
-refusal_of_merge merge.Twice = refused.Part part.Twice
+refusal_of_merge merge.NoSegment = refused.Step step_fault.NoSegment
+refusal_of_merge merge.NotAdjacent = refused.Step step_fault.NotAdjacent
+refusal_of_merge merge.Overlap = refused.Step step_fault.Overlap
+refusal_of_merge merge.Twice = refused.Step step_fault.Twice
 refusal_of_merge merge.Memory = refused.Memory
 
 abbrev pub refusal_of_leave : NotStaying → Refusal
-refusal_of_leave fault = refused.Part part.NotStaying
+refusal_of_leave fault = refused.Step step_fault.NotStaying
 
 abbrev pub refusal_of_retire : RetireFault → Refusal
-refusal_of_retire retire.NotLeaving = refused.Part part.NotLeaving
-refusal_of_retire retire.NotEmpty = refused.Part part.NotEmpty
+refusal_of_retire retire.NotLeaving = refused.Step step_fault.NotLeaving
+refusal_of_retire retire.NotEmpty = refused.Step step_fault.NotEmpty
 
 -- ---- a node that is gone
 

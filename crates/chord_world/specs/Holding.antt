@@ -22,5 +22,5 @@ holders_at x nodes node = at_node x node ++ under_way x (last_taken nodes) node
 
 -- its one holder, once there is a node
 abbrev pub HolderIs : ℕ → WorldState → Option Holder → Type 0
-HolderIs x state None = state.known.nodes ≡ []
-HolderIs x state (Some holder) = holders x state.known.nodes ≡ holder ∷ []
+HolderIs x state None = state.world.nodes ≡ []
+HolderIs x state (Some holder) = holders x state.world.nodes ≡ holder ∷ []

@@ -12,30 +12,30 @@ use Rattle.chord_world.specs.declared.outcome.Outcome.{Outcome}
 use Rattle.chord_world.specs.declared.outcome.Outcome.TheVariants as did
 use Rattle.chord_world.specs.declared.refusal.Refusal.{Refusal}
 use Rattle.chord_world.specs.declared.refusal.Refusal.TheVariants as refused
-use Rattle.chord_world.specs.declared.refusal.PartFault.TheVariants as part
+use Rattle.chord_world.specs.declared.refusal.StepFault.TheVariants as step_fault
 use Rattle.chord_world.specs.State.{WorldState, ring_of}
 
 -- the world with one more node, which has these links and a store of this limit
 abbrev pub with_newborn : NodeLinks → ℕ → WorldState → WorldState
 with_newborn links limit old =
-    record old { known = record old.known { nodes = old.known.nodes ++ newborn links limit ∷ [] }; crashed = old.crashed ++ false ∷ [] }
+    record old { world = record old.world { nodes = old.world.nodes ++ newborn links limit ∷ [] }; crashed = old.crashed ++ false ∷ [] }
 
 -- a node with this identifier joined behind a member, with a store of this limit, and has this number
 pub record JoinsBehind (id : Id) (behind limit : ℕ) (old : WorldState) (number : ℕ) (new : WorldState) : Type 0 where
   pub links : NodeLinks
   pub joins : Joins (ring_of old) id.number behind (ring_of new)
-  pub numbered : number ≡ length old.known.nodes
+  pub numbered : number ≡ length old.world.nodes
   pub new_is : new ≡ with_newborn links limit old
 
 -- the limits are those of the stores at hand
 abbrev pub JoinIs : Id → ℕ → List ℕ → WorldState → Result Outcome Refusal → WorldState → Type 0
 JoinIs id behind limits old (Ok (did.Node number)) new = (limit : ℕ) × (slice_get limits 0 ≡ Some limit) × JoinsBehind id behind limit old number new
 JoinIs id behind limits old (Ok outcome) new = ⊥
-JoinIs id behind limits old (Err refused.NotCreated) new = (old.known.nodes ≡ []) × (new ≡ old)
-JoinIs id behind limits old (Err refused.NoSuchNode) new = (old.known.nodes ≢ []) × JoinRefused (ring_of old) id.number behind fault.NoSuchNode × (new ≡ old)
+JoinIs id behind limits old (Err refused.NotCreated) new = (old.world.nodes ≡ []) × (new ≡ old)
+JoinIs id behind limits old (Err refused.NoSuchNode) new = (old.world.nodes ≢ []) × JoinRefused (ring_of old) id.number behind fault.NoSuchNode × (new ≡ old)
 JoinIs id behind limits old (Err refused.IdTaken) new = JoinRefused (ring_of old) id.number behind fault.IdTaken × (new ≡ old)
 JoinIs id behind limits old (Err refused.NoStore) new =
     IsTrue (is_member (ring_of old).members behind) × (¬ (Contains (ring_of old).ids id.number)) × (limits ≡ []) × (new ≡ old)
-JoinIs id behind limits old (Err (refused.Part part.NotBetween)) new = JoinRefused (ring_of old) id.number behind fault.NotBetween × (limits ≢ []) × (new ≡ old)
+JoinIs id behind limits old (Err (refused.Step step_fault.NotBetween)) new = JoinRefused (ring_of old) id.number behind fault.NotBetween × (limits ≢ []) × (new ≡ old)
 JoinIs id behind limits old (Err refused.Memory) new = JoinRefused (ring_of old) id.number behind fault.Memory × (limits ≢ []) × (new ≡ old)
 JoinIs id behind limits old (Err refusal) new = ⊥

@@ -10,7 +10,7 @@ use Rattle.chord_world.specs.declared.outcome.Outcome.{Outcome}
 use Rattle.chord_world.specs.declared.outcome.Outcome.TheVariants as did
 use Rattle.chord_world.specs.declared.refusal.Refusal.{Refusal}
 use Rattle.chord_world.specs.declared.refusal.Refusal.TheVariants as refused
-use Rattle.chord_world.specs.declared.refusal.PartFault.TheVariants as part
+use Rattle.chord_world.specs.declared.refusal.StepFault.TheVariants as step_fault
 use Rattle.chord_world.specs.State.{WorldState, is_crashed}
 
 -- a node has the fingers 1 to 128
@@ -23,14 +23,14 @@ pointed finger peer node = record node { links = record node.links { fingers = w
 
 -- the world after a node changed
 abbrev pub with_node : Node → WorldState → WorldState
-with_node after old = record old { known = record old.known { nodes = put_node after old.known.nodes } }
+with_node after old = record old { world = record old.world { nodes = put_node after old.world.nodes } }
 
 -- the finger of the node of this number is at the node `to`
 pub record Points (number finger to : ℕ) (old new : WorldState) : Type 0 where
   pub node : Node
   pub peer : Node
-  pub here : node_at number old.known.nodes ≡ Some node
-  pub there : node_at to old.known.nodes ≡ Some peer
+  pub here : node_at number old.world.nodes ≡ Some node
+  pub there : node_at to old.world.nodes ≡ Some peer
   pub running : is_crashed number old ≡ false
   pub is_finger : IsFinger finger
   pub new_is : new ≡ with_node (pointed finger peer.links.me node) old
@@ -38,23 +38,23 @@ pub record Points (number finger to : ℕ) (old new : WorldState) : Type 0 where
 -- both nodes are there
 abbrev pub AreNodes : ℕ → ℕ → WorldState → Type 0
 AreNodes number to state =
-    ((node : Node) × (node_at number state.known.nodes ≡ Some node)) × ((peer : Node) × (node_at to state.known.nodes ≡ Some peer))
+    ((node : Node) × (node_at number state.world.nodes ≡ Some node)) × ((peer : Node) × (node_at to state.world.nodes ≡ Some peer))
 
 abbrev pub FingerIs : ℕ → ℕ → ℕ → WorldState → Result Outcome Refusal → WorldState → Type 0
 FingerIs number finger to old (Ok did.Done) new = Points number finger to old new
 FingerIs number finger to old (Ok outcome) new = ⊥
-FingerIs number finger to old (Err refused.NotCreated) new = (old.known.nodes ≡ []) × (new ≡ old)
+FingerIs number finger to old (Err refused.NotCreated) new = (old.world.nodes ≡ []) × (new ≡ old)
 FingerIs number finger to old (Err refused.NoSuchNode) new =
-    (old.known.nodes ≢ []) × ((node_at number old.known.nodes ≡ None) ⊎ (node_at to old.known.nodes ≡ None)) × (new ≡ old)
-FingerIs number finger to old (Err (refused.Part part.Crashed)) new = AreNodes number to old × (is_crashed number old ≡ true) × (new ≡ old)
-FingerIs number finger to old (Err (refused.Part part.BadFinger)) new =
+    (old.world.nodes ≢ []) × ((node_at number old.world.nodes ≡ None) ⊎ (node_at to old.world.nodes ≡ None)) × (new ≡ old)
+FingerIs number finger to old (Err (refused.Step step_fault.Crashed)) new = AreNodes number to old × (is_crashed number old ≡ true) × (new ≡ old)
+FingerIs number finger to old (Err (refused.Step step_fault.BadFinger)) new =
     AreNodes number to old × (is_crashed number old ≡ false) × (¬ IsFinger finger) × (new ≡ old)
 FingerIs number finger to old (Err refusal) new = ⊥
 
 -- the links of the node of this number, where there is one
 abbrev pub LinksAre : ℕ → WorldState → Option (Bor NodeLinks) → Type 0
-LinksAre number state None = node_at number state.known.nodes ≡ None
-LinksAre number state (Some links) = (node : Node) × (node_at number state.known.nodes ≡ Some node) × (links.now ≡ node.links)
+LinksAre number state None = node_at number state.world.nodes ≡ None
+LinksAre number state (Some links) = (node : Node) × (node_at number state.world.nodes ≡ Some node) × (links.now ≡ node.links)
 
 -- the node at the place has its finger at the peer
 pub record PointsAt (place finger : ℕ) (peer : Peer) (old new : List Node) : Type 0 where

@@ -9,7 +9,7 @@ use Rattle.chord_ring.specs.declared.steps.CandidateFault.TheVariants.{Dead, Not
 use Rattle.chord_ring.specs.declared.steps.DropFault.TheVariants.{HeadLive, Empty}
 use Rattle.chord_world.specs.declared.refusal.Refusal.{Refusal}
 use Rattle.chord_world.specs.declared.refusal.Refusal.TheVariants as refused
-use Rattle.chord_world.specs.declared.refusal.PartFault.TheVariants as part
+use Rattle.chord_world.specs.declared.refusal.StepFault.TheVariants as step_fault
 
 -- the place of a refusal in the order in which they are checked
 abbrev pub number_of : Refusal → ℕ
@@ -21,25 +21,25 @@ number_of refused.NoSuchMessage = 5
 number_of refused.IdTaken = 6
 number_of refused.NoStore = 7
 number_of refused.Unsafe = 8
-number_of (refused.Part fault) = 9
+number_of (refused.Step fault) = 9
 number_of refused.Memory = 10
 
 -- a caller's refusal to submit, as the refusal of a step
 abbrev pub refusal_of : SubmitFault → Refusal
-refusal_of (Bad fault) = refused.Part (part.Request fault)
-refusal_of WindowFull = refused.Part part.WindowFull
-refusal_of NumbersSpent = refused.Part part.NumbersSpent
+refusal_of (Bad fault) = refused.Step (step_fault.Request fault)
+refusal_of WindowFull = refused.Step step_fault.WindowFull
+refusal_of NumbersSpent = refused.Step step_fault.NumbersSpent
 refusal_of NoMemory = refused.Memory
 
 -- a ring's refusal, as the refusal of a step
 abbrev pub refusal_of_ring : RingFault → Refusal
 refusal_of_ring ring.NoSuchNode = refused.NoSuchNode
 refusal_of_ring ring.IdTaken = refused.IdTaken
-refusal_of_ring ring.NotBetween = refused.Part part.NotBetween
-refusal_of_ring (ring.Stabilise HeadDead) = refused.Part part.HeadDead
-refusal_of_ring (ring.Stabilise NotHead) = refused.Part part.NotHead
-refusal_of_ring (ring.Candidate Dead) = refused.Part part.Dead
-refusal_of_ring (ring.Candidate NotCloser) = refused.Part part.NotCloser
-refusal_of_ring (ring.Drop HeadLive) = refused.Part part.HeadLive
-refusal_of_ring (ring.Drop Empty) = refused.Part part.Empty
+refusal_of_ring ring.NotBetween = refused.Step step_fault.NotBetween
+refusal_of_ring (ring.Stabilise HeadDead) = refused.Step step_fault.HeadDead
+refusal_of_ring (ring.Stabilise NotHead) = refused.Step step_fault.NotHead
+refusal_of_ring (ring.Candidate Dead) = refused.Step step_fault.Dead
+refusal_of_ring (ring.Candidate NotCloser) = refused.Step step_fault.NotCloser
+refusal_of_ring (ring.Drop HeadLive) = refused.Step step_fault.HeadLive
+refusal_of_ring (ring.Drop Empty) = refused.Step step_fault.Empty
 refusal_of_ring ring.Memory = refused.Memory

@@ -10,23 +10,23 @@ use Rattle.chord_world.specs.declared.running.Answer.{Answer}
 use Rattle.chord_world.specs.declared.running.Answer.TheVariants.{Did, Refused}
 use Rattle.chord_world.specs.declared.step.Step.{Step}
 use Rattle.chord_world.specs.declared.step.Step.TheVariants.{Create, Join}
-use Rattle.chord_ring.specs.Ring.{IsSettled, IsOneRing}
+use Rattle.chord_ring.specs.Ring.{IsSafe, IsOneRing}
 use Rattle.chord_world.specs.State.{WorldState, ring_of}
 use Rattle.chord_world.specs.Steps.{StepIs}
 
 -- the replies that the caller took, where there is such a caller
 abbrev pub MineIs : ℕ → WorldState → Option (Bor (List Done)) → Type 0
-MineIs number state None = caller_at number state.known.callers ≡ None
-MineIs number state (Some mine) = (caller : Caller) × (caller_at number state.known.callers ≡ Some caller) × (mine.now ≡ caller.mine)
+MineIs number state None = caller_at number state.world.callers ≡ None
+MineIs number state (Some mine) = (caller : Caller) × (caller_at number state.world.callers ≡ Some caller) × (mine.now ≡ caller.mine)
 
 -- the calls that notes told the caller of, where there is such a caller
 abbrev pub ToldIs : ℕ → WorldState → Option (Bor (List Done)) → Type 0
-ToldIs number state None = caller_at number state.known.callers ≡ None
-ToldIs number state (Some told) = (caller : Caller) × (caller_at number state.known.callers ≡ Some caller) × (told.now ≡ caller.told)
+ToldIs number state None = caller_at number state.world.callers ≡ None
+ToldIs number state (Some told) = (caller : Caller) × (caller_at number state.world.callers ≡ Some caller) × (told.now ≡ caller.told)
 
 -- once there is a node: each member's list has a live entry, there is a principal, and the principals stand on one ring
 abbrev pub StandsOnOneRing : WorldState → Type 0
-StandsOnOneRing state = state.known.nodes ≢ [] → IsSettled (ring_of state).members × IsOneRing (ring_of state).members
+StandsOnOneRing state = state.world.nodes ≢ [] → IsSafe (ring_of state).members × IsOneRing (ring_of state).members
 
 -- the result that an answer tells
 abbrev pub result_of : Answer → Result Outcome Refusal

@@ -13,18 +13,18 @@ use Rattle.chord_world.specs.Members.{ring_with}
 -- the world of the definitions; for each message sent the node that it goes to, where it is an Ask; for each node
 -- whether it crashed; and how many successors a node may list
 pub record WorldState : Type 0 where
-  pub known : World
+  pub world : World
   pub targets : List ℕ
   pub crashed : List Bool
   pub r : ℕ
 
 -- the ring that its nodes make
 abbrev pub ring_of : WorldState → Ring
-ring_of state = ring_with state.known.nodes state.crashed
+ring_of state = ring_with state.world.nodes state.crashed
 
 -- a world in which nothing has happened
 abbrev pub new_world : ℕ → WorldState
-new_world r = record { known = empty_world; targets = []; crashed = []; r = r }
+new_world r = record { world = empty_world; targets = []; crashed = []; r = r }
 
 -- the nodes' numbers count up from this one
 abbrev pub NodesFrom : ℕ → List Node → Type 0
@@ -54,28 +54,28 @@ AreKnown nodes callers (message ∷ rest) = IsKnown nodes callers message × Are
 -- some steps lead to it, its nodes and callers stand at their numbers, each message has its node and is one of its
 -- callers' or between its nodes, and its nodes make a sound ring
 pub record IsWorld (state : WorldState) : Type 0 where
-  pub reached : ∥ Reached state.known ∥₁
-  pub nodes : NodesFrom 0 state.known.nodes
-  pub callers : CallersFrom 0 state.known.callers
-  pub targets : length state.targets ≡ length state.known.sent
-  pub calls : AreKnown (length state.known.nodes) (length state.known.callers) state.known.sent
-  pub crashed : length state.crashed ≡ length state.known.nodes
-  pub ring : state.known.nodes ≢ [] → IsSound (ring_of state)
+  pub reached : ∥ Reached state.world ∥₁
+  pub nodes : NodesFrom 0 state.world.nodes
+  pub callers : CallersFrom 0 state.world.callers
+  pub targets : length state.targets ≡ length state.world.sent
+  pub calls : AreKnown (length state.world.nodes) (length state.world.callers) state.world.sent
+  pub crashed : length state.crashed ≡ length state.world.nodes
+  pub ring : state.world.nodes ≢ [] → IsSound (ring_of state)
   pub low : 2 ≤ state.r
   pub high : state.r ≤ 16
 
 -- the caller and the node are there
 abbrev pub IsThere : ℕ → ℕ → WorldState → Caller → Type 0
-IsThere caller via state core = (via < length state.known.nodes) × (caller_at caller state.known.callers ≡ Some core)
+IsThere caller via state core = (via < length state.world.nodes) × (caller_at caller state.world.callers ≡ Some core)
 
 -- the world after a caller took something in
 abbrev pub with_heard : Caller → WorldState → WorldState
-with_heard after old = record old { known = record old.known { callers = put_caller after old.known.callers } }
+with_heard after old = record old { world = record old.world { callers = put_caller after old.world.callers } }
 
 -- the world after this message was sent to this node; 0 stands for none
 abbrev pub with_sent : Message → ℕ → WorldState → WorldState
 with_sent message to old =
-    record old { known = record old.known { sent = old.known.sent ++ message ∷ [] }; targets = old.targets ++ to ∷ [] }
+    record old { world = record old.world { sent = old.world.sent ++ message ∷ [] }; targets = old.targets ++ to ∷ [] }
 
 -- whether the node of this number crashed
 abbrev pub is_crashed : ℕ → WorldState → Bool
@@ -85,4 +85,4 @@ is_crashed number state = slice_index_or state.crashed number false
 pub record KeepsRing (old new : WorldState) : Type 0 where
   pub principals : KeepsPrincipals (ring_of old).members (ring_of new).members
   pub crashed : (number : ℕ) → is_crashed number old ≡ true
-      → (is_crashed number new ≡ true) × (slice_get new.known.nodes number ≡ slice_get old.known.nodes number)
+      → (is_crashed number new ≡ true) × (slice_get new.world.nodes number ≡ slice_get old.world.nodes number)

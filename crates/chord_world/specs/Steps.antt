@@ -16,7 +16,7 @@ use Rattle.chord_world.specs.declared.outcome.Outcome.{Outcome}
 use Rattle.chord_world.specs.declared.outcome.Outcome.TheVariants as did
 use Rattle.chord_world.specs.declared.refusal.Refusal.{Refusal}
 use Rattle.chord_world.specs.declared.refusal.Refusal.TheVariants as refused
-use Rattle.chord_world.specs.declared.refusal.PartFault.TheVariants as part
+use Rattle.chord_world.specs.declared.refusal.StepFault.TheVariants as step_fault
 use Rattle.chord_world.specs.declared.step.Step.{Step}
 use Rattle.chord_world.specs.declared.step.Step.TheVariants.{Create, Join, OpenCaller, Submit, Resend, Deliver, Show, Meet, Cut, Merge, Give, SendPart, Leave, Retire, Stabilise, Candidate, DropDead, Rectify, Crash, Finger}
 use Rattle.chord_world.specs.Refusals.{refusal_of}
@@ -30,12 +30,12 @@ use Rattle.chord_world.specs.Delivered.{DeliverIs}
 
 -- an answered step is a step of the world, and a refused one changes nothing
 abbrev pub Advances : WorldState → Result Outcome Refusal → WorldState → Type 0
-Advances old (Ok outcome) new = WorldStep old.known new.known
+Advances old (Ok outcome) new = WorldStep old.world new.world
 Advances old (Err refusal) new = new ≡ old
 
 -- so is each step but a crash, which changes nothing of the world
 abbrev pub AdvancesBy : Step → WorldState → Result Outcome Refusal → WorldState → Type 0
-AdvancesBy (Crash node) old result new = new.known ≡ old.known
+AdvancesBy (Crash node) old result new = new.world ≡ old.world
 AdvancesBy step old result new = Advances old result new
 
 -- ---- a first node
@@ -43,16 +43,16 @@ AdvancesBy step old result new = Advances old result new
 -- the world with a first node, whose store has this limit
 abbrev pub with_founder : Id → ℕ → WorldState → WorldState
 with_founder id limit old =
-    record old { known = record old.known { nodes = founder (alone (record { no = 0; id = id }) old.r) limit ∷ [] }; crashed = false ∷ [] }
+    record old { world = record old.world { nodes = founder (alone (record { no = 0; id = id }) old.r) limit ∷ [] }; crashed = false ∷ [] }
 
 -- the limits are those of the stores at hand
 abbrev pub CreateIs : Id → List ℕ → WorldState → Result Outcome Refusal → WorldState → Type 0
 CreateIs id limits old (Ok (did.Node number)) new =
-    (old.known.nodes ≡ []) × (number ≡ 0) × ((limit : ℕ) × (slice_get limits 0 ≡ Some limit) × (new ≡ with_founder id limit old))
+    (old.world.nodes ≡ []) × (number ≡ 0) × ((limit : ℕ) × (slice_get limits 0 ≡ Some limit) × (new ≡ with_founder id limit old))
 CreateIs id limits old (Ok outcome) new = ⊥
-CreateIs id limits old (Err refused.AlreadyCreated) new = (old.known.nodes ≢ []) × (new ≡ old)
-CreateIs id limits old (Err refused.NoStore) new = (old.known.nodes ≡ []) × (limits ≡ []) × (new ≡ old)
-CreateIs id limits old (Err refused.Memory) new = (old.known.nodes ≡ []) × (limits ≢ []) × (new ≡ old)
+CreateIs id limits old (Err refused.AlreadyCreated) new = (old.world.nodes ≢ []) × (new ≡ old)
+CreateIs id limits old (Err refused.NoStore) new = (old.world.nodes ≡ []) × (limits ≡ []) × (new ≡ old)
+CreateIs id limits old (Err refused.Memory) new = (old.world.nodes ≡ []) × (limits ≢ []) × (new ≡ old)
 CreateIs id limits old (Err refusal) new = ⊥
 
 -- a node that is created uses up the first store
@@ -68,12 +68,12 @@ IsWindow window = (1 ≤ window) × (window ≤ 16)
 
 abbrev pub with_caller : ℕ → WorldState → WorldState
 with_caller window old =
-    record old { known = record old.known { callers = old.known.callers ++ new_caller (length old.known.callers) window ∷ [] } }
+    record old { world = record old.world { callers = old.world.callers ++ new_caller (length old.world.callers) window ∷ [] } }
 
 abbrev pub OpenIs : ℕ → WorldState → Result Outcome Refusal → WorldState → Type 0
-OpenIs window old (Ok (did.Caller number)) new = IsWindow window × (number ≡ length old.known.callers) × (new ≡ with_caller window old)
+OpenIs window old (Ok (did.Caller number)) new = IsWindow window × (number ≡ length old.world.callers) × (new ≡ with_caller window old)
 OpenIs window old (Ok outcome) new = ⊥
-OpenIs window old (Err (refused.Part part.BadWindow)) new = (¬ IsWindow window) × (new ≡ old)
+OpenIs window old (Err (refused.Step step_fault.BadWindow)) new = (¬ IsWindow window) × (new ≡ old)
 OpenIs window old (Err refused.Memory) new = IsWindow window × (new ≡ old)
 OpenIs window old (Err refusal) new = ⊥
 
@@ -83,7 +83,7 @@ OpenIs window old (Err refusal) new = ⊥
 abbrev pub with_ask : Caller → Ask → ℕ → WorldState → WorldState
 with_ask after ask via old =
     record old {
-      known = record old.known { callers = put_caller after old.known.callers; sent = old.known.sent ++ AskMessage ask ∷ [] };
+      world = record old.world { callers = put_caller after old.world.callers; sent = old.world.sent ++ AskMessage ask ∷ [] };
       targets = old.targets ++ via ∷ [];
     }
 
@@ -94,7 +94,7 @@ pub record Sends (caller via : ℕ) (request : Request) (old : WorldState) (numb
   pub ask : Ask
   pub there : IsThere caller via old core
   pub submits : SubmitIs request core (Ok ask) after
-  pub numbered : number ≡ length old.known.sent
+  pub numbered : number ≡ length old.world.sent
   pub new_is : new ≡ with_ask after ask via old
 
 -- the caller refused the call with this fault
@@ -106,9 +106,9 @@ pub record RefusesCall (caller via : ℕ) (request : Request) (old : WorldState)
 abbrev pub SubmitStepIs : ℕ → ℕ → Request → WorldState → Result Outcome Refusal → WorldState → Type 0
 SubmitStepIs caller via request old (Ok (did.Message number)) new = Sends caller via request old number new
 SubmitStepIs caller via request old (Ok outcome) new = ⊥
-SubmitStepIs caller via request old (Err refused.NotCreated) new = (old.known.nodes ≡ []) × (new ≡ old)
-SubmitStepIs caller via request old (Err refused.NoSuchNode) new = (old.known.nodes ≢ []) × (length old.known.nodes ≤ via) × (new ≡ old)
-SubmitStepIs caller via request old (Err refused.NoSuchCaller) new = (via < length old.known.nodes) × (caller_at caller old.known.callers ≡ None) × (new ≡ old)
+SubmitStepIs caller via request old (Err refused.NotCreated) new = (old.world.nodes ≡ []) × (new ≡ old)
+SubmitStepIs caller via request old (Err refused.NoSuchNode) new = (old.world.nodes ≢ []) × (length old.world.nodes ≤ via) × (new ≡ old)
+SubmitStepIs caller via request old (Err refused.NoSuchCaller) new = (via < length old.world.nodes) × (caller_at caller old.world.callers ≡ None) × (new ≡ old)
 SubmitStepIs caller via request old (Err refusal) new =
     (fault : SubmitFault) × (refusal ≡ refusal_of fault) × RefusesCall caller via request old fault × (new ≡ old)
 

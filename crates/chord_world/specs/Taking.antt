@@ -54,7 +54,7 @@ outcome_of_back back.Clash = None
 abbrev pub with_reply : Node → Option Message → WorldState → WorldState
 with_reply after message old =
     record old {
-      known = record (with_node after old).known { sent = with_one old.known.sent message };
+      world = record (with_node after old).world { sent = with_one old.world.sent message };
       targets = with_one old.targets (no_target message);
     }
 

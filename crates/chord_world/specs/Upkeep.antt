@@ -26,7 +26,7 @@ use Rattle.chord_world.specs.Linking.{with_node}
 pub record Moves (step : RingStep) (number : ℕ) (old new : WorldState) : Type 0 where
   pub node : Node
   pub links : NodeLinks
-  pub here : node_at number old.known.nodes ≡ Some node
+  pub here : node_at number old.world.nodes ≡ Some node
   pub moves : Step (ring_of old) step (ring_of new)
   pub new_is : new ≡ with_node (record node { links = links }) old
 
@@ -61,8 +61,8 @@ pub record RefusesUpkeep (step : RingStep) (old : WorldState) (refusal : Refusal
 
 abbrev pub UpkeepIs : RingStep → ℕ → WorldState → Result Outcome Refusal → WorldState → Type 0
 UpkeepIs step number old (Ok outcome) new = Upkeeps step number old outcome new
-UpkeepIs step number old (Err refused.NotCreated) new = (old.known.nodes ≡ []) × (new ≡ old)
-UpkeepIs step number old (Err refusal) new = (old.known.nodes ≢ []) × RefusesUpkeep step old refusal × (new ≡ old)
+UpkeepIs step number old (Err refused.NotCreated) new = (old.world.nodes ≡ []) × (new ≡ old)
+UpkeepIs step number old (Err refusal) new = (old.world.nodes ≢ []) × RefusesUpkeep step old refusal × (new ≡ old)
 
 -- ---- a crash
 
@@ -73,8 +73,8 @@ with_crash number old = record old { crashed = slice_set old.crashed number true
 abbrev pub CrashIs : ℕ → WorldState → Result Outcome Refusal → WorldState → Type 0
 CrashIs number old (Ok did.Done) new = CanDepart (ring_of old).members number × (new ≡ with_crash number old)
 CrashIs number old (Ok outcome) new = ⊥
-CrashIs number old (Err refused.NotCreated) new = (old.known.nodes ≡ []) × (new ≡ old)
-CrashIs number old (Err refused.NoSuchNode) new = (old.known.nodes ≢ []) × (is_member (ring_of old).members number ≡ false) × (new ≡ old)
+CrashIs number old (Err refused.NotCreated) new = (old.world.nodes ≡ []) × (new ≡ old)
+CrashIs number old (Err refused.NoSuchNode) new = (old.world.nodes ≢ []) × (is_member (ring_of old).members number ≡ false) × (new ≡ old)
 CrashIs number old (Err refused.Unsafe) new =
     IsTrue (is_member (ring_of old).members number) × (¬ (CanDepart (ring_of old).members number)) × (new ≡ old)
 CrashIs number old (Err refusal) new = ⊥

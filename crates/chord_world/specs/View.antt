@@ -4,7 +4,7 @@ use Rattle.chord_world.specs.State.{WorldState}
 
 abbrev pub state_of : {S : Type 0} → Inside S → WorldState
 state_of a = record {
-  known = record { nodes = a.nodes.items; callers = a.callers.items; sent = a.sent.items; history = a.history.items };
+  world = record { nodes = a.nodes.items; callers = a.callers.items; sent = a.sent.items; history = a.history.items };
   targets = a.targets.items;
   crashed = a.crashed.items;
   r = a.r;

@@ -15,7 +15,7 @@ mod steps;
 mod world;
 
 pub use outcome::Outcome;
-pub use refusal::{PartFault, Refusal};
+pub use refusal::{Refusal, StepFault};
 pub use running::{Answer, run};
 pub use step::Step;
 pub use world::World;

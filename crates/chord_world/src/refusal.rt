@@ -32,14 +32,14 @@ pub enum Refusal {
     Unsafe,
     /// A node or a caller refused.
     #[error(transparent)]
-    Part(PartFault),
+    Step(StepFault),
     #[error("out of memory")]
     Memory,
 }
 
 /// Why a part of the world refused its part of a step.
 #[derive(Clone, Copy, Debug, PartialEq, Eq, Error)]
-pub enum PartFault {
+pub enum StepFault {
     #[error("a window has 1 to 16 requests")]
     BadWindow,
     #[error(transparent)]
@@ -106,7 +106,7 @@ impl Refusal {
             Refusal::IdTaken => 6,
             Refusal::NoStore => 7,
             Refusal::Unsafe => 8,
-            Refusal::Part(_) => 9,
+            Refusal::Step(_) => 9,
             Refusal::Memory => 10,
         }
     }
@@ -117,9 +117,9 @@ impl From<SubmitFault> for Refusal {
 
     fn from(fault: SubmitFault) -> Refusal {
         match fault {
-            SubmitFault::Bad(fault) => Refusal::Part(PartFault::Request(fault)),
-            SubmitFault::WindowFull => Refusal::Part(PartFault::WindowFull),
-            SubmitFault::NumbersSpent => Refusal::Part(PartFault::NumbersSpent),
+            SubmitFault::Bad(fault) => Refusal::Step(StepFault::Request(fault)),
+            SubmitFault::WindowFull => Refusal::Step(StepFault::WindowFull),
+            SubmitFault::NumbersSpent => Refusal::Step(StepFault::NumbersSpent),
             SubmitFault::Memory => Refusal::Memory,
         }
     }
@@ -132,13 +132,13 @@ impl From<RingFault> for Refusal {
         match fault {
             RingFault::NoSuchNode => Refusal::NoSuchNode,
             RingFault::IdTaken => Refusal::IdTaken,
-            RingFault::NotBetween => Refusal::Part(PartFault::NotBetween),
-            RingFault::Stabilise(StabiliseFault::HeadDead) => Refusal::Part(PartFault::HeadDead),
-            RingFault::Stabilise(StabiliseFault::NotHead) => Refusal::Part(PartFault::NotHead),
-            RingFault::Candidate(CandidateFault::Dead) => Refusal::Part(PartFault::Dead),
-            RingFault::Candidate(CandidateFault::NotCloser) => Refusal::Part(PartFault::NotCloser),
-            RingFault::Drop(DropFault::HeadLive) => Refusal::Part(PartFault::HeadLive),
-            RingFault::Drop(DropFault::Empty) => Refusal::Part(PartFault::Empty),
+            RingFault::NotBetween => Refusal::Step(StepFault::NotBetween),
+            RingFault::Stabilise(StabiliseFault::HeadDead) => Refusal::Step(StepFault::HeadDead),
+            RingFault::Stabilise(StabiliseFault::NotHead) => Refusal::Step(StepFault::NotHead),
+            RingFault::Candidate(CandidateFault::Dead) => Refusal::Step(StepFault::Dead),
+            RingFault::Candidate(CandidateFault::NotCloser) => Refusal::Step(StepFault::NotCloser),
+            RingFault::Drop(DropFault::HeadLive) => Refusal::Step(StepFault::HeadLive),
+            RingFault::Drop(DropFault::Empty) => Refusal::Step(StepFault::Empty),
             RingFault::Memory => Refusal::Memory,
         }
     }
@@ -149,8 +149,8 @@ impl From<CutAtFault> for Refusal {
 
     fn from(fault: CutAtFault) -> Refusal {
         match fault {
-            CutAtFault::NoSegment => Refusal::Part(PartFault::NoSegment),
-            CutAtFault::NotInside => Refusal::Part(PartFault::NotInside),
+            CutAtFault::NoSegment => Refusal::Step(StepFault::NoSegment),
+            CutAtFault::NotInside => Refusal::Step(StepFault::NotInside),
             CutAtFault::Memory => Refusal::Memory,
         }
     }
@@ -161,10 +161,10 @@ impl From<MergeFault> for Refusal {
 
     fn from(fault: MergeFault) -> Refusal {
         match fault {
-            MergeFault::NoSegment => Refusal::Part(PartFault::NoSegment),
-            MergeFault::NotAdjacent => Refusal::Part(PartFault::NotAdjacent),
-            MergeFault::Overlap => Refusal::Part(PartFault::Overlap),
-            MergeFault::Twice => Refusal::Part(PartFault::Twice),
+            MergeFault::NoSegment => Refusal::Step(StepFault::NoSegment),
+            MergeFault::NotAdjacent => Refusal::Step(StepFault::NotAdjacent),
+            MergeFault::Overlap => Refusal::Step(StepFault::Overlap),
+            MergeFault::Twice => Refusal::Step(StepFault::Twice),
             MergeFault::Memory => Refusal::Memory,
         }
     }
@@ -175,8 +175,8 @@ impl From<GiveFault> for Refusal {
 
     fn from(fault: GiveFault) -> Refusal {
         match fault {
-            GiveFault::NoSegment => Refusal::Part(PartFault::NoSegment),
-            GiveFault::NumbersSpent => Refusal::Part(PartFault::NumbersSpent),
+            GiveFault::NoSegment => Refusal::Step(StepFault::NoSegment),
+            GiveFault::NumbersSpent => Refusal::Step(StepFault::NumbersSpent),
             GiveFault::Memory => Refusal::Memory,
         }
     }
@@ -187,7 +187,7 @@ impl From<ResendFault> for Refusal {
 
     fn from(fault: ResendFault) -> Refusal {
         match fault {
-            ResendFault::NoPart => Refusal::Part(PartFault::NoPart),
+            ResendFault::NoPart => Refusal::Step(StepFault::NoPart),
             ResendFault::Memory => Refusal::Memory,
         }
     }
@@ -197,7 +197,7 @@ impl From<NotStaying> for Refusal {
     ghost from_gives = { λ fault refusal. refusal ≡ refusal_of_leave fault };
 
     fn from(_fault: NotStaying) -> Refusal {
-        Refusal::Part(PartFault::NotStaying)
+        Refusal::Step(StepFault::NotStaying)
     }
 }
 
@@ -206,8 +206,8 @@ impl From<RetireFault> for Refusal {
 
     fn from(fault: RetireFault) -> Refusal {
         match fault {
-            RetireFault::NotLeaving => Refusal::Part(PartFault::NotLeaving),
-            RetireFault::NotEmpty => Refusal::Part(PartFault::NotEmpty),
+            RetireFault::NotLeaving => Refusal::Step(StepFault::NotLeaving),
+            RetireFault::NotEmpty => Refusal::Step(StepFault::NotEmpty),
         }
     }
 }

@@ -41,8 +41,8 @@ pub fn run<S: EntryStore>(
     ensures err { OnErr result (world.new ≡ world.old) }
     ensures stores { OnErr result (stores.new.items ≡ stores.old.items) }
     ensures vacant { All (λ s. S.content s ≡ []) stores.new.items }
-    ensures headline { Headline world.new.known }
-    ensures seen { SeenFirst world.old.known world.new.known }
+    ensures headline { Headline world.new.world }
+    ensures seen { SeenFirst world.old.world world.new.world }
     ensures ring { StandsOnOneRing world.new }
 {
     world.headline();

@@ -4,7 +4,7 @@ ghost use Rattle.std.specs.Prelude.{◌≡◌, [], List, IfOk};
 ghost use Rattle.std.specs.List.{All};
 ghost use Rattle.chord_map.specs.declared.pair.Pair.{Pair};
 
-use crate::{Answer, Outcome, PartFault, Refusal, Step, World, run};
+use crate::{Answer, Outcome, Refusal, Step, StepFault, World, run};
 use chord_ident::Id;
 use chord_links::Peer;
 use chord_map::Reply;
@@ -61,7 +61,7 @@ fn a_repeated_call_acts_once(rt: HostRuntime) -> Result<(), Fail> {
         Answer::Refused(Refusal::NotCreated),
         Answer::Did(Outcome::Node(0)),
         Answer::Refused(Refusal::AlreadyCreated),
-        Answer::Refused(Refusal::Part(PartFault::BadWindow)),
+        Answer::Refused(Refusal::Step(StepFault::BadWindow)),
         Answer::Did(Outcome::Caller(0)),
         Answer::Did(Outcome::Message(0)),
         Answer::Did(Outcome::Told(1)),
@@ -158,7 +158,7 @@ fn notes_are_met(rt: HostRuntime) -> Result<(), Fail> {
         Answer::Did(Outcome::Told(5)),
         Answer::Did(Outcome::Told(6)),
         Answer::Did(Outcome::Fresh(0)),
-        Answer::Refused(Refusal::Part(PartFault::NeedsMeet)),
+        Answer::Refused(Refusal::Step(StepFault::NeedsMeet)),
     ];
     assert_eq!(rt; answers.as_slice(), wanted.as_slice());
     Ok(())
@@ -220,9 +220,9 @@ fn a_request_goes_out_again(rt: HostRuntime) -> Result<(), Fail> {
     ];
     assert_eq!(rt; answers.get(..2), Some(wanted.as_slice()));
     let wanted = [
-        Answer::Refused(Refusal::Part(PartFault::Idle)),
-        Answer::Refused(Refusal::Part(PartFault::Idle)),
-        Answer::Refused(Refusal::Part(PartFault::NotNote)),
+        Answer::Refused(Refusal::Step(StepFault::Idle)),
+        Answer::Refused(Refusal::Step(StepFault::Idle)),
+        Answer::Refused(Refusal::Step(StepFault::NotNote)),
     ];
     assert_eq!(rt; answers.get(13..), Some(wanted.as_slice()));
     Ok(())
@@ -249,7 +249,7 @@ fn fingers_are_set(rt: HostRuntime) -> Result<(), Fail> {
     let wanted = [
         Answer::Did(Outcome::Node(0)),
         Answer::Refused(Refusal::NoSuchNode),
-        Answer::Refused(Refusal::Part(PartFault::BadFinger)),
+        Answer::Refused(Refusal::Step(StepFault::BadFinger)),
         Answer::Did(Outcome::Done),
     ];
     assert_eq!(rt; answers.as_slice(), wanted.as_slice());

@@ -68,8 +68,8 @@ impl<S: EntryStore> World<S> {
     /// What holds of every world: some steps lead to it, so its executed calls are one history of one map, each call
     /// at most once, in the order that its callers had seen. It does nothing.
     pub fn headline(&self)
-        ensures reached { ∥ Reached self.now.known ∥₁ }
-        ensures headline { Headline self.now.known }
+        ensures reached { ∥ Reached self.now.world ∥₁ }
+        ensures headline { Headline self.now.world }
     {
         let _ = &self.history;
         chord_model::laws::headline();
@@ -77,8 +77,8 @@ impl<S: EntryStore> World<S> {
 
     /// The executed calls, in order.
     pub fn history(&self) -> &[Done]
-        ensures value { result.now ≡ self.now.known.history }
-        ensures headline { Headline self.now.known }
+        ensures value { result.now ≡ self.now.world.history }
+        ensures headline { Headline self.now.world }
     {
         chord_model::laws::headline();
         self.history.as_slice()
@@ -86,7 +86,7 @@ impl<S: EntryStore> World<S> {
 
     /// The message that was sent under this number.
     pub fn message(&self, number: u64) -> Option<&Message>
-        ensures { option_copied result ≡ slice_get self.now.known.sent number }
+        ensures { option_copied result ≡ slice_get self.now.world.sent number }
     {
         self.sent.get(number as usize)
     }

@@ -1,7 +1,7 @@
 //! How replies and refusals stand on a line.
 
 use chord_map::{Reply, RequestFault};
-use chord_world::{PartFault, Refusal};
+use chord_world::{Refusal, StepFault};
 use std::fmt;
 
 /// A reply as it stands on a line: `values` with their count and each value as hexadecimal digits, `-` for an empty
@@ -58,39 +58,39 @@ pub fn name_of(refusal: Refusal) -> &'static str {
         Refusal::IdTaken => "IdTaken",
         Refusal::NoStore => "NoStore",
         Refusal::Unsafe => "Unsafe",
-        Refusal::Part(fault) => name_of_part(fault),
+        Refusal::Step(fault) => name_of_part(fault),
         Refusal::Memory => "Memory",
     }
 }
 
-fn name_of_part(fault: PartFault) -> &'static str {
+fn name_of_part(fault: StepFault) -> &'static str {
     match fault {
-        PartFault::BadWindow => "BadWindow",
-        PartFault::WindowFull => "WindowFull",
-        PartFault::NumbersSpent => "NumbersSpent",
-        PartFault::Idle => "Idle",
-        PartFault::Crashed => "Crashed",
-        PartFault::NotBetween => "NotBetween",
-        PartFault::HeadDead => "HeadDead",
-        PartFault::NotHead => "NotHead",
-        PartFault::Dead => "Dead",
-        PartFault::NotCloser => "NotCloser",
-        PartFault::HeadLive => "HeadLive",
-        PartFault::Empty => "Empty",
-        PartFault::NoSegment => "NoSegment",
-        PartFault::NotInside => "NotInside",
-        PartFault::NotAdjacent => "NotAdjacent",
-        PartFault::Overlap => "Overlap",
-        PartFault::Twice => "Twice",
-        PartFault::NoPart => "NoPart",
-        PartFault::NotStaying => "NotStaying",
-        PartFault::NotLeaving => "NotLeaving",
-        PartFault::NotEmpty => "NotEmpty",
-        PartFault::BadFinger => "BadFinger",
-        PartFault::NotNote => "NotNote",
-        PartFault::NeedsMeet => "NeedsMeet",
-        PartFault::Request(RequestFault::KeyEmpty) => "KeyEmpty",
-        PartFault::Request(RequestFault::KeyLong) => "KeyLong",
-        PartFault::Request(RequestFault::ValueLong) => "ValueLong",
+        StepFault::BadWindow => "BadWindow",
+        StepFault::WindowFull => "WindowFull",
+        StepFault::NumbersSpent => "NumbersSpent",
+        StepFault::Idle => "Idle",
+        StepFault::Crashed => "Crashed",
+        StepFault::NotBetween => "NotBetween",
+        StepFault::HeadDead => "HeadDead",
+        StepFault::NotHead => "NotHead",
+        StepFault::Dead => "Dead",
+        StepFault::NotCloser => "NotCloser",
+        StepFault::HeadLive => "HeadLive",
+        StepFault::Empty => "Empty",
+        StepFault::NoSegment => "NoSegment",
+        StepFault::NotInside => "NotInside",
+        StepFault::NotAdjacent => "NotAdjacent",
+        StepFault::Overlap => "Overlap",
+        StepFault::Twice => "Twice",
+        StepFault::NoPart => "NoPart",
+        StepFault::NotStaying => "NotStaying",
+        StepFault::NotLeaving => "NotLeaving",
+        StepFault::NotEmpty => "NotEmpty",
+        StepFault::BadFinger => "BadFinger",
+        StepFault::NotNote => "NotNote",
+        StepFault::NeedsMeet => "NeedsMeet",
+        StepFault::Request(RequestFault::KeyEmpty) => "KeyEmpty",
+        StepFault::Request(RequestFault::KeyLong) => "KeyLong",
+        StepFault::Request(RequestFault::ValueLong) => "ValueLong",
     }
 }

@@ -1,6 +1,5 @@
 use super::{Done, copy_dones, find_done};
-use crate::Reply;
-use crate::samples::insert;
+use crate::{Reply, Request};
 use std::alloc::{AllocError, Global};
 use std::test::Fail;
 
@@ -9,7 +8,7 @@ fn added(alloc: Global, caller: u64, number: u64) -> Result<Done, AllocError> {
     Ok(Done {
         caller,
         number,
-        request: insert(alloc, b"a", b"x")?,
+        request: Request::insert(alloc, b"a", b"x")?,
         reply: Reply::Added,
     })
 }

@@ -1,5 +1,5 @@
 use super::PlainMap;
-use crate::samples::{insert, one_value, remove, retrieve};
+use crate::samples::one_value;
 use crate::{Reply, Request, Values};
 use std::alloc::{AllocError, Global};
 use std::test::Fail;
@@ -19,12 +19,16 @@ fn tells(map: &mut PlainMap, request: Result<Request, AllocError>, reply: &Reply
 
 // Whether the values found under `abc` are these.
 fn finds(alloc: Global, map: &mut PlainMap, values: Values) -> Option<bool> {
-    tells(map, retrieve(alloc, b"abc"), &Reply::Values(values))
+    tells(
+        map,
+        Request::retrieve(alloc, b"abc"),
+        &Reply::Values(values),
+    )
 }
 
 // Whether x alone is found under `abc`, and a copy of the reply is equal to it.
 fn finds_x(alloc: Global, map: &mut PlainMap) -> Option<bool> {
-    let found = told(map, &retrieve(alloc, b"abc").ok()?)?;
+    let found = told(map, &Request::retrieve(alloc, b"abc").ok()?)?;
     let copy = found.try_copy().ok()?;
     Some(found == one_value(alloc, b"x").ok()? && copy == found)
 }
@@ -36,14 +40,14 @@ fn inserts_retrieves_and_removes(rt: HostRuntime) {
     assert_eq!(rt; finds(alloc, &mut map, Values::new(alloc)), Some(true));
     for reply in [Reply::Added, Reply::Present] {
         assert_eq!(rt;
-            tells(&mut map, insert(alloc, b"abc", b"x"), &reply),
+            tells(&mut map, Request::insert(alloc, b"abc", b"x"), &reply),
             Some(true)
         );
     }
     assert_eq!(rt; finds_x(alloc, &mut map), Some(true));
     for reply in [Reply::Removed, Reply::Absent] {
         assert_eq!(rt;
-            tells(&mut map, remove(alloc, b"abc", b"x"), &reply),
+            tells(&mut map, Request::remove(alloc, b"abc", b"x"), &reply),
             Some(true)
         );
     }
@@ -53,7 +57,11 @@ fn inserts_retrieves_and_removes(rt: HostRuntime) {
 fn is_filled(alloc: Global, map: &mut PlainMap) -> Option<bool> {
     for n in 0..1000u32 {
         let value = format!(in alloc; "{n:04}").ok()?;
-        if !tells(map, insert(alloc, b"a", value.as_bytes()), &Reply::Added)? {
+        if !tells(
+            map,
+            Request::insert(alloc, b"a", value.as_bytes()),
+            &Reply::Added,
+        )? {
             return Some(false);
         }
     }
@@ -66,34 +74,50 @@ fn fills_a_set(rt: HostRuntime) {
     let mut map = PlainMap::new(alloc);
     assert_eq!(rt; is_filled(alloc, &mut map), Some(true));
     assert_eq!(rt;
-        tells(&mut map, insert(alloc, b"a", b"1000"), &Reply::SetFull),
+        tells(
+            &mut map,
+            Request::insert(alloc, b"a", b"1000"),
+            &Reply::SetFull
+        ),
         Some(true)
     );
     assert_eq!(rt;
-        tells(&mut map, insert(alloc, b"a", b"0999"), &Reply::Present),
+        tells(
+            &mut map,
+            Request::insert(alloc, b"a", b"0999"),
+            &Reply::Present
+        ),
         Some(true)
     );
     assert_eq!(rt;
-        tells(&mut map, remove(alloc, b"a", b"0000"), &Reply::Removed),
+        tells(
+            &mut map,
+            Request::remove(alloc, b"a", b"0000"),
+            &Reply::Removed
+        ),
         Some(true)
     );
     assert_eq!(rt;
-        tells(&mut map, insert(alloc, b"a", b"1000"), &Reply::Added),
+        tells(
+            &mut map,
+            Request::insert(alloc, b"a", b"1000"),
+            &Reply::Added
+        ),
         Some(true)
     );
 }
 
 // The request to add the value [n], made again where there was no memory.
 fn insert_of(alloc: Global, n: u8) -> Result<Request, AllocError> {
-    match insert(alloc, b"a", &[n]) {
+    match Request::insert(alloc, b"a", &[n]) {
         Ok(request) => Ok(request),
-        Err(_) => insert(alloc, b"a", &[n]),
+        Err(_) => Request::insert(alloc, b"a", &[n]),
     }
 }
 
 // Whether the values under `a` are [0], [1] and so on, below `end`.
 fn ends_at(alloc: Global, map: &mut PlainMap, end: u8) -> Result<bool, AllocError> {
-    let request = retrieve(alloc, b"a")?;
+    let request = Request::retrieve(alloc, b"a")?;
     let found = match told(map, &request) {
         Some(found) => Some(found),
         None => told(map, &request),

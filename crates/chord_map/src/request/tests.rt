@@ -1,4 +1,4 @@
-use crate::samples::{insert, one_value, remove, retrieve};
+use crate::samples::one_value;
 use crate::{Reply, Request, RequestFault};
 use std::alloc::{AllocError, Global};
 use std::test::Fail;
@@ -13,13 +13,16 @@ fn keys_have_limits(rt: HostRuntime) {
     let alloc = rt.alloc();
     let long = [7u8; 256];
     assert_eq!(rt;
-        checked(retrieve(alloc, &[])),
+        checked(Request::retrieve(alloc, &[])),
         Some(Err(RequestFault::KeyEmpty))
     );
-    assert_eq!(rt; checked(retrieve(alloc, &long[..1])), Some(Ok(())));
-    assert_eq!(rt; checked(retrieve(alloc, &long[..255])), Some(Ok(())));
+    assert_eq!(rt; checked(Request::retrieve(alloc, &long[..1])), Some(Ok(())));
     assert_eq!(rt;
-        checked(retrieve(alloc, &long)),
+        checked(Request::retrieve(alloc, &long[..255])),
+        Some(Ok(()))
+    );
+    assert_eq!(rt;
+        checked(Request::retrieve(alloc, &long)),
         Some(Err(RequestFault::KeyLong))
     );
 }
@@ -28,18 +31,21 @@ fn keys_have_limits(rt: HostRuntime) {
 fn values_have_limits(rt: HostRuntime) {
     let alloc = rt.alloc();
     let long = [7u8; 4097];
-    assert_eq!(rt; checked(insert(alloc, b"a", &[])), Some(Ok(())));
-    assert_eq!(rt; checked(insert(alloc, b"a", &long[..4096])), Some(Ok(())));
+    assert_eq!(rt; checked(Request::insert(alloc, b"a", &[])), Some(Ok(())));
     assert_eq!(rt;
-        checked(insert(alloc, b"a", &long)),
+        checked(Request::insert(alloc, b"a", &long[..4096])),
+        Some(Ok(()))
+    );
+    assert_eq!(rt;
+        checked(Request::insert(alloc, b"a", &long)),
         Some(Err(RequestFault::ValueLong))
     );
     assert_eq!(rt;
-        checked(remove(alloc, b"a", &long)),
+        checked(Request::remove(alloc, b"a", &long)),
         Some(Err(RequestFault::ValueLong))
     );
     assert_eq!(rt;
-        checked(remove(alloc, &[], &long)),
+        checked(Request::remove(alloc, &[], &long)),
         Some(Err(RequestFault::KeyEmpty))
     );
 }
@@ -80,27 +86,39 @@ fn names(request: Result<Request, AllocError>, key: &[u8], value: &[u8]) -> Opti
 #[test]
 fn copies(rt: HostRuntime) {
     let alloc = rt.alloc();
-    assert_eq!(rt; is_its_copy(insert(alloc, b"abc", b"x")), Some(true));
-    assert_eq!(rt; is_its_copy(retrieve(alloc, b"abc")), Some(true));
-    assert_eq!(rt; is_its_copy(remove(alloc, b"abc", b"x")), Some(true));
+    assert_eq!(rt;
+        is_its_copy(Request::insert(alloc, b"abc", b"x")),
+        Some(true)
+    );
+    assert_eq!(rt; is_its_copy(Request::retrieve(alloc, b"abc")), Some(true));
+    assert_eq!(rt;
+        is_its_copy(Request::remove(alloc, b"abc", b"x")),
+        Some(true)
+    );
 }
 
 #[test]
 fn compares(rt: HostRuntime) {
     let alloc = rt.alloc();
-    let insert_x = || insert(alloc, b"abc", b"x");
+    let insert_x = || Request::insert(alloc, b"abc", b"x");
     assert_eq!(rt; are_equal(insert_x(), insert_x()), Some(true));
     assert_eq!(rt;
-        are_equal(insert_x(), insert(alloc, b"abc", b"y")),
+        are_equal(insert_x(), Request::insert(alloc, b"abc", b"y")),
         Some(false)
     );
     assert_eq!(rt;
-        are_equal(insert_x(), remove(alloc, b"abc", b"x")),
+        are_equal(insert_x(), Request::remove(alloc, b"abc", b"x")),
         Some(false)
     );
-    assert_eq!(rt; are_equal(insert_x(), retrieve(alloc, b"abc")), Some(false));
     assert_eq!(rt;
-        are_equal(retrieve(alloc, b"abc"), retrieve(alloc, b"ab")),
+        are_equal(insert_x(), Request::retrieve(alloc, b"abc")),
+        Some(false)
+    );
+    assert_eq!(rt;
+        are_equal(
+            Request::retrieve(alloc, b"abc"),
+            Request::retrieve(alloc, b"ab")
+        ),
         Some(false)
     );
 }
@@ -109,21 +127,24 @@ fn compares(rt: HostRuntime) {
 fn names_its_key_and_value(rt: HostRuntime) {
     let alloc = rt.alloc();
     assert_eq!(rt;
-        names(insert(alloc, b"abc", b"x"), b"abc", b"x"),
+        names(Request::insert(alloc, b"abc", b"x"), b"abc", b"x"),
         Some(true)
     );
     assert_eq!(rt;
-        names(remove(alloc, b"abc", b"x"), b"abc", b"x"),
+        names(Request::remove(alloc, b"abc", b"x"), b"abc", b"x"),
         Some(true)
     );
-    assert_eq!(rt; names(retrieve(alloc, b"abc"), b"abc", b""), Some(true));
+    assert_eq!(rt;
+        names(Request::retrieve(alloc, b"abc"), b"abc", b""),
+        Some(true)
+    );
 }
 
 /// Whether the reply fits an insert, a retrieve and a remove.
 fn fitting(alloc: Global, reply: &Reply) -> Option<(bool, bool, bool)> {
-    let added = insert(alloc, b"a", b"x").ok()?;
-    let found = retrieve(alloc, b"a").ok()?;
-    let gone = remove(alloc, b"a", b"x").ok()?;
+    let added = Request::insert(alloc, b"a", b"x").ok()?;
+    let found = Request::retrieve(alloc, b"a").ok()?;
+    let gone = Request::remove(alloc, b"a", b"x").ok()?;
     Some((reply.fits(&added), reply.fits(&found), reply.fits(&gone)))
 }
 

@@ -1,5 +1,5 @@
 //! A call answered by a segment and a store.
-ghost use Rattle.std.specs.Prelude.{◌≡◌, true, IfOk, OnOk};
+ghost use Rattle.std.specs.Prelude.{◌≡◌, Some, true, IfOk, OnOk};
 ghost use Rattle.chord_ident.specs.Circle.{in_span};
 ghost use Rattle.chord_segment.specs.Segment.{id_of, past_at};
 ghost use Rattle.chord_segment.specs.Segment.Past.{New};
@@ -45,11 +45,11 @@ fn prepare(
     ask: &Ask,
     noting: bool,
 ) -> Result<(Request, Option<Request>), AllocError>
-    ensures same { segment.new.known ≡ segment.old.known }
-    ensures room { OnOk result (segment.new.has_room ≡ true) }
+    ensures same { segment.new.segment ≡ segment.old.segment }
+    ensures room { OnOk result (segment.new.room ≡ Some ask.now.caller) }
     ensures copies { IfOk result (λ both. (both.0 ≡ ask.now.request) × (both.1 ≡ only_if noting ask.now.request)) }
 {
-    segment.reserve()?;
+    segment.reserve(ask.caller)?;
     let request = ask.request.try_copy()?;
     let noted = noted_request(&ask.request, noting)?;
     Ok((request, noted))
@@ -63,9 +63,9 @@ fn execute_in<S: EntryStore>(
     ask: &Ask,
     noting: bool,
 ) -> Result<(Answered, Option<Done>), AllocError>
-    requires key { in_span segment.old.known.span (id_of ask.now.request) ≡ true }
-    requires new { past_at ask.now.caller ask.now.number segment.old.known ≡ New }
-    ensures answers { AnswersIn ask.now noting segment.old.known (S.content store.old) (S.limit store.old) result segment.new.known (S.content store.new) }
+    requires key { in_span segment.old.segment.span (id_of ask.now.request) ≡ true }
+    requires new { past_at ask.now.caller ask.now.number segment.old.segment ≡ New }
+    ensures answers { AnswersIn ask.now noting segment.old.segment (S.content store.old) (S.limit store.old) result segment.new.segment (S.content store.new) }
     ensures limit { S.limit store.new ≡ S.limit store.old }
 {
     let Ok((request, noted)) = prepare(segment, ask, noting) else {
@@ -113,8 +113,8 @@ pub(crate) fn answer_in<S: EntryStore>(
     ask: &Ask,
     noting: bool,
 ) -> Result<(Answered, Option<Done>), AllocError>
-    requires key { in_span segment.old.known.span (id_of ask.now.request) ≡ true }
-    ensures answers { AnswersIn ask.now noting segment.old.known (S.content store.old) (S.limit store.old) result segment.new.known (S.content store.new) }
+    requires key { in_span segment.old.segment.span (id_of ask.now.request) ≡ true }
+    ensures answers { AnswersIn ask.now noting segment.old.segment (S.content store.old) (S.limit store.old) result segment.new.segment (S.content store.new) }
     ensures limit { S.limit store.new ≡ S.limit store.old }
 {
     match segment.find(ask.caller, ask.number) {

@@ -18,8 +18,8 @@ pub(crate) fn prepare_give<S: EntryStore>(
     segment: &Segment,
     ticket: Ticket,
 ) -> Result<(Part, Vec<Pair>), AllocError>
-    ensures pairs { IfOk result (λ both. both.1.items ≡ pairs_inside segment.now.known.span (S.content store.now)) }
-    ensures part { IfOk result (λ both. both.0 ≡ part_at (handed ticket (record { segment = segment.now.known; pairs = pairs_inside segment.now.known.span (S.content store.now) })) 1) }
+    ensures pairs { IfOk result (λ both. both.1.items ≡ pairs_inside segment.now.segment.span (S.content store.now)) }
+    ensures part { IfOk result (λ both. both.0 ≡ part_at (handed ticket (record { segment = segment.now.segment; pairs = pairs_inside segment.now.segment.span (S.content store.now) })) 1) }
 {
     let pairs = store.copy_span(alloc, &segment.span())?;
     let first = copy_chunk(alloc, &pairs, 1)?;
@@ -29,7 +29,7 @@ pub(crate) fn prepare_give<S: EntryStore>(
         from: ticket.from,
         to: ticket.to,
         number: ticket.number,
-        part: 1,
+        place: 1,
         of,
         segment: Some(copy),
         pairs: first,

@@ -4,7 +4,7 @@ ghost use Rattle.chord_ident.specs.Circle.{Meet};
 ghost use Rattle.chord_segment.specs.Segment.{RoomySegment};
 ghost use Rattle.chord_node.specs.Moves.{CutHeld, MergeHeld, merge_fault_of};
 ghost use Rattle.chord_model.specs.Stock.{holds};
-ghost use Rattle.chord_node.specs.View.{knowns};
+ghost use Rattle.chord_node.specs.View.{segments_of};
 
 use crate::fault::{CutAtFault, MergeFault};
 use chord_ident::{Id, Span};
@@ -14,9 +14,9 @@ use std::mem::replace;
 
 /// Cuts the segment at the place. The part behind stands behind the part before.
 pub(crate) fn cut_segment(held: &mut Vec<Segment>, place: usize, at: Id) -> Result<(), CutAtFault>
-    ensures answer { CutHeld place at (knowns held.old.items) result (knowns held.new.items) }
+    ensures answer { CutHeld place at (segments_of held.old.items) result (segments_of held.new.items) }
     ensures circle { at.number < 2 ^ 128 }
-    ensures covers { (x : ℕ) → x < 2 ^ 128 → holds x (knowns held.new.items) ≡ holds x (knowns held.old.items) }
+    ensures covers { (x : ℕ) → x < 2 ^ 128 → holds x (segments_of held.new.items) ≡ holds x (segments_of held.old.items) }
 {
     if held.len() <= place {
         return Err(CutAtFault::NoSegment);
@@ -57,8 +57,8 @@ pub(crate) fn merge_segments(
     place: usize,
     other: usize,
 ) -> Result<(), MergeFault>
-    ensures answer { MergeHeld place other (knowns held.old.items) result (knowns held.new.items) }
-    ensures covers { (x : ℕ) → x < 2 ^ 128 → holds x (knowns held.new.items) ≡ holds x (knowns held.old.items) }
+    ensures answer { MergeHeld place other (segments_of held.old.items) result (segments_of held.new.items) }
+    ensures covers { (x : ℕ) → x < 2 ^ 128 → holds x (segments_of held.new.items) ≡ holds x (segments_of held.old.items) }
 {
     if held.len() <= place || held.len() <= other || place == other {
         return Err(MergeFault::NoSegment);
@@ -84,7 +84,7 @@ pub(crate) fn merge_segments(
 
 /// Whether the span meets a held one.
 pub(crate) fn meets_any(held: &[Segment], span: Span) -> bool
-    ensures { IsTrue result ↔ Any (λ (segment : RoomySegment). Meet span.after.number span.upto.number segment.known.span.after.number segment.known.span.upto.number) held.now }
+    ensures { IsTrue result ↔ Any (λ (segment : RoomySegment). Meet span.after.number span.upto.number segment.segment.span.after.number segment.segment.span.upto.number) held.now }
 {
     held.iter().any(|segment| span.meets(segment.span()))
 }

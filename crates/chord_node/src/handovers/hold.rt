@@ -4,7 +4,7 @@ ghost use Rattle.std.specs.Vec.{vec_len, vec_capacity};
 ghost use Rattle.chord_handover.specs.Parcelled.{IsParcelled};
 ghost use Rattle.chord_model.specs.Stock.{IsStocked};
 ghost use Rattle.chord_node.specs.Received.{PutIs};
-ghost use Rattle.chord_node.specs.View.{knowns};
+ghost use Rattle.chord_node.specs.View.{segments_of};
 
 use crate::handovers::held::meets_any;
 use chord_handover::Parcelled;
@@ -25,8 +25,8 @@ pub(crate) fn put_pairs<S: EntryStore>(
     store: &mut S,
     parcelled: &Parcelled,
 ) -> Result<(), PutFault>
-    requires { IsStocked (knowns held.now) (S.content store.old) }
-    ensures answer { PutIs parcelled.now (knowns held.now) (S.content store.old) (S.limit store.old) result (S.content store.new) }
+    requires { IsStocked (segments_of held.now) (S.content store.old) }
+    ensures answer { PutIs parcelled.now (segments_of held.now) (S.content store.old) (S.limit store.old) result (S.content store.new) }
     ensures limit { S.limit store.new ≡ S.limit store.old }
     ensures parcel { IsParcelled parcelled.now }
 {
@@ -48,8 +48,8 @@ pub(crate) fn make_held<S: EntryStore>(
     store: &mut S,
     parcelled: &Parcelled,
 ) -> Result<(), PutFault>
-    requires { IsStocked (knowns held.old.items) (S.content store.old) }
-    ensures answer { PutIs parcelled.now (knowns held.old.items) (S.content store.old) (S.limit store.old) result (S.content store.new) }
+    requires { IsStocked (segments_of held.old.items) (S.content store.old) }
+    ensures answer { PutIs parcelled.now (segments_of held.old.items) (S.content store.old) (S.limit store.old) result (S.content store.new) }
     ensures limit { S.limit store.new ≡ S.limit store.old }
     ensures parcel { IsParcelled parcelled.now }
     ensures held { held.new.items ≡ held.old.items }

@@ -3,7 +3,7 @@ ghost use Rattle.std.specs.Prelude.{◌≡◌, ◌+◌, ◌<◌, ◌^◌};
 ghost use Rattle.chord_segment.specs.Marks.{mark_of};
 ghost use Rattle.chord_model.specs.Stock.{IsStocked};
 ghost use Rattle.chord_node.specs.Received.{WholeIs, NextIs};
-ghost use Rattle.chord_node.specs.View.{knowns};
+ghost use Rattle.chord_node.specs.View.{segments_of};
 
 use crate::handovers::given::Given;
 use crate::handovers::hold::{PutFault, make_held};
@@ -20,12 +20,12 @@ fn take_whole<S: EntryStore>(
     part: &Part,
     parcelled: Parcelled,
 ) -> Result<Given, AllocError>
-    requires stocked { IsStocked (knowns held.old.items) (S.content store.old) }
-    requires next { part.now.number ≡ mark_of part.now.from taken.old.known.last + 1 }
+    requires stocked { IsStocked (segments_of held.old.items) (S.content store.old) }
+    requires next { part.now.number ≡ mark_of part.now.from taken.old.taken.last + 1 }
     requires fits { part.now.number < 2 ^ 64 }
-    ensures answer { WholeIs part.now parcelled (knowns held.old.items) (S.content store.old) (S.limit store.old) taken.old.known result (knowns held.new.items) (S.content store.new) taken.new.known }
+    ensures answer { WholeIs part.now parcelled (segments_of held.old.items) (S.content store.old) (S.limit store.old) taken.old.taken result (segments_of held.new.items) (S.content store.new) taken.new.taken }
     ensures limit { S.limit store.new ≡ S.limit store.old }
-    ensures stocked { IsStocked (knowns held.new.items) (S.content store.new) }
+    ensures stocked { IsStocked (segments_of held.new.items) (S.content store.new) }
 {
     taken.reserve()?;
     match make_held(held, store, &parcelled) {
@@ -47,12 +47,12 @@ pub(crate) fn take_next<S: EntryStore>(
     taken: &mut Taken,
     part: &Part,
 ) -> Result<Given, AllocError>
-    requires stocked { IsStocked (knowns held.old.items) (S.content store.old) }
-    requires next { part.now.number ≡ mark_of part.now.from taken.old.known.last + 1 }
+    requires stocked { IsStocked (segments_of held.old.items) (S.content store.old) }
+    requires next { part.now.number ≡ mark_of part.now.from taken.old.taken.last + 1 }
     requires fits { part.now.number < 2 ^ 64 }
-    ensures answer { NextIs part.now (knowns held.old.items) (S.content store.old) (S.limit store.old) taken.old.known result (knowns held.new.items) (S.content store.new) taken.new.known }
+    ensures answer { NextIs part.now (segments_of held.old.items) (S.content store.old) (S.limit store.old) taken.old.taken result (segments_of held.new.items) (S.content store.new) taken.new.taken }
     ensures limit { S.limit store.new ≡ S.limit store.old }
-    ensures stocked { IsStocked (knowns held.new.items) (S.content store.new) }
+    ensures stocked { IsStocked (segments_of held.new.items) (S.content store.new) }
 {
     match taken.whole_with(part) {
         Ok(Gather::Unfit) => Ok(Given::Clash),

@@ -113,7 +113,7 @@ fn may_give(alloc: Global) -> Option<(Result<(), GiveFault>, bool)> {
 
 /// From whom a part goes to whom, the number of its handover, and which part it is of how many.
 fn names(part: &Part) -> (u64, u64, u64, u64, u64) {
-    (part.from, part.to, part.number, part.part, part.of)
+    (part.from, part.to, part.number, part.place, part.of)
 }
 
 /// The names of the part that is given, and whether the node holds identifier 0 then.

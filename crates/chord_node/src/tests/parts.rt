@@ -75,7 +75,7 @@ fn later_part(alloc: Global, ticket: Ticket, part: u64, of: u64) -> Part
         from: ticket.from,
         to: ticket.to,
         number: ticket.number,
-        part,
+        place: part,
         of,
         segment: None,
         pairs: Vec::new(alloc),

@@ -3,7 +3,7 @@ ghost use Rattle.chord_world.specs.Calling.{AreThere};
 ghost use Rattle.chord_world.specs.Handing.{ThereIs, ActIs};
 
 use crate::members::is_out;
-use crate::refusal::{PartFault, Refusal};
+use crate::refusal::{Refusal, StepFault};
 use crate::world::World;
 use chord_store::EntryStore;
 
@@ -27,7 +27,7 @@ impl<S: EntryStore> World<S> {
     {
         self.is_there(node)?;
         if is_out(&self.crashed, node) {
-            return Err(Refusal::Part(PartFault::Crashed));
+            return Err(Refusal::Step(StepFault::Crashed));
         }
         Ok(())
     }

@@ -13,7 +13,7 @@ impl<S: EntryStore> World<S> {
     /// The member does nothing more, and is dead for the others. It stays the holder of what it holds.
     pub(crate) fn crash(&mut self, node: u64) -> Result<Outcome, Refusal>
         ensures answer { CrashIs node self.old result self.new }
-        ensures known { self.new.known ≡ self.old.known }
+        ensures known { self.new.world ≡ self.old.world }
         ensures ring { KeepsRing self.old self.new }
     {
         if self.nodes.is_empty() {

@@ -12,7 +12,7 @@ ghost use Rattle.chord_world.specs.Delivering.{AnswersAt, HearsAt, IsOwed, messa
 
 use crate::members::is_out;
 use crate::outcome::Outcome;
-use crate::refusal::{PartFault, Refusal};
+use crate::refusal::{Refusal, StepFault};
 use crate::steps::outgoing::make_room;
 use crate::world::World;
 use chord_caller::{Ask, CallerCore, Heard, TakeFault, Told};
@@ -112,8 +112,8 @@ fn note(history: &mut Vec<Done>, done: Option<Done>)
 impl<S: EntryStore> World<S> {
     /// A call is taken in by the node that it is for.
     fn deliver_ask(&mut self, place: usize) -> Result<Outcome, Refusal>
-        requires ask { (ask : AskOf) × (slice_get self.old.known.sent place ≡ Some (AskMessage ask)) }
-        requires created { self.old.known.nodes ≢ [] }
+        requires ask { (ask : AskOf) × (slice_get self.old.world.sent place ≡ Some (AskMessage ask)) }
+        requires created { self.old.world.nodes ≢ [] }
         ensures answer { DeliverIs place self.old result self.new }
         ensures step { Advances self.old result self.new }
         ensures ring { KeepsRing self.old self.new }
@@ -123,7 +123,7 @@ impl<S: EntryStore> World<S> {
             return Err(Refusal::NoSuchNode);
         }
         if is_out(&self.crashed, to) {
-            return Err(Refusal::Part(PartFault::Crashed));
+            return Err(Refusal::Step(StepFault::Crashed));
         }
         if make_room(&mut self.sent, &mut self.targets).is_err() {
             return Err(Refusal::Memory);
@@ -145,8 +145,8 @@ impl<S: EntryStore> World<S> {
 
     /// A reply is taken in by its caller.
     fn deliver_told(&mut self, place: usize) -> Result<Outcome, Refusal>
-        requires told { (told : ToldOf) × (slice_get self.old.known.sent place ≡ Some (ToldMessage told)) }
-        requires created { self.old.known.nodes ≢ [] }
+        requires told { (told : ToldOf) × (slice_get self.old.world.sent place ≡ Some (ToldMessage told)) }
+        requires created { self.old.world.nodes ≢ [] }
         ensures answer { DeliverIs place self.old result self.new }
         ensures step { Advances self.old result self.new }
         ensures ring { KeepsRing self.old self.new }
@@ -191,7 +191,7 @@ impl<S: EntryStore> World<S> {
                 let declined = *declined;
                 self.deliver_declined(place, declined)
             }
-            Message::Note(_) => Err(Refusal::Part(PartFault::NeedsMeet)),
+            Message::Note(_) => Err(Refusal::Step(StepFault::NeedsMeet)),
         }
     }
 }

@@ -6,7 +6,7 @@ ghost use Rattle.chord_world.specs.Linking.{PointsAt, FingerIs};
 
 use crate::members::is_out;
 use crate::outcome::Outcome;
-use crate::refusal::{PartFault, Refusal};
+use crate::refusal::{Refusal, StepFault};
 use crate::world::World;
 use chord_links::Peer;
 use chord_node::Node;
@@ -39,10 +39,10 @@ impl<S: EntryStore> World<S> {
             return Err(Refusal::NoSuchNode);
         }
         if is_out(&self.crashed, node) {
-            return Err(Refusal::Part(PartFault::Crashed));
+            return Err(Refusal::Step(StepFault::Crashed));
         }
         if finger < 1 || 128 < finger {
-            return Err(Refusal::Part(PartFault::BadFinger));
+            return Err(Refusal::Step(StepFault::BadFinger));
         }
         let peer = self.nodes[to as usize].links().me();
         point_at(&mut self.nodes, node as usize, finger as usize, peer);

@@ -6,7 +6,7 @@ ghost use Rattle.chord_world.specs.Steps.{Advances};
 ghost use Rattle.chord_world.specs.Handing.{DoesAt, GiveStepIs, SendPartIs};
 
 use crate::outcome::Outcome;
-use crate::refusal::{PartFault, Refusal};
+use crate::refusal::{Refusal, StepFault};
 use crate::steps::outgoing::{make_room, push_message, send};
 use crate::world::World;
 use chord_handover::Part;
@@ -57,7 +57,7 @@ impl<S: EntryStore> World<S> {
     {
         self.can_act(node)?;
         if to >= self.nodes.len() as u64 {
-            return Err(Refusal::Part(PartFault::NoPart));
+            return Err(Refusal::Step(StepFault::NoPart));
         }
         let part = self.nodes[node as usize].resend_part(to, number, part)?;
         let message = send(&mut self.sent, &mut self.targets, Message::Part(part), 0)?;

@@ -7,7 +7,7 @@ ghost use Rattle.chord_world.specs.Joining.{JoinIs};
 
 use crate::members::is_used;
 use crate::outcome::Outcome;
-use crate::refusal::{PartFault, Refusal};
+use crate::refusal::{Refusal, StepFault};
 use crate::steps::create::{add_node, room_for_node};
 use crate::world::World;
 use chord_ident::Id;
@@ -44,7 +44,7 @@ impl<S: EntryStore> World<S> {
         }
         let no = self.nodes.len() as u64;
         let Ok(links) = join_behind(Peer { no, id }, &pred) else {
-            return Err(Refusal::Part(PartFault::NotBetween));
+            return Err(Refusal::Step(StepFault::NotBetween));
         };
         if room_for_node(&mut self.nodes, &mut self.crashed).is_err() {
             return Err(Refusal::Memory);

@@ -5,7 +5,7 @@ ghost use Rattle.chord_world.specs.Steps.{Advances};
 ghost use Rattle.chord_world.specs.Calling.{CallerIs, ShowIs, MeetsAt, MeetIs};
 
 use crate::outcome::Outcome;
-use crate::refusal::{PartFault, Refusal};
+use crate::refusal::{Refusal, StepFault};
 use crate::steps::outgoing::send;
 use crate::world::World;
 use chord_caller::{CallerCore, Note};
@@ -59,7 +59,7 @@ impl<S: EntryStore> World<S> {
             return Err(Refusal::NoSuchMessage);
         }
         let Message::Note(note) = &self.sent[message as usize] else {
-            return Err(Refusal::Part(PartFault::NotNote));
+            return Err(Refusal::Step(StepFault::NotNote));
         };
         meet_at(&mut self.callers, caller as usize, note)?;
         Ok(Outcome::Met)

@@ -3,7 +3,7 @@ ghost use Rattle.chord_world.specs.State.{KeepsRing};
 ghost use Rattle.chord_world.specs.Steps.{OpenIs, Advances};
 
 use crate::outcome::Outcome;
-use crate::refusal::{PartFault, Refusal};
+use crate::refusal::{Refusal, StepFault};
 use crate::world::World;
 use chord_caller::CallerCore;
 use chord_store::EntryStore;
@@ -16,7 +16,7 @@ impl<S: EntryStore> World<S> {
         ensures ring { KeepsRing self.old self.new }
     {
         if window < 1 || 16 < window {
-            return Err(Refusal::Part(PartFault::BadWindow));
+            return Err(Refusal::Step(StepFault::BadWindow));
         }
         if self.callers.reserve(1).is_err() {
             return Err(Refusal::Memory);

@@ -4,7 +4,7 @@ ghost use Rattle.chord_world.specs.Steps.{Advances};
 ghost use Rattle.chord_world.specs.Calling.{WantedIs, AgainIs, ResendStepIs};
 
 use crate::outcome::Outcome;
-use crate::refusal::{PartFault, Refusal};
+use crate::refusal::{Refusal, StepFault};
 use crate::steps::outgoing::send;
 use crate::world::World;
 use chord_caller::{Ask, CallerCore, ResendFault};
@@ -26,11 +26,11 @@ fn ask_again(core: &CallerCore, named: Option<u64>) -> Result<Ask, Refusal>
     ensures { AgainIs named core.now result }
 {
     let Some(number) = wanted(core, named) else {
-        return Err(Refusal::Part(PartFault::Idle));
+        return Err(Refusal::Step(StepFault::Idle));
     };
     match core.resend(number) {
         Ok(ask) => Ok(ask),
-        Err(ResendFault::Idle) => Err(Refusal::Part(PartFault::Idle)),
+        Err(ResendFault::Idle) => Err(Refusal::Step(StepFault::Idle)),
         Err(ResendFault::Memory) => Err(Refusal::Memory),
     }
 }

@@ -16,7 +16,7 @@ ghost use Rattle.chord_world.specs.Taking.{IsNumbered, GotSteps, outcome_of_give
 
 use crate::members::is_out;
 use crate::outcome::Outcome;
-use crate::refusal::{PartFault, Refusal};
+use crate::refusal::{Refusal, StepFault};
 use crate::steps::outgoing::{make_room, push_message};
 use crate::world::World;
 use chord_handover::{Declined, Got, Part, Ticket};
@@ -113,14 +113,14 @@ fn outcome_of_declined(back: Back) -> Outcome
 impl<S: EntryStore> World<S> {
     /// A part is taken in by its receiver, which is `to`.
     pub(crate) fn deliver_part(&mut self, place: usize, to: u64) -> Result<Outcome, Refusal>
-        requires part { (part : PartOf) × (slice_get self.old.known.sent place ≡ Some (PartMessage part)) × (part.to ≡ to) }
-        requires created { self.old.known.nodes ≢ [] }
+        requires part { (part : PartOf) × (slice_get self.old.world.sent place ≡ Some (PartMessage part)) × (part.to ≡ to) }
+        requires created { self.old.world.nodes ≢ [] }
         ensures answer { DeliverIs place self.old result self.new }
         ensures step { Advances self.old result self.new }
         ensures ring { KeepsRing self.old self.new }
     {
         if is_out(&self.crashed, to) {
-            return Err(Refusal::Part(PartFault::Crashed));
+            return Err(Refusal::Step(StepFault::Crashed));
         }
         if make_room(&mut self.sent, &mut self.targets).is_err() {
             return Err(Refusal::Memory);
@@ -138,14 +138,14 @@ impl<S: EntryStore> World<S> {
 
     /// That a handover was taken is heard by its sender.
     pub(crate) fn deliver_got(&mut self, place: usize, got: Got) -> Result<Outcome, Refusal>
-        requires got { slice_get self.old.known.sent place ≡ Some (GotMessage got) }
-        requires created { self.old.known.nodes ≢ [] }
+        requires got { slice_get self.old.world.sent place ≡ Some (GotMessage got) }
+        requires created { self.old.world.nodes ≢ [] }
         ensures answer { DeliverIs place self.old result self.new }
         ensures step { Advances self.old result self.new }
         ensures ring { KeepsRing self.old self.new }
     {
         if is_out(&self.crashed, got.from) {
-            return Err(Refusal::Part(PartFault::Crashed));
+            return Err(Refusal::Step(StepFault::Crashed));
         }
         let freed = free_in(&mut self.nodes, got.from as usize, &got);
         Ok(outcome_of_got(freed))
@@ -157,14 +157,14 @@ impl<S: EntryStore> World<S> {
         place: usize,
         declined: Declined,
     ) -> Result<Outcome, Refusal>
-        requires declined { slice_get self.old.known.sent place ≡ Some (DeclinedMessage declined) }
-        requires created { self.old.known.nodes ≢ [] }
+        requires declined { slice_get self.old.world.sent place ≡ Some (DeclinedMessage declined) }
+        requires created { self.old.world.nodes ≢ [] }
         ensures answer { DeliverIs place self.old result self.new }
         ensures step { Advances self.old result self.new }
         ensures ring { KeepsRing self.old self.new }
     {
         if is_out(&self.crashed, declined.from) {
-            return Err(Refusal::Part(PartFault::Crashed));
+            return Err(Refusal::Step(StepFault::Crashed));
         }
         chord_node::laws::no_delivery_clashes();
         let Ok(back) = take_back_in(&mut self.nodes, declined.from as usize, &declined) else {

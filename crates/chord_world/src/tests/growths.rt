@@ -5,7 +5,7 @@ ghost use Rattle.std.specs.List.{All};
 
 use crate::tests::disturbed::two_stores;
 use crate::tests::scripts::{A, Asks, B, C, moving_key, resend, submit};
-use crate::{Outcome, PartFault, Refusal, Step, World};
+use crate::{Outcome, Refusal, Step, StepFault, World};
 use chord_ident::Id;
 use chord_map::Reply;
 use chord_node::Holder;
@@ -83,7 +83,7 @@ fn fill(alloc: Global, steps: &mut Vec<Wanted>) -> Result<(), AllocError> {
 
 /// The value is removed, so that there is room.
 fn make_room(alloc: Global, steps: &mut Vec<Wanted>) -> Result<(), AllocError> {
-    let full = Err(Refusal::Part(PartFault::WindowFull));
+    let full = Err(Refusal::Step(StepFault::WindowFull));
     steps.push((remove(alloc, 1, b"y")?, full))?;
     steps.push((remove(alloc, 0, b"x")?, Ok(Outcome::Message(4))))?;
     deliver_each(steps, &[(4, Outcome::Told(5)), (5, Outcome::Fresh(0))])
@@ -217,7 +217,7 @@ fn first_part(alloc: Global) -> Result<Vec<Wanted>, AllocError> {
 /// The second part, which is the last one, comes, and the first one once more.
 fn second_part(alloc: Global) -> Result<Vec<Wanted>, AllocError> {
     let mut steps = Vec::new(alloc);
-    let no_part = Err(Refusal::Part(PartFault::NoPart));
+    let no_part = Err(Refusal::Step(StepFault::NoPart));
     steps.push((send_part(3), no_part))?;
     steps.push((send_part(2), Ok(Outcome::Message(131))))?;
     deliver_each(
@@ -231,7 +231,7 @@ fn second_part(alloc: Global) -> Result<Vec<Wanted>, AllocError> {
 fn confirmation(alloc: Global) -> Result<Vec<Wanted>, AllocError> {
     let mut steps = Vec::new(alloc);
     steps.push((Step::Deliver { message: 132 }, Ok(Outcome::Freed)))?;
-    let no_part = Err(Refusal::Part(PartFault::NoPart));
+    let no_part = Err(Refusal::Step(StepFault::NoPart));
     steps.push((send_part(1), no_part))?;
     Ok(steps)
 }

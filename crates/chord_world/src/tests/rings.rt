@@ -4,7 +4,7 @@ ghost use Rattle.std.specs.Prelude.{◌≡◌, [], List, IfOk};
 ghost use Rattle.std.specs.List.{All};
 ghost use Rattle.chord_map.specs.declared.pair.Pair.{Pair};
 
-use crate::{Answer, Outcome, PartFault, Refusal, Step, World, run};
+use crate::{Answer, Outcome, Refusal, Step, StepFault, World, run};
 use chord_ident::Id;
 use chord_store::ListStore;
 use std::alloc::{AllocError, Global};
@@ -78,12 +78,12 @@ fn a_ring_of_two_is_kept_up(rt: HostRuntime) -> Result<(), Fail> {
         Answer::Did(Outcome::Done),
         Answer::Did(Outcome::Candidate(Some(1))),
         Answer::Did(Outcome::Done),
-        Answer::Refused(Refusal::Part(PartFault::HeadLive)),
+        Answer::Refused(Refusal::Step(StepFault::HeadLive)),
         Answer::Refused(Refusal::Unsafe),
         Answer::Did(Outcome::Done),
         Answer::Refused(Refusal::NoSuchNode),
-        Answer::Refused(Refusal::Part(PartFault::Crashed)),
-        Answer::Refused(Refusal::Part(PartFault::HeadDead)),
+        Answer::Refused(Refusal::Step(StepFault::Crashed)),
+        Answer::Refused(Refusal::Step(StepFault::HeadDead)),
         Answer::Did(Outcome::Done),
         Answer::Did(Outcome::Candidate(Some(1))),
     ];

@@ -4,4 +4,4 @@ use Rattle.chord_handover.specs.Handover.{Part, gathered}
 use Rattle.chord_handover.proofs.gathering.are_all_there.Given as goal
 
 abbrev pub invariant-loop-i : goal.invariant-loop-i
-invariant-loop-i l = (place : ℕ) → 1 ≤ place → place ≤ l.i → Any (λ (part : Part). part.part ≡ place) (gathered l.part l.noted)
+invariant-loop-i l = (place : ℕ) → 1 ≤ place → place ≤ l.i → Any (λ (part : Part). part.place ≡ place) (gathered l.part l.noted)

@@ -9,7 +9,7 @@ use Rattle.chord_handover.proofs.gathering.are_parcelled.Goals as goal
 
 pub loop-i-init : goal.loop-i-init
 loop-i-init c =
-    subst (λ (ps : List Pair). HasPassed c.args.segment.now.known ps c.new-run.result) (no_pairs_yet (gathered c.args.part.now c.args.noted.now)) (c.new-run.ensures c.args.segment.now.known)
+    subst (λ (ps : List Pair). HasPassed c.args.segment.now.segment ps c.new-run.result) (no_pairs_yet (gathered c.args.part.now c.args.noted.now)) (c.new-run.ensures c.args.segment.now.segment)
 
 pub returns-in-None : goal.returns-in-None
 returns-in-None c =
@@ -19,5 +19,5 @@ returns-in-None c =
     let back : i ≡ i + 1 - 1 = omega arith in
     let of = ap (λ (p : Part). p.of) c.part.view_is in (
       λ h. absurd (cc),
-      λ rules. absurd (none_further c.args.segment.now.known (i + 1) c.args.part.now.of all (omega arith) (c.in-None.ensures (subst (λ (n : ℕ). HasPassed c.args.segment.now.known (pairs_upto n all) (record { last = c.loop-i.run.0; count = (c.loop-i.run.1).0 })) back c.loop-i.invariant)) rules),
+      λ rules. absurd (none_further c.args.segment.now.segment (i + 1) c.args.part.now.of all (omega arith) (c.in-None.ensures (subst (λ (n : ℕ). HasPassed c.args.segment.now.segment (pairs_upto n all) (record { last = c.loop-i.run.0; count = (c.loop-i.run.1).0 })) back c.loop-i.invariant)) rules),
     )

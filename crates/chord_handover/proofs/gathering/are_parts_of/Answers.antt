@@ -21,7 +21,7 @@ returns-then-not-is_fitting c = (
       let number = sym (ap (λ (p : Part). p.number) c.other.view_is) ∙ c.if-other-part-2.true ∙ ap (λ (p : Part). p.number) c.part.view_is in
       let like = and_from (eqb other.from part.from) (eqb other.number part.number) (eqb_same other.from part.from from) (eqb_same other.number part.number number) in
       let there = has_noted part noted other (has_contained noted other (c.loop-other.other-index, c.loop-other-test.true, sym c.other-item.is)) like in
-      c.if-not-is_fitting.ensures.test.1 (are_fitting part noted c.args.segment.now.known (pairs_upto part.of (gathered part noted)) each other there c.is_fitting.ensures.rules),
+      c.if-not-is_fitting.ensures.test.1 (are_fitting part noted c.args.segment.now.segment (pairs_upto part.of (gathered part noted)) each other there c.is_fitting.ensures.rules),
 )
 
 pub loop-other-preserved : goal.loop-other-preserved
@@ -47,9 +47,9 @@ returns c =
     let noted = c.args.noted.now in
     let all = gathered part noted in
     let whole : take c.loop-other.other-index noted ≡ noted = take_all c.loop-other.other-index noted c.loop-other-test.false in (
-      λ h. fitting_are part noted c.args.segment.now.known c.requires.agree c.requires.there c.requires.segment
+      λ h. fitting_are part noted c.args.segment.now.segment c.requires.agree c.requires.there c.requires.segment
           (each_gathered (λ (p : Part). IsPart p × IsFitting part all p) part noted
           (λ other there like. c.loop-other.invariant other (subst (λ (xs : List Part). Has xs other) (sym whole) there) like)
           (c.is_fitting-2.ensures.rules, c.is_fitting-2.ensures.test.0 h)),
-      λ each. c.is_fitting-2.ensures.test.1 (are_fitting part noted c.args.segment.now.known (pairs_upto part.of all) each part (has_itself part noted) c.is_fitting-2.ensures.rules),
+      λ each. c.is_fitting-2.ensures.test.1 (are_fitting part noted c.args.segment.now.segment (pairs_upto part.of all) each part (has_itself part noted) c.is_fitting-2.ensures.rules),
     )

@@ -8,8 +8,8 @@ returns-in-Some c = noted_at c.args.part.now c.args.noted.now c.args.place c.in-
 
 pub returns-in-None : goal.returns-in-None
 returns-in-None c =
-    itself_at c.args.part.now c.args.noted.now c.args.place c.in-None.ensures (sym (ap (λ (p : Part). p.part) c.part.view_is) ∙ c.if-part-place.true)
+    itself_at c.args.part.now c.args.noted.now c.args.place c.in-None.ensures (sym (ap (λ (p : Part). p.place) c.part.view_is) ∙ c.if-part-place.true)
 
 pub returns-in-None-2 : goal.returns-in-None-2
 returns-in-None-2 c =
-    none_at c.args.part.now c.args.noted.now c.args.place c.in-None.ensures (λ here. c.if-part-place.false (ap (λ (p : Part). p.part) c.part.view_is ∙ here))
+    none_at c.args.part.now c.args.noted.now c.args.place c.in-None.ensures (λ here. c.if-part-place.false (ap (λ (p : Part). p.place) c.part.view_is ∙ here))

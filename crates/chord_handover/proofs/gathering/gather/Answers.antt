@@ -29,7 +29,7 @@ returns-then-not-are_parts_of-clause-made c =
     let there = c.if-not-are_all_there.ensures.0 (cc) in
     inr (
       there,
-      makes_none part noted c.in-Some.first.now.known (pairs_upto part.of (gathered part noted)) there (sym c.in-Some.ensures) refl
+      makes_none part noted c.in-Some.first.now.segment (pairs_upto part.of (gathered part noted)) there (sym c.in-Some.ensures) refl
           (λ fits. elim c.then-not-are_parts_of.branch [
             | then-not-are_parts_of-via-then-not-are_parts_of w ↦ true≢false (sym (w.if-not-are_parts_of.ensures.1 fits.1))
             | then-not-are_parts_of-via-else-not-are_parts_of+then-not-are_parcelled w ↦ true≢false (sym (w.if-not-are_parcelled.ensures.1 fits.0))
@@ -39,18 +39,18 @@ returns-then-not-are_parts_of-clause-made c =
 pub returns-in_err-segment-clause-whole : goal.returns-in_err-segment-clause-whole
 returns-in_err-segment-clause-whole c =
     on_err c.from_residual.result (AreWhole c.args.part.now c.args.noted.now)
-    (are_whole c.args.part.now c.args.noted.now c.in-Some.first.now.known (c.if-not-are_all_there.ensures.0 (cc)) (c.if-not-are_parcelled.ensures.0 (cc)) (c.if-not-are_parts_of.ensures.0 (cc)))
+    (are_whole c.args.part.now c.args.noted.now c.in-Some.first.now.segment (c.if-not-are_all_there.ensures.0 (cc)) (c.if-not-are_parcelled.ensures.0 (cc)) (c.if-not-are_parts_of.ensures.0 (cc)))
 
 pub returns-in_err-pairs-clause-whole : goal.returns-in_err-pairs-clause-whole
 returns-in_err-pairs-clause-whole c =
     on_err c.from_residual-in_err-pairs.result (AreWhole c.args.part.now c.args.noted.now)
-    (are_whole c.args.part.now c.args.noted.now c.in-Some.first.now.known (c.if-not-are_all_there.ensures.0 (cc)) (c.if-not-are_parcelled.ensures.0 (cc)) (c.if-not-are_parts_of.ensures.0 (cc)))
+    (are_whole c.args.part.now c.args.noted.now c.in-Some.first.now.segment (c.if-not-are_all_there.ensures.0 (cc)) (c.if-not-are_parcelled.ensures.0 (cc)) (c.if-not-are_parts_of.ensures.0 (cc)))
 
 pub returns-clause-made : goal.returns-clause-made
 returns-clause-made c =
     let part = c.args.part.now in
     let noted = c.args.noted.now in
-    let parcelled : Parcelled = record { segment = c.in-Some.first.now.known; pairs = pairs_upto part.of (gathered part noted) } in
-    let copied : record { segment = c.in_ok-segment.segment.known; pairs = c.in_ok-pairs.pairs.items } ≡ parcelled = λ i. record { segment = c.in_ok-segment.ensures i; pairs = c.in_ok-pairs.ensures i } in
+    let parcelled : Parcelled = record { segment = c.in-Some.first.now.segment; pairs = pairs_upto part.of (gathered part noted) } in
+    let copied : record { segment = c.in_ok-segment.segment.segment; pairs = c.in_ok-pairs.pairs.items } ≡ parcelled = λ i. record { segment = c.in_ok-segment.ensures i; pairs = c.in_ok-pairs.ensures i } in
     subst (λ (p : Parcelled). IsWhole (gathered part noted) (handed (ticket_of_part part) p)) (sym (c.new.ensures ∙ copied))
     (whole_from part noted parcelled (c.if-not-are_all_there.ensures.0 (cc)) (c.if-not-are_parts_of.ensures.0 (cc)))

@@ -14,7 +14,7 @@ returns-in-Some c = λ has.
     let next : before + 1 ≡ c.args.place = omega arith in
     let found : Some c.in-Some.other.now ≡ part_in (before + 1) all = c.in-Some.ensures ∙ ap (λ n. part_in n all) (sym next) in
     let pairs : c.deref.result.now ≡ pairs_of (Some c.in-Some.other.now) = c.deref.ensures.value ∙ ap (λ (p : Part). p.pairs) c.other.view_is in
-    subst (λ (ps : List Pair). Goes c.args.segment.now.known ps c.walk.result)
+    subst (λ (ps : List Pair). Goes c.args.segment.now.segment ps c.walk.result)
     (more_pairs all before (Some c.in-Some.other.now) c.deref.result.now found pairs ∙ ap (λ n. pairs_upto n all) next)
     (c.walk.ensures (pairs_upto before all) has)
 
@@ -24,5 +24,5 @@ returns-in-None c = λ has.
     let low = c.requires in
     let before = c.args.place - 1 in
     let next : before + 1 ≡ c.args.place = omega arith in
-    subst (λ (ps : List Pair). HasPassed c.args.segment.now.known ps c.args.run)
+    subst (λ (ps : List Pair). HasPassed c.args.segment.now.segment ps c.args.run)
     (no_more_pairs all before (c.in-None.ensures ∙ ap (λ n. part_in n all) (sym next)) ∙ ap (λ n. pairs_upto n all) next) has

@@ -1,11 +1,11 @@
--- Each reached ring is sound, and a sound ring is settled, keeps its principals and is one ring.
+-- Each reached ring is sound, and a sound ring is safe, keeps its principals and is one ring.
 use Rattle.chord_ring.proofs.Stepping.{Kept-step}
 use Rattle.chord_ring.proofs.Reached.{IsSound-reached}
 use Rattle.chord_ring.proofs.Walking.{IsOneRing-sound}
 use Rattle.chord_ring.proofs.invariant.principals_stand_on_one_ring.Goals as goal
 
-pub returns-clause-settled : goal.returns-clause-settled
-returns-clause-settled c = λ ring reached. (IsSound-reached ring reached).settled
+pub returns-clause-safe : goal.returns-clause-safe
+returns-clause-safe c = λ ring reached. (IsSound-reached ring reached).safe
 
 pub returns-clause-kept_by_steps : goal.returns-clause-kept_by_steps
 returns-clause-kept_by_steps c = λ old new step reached stepped. (Kept-step old new step (IsSound-reached old reached) stepped).principals

@@ -8,7 +8,7 @@ use Rattle.chord_world.proofs.running.run.Given as goal
 abbrev pub invariant-loop-step : goal.invariant-loop-step
 invariant-loop-step g l = record {
   ran : Ran (map g.S.EntryStore.limit l.initial.stores.items) l.initial.world (take l.step-index l.steps) l.answers.items (map g.S.EntryStore.limit l.stores.items) l.world;
-  run : ∥ Run l.initial.world.known l.world.known ∥₁;
+  run : ∥ Run l.initial.world.world l.world.world ∥₁;
   vacant : All (λ s. g.S.EntryStore.content s ≡ []) l.stores.items;
   counted : vec_len l.answers ≡ l.step-index;
   room : vec_capacity l.answers ≡ length l.steps;

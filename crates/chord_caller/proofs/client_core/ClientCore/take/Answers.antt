@@ -2,7 +2,7 @@ use Rattle.std.proofs.Common.{rules, ◌≡◌, true, refl, sym, ap, ◌∙◌, 
 use Rattle.chord_map.specs.Map.{fits}
 use Rattle.chord_caller.specs.Caller.{Caller}
 use Rattle.chord_caller.specs.Client.{Client, IsCoreOf, client_of}
-use Rattle.chord_caller.specs.ClientAnswers.{IsSettled}
+use Rattle.chord_caller.specs.ClientAnswers.{IsEnded}
 use Rattle.chord_caller.proofs.Clients.{waits_above, settled_keeps, settled_from}
 use Rattle.chord_caller.proofs.ClientSteps.{fresh_alike, known_alike, strange_alike, take_simulates}
 use Rattle.chord_caller.proofs.client_core.ClientCore.take.Goals as goal
@@ -69,7 +69,7 @@ returns-clause-answer c =
       c.if-told-self.false ∙ ap (λ (client : Client). client.number) c.self.view_is,
       fit,
       refl,
-      subst (λ (client : Client). IsSettled c.args.told.number c.in-Some.request.now client (client_of core.number core.window after.result after.new.slots.items)) c.self.view_is settled,
+      subst (λ (client : Client). IsEnded c.args.told.number c.in-Some.request.now client (client_of core.number core.window after.result after.new.slots.items)) c.self.view_is settled,
     )
 
 pub returns-clause-callers : goal.returns-clause-callers

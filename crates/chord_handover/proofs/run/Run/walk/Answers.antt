@@ -18,20 +18,20 @@ returns-in-None c = λ passed has rules.
     let more = further passed pairs i c.pair-item.result c.loop-pair-test.true c.pair-item.is in
     let whole : passed ++ pairs ≡ (passed ++ take (i + 1) pairs) ++ drop (i + 1) pairs =
     ap (λ ps. passed ++ ps) (sym (take-append-drop (i + 1) pairs)) ∙ sym (append_assoc passed (take (i + 1) pairs) (drop (i + 1) pairs)) in
-    let upto = front c.args.segment.now.known (passed ++ take (i + 1) pairs) (drop (i + 1) pairs)
-    (subst (λ (ps : List Pair). IsParcelled (record { segment = c.args.segment.now.known; pairs = ps })) whole rules) in
+    let upto = front c.args.segment.now.segment (passed ++ take (i + 1) pairs) (drop (i + 1) pairs)
+    (subst (λ (ps : List Pair). IsParcelled (record { segment = c.args.segment.now.segment; pairs = ps })) whole rules) in
     c.in-None.ensures (passed ++ take i pairs) (c.loop-pair.invariant passed has)
-    (subst (λ (ps : List Pair). IsParcelled (record { segment = c.args.segment.now.known; pairs = ps })) (sym more) upto)
+    (subst (λ (ps : List Pair). IsParcelled (record { segment = c.args.segment.now.segment; pairs = ps })) (sym more) upto)
 
 pub loop-pair-preserved : goal.loop-pair-preserved
 loop-pair-preserved c = λ passed has.
     let pairs = c.args.pairs.now in
     let i = c.loop-pair.pair-index in
     let more = further passed pairs i c.pair-item.result c.loop-pair-test.true c.pair-item.is in
-    subst (λ (ps : List Pair). HasPassed c.args.segment.now.known ps c.in-Some.next) more
+    subst (λ (ps : List Pair). HasPassed c.args.segment.now.segment ps c.in-Some.next) more
     (c.in-Some.ensures (passed ++ take i pairs) (c.loop-pair.invariant passed has))
 
 pub returns : goal.returns
 returns c = λ passed has.
     let pairs = c.args.pairs.now in
-    subst (λ (ps : List Pair). HasPassed c.args.segment.now.known (passed ++ ps) c.loop-pair.run) (take_all c.loop-pair.pair-index pairs c.loop-pair-test.false) (c.loop-pair.invariant passed has)
+    subst (λ (ps : List Pair). HasPassed c.args.segment.now.segment (passed ++ ps) c.loop-pair.run) (take_all c.loop-pair.pair-index pairs c.loop-pair-test.false) (c.loop-pair.invariant passed has)

@@ -4,4 +4,4 @@ use Rattle.chord_handover.specs.Passed.{HasPassed}
 use Rattle.chord_handover.proofs.run.Run.walk.Given as goal
 
 abbrev pub invariant-loop-pair : goal.invariant-loop-pair
-invariant-loop-pair l = (passed : List Pair) → HasPassed l.segment.known passed l.self → HasPassed l.segment.known (passed ++ take l.pair-index l.pairs) l.run
+invariant-loop-pair l = (passed : List Pair) → HasPassed l.segment.segment passed l.self → HasPassed l.segment.segment (passed ++ take l.pair-index l.pairs) l.run

@@ -1,4 +1,4 @@
-use Rattle.chord_node.specs.View.{knowns}
+use Rattle.chord_node.specs.View.{segments_of}
 use Rattle.chord_node.proofs.Moving.{cut_at_is, cut_steps, cut_none, stored_held}
 use Rattle.chord_model.proofs.Stocking.{stocked_same}
 use Rattle.chord_node.proofs.node.Node.cut_at.Goals as goal
@@ -7,8 +7,8 @@ pub invariant_of-self : goal.invariant_of-self
 invariant_of-self g c =
     let old = c.self.inside in
     record {
-      stocked = stocked_same (knowns old.held.items) _ _ c.cut_segment.ensures.covers c.self.invariant.stocked;
-      stored = stored_held old.phase (knowns old.held.items) _ old.outbox.known.items old.store (cut_none c.args.place c.args.at _ _ c.cut_segment.result c.cut_segment.ensures.answer) c.self.invariant.stored;
+      stocked = stocked_same (segments_of old.held.items) _ _ c.cut_segment.ensures.covers c.self.invariant.stocked;
+      stored = stored_held old.phase (segments_of old.held.items) _ old.outbox.outbox.items old.store (cut_none c.args.place c.args.at _ _ c.cut_segment.result c.cut_segment.ensures.answer) c.self.invariant.stored;
       own = c.self.invariant.own;
     }
 

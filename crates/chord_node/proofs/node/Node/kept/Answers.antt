@@ -8,12 +8,12 @@ use Rattle.chord_node.proofs.node.Node.kept.Goals as goal
 
 pub returns-in_err-parcelled : goal.returns-in_err-parcelled
 returns-in_err-parcelled g c =
-    let items = c.self.inside.outbox.known.items in
+    let items = c.self.inside.outbox.outbox.items in
     none_missing items c.args.i c.in_ok-to.to c.in_ok-to.number (slice_get items c.args.i) c.nth.ensures.rules.apart refl c.in_ok-to.ensures.value c.in_err-parcelled.ensures
 
 pub returns : goal.returns
 returns g c =
-    let items = c.self.inside.outbox.known.items in
+    let items = c.self.inside.outbox.outbox.items in
     kept_is items c.args.i c.in_ok-to.to c.in_ok-to.number c.in_ok-parcelled.parcelled.now c.span.result c.nth.ensures.rules.apart c.in_ok-to.ensures.value c.in_ok-parcelled.ensures
     (c.span.ensures.value ∙ ap (λ (segment : Segment). segment.span) c.segment.ensures)
     ∙ ap (λ (node : Node). kept_as (slice_get node.outbox c.args.i)) c.self.view_is

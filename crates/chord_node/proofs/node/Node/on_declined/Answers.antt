@@ -9,7 +9,7 @@ use Rattle.chord_segment.specs.Segment.{Segment}
 use Rattle.chord_node.specs.declared.handovers.given.Back.TheVariants.{Clash, Full, Held}
 use Rattle.chord_model.specs.Node.NodeStep.{Keeps}
 use Rattle.chord_model.specs.Stock.{IsStocked}
-use Rattle.chord_node.specs.View.{knowns, entries_in, limit_in}
+use Rattle.chord_node.specs.View.{segments_of, entries_in, limit_in}
 use Rattle.chord_node.proofs.Moving.{has_store, held_more}
 use Rattle.chord_model.proofs.Stocking.{stocked_more}
 use Rattle.chord_node.proofs.Taking.{back_steps, back_at, parcel_from, same_parcel, none_under_way}
@@ -21,8 +21,8 @@ returns-in_default-clause-step g c = Keeps c.args.declined.now c.requires.from
 pub unwrap-store-requires : goal.unwrap-store-requires
 unwrap-store-requires g c =
     let old = c.self.inside in
-    let there = has_store old.phase (knowns old.held.items) old.outbox.known.items old.store c.self.invariant.stored
-    (λ none. none_under_way c.args.declined.now.to c.args.declined.now.number old.outbox.known.items c.in-Some.parcelled.now c.in-Some.ensures none) in
+    let there = has_store old.phase (segments_of old.held.items) old.outbox.outbox.items old.store c.self.invariant.stored
+    (λ none. none_under_way c.args.declined.now.to c.args.declined.now.number old.outbox.outbox.items c.in-Some.parcelled.now c.in-Some.ensures none) in
     search rules
 
 pub returns-in-Err-Clash-clause-step : goal.returns-in-Err-Clash-clause-step
@@ -37,14 +37,14 @@ invariant_of-self-2 g c =
     let held = old.held.items in
     let parcelled = c.in-Some.parcelled.now in
     let put = c.in-Ok.ensures.answer in
-    let same = same_parcel (item_at c.args.declined.now.to c.args.declined.now.number old.outbox.known.items) c.in-Some-declined.back parcelled c.in-Some-declined.ensures.item c.in-Some.ensures in
+    let same = same_parcel (item_at c.args.declined.now.to c.args.declined.now.number old.outbox.outbox.items) c.in-Some-declined.back parcelled c.in-Some-declined.ensures.item c.in-Some.ensures in
     let more = held_more held _ c.push_reserved.new.self.items _ parcelled.segment c.push_reserved.ensures.items c.in-Ok.ensures.held (c.into_parts-segment.ensures.segment ∙ ap (λ (p : Parcelled). p.segment) same) in
     let store : Some c.unwrap-store.result.now ≡ old.store = subst (λ o. option_copied_mut o ≡ old.store) c.unwrap-store.ensures c.as_mut.ensures.value in
-    let stock = stocked_more (knowns held) parcelled (g.S.EntryStore.content c.unwrap-store.result.now) c.in-Ok.ensures.parcel put.0
-    (subst (IsStocked (knowns held)) (sym (ap (entries_in g.S.EntryStore.content) store)) c.self.invariant.stocked) in
+    let stock = stocked_more (segments_of held) parcelled (g.S.EntryStore.content c.unwrap-store.result.now) c.in-Ok.ensures.parcel put.0
+    (subst (IsStocked (segments_of held)) (sym (ap (entries_in g.S.EntryStore.content) store)) c.self.invariant.stocked) in
     record {
       stocked = subst (λ (hs : List Segment). IsStocked hs (g.S.EntryStore.content c.make_held.new.store)) (sym more)
-          (subst (λ (ps : List Pair). IsStocked (knowns held ++ parcelled.segment ∷ []) ps) (sym put.2) stock);
+          (subst (λ (ps : List Pair). IsStocked (segments_of held ++ parcelled.segment ∷ []) ps) (sym put.2) stock);
       stored = tt;
       own = ap (λ (outbox : Outbox). outbox.owner) c.declined.ensures.left ∙ c.self.invariant.own;
     }
@@ -55,7 +55,7 @@ returns-clause-answer g c =
     let held = old.held.items in
     let parcelled = c.in-Some.parcelled.now in
     let put = c.in-Ok.ensures.answer in
-    let at = item_at c.args.declined.now.to c.args.declined.now.number old.outbox.known.items in
+    let at = item_at c.args.declined.now.to c.args.declined.now.number old.outbox.outbox.items in
     let found = parcel_from at parcelled c.in-Some.ensures in
     let same = same_parcel at c.in-Some-declined.back parcelled c.in-Some-declined.ensures.item c.in-Some.ensures in
     let more = held_more held _ c.push_reserved.new.self.items _ parcelled.segment c.push_reserved.ensures.items c.in-Ok.ensures.held (c.into_parts-segment.ensures.segment ∙ ap (λ (p : Parcelled). p.segment) same) in

@@ -1,4 +1,4 @@
--- A departure after which the others are settled keeps the ring sound.
+-- A departure after which the others are safe keeps the ring sound.
 use Rattle.std.proofs.Common.{◌≡◌, ap, sym, subst, map}
 use Rattle.chord_ident.specs.declared.id.Id.{Id}
 use Rattle.chord_ring.specs.Ring.{CanDepart, KeepsPrincipals}

@@ -1,48 +1,70 @@
-use Rattle.std.proofs.Common.{◌≡◌, ◌++◌, Ok, List, sym, ap, ◌∙◌, subst, refl, rules, false}
+use Rattle.std.proofs.Common.{◌≡◌, true, false, List, refl, ap, ap₂, sym, subst, ◌∙◌}
+use Rattle.chord_ident.specs.declared.span.Span.{Span}
 use Rattle.chord_map.specs.declared.done.Done.{Done}
 use Rattle.chord_segment.specs.declared.mark.Mark.{Mark}
-use Rattle.chord_segment.specs.Marks.{raise_all}
-use Rattle.chord_segment.specs.Segment.{Segment as SegmentOf, RoomySegment, above, span_joined, joined, stands_twice}
+use Rattle.chord_segment.specs.Marks.{lift_all}
 use Rattle.chord_segment.specs.Rules.{IsSegment}
-use Rattle.chord_segment.specs.Join.{IsNext, IsApart, JoinIs}
+use Rattle.chord_segment.specs.Segment.{Segment, RoomySegment, above, joined, placed_all, stands_twice}
+use Rattle.chord_segment.specs.Callers.{marks_in, calls_in}
 use Rattle.chord_segment.proofs.Parting.{segment_is}
-use Rattle.chord_segment.proofs.Joining.{joined-rules, join_is}
+use Rattle.chord_segment.proofs.Readied.{readied_keeps, rules_above, rules_same}
 use Rattle.chord_segment.proofs.segment.Segment.absorb.Goals as goal
+use Rattle.chord_ident.specs.Circle.{cuts}
+use Rattle.chord_segment.proofs.Joining.{joined-rules, join_is}
+use Rattle.std.proofs.Common.{Ok, rules}
 
--- the fields as the segments that they are
-abbrev self_of : goal.After-whole-3-1 → SegmentOf
-self_of c = record { span = c.self.inside.span; floors = c.self.inside.floors.items; kept = c.self.inside.kept.items }
+pub invariant_of-self : goal.invariant_of-self
+invariant_of-self c =
+    let old = c.self.inside.callers in
+    let new = c.ready.new.self in
+    record {
+      rules = rules_same c.self.inside.span old new c.ready.ensures.floors c.ready.ensures.calls c.self.invariant.rules;
+      readied = readied_keeps c.self.inside.readied old new c.ready.ensures.keeps c.self.invariant.readied;
+    }
 
-abbrev next_of : goal.After-whole-3-1 → SegmentOf
-next_of c = record { span = c.next.inside.span; floors = c.next.inside.floors.items; kept = c.next.inside.kept.items }
-
-is_next : (c : goal.After-whole-3-1) → IsNext (self_of c) (next_of c)
-is_next c = search rules
-
-is_apart : (c : goal.After-whole-3-1) → IsApart (self_of c) (next_of c)
-is_apart c = search rules
-
-once : (c : goal.After-whole-3-1) → stands_twice c.self.inside.kept.items c.next.inside.kept.items ≡ false
-once c =
-    ap (λ (ds : List Done). stands_twice ds c.next.inside.kept.items) (sym c.deref.ensures.value)
-    ∙ ap (λ (ds : List Done). stands_twice c.deref.result.now ds) (sym c.deref-2.ensures.value) ∙ sym c.any_twice.ensures ∙ c.if-any_twice.false
-
-after : (c : goal.After-whole-3-1) → ◌≡◌ {A = SegmentOf} (record { span = record { after = c.self.inside.span.after; upto = c.next.inside.span.upto }; floors = c.raise_marks.new.marks.items; kept = c.keep_above.new.dones.items }) (joined (self_of c) (next_of c))
-unfolding joined
-after c =
-    let span : span_joined c.self.inside.span c.next.inside.span ≡ span_joined c.self.inside.span c.next.inside.span = refl in
-    let floors = c.raise_marks.ensures ∙ ap (λ (ms : List Mark). raise_all ms c.reserve.new.self.items) c.deref-3.ensures.value ∙ ap (raise_all c.next.inside.floors.items) c.reserve.ensures.items in
-    let calls = c.in-Ok-append.ensures.items ∙ ap (λ (ds : List Done). ds ++ c.next.inside.kept.items) c.reserve-2.ensures.items in
-    segment_is _ _ _ _ _ _ span floors
-    (c.keep_above.ensures ∙ ap (λ (ms : List Mark). above ms c.append.new.self.items) (c.deref-4.ensures.value ∙ floors) ∙ ap (above (raise_all c.next.inside.floors.items c.self.inside.floors.items)) calls)
+pub take_all-requires-clause-above : goal.take_all-requires-clause-above
+take_all-requires-clause-above c =
+    let old = c.self.inside.callers in
+    let new = c.ready.new.self in
+    rules_above c.self.inside.span new (rules_same c.self.inside.span old new c.ready.ensures.floors c.ready.ensures.calls c.self.invariant.rules)
 
 pub invariant_of-self-2 : goal.invariant_of-self-2
+unfolding joined
 invariant_of-self-2 c =
-    subst IsSegment (sym (after c)) (joined-rules (self_of c) (next_of c) c.self.invariant c.next.invariant c.in-Ok.ensures.split (is_next c) (once c))
+    let old = c.self.inside.callers in
+    let other = c.next.inside.callers in
+    let mid = c.ready.new.self in
+    let new = c.take_all.new.self in
+    let first : Segment = record { span = c.self.inside.span; floors = marks_in old; kept = calls_in old } in
+    let second : Segment = record { span = c.next.inside.span; floors = marks_in other; kept = calls_in other } in
+    let whole : Span = record { after = c.self.inside.span.after; upto = c.next.inside.span.upto } in
+    let floors : marks_in new ≡ lift_all (marks_in other) (marks_in old) = c.take_all.ensures.floors ∙ ap (lift_all (marks_in other)) c.ready.ensures.floors in
+    let calls : calls_in new ≡ above (lift_all (marks_in other) (marks_in old)) (placed_all (calls_in other) (calls_in old)) =
+    c.take_all.ensures.calls ∙ ap₂ (λ (ms : List Mark) (ds : List Done). above ms (placed_all (calls_in other) ds)) floors c.ready.ensures.calls in
+    let is : ◌≡◌ {A = Segment} (record { span = whole; floors = marks_in new; kept = calls_in new }) (joined first second) = segment_is whole whole _ _ _ _ refl floors calls in
+    let next : c.self.inside.span.upto ≡ c.next.inside.span.after = search rules in
+    let once : stands_twice (calls_in old) (calls_in other) ≡ false = sym c.any_twice.ensures ∙ c.if-any_twice.false in
+    record {
+      rules = subst IsSegment (sym is) (joined-rules first second c.self.invariant.rules c.next.invariant.rules c.in-Ok.ensures.split next once);
+      readied = tt;
+    }
 
 pub returns-clause-answer : goal.returns-clause-answer
+unfolding joined
 returns-clause-answer c =
-    let first = ap (λ (s : RoomySegment). s.known) c.self.view_is in
-    let second = ap (λ (s : RoomySegment). s.known) c.next.view_is in
-    let made : JoinIs (self_of c) (next_of c) (Ok tt) _ = (is_next c, is_apart c, once c, after c) in
-    join_is (self_of c) (next_of c) c.args.self.now.known c.args.next.now.known first second (Ok tt) _ made
+    let old = c.self.inside.callers in
+    let other = c.next.inside.callers in
+    let mid = c.ready.new.self in
+    let new = c.take_all.new.self in
+    let first : Segment = record { span = c.self.inside.span; floors = marks_in old; kept = calls_in old } in
+    let second : Segment = record { span = c.next.inside.span; floors = marks_in other; kept = calls_in other } in
+    let whole : Span = record { after = c.self.inside.span.after; upto = c.next.inside.span.upto } in
+    let floors : marks_in new ≡ lift_all (marks_in other) (marks_in old) = c.take_all.ensures.floors ∙ ap (lift_all (marks_in other)) c.ready.ensures.floors in
+    let calls : calls_in new ≡ above (lift_all (marks_in other) (marks_in old)) (placed_all (calls_in other) (calls_in old)) =
+    c.take_all.ensures.calls ∙ ap₂ (λ (ms : List Mark) (ds : List Done). above ms (placed_all (calls_in other) ds)) floors c.ready.ensures.calls in
+    let is : ◌≡◌ {A = Segment} (record { span = whole; floors = marks_in new; kept = calls_in new }) (joined first second) = segment_is whole whole _ _ _ _ refl floors calls in
+    let next : c.self.inside.span.upto ≡ c.next.inside.span.after = search rules in
+    let once : stands_twice (calls_in old) (calls_in other) ≡ false = sym c.any_twice.ensures ∙ c.if-any_twice.false in
+    let apart : cuts whole c.self.inside.span.upto ≡ true = search rules in
+    join_is first second c.args.self.now.segment c.args.next.now.segment (ap (λ (s : RoomySegment). s.segment) c.self.view_is) (ap (λ (s : RoomySegment). s.segment) c.next.view_is)
+    (Ok tt) (record { span = whole; floors = marks_in new; kept = calls_in new }) (next, apart, once, is)

@@ -5,11 +5,11 @@ use Rattle.chord_world.proofs.world.World.are_there.Goals as goal
 
 pub returns-then-caller-len : goal.returns-then-caller-len
 returns-then-caller-len g c =
-    let nodes : length c.self.inside.nodes.items ≡ length c.args.self.now.known.nodes = ap (λ (w : WorldState). length w.known.nodes) c.self.view_is in
+    let nodes : length c.self.inside.nodes.items ≡ length c.args.self.now.world.nodes = ap (λ (w : WorldState). length w.world.nodes) c.self.view_is in
     (omega arith, caller_missing c.args.caller _ c.args.self.now c.self.view_is c.self.invariant (omega arith))
 
 pub returns : goal.returns
 returns g c =
-    let nodes : length c.self.inside.nodes.items ≡ length c.args.self.now.known.nodes = ap (λ (w : WorldState). length w.known.nodes) c.self.view_is in
+    let nodes : length c.self.inside.nodes.items ≡ length c.args.self.now.world.nodes = ap (λ (w : WorldState). length w.world.nodes) c.self.view_is in
     let there = caller_within c.args.caller _ c.args.self.now c.self.view_is c.self.invariant (omega arith) in
     (there.0, (omega arith, there.1))

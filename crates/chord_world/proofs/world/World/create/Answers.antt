@@ -9,7 +9,7 @@ use Rattle.chord_world.proofs.world.World.create.Goals as goal
 pub invariant_of-self-in-Ok : goal.invariant_of-self-in-Ok
 invariant_of-self-in-Ok g c =
     let view : WorldState = state_of c.self.inside in
-    let none : view.known.nodes ≡ [] = grind (arith, common_steps) in
+    let none : view.world.nodes ≡ [] = grind (arith, common_steps) in
     let nodes = founded_items c.args.id _ view _ _ c.in-Ok.node none c.add_node.ensures.nodes c.room_for_node.ensures.nodes c.in-Ok.ensures.ok in
     let flags = founded_flags view _ _ c.self.invariant none c.add_node.ensures.crashed c.room_for_node.ensures.crashed in
     founded_at c.args.id _ view _ _ (search rules) none c.self.invariant nodes flags
@@ -17,7 +17,7 @@ invariant_of-self-in-Ok g c =
 pub returns-in-Ok : goal.returns-in-Ok
 returns-in-Ok g c =
     let view : WorldState = state_of c.self.inside in
-    let none : view.known.nodes ≡ [] = grind (arith, common_steps) in
+    let none : view.world.nodes ≡ [] = grind (arith, common_steps) in
     let nodes = founded_items c.args.id _ view _ _ c.in-Ok.node none c.add_node.ensures.nodes c.room_for_node.ensures.nodes c.in-Ok.ensures.ok in
     let flags = founded_flags view _ _ c.self.invariant none c.add_node.ensures.crashed c.room_for_node.ensures.crashed in
     let some : 0 < length c.args.stores.now.items = search rules in record {
@@ -31,9 +31,9 @@ pub returns-then-is_err : goal.returns-then-is_err
 returns-then-is_err g c =
     let view : WorldState = state_of c.self.inside in
     let same = no_room view c.args.self.now _ _ c.self.view_is c.room_for_node.ensures.nodes c.room_for_node.ensures.crashed in
-    let none : view.known.nodes ≡ [] = grind (arith, common_steps) in
+    let none : view.world.nodes ≡ [] = grind (arith, common_steps) in
     let some : 0 < length c.args.stores.now.items = search rules in record {
-      answer = (ap (λ (w : WorldState). w.known.nodes) (sym c.self.view_is) ∙ none, map_some g.S.EntryStore.limit c.args.stores.now.items some, same);
+      answer = (ap (λ (w : WorldState). w.world.nodes) (sym c.self.view_is) ∙ none, map_some g.S.EntryStore.limit c.args.stores.now.items some, same);
       step = same;
       ring = keeps_same _ c.args.self.now _ c.self.view_is c.room_for_node.ensures.nodes c.room_for_node.ensures.crashed;
       stores = search rules;
@@ -43,9 +43,9 @@ pub returns-in-Err : goal.returns-in-Err
 returns-in-Err g c =
     let view : WorldState = state_of c.self.inside in
     let same = no_room view c.args.self.now _ _ c.self.view_is c.room_for_node.ensures.nodes c.room_for_node.ensures.crashed in
-    let none : view.known.nodes ≡ [] = grind (arith, common_steps) in
+    let none : view.world.nodes ≡ [] = grind (arith, common_steps) in
     let some : 0 < length c.args.stores.now.items = search rules in record {
-      answer = (ap (λ (w : WorldState). w.known.nodes) (sym c.self.view_is) ∙ none, map_some g.S.EntryStore.limit c.args.stores.now.items some, same);
+      answer = (ap (λ (w : WorldState). w.world.nodes) (sym c.self.view_is) ∙ none, map_some g.S.EntryStore.limit c.args.stores.now.items some, same);
       step = same;
       ring = keeps_same _ c.args.self.now _ c.self.view_is c.room_for_node.ensures.nodes c.room_for_node.ensures.crashed;
       stores = search rules;
@@ -55,4 +55,4 @@ pub returns-then-is_empty-clause-answer : goal.returns-then-is_empty-clause-answ
 returns-then-is_empty-clause-answer g c =
     let none : c.self.inside.nodes.items ≡ [] = grind (arith, common_steps) in
     let empty : c.args.stores.now.items ≡ [] = grind (arith, common_steps) in
-    (ap (λ (w : WorldState). w.known.nodes) (sym c.self.view_is) ∙ none, ap (map g.S.EntryStore.limit) empty, refl)
+    (ap (λ (w : WorldState). w.world.nodes) (sym c.self.view_is) ∙ none, ap (map g.S.EntryStore.limit) empty, refl)

@@ -40,8 +40,8 @@ pub returns-in_default : goal.returns-in_default
 returns-in_default g c =
     let view : WorldState = state_of c.self.inside in
     let sent = sent_here view c.args.self.now c.args.place _ c.self.view_is c.requires.declined in
-    let does : DoesAt (BackIs c.args.declined) (BackSteps c.args.declined) c.args.declined.from view.known.nodes (Err _) c.take_back_in.new.nodes.items = c.in_default.ensures in
-    let same = nodes_stay (BackIs c.args.declined) (BackSteps c.args.declined) c.args.declined.from (Err _) view.known.nodes c.take_back_in.new.nodes.items does (back_stays c.args.declined _ does.node does.after does.is) in
+    let does : DoesAt (BackIs c.args.declined) (BackSteps c.args.declined) c.args.declined.from view.world.nodes (Err _) c.take_back_in.new.nodes.items = c.in_default.ensures in
+    let same = nodes_stay (BackIs c.args.declined) (BackSteps c.args.declined) c.args.declined.from (Err _) view.world.nodes c.take_back_in.new.nodes.items does (back_stays c.args.declined _ does.node does.after does.is) in
     let running = flag_old c.args.declined.from view c.args.self.now _ _ c.self.view_is c.deref.ensures.value c.is_out.ensures c.if-is_out.false in record {
       answer = stays view c.args.self.now _ c.args.place c.self.view_is
           (back_takes c.args.place c.args.declined _ view c.args.self.now does.node does.after c.self.view_is c.self.invariant sent does.here running does.is) (ap (λ ns. with_nodes ns view) same);
@@ -54,7 +54,7 @@ invariant_of-self-2 g c =
     let view : WorldState = state_of c.self.inside in
     let sent = sent_here view c.args.self.now c.args.place _ c.self.view_is c.requires.declined in
     let running = flag_old c.args.declined.from view c.args.self.now _ _ c.self.view_is c.deref.ensures.value c.is_out.ensures c.if-is_out.false in
-    let does : DoesAt (BackIs c.args.declined) (BackSteps c.args.declined) c.args.declined.from view.known.nodes (Ok c.in-Ok.back) c.take_back_in.new.nodes.items = c.in-Ok.ensures in
+    let does : DoesAt (BackIs c.args.declined) (BackSteps c.args.declined) c.args.declined.from view.world.nodes (Ok c.in-Ok.back) c.take_back_in.new.nodes.items = c.in-Ok.ensures in
     (back_after c.args.place c.args.declined c.in-Ok.back view c.args.self.now c.take_back_in.new.nodes.items c.self.view_is c.self.invariant running sent does).world
 
 pub returns : goal.returns
@@ -62,7 +62,7 @@ returns g c =
     let view : WorldState = state_of c.self.inside in
     let sent = sent_here view c.args.self.now c.args.place _ c.self.view_is c.requires.declined in
     let running = flag_old c.args.declined.from view c.args.self.now _ _ c.self.view_is c.deref.ensures.value c.is_out.ensures c.if-is_out.false in
-    let does : DoesAt (BackIs c.args.declined) (BackSteps c.args.declined) c.args.declined.from view.known.nodes (Ok c.in-Ok.back) c.take_back_in.new.nodes.items = c.in-Ok.ensures in
+    let does : DoesAt (BackIs c.args.declined) (BackSteps c.args.declined) c.args.declined.from view.world.nodes (Ok c.in-Ok.back) c.take_back_in.new.nodes.items = c.in-Ok.ensures in
     let after = back_after c.args.place c.args.declined c.in-Ok.back view c.args.self.now c.take_back_in.new.nodes.items c.self.view_is c.self.invariant running sent does in record {
       answer = back_delivers c.args.place c.args.declined c.in-Ok.back view c.args.self.now c.take_back_in.new.nodes.items c.outcome_of_declined.result c.self.view_is c.self.invariant running sent does c.outcome_of_declined.ensures;
       step = after.step;
@@ -73,5 +73,5 @@ pub outcome_of_declined-requires : goal.outcome_of_declined-requires
 outcome_of_declined-requires g c =
     let view : WorldState = state_of c.self.inside in
     let sent = sent_here view c.args.self.now c.args.place _ c.self.view_is c.requires.declined in
-    let does : DoesAt (BackIs c.args.declined) (BackSteps c.args.declined) c.args.declined.from view.known.nodes (Ok c.in-Ok.back) c.take_back_in.new.nodes.items = c.in-Ok.ensures in
+    let does : DoesAt (BackIs c.args.declined) (BackSteps c.args.declined) c.args.declined.from view.world.nodes (Ok c.in-Ok.back) c.take_back_in.new.nodes.items = c.in-Ok.ensures in
     back_fits c.args.place c.args.declined c.in-Ok.back view c.take_back_in.new.nodes.items c.self.invariant sent does c.no_delivery_clashes.ensures.taken_back

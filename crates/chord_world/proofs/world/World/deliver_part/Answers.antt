@@ -30,12 +30,12 @@ returns-then-is_err-clause-answer g c =
     let asked = sent_here view c.args.self.now c.args.place _ c.self.view_is c.requires.part.1 in
     stays view c.args.self.now _ c.args.place c.self.view_is
     (part_takes c.args.place c.args.to c.requires.part.0 view c.args.self.now c.self.view_is c.self.invariant asked c.requires.part.2 running)
-    (same_fields view view.known.nodes c.make_room.new.sent.items view.known.history c.make_room.new.targets.items refl c.make_room.ensures.sent refl c.make_room.ensures.targets)
+    (same_fields view view.world.nodes c.make_room.new.sent.items view.world.history c.make_room.new.targets.items refl c.make_room.ensures.sent refl c.make_room.ensures.targets)
 
 pub index-requires : goal.index-requires
 index-requires g c =
     let view : WorldState = state_of c.self.inside in
-    let within = slice_get_within view.known.sent c.args.place _ (sent_here view c.args.self.now c.args.place _ c.self.view_is c.requires.part.1) in
+    let within = slice_get_within view.world.sent c.args.place _ (sent_here view c.args.self.now c.args.place _ c.self.view_is c.requires.part.1) in
     let same = ap length c.make_room.ensures.sent in
     omega arith
 
@@ -43,9 +43,9 @@ pub unreachable-requires : goal.unreachable-requires
 unreachable-requires g c =
     let view : WorldState = state_of c.self.inside in
     let asked = sent_here view c.args.self.now c.args.place _ c.self.view_is c.requires.part.1 in
-    let within = slice_get_within view.known.sent c.args.place _ asked in
+    let within = slice_get_within view.world.sent c.args.place _ asked in
     let same = ap length c.make_room.ensures.sent in
-    c.in_default.not-Part c.requires.part.0 (read_is c.make_room.new.sent.items view.known.sent c.args.place c.index.result.now _ c.make_room.ensures.sent (omega arith) c.index.ensures asked)
+    c.in_default.not-Part c.requires.part.0 (read_is c.make_room.new.sent.items view.world.sent c.args.place c.index.result.now _ c.make_room.ensures.sent (omega arith) c.index.ensures asked)
 
 pub take_in-requires-clause-place : goal.take_in-requires-clause-place
 take_in-requires-clause-place g c =
@@ -66,9 +66,9 @@ take_in-requires-clause-to g c =
 pub invariant_of-self-in_default-take_in : goal.invariant_of-self-in_default-take_in
 invariant_of-self-in_default-take_in g c =
     let view : WorldState = state_of c.self.inside in
-    let does : DoesAt (PartIs c.in-Part.part) (PartSteps c.in-Part.part) c.args.to view.known.nodes (Err _) c.take_in.new.nodes.items = c.in_default-take_in.ensures in
-    let same = nodes_stay (PartIs c.in-Part.part) (PartSteps c.in-Part.part) c.args.to (Err _) view.known.nodes c.take_in.new.nodes.items does (part_stays c.in-Part.part _ does.node does.after does.is) in
-    let all = same_fields view c.take_in.new.nodes.items c.make_room.new.sent.items view.known.history c.make_room.new.targets.items same c.make_room.ensures.sent refl c.make_room.ensures.targets in
+    let does : DoesAt (PartIs c.in-Part.part) (PartSteps c.in-Part.part) c.args.to view.world.nodes (Err _) c.take_in.new.nodes.items = c.in_default-take_in.ensures in
+    let same = nodes_stay (PartIs c.in-Part.part) (PartSteps c.in-Part.part) c.args.to (Err _) view.world.nodes c.take_in.new.nodes.items does (part_stays c.in-Part.part _ does.node does.after does.is) in
+    let all = same_fields view c.take_in.new.nodes.items c.make_room.new.sent.items view.world.history c.make_room.new.targets.items same c.make_room.ensures.sent refl c.make_room.ensures.targets in
     subst IsWorld (sym all) c.self.invariant
 
 pub returns-in_default-take_in : goal.returns-in_default-take_in
@@ -77,9 +77,9 @@ returns-in_default-take_in g c =
     let running = flag_old c.args.to view c.args.self.now _ _ c.self.view_is c.deref.ensures.value c.is_out.ensures c.if-is_out.false in
     let it : Came c.args.place c.args.to c.in-Part.part view = came c.args.place c.args.to view c.args.self.now c.requires.part.0 c.in-Part.part c.make_room.new.sent.items c.index.result.now
     c.self.view_is c.requires.part.1 c.requires.part.2 c.make_room.ensures.sent c.index.ensures c.in-Part.is in
-    let does : DoesAt (PartIs c.in-Part.part) (PartSteps c.in-Part.part) c.args.to view.known.nodes (Err _) c.take_in.new.nodes.items = c.in_default-take_in.ensures in
-    let same = nodes_stay (PartIs c.in-Part.part) (PartSteps c.in-Part.part) c.args.to (Err _) view.known.nodes c.take_in.new.nodes.items does (part_stays c.in-Part.part _ does.node does.after does.is) in
-    let all = same_fields view c.take_in.new.nodes.items c.make_room.new.sent.items view.known.history c.make_room.new.targets.items same c.make_room.ensures.sent refl c.make_room.ensures.targets in record {
+    let does : DoesAt (PartIs c.in-Part.part) (PartSteps c.in-Part.part) c.args.to view.world.nodes (Err _) c.take_in.new.nodes.items = c.in_default-take_in.ensures in
+    let same = nodes_stay (PartIs c.in-Part.part) (PartSteps c.in-Part.part) c.args.to (Err _) view.world.nodes c.take_in.new.nodes.items does (part_stays c.in-Part.part _ does.node does.after does.is) in
+    let all = same_fields view c.take_in.new.nodes.items c.make_room.new.sent.items view.world.history c.make_room.new.targets.items same c.make_room.ensures.sent refl c.make_room.ensures.targets in record {
       answer = stays view c.args.self.now _ c.args.place c.self.view_is (part_takes c.args.place c.args.to c.in-Part.part view c.args.self.now c.self.view_is c.self.invariant it.sent it.own running) all;
       step = all ∙ c.self.view_is;
       ring = keeps_same view c.args.self.now _ c.self.view_is same refl;
@@ -90,7 +90,7 @@ confirm-requires-clause-fits g c =
     let view : WorldState = state_of c.self.inside in
     let it : Came c.args.place c.args.to c.in-Part.part view = came c.args.place c.args.to view c.args.self.now c.requires.part.0 c.in-Part.part c.make_room.new.sent.items c.index.result.now
     c.self.view_is c.requires.part.1 c.requires.part.2 c.make_room.ensures.sent c.index.ensures c.in-Part.is in
-    let does : DoesAt (PartIs c.in-Part.part) (PartSteps c.in-Part.part) c.args.to view.known.nodes (Ok c.in-Ok.given) c.take_in.new.nodes.items = c.in-Ok.ensures in
+    let does : DoesAt (PartIs c.in-Part.part) (PartSteps c.in-Part.part) c.args.to view.world.nodes (Ok c.in-Ok.given) c.take_in.new.nodes.items = c.in-Ok.ensures in
     part_fits c.args.place c.args.to c.in-Part.part c.in-Ok.given view c.take_in.new.nodes.items c.self.invariant it does c.no_delivery_clashes.ensures.taken
 
 pub invariant_of-self-2 : goal.invariant_of-self-2
@@ -99,7 +99,7 @@ invariant_of-self-2 g c =
     let running = flag_old c.args.to view c.args.self.now _ _ c.self.view_is c.deref.ensures.value c.is_out.ensures c.if-is_out.false in
     let it : Came c.args.place c.args.to c.in-Part.part view = came c.args.place c.args.to view c.args.self.now c.requires.part.0 c.in-Part.part c.make_room.new.sent.items c.index.result.now
     c.self.view_is c.requires.part.1 c.requires.part.2 c.make_room.ensures.sent c.index.ensures c.in-Part.is in
-    let does : DoesAt (PartIs c.in-Part.part) (PartSteps c.in-Part.part) c.args.to view.known.nodes (Ok c.in-Ok.given) c.take_in.new.nodes.items = c.in-Ok.ensures in
+    let does : DoesAt (PartIs c.in-Part.part) (PartSteps c.in-Part.part) c.args.to view.world.nodes (Ok c.in-Ok.given) c.take_in.new.nodes.items = c.in-Ok.ensures in
     let took : TookPart c.args.place c.args.to c.in-Part.part c.in-Ok.given view c.take_in.new.nodes.items = record { sent = it.sent; own = it.own; does = does } in
     let is = part_is c.args.place c.args.to c.in-Part.part c.in-Ok.given c.of-ticket.result view c.take_in.new.nodes.items c.confirm.new.sent.items c.make_room.new.sent.items c.confirm.new.targets.items c.make_room.new.targets.items
     c.self.invariant took c.of-ticket.ensures c.confirm.ensures.sent c.make_room.ensures.sent c.confirm.ensures.targets c.make_room.ensures.targets in
@@ -111,7 +111,7 @@ returns g c =
     let running = flag_old c.args.to view c.args.self.now _ _ c.self.view_is c.deref.ensures.value c.is_out.ensures c.if-is_out.false in
     let it : Came c.args.place c.args.to c.in-Part.part view = came c.args.place c.args.to view c.args.self.now c.requires.part.0 c.in-Part.part c.make_room.new.sent.items c.index.result.now
     c.self.view_is c.requires.part.1 c.requires.part.2 c.make_room.ensures.sent c.index.ensures c.in-Part.is in
-    let does : DoesAt (PartIs c.in-Part.part) (PartSteps c.in-Part.part) c.args.to view.known.nodes (Ok c.in-Ok.given) c.take_in.new.nodes.items = c.in-Ok.ensures in
+    let does : DoesAt (PartIs c.in-Part.part) (PartSteps c.in-Part.part) c.args.to view.world.nodes (Ok c.in-Ok.given) c.take_in.new.nodes.items = c.in-Ok.ensures in
     let took : TookPart c.args.place c.args.to c.in-Part.part c.in-Ok.given view c.take_in.new.nodes.items = record { sent = it.sent; own = it.own; does = does } in
     let is = part_is c.args.place c.args.to c.in-Part.part c.in-Ok.given c.of-ticket.result view c.take_in.new.nodes.items c.confirm.new.sent.items c.make_room.new.sent.items c.confirm.new.targets.items c.make_room.new.targets.items
     c.self.invariant took c.of-ticket.ensures c.confirm.ensures.sent c.make_room.ensures.sent c.confirm.ensures.targets c.make_room.ensures.targets in

@@ -15,23 +15,23 @@ use Rattle.chord_world.proofs.world.World.deliver_told.Goals as goal
 pub hear_at-requires-clause-place : goal.hear_at-requires-clause-place
 hear_at-requires-clause-place g c =
     let view : WorldState = state_of c.self.inside in
-    let within = slice_get_within view.known.sent c.args.place _ (sent_here view c.args.self.now c.args.place _ c.self.view_is c.requires.told.1) in
-    let sent : slice_get view.known.sent c.args.place ≡ Some (ToldMessage c.in-Told.told) = read view.known.sent view.known.sent c.args.place c.index.result.now refl within c.index.ensures ∙ ap (λ m. Some m) c.in-Told.is in
-    call_at (length view.known.nodes) (length view.known.callers) view.known.sent c.args.place (ToldMessage c.in-Told.told) c.self.invariant.calls sent
+    let within = slice_get_within view.world.sent c.args.place _ (sent_here view c.args.self.now c.args.place _ c.self.view_is c.requires.told.1) in
+    let sent : slice_get view.world.sent c.args.place ≡ Some (ToldMessage c.in-Told.told) = read view.world.sent view.world.sent c.args.place c.index.result.now refl within c.index.ensures ∙ ap (λ m. Some m) c.in-Told.is in
+    call_at (length view.world.nodes) (length view.world.callers) view.world.sent c.args.place (ToldMessage c.in-Told.told) c.self.invariant.calls sent
 
 pub hear_at-requires-clause-owed : goal.hear_at-requires-clause-owed
 hear_at-requires-clause-owed g c =
     let view : WorldState = state_of c.self.inside in
-    let within = slice_get_within view.known.sent c.args.place _ (sent_here view c.args.self.now c.args.place _ c.self.view_is c.requires.told.1) in
-    let sent : slice_get view.known.sent c.args.place ≡ Some (ToldMessage c.in-Told.told) = read view.known.sent view.known.sent c.args.place c.index.result.now refl within c.index.ensures ∙ ap (λ m. Some m) c.in-Told.is in
-    told_owed c.in-Told.told c.args.place view c.self.invariant (c.headline.ensures view.known c.self.invariant.reached) sent
+    let within = slice_get_within view.world.sent c.args.place _ (sent_here view c.args.self.now c.args.place _ c.self.view_is c.requires.told.1) in
+    let sent : slice_get view.world.sent c.args.place ≡ Some (ToldMessage c.in-Told.told) = read view.world.sent view.world.sent c.args.place c.index.result.now refl within c.index.ensures ∙ ap (λ m. Some m) c.in-Told.is in
+    told_owed c.in-Told.told c.args.place view c.self.invariant (c.headline.ensures view.world c.self.invariant.reached) sent
 
 pub invariant_of-self-2 : goal.invariant_of-self-2
 invariant_of-self-2 g c =
     let view : WorldState = state_of c.self.inside in
-    let within = slice_get_within view.known.sent c.args.place _ (sent_here view c.args.self.now c.args.place _ c.self.view_is c.requires.told.1) in
-    let sent : slice_get view.known.sent c.args.place ≡ Some (ToldMessage c.in-Told.told) = read view.known.sent view.known.sent c.args.place c.index.result.now refl within c.index.ensures ∙ ap (λ m. Some m) c.in-Told.is in
-    let did : Hears c.in-Told.told.caller c.in-Told.told view.known.callers c.in-Ok.heard c.hear_at.new.callers.items = c.in-Ok.ensures in
+    let within = slice_get_within view.world.sent c.args.place _ (sent_here view c.args.self.now c.args.place _ c.self.view_is c.requires.told.1) in
+    let sent : slice_get view.world.sent c.args.place ≡ Some (ToldMessage c.in-Told.told) = read view.world.sent view.world.sent c.args.place c.index.result.now refl within c.index.ensures ∙ ap (λ m. Some m) c.in-Told.is in
+    let did : Hears c.in-Told.told.caller c.in-Told.told view.world.callers c.in-Ok.heard c.hear_at.new.callers.items = c.in-Ok.ensures in
     let to = told_to c.args.place c.in-Told.told view c.in-Ok.heard c.hear_at.new.callers.items sent did in
     let is = heard_is c.in-Told.told view c.in-Ok.heard c.hear_at.new.callers.items c.self.invariant did in
     world_after view _ _ is (told_is_world c.args.place c.in-Told.told view c.in-Ok.heard did.core did.after c.self.invariant to)
@@ -39,9 +39,9 @@ invariant_of-self-2 g c =
 pub returns : goal.returns
 returns g c =
     let view : WorldState = state_of c.self.inside in
-    let within = slice_get_within view.known.sent c.args.place _ (sent_here view c.args.self.now c.args.place _ c.self.view_is c.requires.told.1) in
-    let sent : slice_get view.known.sent c.args.place ≡ Some (ToldMessage c.in-Told.told) = read view.known.sent view.known.sent c.args.place c.index.result.now refl within c.index.ensures ∙ ap (λ m. Some m) c.in-Told.is in
-    let did : Hears c.in-Told.told.caller c.in-Told.told view.known.callers c.in-Ok.heard c.hear_at.new.callers.items = c.in-Ok.ensures in
+    let within = slice_get_within view.world.sent c.args.place _ (sent_here view c.args.self.now c.args.place _ c.self.view_is c.requires.told.1) in
+    let sent : slice_get view.world.sent c.args.place ≡ Some (ToldMessage c.in-Told.told) = read view.world.sent view.world.sent c.args.place c.index.result.now refl within c.index.ensures ∙ ap (λ m. Some m) c.in-Told.is in
+    let did : Hears c.in-Told.told.caller c.in-Told.told view.world.callers c.in-Ok.heard c.hear_at.new.callers.items = c.in-Ok.ensures in
     let to = told_to c.args.place c.in-Told.told view c.in-Ok.heard c.hear_at.new.callers.items sent did in
     let is = heard_is c.in-Told.told view c.in-Ok.heard c.hear_at.new.callers.items c.self.invariant did in record {
       answer = delivers_after c.args.place c.args.self.now _ _ c.outcome_of_heard.result _ is c.outcome_of_heard.ensures
@@ -53,6 +53,6 @@ returns g c =
 pub returns-in_default-hear_at-clause-answer : goal.returns-in_default-hear_at-clause-answer
 returns-in_default-hear_at-clause-answer g c =
     let view : WorldState = state_of c.self.inside in
-    let within = slice_get_within view.known.sent c.args.place _ (sent_here view c.args.self.now c.args.place _ c.self.view_is c.requires.told.1) in
-    let sent : slice_get view.known.sent c.args.place ≡ Some (ToldMessage c.in-Told.told) = read view.known.sent view.known.sent c.args.place c.index.result.now refl within c.index.ensures ∙ ap (λ m. Some m) c.in-Told.is in
-    stays view c.args.self.now _ c.args.place c.self.view_is (Told_takes c.in-Told.told sent) (ap (λ (cs : List Caller). record view { known = record view.known { callers = cs } }) c.in_default-hear_at.ensures)
+    let within = slice_get_within view.world.sent c.args.place _ (sent_here view c.args.self.now c.args.place _ c.self.view_is c.requires.told.1) in
+    let sent : slice_get view.world.sent c.args.place ≡ Some (ToldMessage c.in-Told.told) = read view.world.sent view.world.sent c.args.place c.index.result.now refl within c.index.ensures ∙ ap (λ m. Some m) c.in-Told.is in
+    stays view c.args.self.now _ c.args.place c.self.view_is (Told_takes c.in-Told.told sent) (ap (λ (cs : List Caller). record view { world = record view.world { callers = cs } }) c.in_default-hear_at.ensures)

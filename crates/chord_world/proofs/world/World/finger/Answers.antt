@@ -9,7 +9,7 @@ use Rattle.chord_world.proofs.world.World.finger.Goals as goal
 
 pub returns-then-node-count-clause-answer : goal.returns-then-node-count-clause-answer
 returns-then-node-count-clause-answer g c =
-    let nodes : length c.self.inside.nodes.items ≡ length c.args.self.now.known.nodes = ap (λ (w : WorldState). length w.known.nodes) c.self.view_is in (
+    let nodes : length c.self.inside.nodes.items ≡ length c.args.self.now.world.nodes = ap (λ (w : WorldState). length w.world.nodes) c.self.view_is in (
       created _ c.args.self.now c.self.view_is (omega arith),
       elim c.then-node-count.branch [
         | then-node-count-via-then-node-count w ↦ inl (node_missing c.args.node _ c.args.self.now c.self.view_is c.self.invariant (omega arith))

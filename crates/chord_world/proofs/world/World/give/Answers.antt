@@ -26,7 +26,7 @@ pub returns-in_err-may_give-clause-answer : goal.returns-in_err-may_give-clause-
 returns-in_err-may_give-clause-answer g c =
     let view : WorldState = state_of c.self.inside in
     let within = acts_within c.args.node view c.args.self.now c.self.view_is c.self.invariant c.in_ok-can_act.ensures.0 in
-    let here = got view.known.nodes c.args.node c.index.result.now within c.index.ensures in
+    let here = got view.world.nodes c.args.node c.index.result.now within c.index.ensures in
     give_refused c.args.node c.args.to c.args.place c.index.result.now c.in_err-may_give.field-0.0 view c.args.self.now _ c.from_residual-in_err-may_give.result c.self.view_is c.self.invariant c.in_ok-is_there.ensures c.in_ok-can_act.ensures.1 here
     c.in_err-may_give.ensures c.from_residual-in_err-may_give.ensures.1 refl
 
@@ -34,10 +34,10 @@ pub returns-in_err-make_room-clause-answer : goal.returns-in_err-make_room-claus
 returns-in_err-make_room-clause-answer g c =
     let view : WorldState = state_of c.self.inside in
     let within = acts_within c.args.node view c.args.self.now c.self.view_is c.self.invariant c.in_ok-can_act.ensures.0 in
-    let here = got view.known.nodes c.args.node c.index.result.now within c.index.ensures in
+    let here = got view.world.nodes c.args.node c.index.result.now within c.index.ensures in
     give_refused c.args.node c.args.to c.args.place c.index.result.now Memory view c.args.self.now _ c.from_residual-in_err-make_room.result c.self.view_is c.self.invariant c.in_ok-is_there.ensures c.in_ok-can_act.ensures.1 here
     c.in_ok-may_give.ensures c.from_residual-in_err-make_room.ensures.1
-    ((λ i. after_giving view.known.nodes (c.make_room.ensures.sent i) (c.make_room.ensures.targets i) view) ∙ c.self.view_is)
+    ((λ i. after_giving view.world.nodes (c.make_room.ensures.sent i) (c.make_room.ensures.targets i) view) ∙ c.self.view_is)
 
 pub give_in-requires : goal.give_in-requires
 give_in-requires g c =
@@ -47,14 +47,14 @@ give_in-requires g c =
 pub invariant_of-self-in_err-part : goal.invariant_of-self-in_err-part
 invariant_of-self-in_err-part g c =
     let view : WorldState = state_of c.self.inside in
-    let does : DoesAt (GiveIs c.args.place c.args.to) SendSteps c.args.node view.known.nodes (Err c.in_err-part.field-0.0) c.give_in.new.nodes.items = c.in_err-part.ensures in
+    let does : DoesAt (GiveIs c.args.place c.args.to) SendSteps c.args.node view.world.nodes (Err c.in_err-part.field-0.0) c.give_in.new.nodes.items = c.in_err-part.ensures in
     let stays = give_stays c.args.node c.args.to c.args.place c.in_err-part.field-0.0 view c.give_in.new.nodes.items c.make_room.new.sent.items c.make_room.new.targets.items does c.make_room.ensures.sent c.make_room.ensures.targets in
     subst IsWorld (sym stays) c.self.invariant
 
 pub invariant_of-self-2 : goal.invariant_of-self-2
 invariant_of-self-2 g c =
     let view : WorldState = state_of c.self.inside in
-    let does : DoesAt (GiveIs c.args.place c.args.to) SendSteps c.args.node view.known.nodes (Ok c.in_ok-part.part) c.give_in.new.nodes.items = c.in_ok-part.ensures in
+    let does : DoesAt (GiveIs c.args.place c.args.to) SendSteps c.args.node view.world.nodes (Ok c.in_ok-part.part) c.give_in.new.nodes.items = c.in_ok-part.ensures in
     let is = giving_is c.args.node c.args.to c.args.place c.in_ok-part.part view c.give_in.new.nodes.items c.push_message-message.new.sent.items c.make_room.new.sent.items c.push_message-message.new.targets.items c.make_room.new.targets.items
     c.self.invariant does c.push_message-message.ensures.sent c.make_room.ensures.sent c.push_message-message.ensures.targets c.make_room.ensures.targets in
     let there = acts_within c.args.to view c.args.self.now c.self.view_is c.self.invariant c.in_ok-is_there.ensures in
@@ -64,19 +64,19 @@ invariant_of-self-2 g c =
 pub returns-in_err-part : goal.returns-in_err-part
 returns-in_err-part g c =
     let view : WorldState = state_of c.self.inside in
-    let does : DoesAt (GiveIs c.args.place c.args.to) SendSteps c.args.node view.known.nodes (Err c.in_err-part.field-0.0) c.give_in.new.nodes.items = c.in_err-part.ensures in
+    let does : DoesAt (GiveIs c.args.place c.args.to) SendSteps c.args.node view.world.nodes (Err c.in_err-part.field-0.0) c.give_in.new.nodes.items = c.in_err-part.ensures in
     let stays = give_stays c.args.node c.args.to c.args.place c.in_err-part.field-0.0 view c.give_in.new.nodes.items c.make_room.new.sent.items c.make_room.new.targets.items does c.make_room.ensures.sent c.make_room.ensures.targets in record {
       answer = give_refused_at c.args.node c.args.to c.args.place c.in_err-part.field-0.0 view c.args.self.now c.give_in.new.nodes.items c.make_room.new.sent.items c.make_room.new.targets.items c.from_residual-in_err-part.result c.self.view_is c.self.invariant
           c.in_ok-is_there.ensures c.in_ok-can_act.ensures.1 does c.make_room.ensures.sent c.make_room.ensures.targets c.from_residual-in_err-part.ensures.1;
       step = advances_not c.args.self.now _ _ c.from_residual-in_err-part.result c.from_residual-in_err-part.ensures.1 (stays ∙ c.self.view_is);
-      ring = keeps_same view c.args.self.now _ c.self.view_is (nodes_stay (GiveIs c.args.place c.args.to) SendSteps c.args.node (Err c.in_err-part.field-0.0) view.known.nodes c.give_in.new.nodes.items does
+      ring = keeps_same view c.args.self.now _ c.self.view_is (nodes_stay (GiveIs c.args.place c.args.to) SendSteps c.args.node (Err c.in_err-part.field-0.0) view.world.nodes c.give_in.new.nodes.items does
           (give_kept c.args.place c.args.to c.in_err-part.field-0.0 does.node does.after does.is)) refl;
     }
 
 pub returns : goal.returns
 returns g c =
     let view : WorldState = state_of c.self.inside in
-    let does : DoesAt (GiveIs c.args.place c.args.to) SendSteps c.args.node view.known.nodes (Ok c.in_ok-part.part) c.give_in.new.nodes.items = c.in_ok-part.ensures in
+    let does : DoesAt (GiveIs c.args.place c.args.to) SendSteps c.args.node view.world.nodes (Ok c.in_ok-part.part) c.give_in.new.nodes.items = c.in_ok-part.ensures in
     let is = giving_is c.args.node c.args.to c.args.place c.in_ok-part.part view c.give_in.new.nodes.items c.push_message-message.new.sent.items c.make_room.new.sent.items c.push_message-message.new.targets.items c.make_room.new.targets.items
     c.self.invariant does c.push_message-message.ensures.sent c.make_room.ensures.sent c.push_message-message.ensures.targets c.make_room.ensures.targets in
     let there = acts_within c.args.to view c.args.self.now c.self.view_is c.self.invariant c.in_ok-is_there.ensures in

@@ -5,4 +5,4 @@ use Rattle.chord_world.proofs.world.World.history.Goals as goal
 
 pub returns-clause-headline : goal.returns-clause-headline
 returns-clause-headline g c =
-    c.headline.ensures c.args.self.now.known (subst (λ (w : WorldState). ∥ Reached w.known ∥₁) c.self.view_is c.self.invariant.reached)
+    c.headline.ensures c.args.self.now.world (subst (λ (w : WorldState). ∥ Reached w.world ∥₁) c.self.view_is c.self.invariant.reached)

@@ -43,7 +43,7 @@ pub invariant_of-self-2 : goal.invariant_of-self-2
 invariant_of-self-2 g c =
     let view : WorldState = state_of c.self.inside in
     let may : MayJoin c.args.id c.args.behind c.in-Some.pred c.args.self.now = record { is_its = sym c.in-Some.ensures; is_id = search rules; is_unused = unused_is c.args.id.number view c.args.self.now _ _ c.self.view_is c.deref.ensures.value c.is_used.ensures.no c.if-is_used.false; is_between = c.in-Ok.ensures.variant.0 refl } in
-    let pushed = c.add_node.ensures.nodes ∙ ap (λ ns. ns ++ c.newborn-node.result ∷ []) c.room_for_node.ensures.nodes ∙ ap (λ n. view.known.nodes ++ n ∷ []) c.newborn-node.ensures in
+    let pushed = c.add_node.ensures.nodes ∙ ap (λ ns. ns ++ c.newborn-node.result ∷ []) c.room_for_node.ensures.nodes ∙ ap (λ n. view.world.nodes ++ n ∷ []) c.newborn-node.ensures in
     let flagged = c.add_node.ensures.crashed ∙ ap (λ fs. fs ++ false ∷ []) c.room_for_node.ensures.crashed in
     let after = joins_at c.args.id c.args.behind _ c.len-no.result c.in-Some.pred c.in-Ok.links view c.args.self.now _ _ c.self.view_is c.self.invariant may (omega arith) c.in-Ok.ensures.ok pushed flagged in
     after.after.world
@@ -53,7 +53,7 @@ returns g c =
     let view : WorldState = state_of c.self.inside in
     let some : 0 < length c.args.stores.now.items = search rules in
     let may : MayJoin c.args.id c.args.behind c.in-Some.pred c.args.self.now = record { is_its = sym c.in-Some.ensures; is_id = search rules; is_unused = unused_is c.args.id.number view c.args.self.now _ _ c.self.view_is c.deref.ensures.value c.is_used.ensures.no c.if-is_used.false; is_between = c.in-Ok.ensures.variant.0 refl } in
-    let pushed = c.add_node.ensures.nodes ∙ ap (λ ns. ns ++ c.newborn-node.result ∷ []) c.room_for_node.ensures.nodes ∙ ap (λ n. view.known.nodes ++ n ∷ []) c.newborn-node.ensures in
+    let pushed = c.add_node.ensures.nodes ∙ ap (λ ns. ns ++ c.newborn-node.result ∷ []) c.room_for_node.ensures.nodes ∙ ap (λ n. view.world.nodes ++ n ∷ []) c.newborn-node.ensures in
     let flagged = c.add_node.ensures.crashed ∙ ap (λ fs. fs ++ false ∷ []) c.room_for_node.ensures.crashed in
     let after = joins_at c.args.id c.args.behind _ c.len-no.result c.in-Some.pred c.in-Ok.links view c.args.self.now _ _ c.self.view_is c.self.invariant may (omega arith) c.in-Ok.ensures.ok pushed flagged in record {
       answer = (g.S.EntryStore.limit c.remove-store.result, limit_first g.S.EntryStore.limit c.args.stores.now.items c.remove-store.result some c.remove-store.ensures.value, after.joins);

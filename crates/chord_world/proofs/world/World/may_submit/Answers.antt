@@ -7,7 +7,7 @@ use Rattle.chord_world.proofs.world.World.may_submit.Goals as goal
 pub returns-then-caller-len : goal.returns-then-caller-len
 returns-then-caller-len g c =
     let view : WorldState = state_of c.self.inside in
-    let nodes : length c.self.inside.nodes.items ≡ length c.args.self.now.known.nodes = ap (λ (w : WorldState). length w.known.nodes) c.self.view_is in
+    let nodes : length c.self.inside.nodes.items ≡ length c.args.self.now.world.nodes = ap (λ (w : WorldState). length w.world.nodes) c.self.view_is in
     (omega arith, caller_missing c.args.caller view c.args.self.now c.self.view_is c.self.invariant (omega arith), refl)
 
 pub returns-in-Some : goal.returns-in-Some

@@ -44,7 +44,7 @@ pub invariant_of-self-2 : goal.invariant_of-self-2
 invariant_of-self-2 g c =
     let view : WorldState = state_of c.self.inside in
     let needed : NeededIs c.args.node c.args.self.now false = subst (NeededIs c.args.node c.args.self.now) c.if-is_needed.false c.is_needed.ensures in
-    let does : DoesAt RetireIs MoveSteps c.args.node view.known.nodes (Ok tt) c.retire_in.new.nodes.items = c.in_ok-retire_in.ensures in
+    let does : DoesAt RetireIs MoveSteps c.args.node view.world.nodes (Ok tt) c.retire_in.new.nodes.items = c.in_ok-retire_in.ensures in
     let after = retires_after c.args.node view c.args.self.now c.retire_in.new.nodes.items c.self.view_is c.self.invariant c.in_ok-can_act.ensures.1 needed does in
     after.world
 
@@ -52,7 +52,7 @@ pub returns : goal.returns
 returns g c =
     let view : WorldState = state_of c.self.inside in
     let needed : NeededIs c.args.node c.args.self.now false = subst (NeededIs c.args.node c.args.self.now) c.if-is_needed.false c.is_needed.ensures in
-    let does : DoesAt RetireIs MoveSteps c.args.node view.known.nodes (Ok tt) c.retire_in.new.nodes.items = c.in_ok-retire_in.ensures in
+    let does : DoesAt RetireIs MoveSteps c.args.node view.world.nodes (Ok tt) c.retire_in.new.nodes.items = c.in_ok-retire_in.ensures in
     let after = retires_after c.args.node view c.args.self.now c.retire_in.new.nodes.items c.self.view_is c.self.invariant c.in_ok-can_act.ensures.1 needed does in record {
       answer = (
         can_retire c.args.node view c.args.self.now c.retire_in.new.nodes.items c.self.view_is c.self.invariant c.in_ok-can_act.ensures.1 needed does,

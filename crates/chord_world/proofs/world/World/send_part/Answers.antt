@@ -28,8 +28,8 @@ pub returns-in_err-part-clause-answer : goal.returns-in_err-part-clause-answer
 returns-in_err-part-clause-answer g c =
     let view : WorldState = state_of c.self.inside in
     let within = acts_within c.args.node view c.args.self.now c.self.view_is c.self.invariant c.in_ok-can_act.ensures.0 in
-    let here = got view.known.nodes c.args.node c.index.result.now within c.index.ensures in
-    let there : c.args.to < length view.known.nodes = omega arith in
+    let here = got view.world.nodes c.args.node c.index.result.now within c.index.ensures in
+    let there : c.args.to < length view.world.nodes = omega arith in
     let has = has_node c.args.to view c.args.self.now c.self.view_is c.self.invariant there in
     part_refused c.args.node c.args.to c.args.number c.args.part c.index.result.now c.in_err-part.field-0.0 view c.args.self.now _ c.from_residual-in_err-part.result c.self.view_is c.self.invariant has c.in_ok-can_act.ensures.1 here
     c.in_err-part.ensures.answer c.from_residual-in_err-part.ensures.1 refl
@@ -38,8 +38,8 @@ pub returns-in_err-message-clause-answer : goal.returns-in_err-message-clause-an
 returns-in_err-message-clause-answer g c =
     let view : WorldState = state_of c.self.inside in
     let within = acts_within c.args.node view c.args.self.now c.self.view_is c.self.invariant c.in_ok-can_act.ensures.0 in
-    let here = got view.known.nodes c.args.node c.index.result.now within c.index.ensures in
-    let there : c.args.to < length view.known.nodes = omega arith in
+    let here = got view.world.nodes c.args.node c.index.result.now within c.index.ensures in
+    let there : c.args.to < length view.world.nodes = omega arith in
     let has = has_node c.args.to view c.args.self.now c.self.view_is c.self.invariant there in
     part_refused c.args.node c.args.to c.args.number c.args.part c.index.result.now Memory view c.args.self.now _ c.from_residual-in_err-message.result c.self.view_is c.self.invariant has c.in_ok-can_act.ensures.1 here
     (ap is_some c.in_ok-part.ensures.answer) c.from_residual-in_err-message.ensures.1
@@ -49,8 +49,8 @@ pub invariant_of-self-2 : goal.invariant_of-self-2
 invariant_of-self-2 g c =
     let view : WorldState = state_of c.self.inside in
     let within = acts_within c.args.node view c.args.self.now c.self.view_is c.self.invariant c.in_ok-can_act.ensures.0 in
-    let here = got view.known.nodes c.args.node c.index.result.now within c.index.ensures in
-    let there : c.args.to < length view.known.nodes = omega arith in
+    let here = got view.world.nodes c.args.node c.index.result.now within c.index.ensures in
+    let there : c.args.to < length view.world.nodes = omega arith in
     let is = sent_now (PartMessage c.in_ok-part.part) 0 view c.in_ok-message.message c.send.new.sent.items c.send.new.targets.items c.in_ok-message.ensures
     ∙ sym (ap (with_sent (PartMessage c.in_ok-part.part) 0) (same_node c.args.node c.index.result.now view c.self.invariant here)) in
     let after = resends c.args.node c.args.to c.args.number c.args.part c.index.result.now c.in_ok-part.part view c.args.self.now _ c.self.view_is c.self.invariant here c.in_ok-can_act.ensures.1 there
@@ -61,8 +61,8 @@ pub returns : goal.returns
 returns g c =
     let view : WorldState = state_of c.self.inside in
     let within = acts_within c.args.node view c.args.self.now c.self.view_is c.self.invariant c.in_ok-can_act.ensures.0 in
-    let here = got view.known.nodes c.args.node c.index.result.now within c.index.ensures in
-    let there : c.args.to < length view.known.nodes = omega arith in
+    let here = got view.world.nodes c.args.node c.index.result.now within c.index.ensures in
+    let there : c.args.to < length view.world.nodes = omega arith in
     let has = has_node c.args.to view c.args.self.now c.self.view_is c.self.invariant there in
     let is = sent_now (PartMessage c.in_ok-part.part) 0 view c.in_ok-message.message c.send.new.sent.items c.send.new.targets.items c.in_ok-message.ensures
     ∙ sym (ap (with_sent (PartMessage c.in_ok-part.part) 0) (same_node c.args.node c.index.result.now view c.self.invariant here)) in

@@ -4,4 +4,4 @@ use Rattle.chord_world.specs.Runs.{StandsOnOneRing}
 use Rattle.chord_world.proofs.world.World.stands_on_one_ring.Goals as goal
 
 pub returns : goal.returns
-returns g c = subst StandsOnOneRing c.self.view_is (λ some. let sound = c.self.invariant.ring some in (sound.settled, one_ring _ sound))
+returns g c = subst StandsOnOneRing c.self.view_is (λ some. let sound = c.self.invariant.ring some in (sound.safe, one_ring _ sound))

@@ -1,0 +1,178 @@
+//! Handovers that are kept until their receivers have or have declined them.
+ghost use Rattle.std.specs.Prelude.{◌≡◌, ◌↔◌, true, [], IsTrue, IfOk, OnOk, OnErr, IfSome, IfNone, ◌<◌, ◌≤◌, ◌^◌, IsOk, is_some, length, slice_get, position};
+ghost use Rattle.std.specs.Option.{option_copied};
+ghost use Rattle.chord_handover.specs.Handover.{is_item, item_at};
+ghost use Rattle.chord_handover.specs.Outbox.{IsOutbox, empty_outbox, next_to, with_none, parcel_of, part_of_item, named, GiveIs};
+
+use crate::fault::{GiveFault, Ungiven};
+use crate::item::Item;
+use crate::parcelled::Parcelled;
+use crate::part::{Part, count_parts};
+use crate::ticket::Ticket;
+use chord_segment::{Mark, number_of, raise_mark};
+use std::alloc::{AllocError, Global};
+use std::marker::Model;
+
+/// The handovers of a node that are under way, and the last number given to each receiver.
+#[derive(Debug, Drop)]
+pub struct Outbox {
+    owner: u64,
+    given: Vec<Mark>,
+    items: Vec<Item>,
+}
+
+impl Model for Outbox {
+    ghost use Rattle.std.specs.Prelude.{nat_lt, ◌&&◌};
+    ghost use Rattle.std.specs.Vec.{vec_len, vec_capacity};
+    ghost use Rattle.chord_handover.specs.Outbox.{RoomyOutbox, IsOutbox};
+
+    ghost Value = { RoomyOutbox };
+
+    ghost view = { λ outbox. record { outbox = record { owner = outbox.owner; given = outbox.given.items; items = outbox.items.items }; has_room = nat_lt (vec_len outbox.given) (vec_capacity outbox.given) && nat_lt (vec_len outbox.items) (vec_capacity outbox.items) } };
+
+    ghost invariant = { λ outbox. IsOutbox outbox.given.items outbox.items.items };
+}
+
+impl Outbox {
+    /// An empty outbox of this node.
+    pub fn new(alloc: Global, owner: u64) -> Outbox
+        ensures { result.outbox ≡ empty_outbox owner }
+    {
+        Outbox {
+            owner,
+            given: Vec::new(alloc),
+            items: Vec::new(alloc),
+        }
+    }
+
+    /// How many items are under way.
+    pub fn len(&self) -> usize
+        ensures { result ≡ length self.now.outbox.items }
+    {
+        self.items.len()
+    }
+
+    /// Whether nothing is under way.
+    pub fn is_empty(&self) -> bool
+        ensures { IsTrue result ↔ (self.now.outbox.items ≡ []) }
+    {
+        self.items.is_empty()
+    }
+
+    /// The receiver and the number of an item, from 0 in the order given.
+    pub fn nth(&self, i: u64) -> Option<(u64, u64)>
+        ensures value { result ≡ named (slice_get self.now.outbox.items i) }
+        ensures rules { IsOutbox self.now.outbox.given self.now.outbox.items }
+    {
+        let item = self.items.get(i as usize)?;
+        Some((item.to, item.number))
+    }
+
+    /// What the item of this receiver and number hands over.
+    #[tactic(auto, unfolding(crate::specs::Handover::item_at))]
+    pub fn item(&self, to: u64, number: u64) -> Option<&Parcelled>
+        ensures { option_copied result ≡ parcel_of (item_at to number self.now.outbox.items) }
+    {
+        let item = self
+            .items
+            .iter()
+            .find(|item| item.to == to && item.number == number)?;
+        Some(&item.parcelled)
+    }
+
+    /// The part of this place, from 1, of the item of this receiver and number. `None` where there is no such item or part.
+    pub fn part(&self, to: u64, number: u64, part: u64) -> Result<Option<Part>, AllocError>
+        ensures found { IfOk result (λ found. found ≡ part_of_item self.now.outbox.owner to number part (parcel_of (item_at to number self.now.outbox.items))) }
+        ensures there { OnErr result (is_some (part_of_item self.now.outbox.owner to number part (parcel_of (item_at to number self.now.outbox.items))) ≡ true) }
+    {
+        let Some(parcelled) = self.item(to, number) else {
+            return Ok(None);
+        };
+        if part == 0 || part > count_parts(parcelled.pairs()) {
+            return Ok(None);
+        }
+        let ticket = Ticket {
+            from: self.owner,
+            to,
+            number,
+        };
+        let found = parcelled.part(ticket, part)?;
+        Ok(Some(found))
+    }
+
+    /// The number that the next item for this receiver gets, none where they are spent.
+    pub fn next_number(&self, to: u64) -> Option<u64>
+        ensures some { IfSome result (λ number. (number ≡ next_to to self.now.outbox) × (number < 2 ^ 64)) }
+        ensures none { IfNone result (2 ^ 64 ≤ next_to to self.now.outbox) }
+    {
+        number_of(&self.given, to).checked_add(1)
+    }
+
+    /// Makes room for one more item, which the next `give` then cannot lack.
+    pub fn reserve(&mut self) -> Result<(), AllocError>
+        ensures same { self.new.outbox ≡ self.old.outbox }
+        ensures room { OnOk result (self.new.has_room ≡ true) }
+    {
+        self.given.reserve(1)?;
+        self.items.reserve(1)?;
+        Ok(())
+    }
+
+    /// Puts a parcel into the outbox and answers its number, from 1 for each receiver.
+    pub fn give(&mut self, to: u64, parcelled: Parcelled) -> Result<u64, Ungiven>
+        ensures answer { GiveIs to parcelled self.old.outbox result self.new.outbox }
+        ensures succeeds { self.old.has_room ≡ true → next_to to self.old.outbox < 2 ^ 64 → IsOk result }
+    {
+        let last = number_of(&self.given, to);
+        if last == u64::MAX {
+            return Err(Ungiven {
+                fault: GiveFault::NumbersSpent,
+                parcelled,
+            });
+        }
+        if self.given.reserve(1).is_err() || self.items.reserve(1).is_err() {
+            return Err(Ungiven {
+                fault: GiveFault::Memory,
+                parcelled,
+            });
+        }
+        let number = last + 1;
+        raise_mark(&mut self.given, to, number);
+        self.items.push_reserved(Item {
+            to,
+            number,
+            parcelled,
+        });
+        Ok(number)
+    }
+
+    /// The receiver has the handover: it leaves the outbox, if it is there.
+    pub fn got(&mut self, to: u64, number: u64) -> Option<Parcelled>
+        ensures item { result ≡ parcel_of (item_at to number self.old.outbox.items) }
+        ensures left { self.new.outbox ≡ with_none to number self.old.outbox }
+    {
+        let place = place_of(&self.items, to, number)?;
+        let item = self.items.remove(place);
+        Some(item.parcelled)
+    }
+
+    /// The receiver has declined the handover: it leaves the outbox, if it is there.
+    pub fn declined(&mut self, to: u64, number: u64) -> Option<Parcelled>
+        ensures item { result ≡ parcel_of (item_at to number self.old.outbox.items) }
+        ensures left { self.new.outbox ≡ with_none to number self.old.outbox }
+    {
+        self.got(to, number)
+    }
+}
+
+/// The place of the item of this receiver and number.
+fn place_of(items: &[Item], to: u64, number: u64) -> Option<usize>
+    ensures { result ≡ position (is_item to number) items.now }
+{
+    items
+        .iter()
+        .position(|item| item.to == to && item.number == number)
+}
+
+#[cfg(test)]
+mod spent;
