@@ -52,11 +52,6 @@ set_same (y ∷ xs) zero x e = let same : y ≡ x = cc in ap (λ z. z ∷ xs) (s
 set_same (y ∷ xs) (suc place) x e = ap (λ zs. y ∷ zs) (set_same xs place x e)
 
 -- the caller that stands at its place
-pub caller_there : (caller via : ℕ) (view old : WorldState) (core : Caller) → view ≡ old → IsWorld view → via < length view.world.nodes → slice_get view.world.callers caller ≡ Some core
-    → IsThere caller via old core
-caller_there caller via view old core same kept node here =
-    subst (λ w. IsThere caller via w core) same (node, caller_at_place 0 caller caller view.world.callers kept.callers (omega arith) ∙ here)
-
 pub caller_stands : (caller : ℕ) (view old : WorldState) (core : Caller) → view ≡ old → IsWorld view → slice_get view.world.callers caller ≡ Some core → caller_at caller old.world.callers ≡ Some core
 caller_stands caller view old core same kept here =
     subst (λ (w : WorldState). caller_at caller w.world.callers ≡ Some core) same (caller_at_place 0 caller caller view.world.callers kept.callers (omega arith) ∙ here)
@@ -149,10 +144,10 @@ posted_sends caller via number request view old callers ask new same kept node d
 
 -- the caller's refusal is that of the step
 refused_by : (caller via : ℕ) (request : Request) (old : WorldState) (fault : SubmitFault) → RefusesCall caller via request old fault → SubmitStepIs caller via request old (Err (refusal_of fault)) old
-refused_by caller via request old (Bad fault) h = (Bad fault, refl, h, refl)
-refused_by caller via request old WindowFull h = (WindowFull, refl, h, refl)
-refused_by caller via request old NumbersSpent h = (NumbersSpent, refl, h, refl)
-refused_by caller via request old Memory h = (Memory, refl, h, refl)
+refused_by caller via request old (Bad fault) h = ((Bad fault, refl, h), refl)
+refused_by caller via request old WindowFull h = ((WindowFull, refl, h), refl)
+refused_by caller via request old NumbersSpent h = ((NumbersSpent, refl, h), refl)
+refused_by caller via request old Memory h = ((Memory, refl, h), refl)
 
 pub submit_refused : (caller via : ℕ) (request : Request) (old : WorldState) (fault : SubmitFault) (refusal : Refusal) → refusal ≡ refusal_of fault → RefusesCall caller via request old fault
     → SubmitStepIs caller via request old (Err refusal) old

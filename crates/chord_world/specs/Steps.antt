@@ -1,5 +1,5 @@
 -- What a World answers to a step, and what it is afterwards.
-use Rattle.std.specs.Prelude.{◌≡◌, ◌≢◌, ℕ, false, ◌<◌, ◌≤◌, None, Some, Result, Ok, Err, List, [], ◌∷◌, ◌++◌, length, slice_get, drop}
+use Rattle.std.specs.Prelude.{◌≡◌, ◌≢◌, ℕ, false, ◌≤◌, Some, Result, Ok, Err, List, [], ◌∷◌, ◌++◌, length, slice_get, drop}
 use Rattle.chord_ident.specs.declared.id.Id.{Id}
 use Rattle.chord_links.specs.NodeLinks.{alone}
 use Rattle.chord_ring.specs.declared.ring_step.RingStep.TheVariants as ring
@@ -11,7 +11,7 @@ use Rattle.chord_caller.specs.Answers.{new_caller, SubmitIs}
 use Rattle.chord_model.specs.declared.message.Message.TheVariants.{Ask as AskMessage}
 use Rattle.chord_node.specs.Moves.{CutAtIs, MergeIs, LeaveIs}
 use Rattle.chord_model.specs.Node.{founder}
-use Rattle.chord_model.specs.World.{WorldStep, caller_at, put_caller}
+use Rattle.chord_model.specs.World.{WorldStep, put_caller}
 use Rattle.chord_world.specs.declared.outcome.Outcome.{Outcome}
 use Rattle.chord_world.specs.declared.outcome.Outcome.TheVariants as did
 use Rattle.chord_world.specs.declared.refusal.Refusal.{Refusal}
@@ -21,7 +21,7 @@ use Rattle.chord_world.specs.declared.step.Step.{Step}
 use Rattle.chord_world.specs.declared.step.Step.TheVariants.{Create, Join, OpenCaller, Submit, Resend, Deliver, Show, Meet, Cut, Merge, Give, SendPart, Leave, Retire, Stabilise, Candidate, DropDead, Rectify, Crash, Finger}
 use Rattle.chord_world.specs.Refusals.{refusal_of}
 use Rattle.chord_world.specs.State.{WorldState, IsThere}
-use Rattle.chord_world.specs.Calling.{ResendStepIs, ShowIs, MeetIs}
+use Rattle.chord_world.specs.Calling.{AreThere, ResendStepIs, ShowIs, MeetIs}
 use Rattle.chord_world.specs.Linking.{FingerIs}
 use Rattle.chord_world.specs.Joining.{JoinIs}
 use Rattle.chord_world.specs.Upkeep.{UpkeepIs, CrashIs}
@@ -103,14 +103,16 @@ pub record RefusesCall (caller via : ℕ) (request : Request) (old : WorldState)
   pub there : IsThere caller via old core
   pub refuses : SubmitIs request core (Err fault) core
 
+-- and this is the refusal of the step
+abbrev pub RefusesSubmit : ℕ → ℕ → Request → WorldState → Refusal → Type 0
+RefusesSubmit caller via request old refusal = (fault : SubmitFault) × (refusal ≡ refusal_of fault) × RefusesCall caller via request old fault
+
 abbrev pub SubmitStepIs : ℕ → ℕ → Request → WorldState → Result Outcome Refusal → WorldState → Type 0
 SubmitStepIs caller via request old (Ok (did.Message number)) new = Sends caller via request old number new
 SubmitStepIs caller via request old (Ok outcome) new = ⊥
-SubmitStepIs caller via request old (Err refused.NotCreated) new = (old.world.nodes ≡ []) × (new ≡ old)
-SubmitStepIs caller via request old (Err refused.NoSuchNode) new = (old.world.nodes ≢ []) × (length old.world.nodes ≤ via) × (new ≡ old)
-SubmitStepIs caller via request old (Err refused.NoSuchCaller) new = (via < length old.world.nodes) × (caller_at caller old.world.callers ≡ None) × (new ≡ old)
-SubmitStepIs caller via request old (Err refusal) new =
-    (fault : SubmitFault) × (refusal ≡ refusal_of fault) × RefusesCall caller via request old fault × (new ≡ old)
+SubmitStepIs caller via request old (Err (refused.Step fault)) new = RefusesSubmit caller via request old (refused.Step fault) × (new ≡ old)
+SubmitStepIs caller via request old (Err refused.Memory) new = RefusesSubmit caller via request old refused.Memory × (new ≡ old)
+SubmitStepIs caller via request old (Err refusal) new = AreThere caller via old (Err refusal) × (new ≡ old)
 
 -- ---- all steps
 

@@ -1,5 +1,5 @@
 //! Calls that are submitted.
-ghost use Rattle.std.specs.Prelude.{◌≡◌, ◌<◌, length};
+ghost use Rattle.std.specs.Prelude.{◌<◌, length};
 ghost use Rattle.chord_world.specs.State.{KeepsRing};
 ghost use Rattle.chord_world.specs.Steps.{SubmitStepIs, Advances};
 ghost use Rattle.chord_world.specs.Sending.{MaySubmit, CanSubmit, SubmitsAt};
@@ -37,16 +37,7 @@ impl<S: EntryStore> World<S> {
     fn may_submit(&self, caller: u64, via: u64, request: &Request) -> Result<(), Refusal>
         ensures { MaySubmit caller via request.now self.now result }
     {
-        let count = self.nodes.len() as u64;
-        if count == 0 {
-            return Err(Refusal::NotCreated);
-        }
-        if via >= count {
-            return Err(Refusal::NoSuchNode);
-        }
-        if caller >= self.callers.len() as u64 {
-            return Err(Refusal::NoSuchCaller);
-        }
+        self.are_there(caller, via)?;
         match self.callers[caller as usize].refusal(request) {
             Some(fault) => Err(Refusal::from(fault)),
             None => Ok(()),
