@@ -15,7 +15,7 @@ use Rattle.chord_model.specs.Node.{Node, NodeStep}
 use Rattle.chord_model.specs.World.{WorldStep, WasSent, put_node, node_at, with_one}
 use Rattle.chord_model.specs.World.WorldStep.{Acts}
 use Rattle.chord_world.specs.Members.{is_gone, links_unless, member_links, members_of, ring_with}
-use Rattle.chord_world.specs.State.{WorldState, NodesFrom, IsKnown, AreKnown, IsWorld, ring_of, is_crashed, KeepsRing}
+use Rattle.chord_world.specs.State.{WorldState, NodesFrom, IsKnown, AreKnown, AreAimed, IsWorld, ring_of, is_crashed, KeepsRing}
 use Rattle.chord_world.proofs.Placing.{node_at_place, put_node_place, nodes_set, node_number, calls_pushed}
 use Rattle.chord_world.proofs.RingLemmas.{get_other, ids_same, members_same, members_length, member_past, member_at}
 use Rattle.chord_world.proofs.Keeping.{further}
@@ -55,7 +55,7 @@ calls_with nodes count sent None all here = all
 calls_with nodes count sent (Some message) all here = calls_pushed nodes count sent message all here
 
 -- the world after a node is this one, sent this message to this node, and executed this call
-abbrev pub acted : Node → Option Message → Option ℕ → Option Done → WorldState → WorldState
+abbrev pub acted : Node → Option Message → Option (Option ℕ) → Option Done → WorldState → WorldState
 acted after sent target done view =
     record view {
       world = record view.world { nodes = put_node after view.world.nodes; sent = with_one view.world.sent sent; history = with_one view.world.history done };
@@ -63,14 +63,14 @@ acted after sent target done view =
     }
 
 -- the node at the place did a step
-pub record Acting (place : ℕ) (node after : Node) (taken sent : Option Message) (target : Option ℕ) (done : Option Done) (view : WorldState) : Type 0 where
+pub record Acting (place : ℕ) (node after : Node) (taken sent : Option Message) (target : Option (Option ℕ)) (done : Option Done) (view : WorldState) : Type 0 where
   pub here : slice_get view.world.nodes place ≡ Some node
   pub running : is_crashed place view ≡ false
   pub number : after.number ≡ node.number
   pub was : WasSent view.world.sent taken
   pub does : NodeStep node taken after sent done
   pub call : SendsCall (length view.world.nodes) (length view.world.callers) sent
-  pub paired : length (with_one view.targets target) ≡ length (with_one view.world.sent sent)
+  pub aimed : AreAimed (with_one view.world.sent sent) (with_one view.targets target)
   pub ring : Kept (ring_of view) (ring_with (set view.world.nodes place after) view.crashed)
 
 -- what the ring sees of the node stays
@@ -88,7 +88,7 @@ pub ring_stays : (place : ℕ) (node after : Node) (view : WorldState) → IsWor
 ring_stays place node after view kept here gone links =
     ring_is place node after view kept here (ap (λ (l : NodeLinks). l.me) links) (λ i. links_unless (is_crashed place view || gone i) (links i))
 
-pub acts : (place : ℕ) (node after : Node) (taken sent : Option Message) (target : Option ℕ) (done : Option Done) (view : WorldState) → IsWorld view
+pub acts : (place : ℕ) (node after : Node) (taken sent : Option Message) (target : Option (Option ℕ)) (done : Option Done) (view : WorldState) → IsWorld view
     → Acting place node after taken sent target done view → After view (acted after sent target done view)
 acts place node after taken sent target done view kept acting =
     let new = acted after sent target done view in
@@ -104,7 +104,7 @@ acts place node after taken sent target done view kept acting =
             reached = further view.world new.world kept.reached did;
             nodes = subst (NodesFrom 0) (sym put) (nodes_set 0 place after view.world.nodes kept.nodes at);
             callers = kept.callers;
-            targets = acting.paired;
+            targets = acting.aimed;
             calls = subst (λ n. AreKnown n (length view.world.callers) (with_one view.world.sent sent)) (sym count)
                 (calls_with (length view.world.nodes) (length view.world.callers) view.world.sent sent kept.calls acting.call);
             crashed = kept.crashed ∙ sym count;
@@ -127,7 +127,7 @@ acts place node after taken sent target done view kept acting =
     }
 
 -- over the view of the fields, which is the old value, and in the words of the code
-pub acts_at : (place : ℕ) (node after : Node) (taken sent : Option Message) (target : Option ℕ) (done : Option Done) (view old new : WorldState) → view ≡ old → IsWorld view
+pub acts_at : (place : ℕ) (node after : Node) (taken sent : Option Message) (target : Option (Option ℕ)) (done : Option Done) (view old new : WorldState) → view ≡ old → IsWorld view
     → Acting place node after taken sent target done view → new ≡ acted after sent target done view → After old new
 acts_at place node after taken sent target done view old new same kept acting is =
     subst (After old) (sym is) (subst (λ w. After w (acted after sent target done view)) same (acts place node after taken sent target done view kept acting))

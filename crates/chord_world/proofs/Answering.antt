@@ -1,6 +1,7 @@
 -- Messages that are delivered.
-use Rattle.std.proofs.Common.{◌≡◌, ℕ, ◌+◌, ◌<◌, ◌≤◌, ⊎_elim, inl, inr, Bool, true, false, cond, Option, None, Some, Result, Ok, Err, List, length, set, get_or, refl, sym, ◌∙◌, ap, subst, arith}
+use Rattle.std.proofs.Common.{◌≡◌, ℕ, ◌<◌, ◌≤◌, ⊎_elim, inl, inr, Bool, true, false, cond, Option, None, Some, Result, Ok, Err, List, length, set, get_or, refl, sym, ◌∙◌, ap, subst, arith}
 use Rattle.std.proofs.lemmas.Option.{slice_get_past, slice_get_within, get_or_from_slice_get, slice_get_cases}
+use Rattle.std.proofs.lemmas.List.{length-map}
 use Rattle.std.specs.Prelude.{slice_get, Contains}
 use Rattle.std.specs.declared.alloc.AllocError.{AllocError}
 use Rattle.chord_map.specs.declared.reply.Reply.{Reply}
@@ -26,7 +27,8 @@ use Rattle.chord_node.specs.Asked.{AskIs, AskNotes, AnswersBy, ask_done, after_d
 use Rattle.chord_model.specs.World.{WorldStep, put_node, caller_at, put_caller, with_one}
 use Rattle.chord_model.specs.World.WorldStep.{Calls}
 use Rattle.chord_node.proofs.Asking.{asked_steps}
-use Rattle.chord_world.specs.State.{WorldState, with_heard, IsWorld, is_crashed}
+use Rattle.chord_world.specs.declared.sent.Sent.{Sent}
+use Rattle.chord_world.specs.State.{WorldState, messages_of, targets_of, with_heard, AreAimed, IsWorld, is_crashed}
 use Rattle.chord_world.specs.Members.{is_gone}
 use Rattle.chord_world.specs.Delivered.{target_of, outcome_of, outcome_heard, with_answer, IsAstray, IsForCrashed, TakesMemory, Delivers}
 use Rattle.chord_world.specs.Delivered.TakesMemory.{Ask_takes}
@@ -35,9 +37,9 @@ use Rattle.chord_world.specs.Delivered.IsFor.{Ask_for}
 use Rattle.chord_world.specs.declared.outcome.Outcome.{Outcome}
 use Rattle.chord_world.specs.declared.outcome.Outcome.TheVariants as did
 use Rattle.chord_world.specs.Delivering.{Answers, AnswersAt, Hears, IsOwed, message_by}
-use Rattle.chord_world.proofs.Placing.{node_at_place, put_node_place, node_number, caller_at_place, put_caller_place, caller_number, call_at}
+use Rattle.chord_world.proofs.Placing.{node_at_place, put_node_place, node_number, caller_at_place, put_caller_place, caller_number, call_at, aimed_pushed, aimed_at}
 use Rattle.chord_world.proofs.Acting.{After, SendsCall, ring_stays, acts_at}
-use Rattle.chord_world.proofs.Posting.{length_pushed, got, set_same, slice_get_there}
+use Rattle.chord_world.proofs.Posting.{got, got_of, set_same, slice_get_there}
 use Rattle.chord_world.proofs.Speaking.{heard_is_world}
 
 -- a message at its place was sent
@@ -76,16 +78,16 @@ answer_call : (nodes count : ℕ) (ask : Ask) (node : Node) (answered : Answered
 answer_call nodes count ask node answered None (hop, next, is) within = subst (λ a. SendsCall nodes count (sent_by ask a)) (sym is) (pass_call nodes count ask _ _ _ refl within)
 answer_call nodes count ask node answered (Some segment) is within = subst (λ a. SendsCall nodes count (sent_by ask a)) (sym is) (past_call nodes count ask node (past_at ask.caller ask.number segment) within)
 
-lengths : (targets : List ℕ) (sent : List Message) (ask : Ask) (answered : Answered) → length targets ≡ length sent → length (with_one targets (target_of answered)) ≡ length (with_one sent (sent_by ask answered))
-lengths targets sent ask (answer.Told told) e = length_pushed targets 0 ∙ ap (λ n. n + 1) e ∙ sym (length_pushed sent (ToldMessage told))
-lengths targets sent ask (answer.Forward to passed) e = length_pushed targets to ∙ ap (λ n. n + 1) e ∙ sym (length_pushed sent (AskMessage passed))
-lengths targets sent ask answer.Dropped e = e
-lengths targets sent ask answer.Full e = length_pushed targets 0 ∙ ap (λ n. n + 1) e ∙ sym (length_pushed sent (FullMessage ask.caller ask.number))
+answer_aimed : (sent : List Message) (targets : List (Option ℕ)) (ask : Ask) (answered : Answered) → AreAimed sent targets → AreAimed (with_one sent (sent_by ask answered)) (with_one targets (target_of answered))
+answer_aimed sent targets ask (answer.Told told) all = aimed_pushed sent targets (ToldMessage told) None all tt
+answer_aimed sent targets ask (answer.Forward to passed) all = aimed_pushed sent targets (AskMessage passed) (Some to) all tt
+answer_aimed sent targets ask answer.Dropped all = all
+answer_aimed sent targets ask answer.Full all = aimed_pushed sent targets (FullMessage ask.caller ask.number) None all tt
 
 -- a delivered call, by what the node at its place did
 pub record Asked (place to : ℕ) (ask : Ask) (view : WorldState) (answered : Answered) (node after : Node) : Type 0 where
   pub sent : slice_get view.world.sent place ≡ Some (AskMessage ask)
-  pub target : slice_get view.targets place ≡ Some to
+  pub target : slice_get view.targets place ≡ Some (Some to)
   pub here : slice_get view.world.nodes to ≡ Some node
   pub answers : AskIs ask node (Ok answered) after
 
@@ -109,7 +111,7 @@ answer_after place to ask view old answered node after new same kept asked runni
       does = asked_steps ask node (Ok answered) after asked.answers;
       call = answer_call (length view.world.nodes) (length view.world.callers) ask node answered (segment_with (id_of ask.request) node.held) asked.answers.0
           (call_at (length view.world.nodes) (length view.world.callers) view.world.sent place (AskMessage ask) kept.calls asked.sent);
-      paired = lengths view.targets view.world.sent ask answered kept.targets;
+      aimed = answer_aimed view.world.sent view.targets ask answered kept.targets;
       ring = ring_stays to node after view kept asked.here
           (ap (λ (n : Node). is_gone n.phase) asked.answers.1 ∙ ap is_gone (done_phase (ask_done ask node) ask node))
           (ap (λ (n : Node). n.links) asked.answers.1 ∙ done_links (ask_done ask node) ask node);
@@ -124,10 +126,10 @@ answer_delivers place to ask view old answered node after same kept asked runnin
     (ap (is_crashed to) same ∙ running) asked.answers)
 
 -- in the words of the code
-abbrev pub after_answer : List Node → List Message → List Done → List ℕ → WorldState → WorldState
+abbrev pub after_answer : List Node → List Message → List Done → List (Option ℕ) → WorldState → WorldState
 after_answer nodes sent history targets view = record view { world = record view.world { nodes = nodes; sent = sent; history = history }; targets = targets }
 
-pub answered_is : (place to : ℕ) (ask : Ask) (view : WorldState) (answered : Answered) (did : Option Done) (nodes : List Node) (sent before : List Message) (history earlier : List Done) (targets known : List ℕ)
+pub answered_is : (place to : ℕ) (ask : Ask) (view : WorldState) (answered : Answered) (did : Option Done) (nodes : List Node) (sent before : List Message) (history earlier : List Done) (targets known : List (Option ℕ))
     → IsWorld view → (done : Answers to ask view.world.nodes answered did nodes) → sent ≡ with_one before (message_by ask.caller ask.number answered) → before ≡ view.world.sent
     → history ≡ with_one earlier did → earlier ≡ view.world.history → targets ≡ with_one known (target_of answered) → known ≡ view.targets
     → after_answer nodes sent history targets view ≡ with_answer ask done.node done.after answered view
@@ -233,12 +235,33 @@ answers_from place ask old node after (Ok both) new within here h is =
 answers_from place ask old node after (Err fault) new within here h is =
     is ∙ ap (set old place) h.1 ∙ set_same old place node (got old place node within here)
 
--- what was read at a place is what stands there
-pub read : {A : Type 0} (items before : List A) (place : ℕ) (x : A) → items ≡ before → place < length items → x ≡ get_or items place x → slice_get before place ≡ Some x
-read items before place x same within e = ap (λ xs. slice_get xs place) (sym same) ∙ got items place x within e
+-- a message that stands at a place is one of those sent
+pub place_within : (items before : List Sent) (place : ℕ) (message : Message) → items ≡ before → slice_get (messages_of before) place ≡ Some message → place < length items
+place_within items before place message same here =
+    let within = slice_get_within (messages_of before) place message here in
+    let count = length-map before (λ (one : Sent). one.message) in
+    let room = ap length same in
+    omega arith
 
-pub read_is : {A : Type 0} (items before : List A) (place : ℕ) (x y : A) → items ≡ before → place < length items → x ≡ get_or items place x → slice_get before place ≡ Some y → x ≡ y
-read_is items before place x y same within e here = let both : Some x ≡ Some y = sym (read items before place x same within e) ∙ here in cc
+-- the message that was read at a place is what stands there
+pub read : (items before : List Sent) (place : ℕ) (x : Sent) (message : Message) → items ≡ before → place < length items → x ≡ get_or items place x → x.message ≡ message
+    → slice_get (messages_of before) place ≡ Some message
+read items before place x message same within e is =
+    ap (λ xs. slice_get (messages_of xs) place) (sym same) ∙ got_of (λ (one : Sent). one.message) items place x within e ∙ ap (λ m. Some m) is
+
+pub read_is : (items before : List Sent) (place : ℕ) (x : Sent) (message : Message) → items ≡ before → place < length items → x ≡ get_or items place x
+    → slice_get (messages_of before) place ≡ Some message → x.message ≡ message
+read_is items before place x message same within e here =
+    let both : Some x.message ≡ Some message = sym (read items before place x x.message same within e refl) ∙ here in cc
+
+-- and so is the node that it goes to, which an Ask has
+pub read_target : (items : List Sent) (place : ℕ) (x : Sent) (to : ℕ) → place < length items → x ≡ get_or items place x → x.to ≡ Some to → slice_get (targets_of items) place ≡ Some (Some to)
+read_target items place x to within e is = got_of (λ (one : Sent). one.to) items place x within e ∙ ap (λ t. Some t) is
+
+pub has_target : (items : List Sent) (place : ℕ) (x : Sent) (ask : Ask) → AreAimed (messages_of items) (targets_of items) → place < length items → x ≡ get_or items place x
+    → slice_get (messages_of items) place ≡ Some (AskMessage ask) → (to : ℕ) × (x.to ≡ Some to)
+has_target items place x ask all within e sent =
+    aimed_at (messages_of items) (targets_of items) place ask x.to all sent (got_of (λ (one : Sent). one.to) items place x within e)
 
 -- the message that is asked for, over the view of the fields
 pub sent_here : (view old : WorldState) (place : ℕ) (message : Message) → view ≡ old → slice_get old.world.sent place ≡ Some message → slice_get view.world.sent place ≡ Some message
@@ -247,13 +270,13 @@ sent_here view old place message same here = ap (λ (w : WorldState). slice_get 
 pub sent_there : (view old : WorldState) (place : ℕ) (message : Message) → view ≡ old → slice_get view.world.sent place ≡ Some message → slice_get old.world.sent place ≡ Some message
 sent_there view old place message same here = ap (λ (w : WorldState). slice_get w.world.sent place) (sym same) ∙ here
 
-pub astray : (place to : ℕ) (ask : Ask) (view old : WorldState) → view ≡ old → IsWorld view → slice_get view.world.sent place ≡ Some (AskMessage ask) → slice_get view.targets place ≡ Some to
+pub astray : (place to : ℕ) (ask : Ask) (view old : WorldState) → view ≡ old → IsWorld view → slice_get view.world.sent place ≡ Some (AskMessage ask) → slice_get view.targets place ≡ Some (Some to)
     → length view.world.nodes ≤ to → IsAstray place old
 astray place to ask view old same kept sent target past =
     subst (IsAstray place) same
     (record { ask = ask; to = to; sent = sent; target = target; missing = node_at_place 0 to to view.world.nodes kept.nodes (omega arith) ∙ slice_get_past view.world.nodes to past })
 
-pub for_crashed : (place to : ℕ) (ask : Ask) (node : Node) (view old : WorldState) → view ≡ old → IsWorld view → slice_get view.world.sent place ≡ Some (AskMessage ask) → slice_get view.targets place ≡ Some to
+pub for_crashed : (place to : ℕ) (ask : Ask) (node : Node) (view old : WorldState) → view ≡ old → IsWorld view → slice_get view.world.sent place ≡ Some (AskMessage ask) → slice_get view.targets place ≡ Some (Some to)
     → slice_get view.world.nodes to ≡ Some node → is_crashed to old ≡ true → IsForCrashed place old
 for_crashed place to ask node view old same kept sent target here out =
     subst (IsForCrashed place) same
@@ -267,7 +290,7 @@ for_crashed place to ask node view old same kept sent target here out =
 
 -- the calls that are delivered
 pub asked_of : (place to : ℕ) (ask : Ask) (view : WorldState) (answered : Answered) (did : Option Done) (nodes : List Node) → slice_get view.world.sent place ≡ Some (AskMessage ask)
-    → slice_get view.targets place ≡ Some to → (done : Answers to ask view.world.nodes answered did nodes) → Asked place to ask view answered done.node done.after
+    → slice_get view.targets place ≡ Some (Some to) → (done : Answers to ask view.world.nodes answered did nodes) → Asked place to ask view answered done.node done.after
 asked_of place to ask view answered did nodes sent target done = record { sent = sent; target = target; here = done.here; answers = done.answers.0 }
 
 pub world_after : (view new next : WorldState) → new ≡ next → IsWorld next → IsWorld new
@@ -284,7 +307,7 @@ delivers_after place old new next outcome outcome' e f h =
 pub told_copy : (told : Told) (reply : Reply) → reply ≡ told.reply → ◌≡◌ {A = Told} (record { caller = told.caller; number = told.number; reply = reply }) told
 told_copy told reply e = λ i. record { caller = told.caller; number = told.number; reply = e i }
 
-pub same_fields : (view : WorldState) (nodes : List Node) (sent : List Message) (history : List Done) (targets : List ℕ) → nodes ≡ view.world.nodes → sent ≡ view.world.sent
+pub same_fields : (view : WorldState) (nodes : List Node) (sent : List Message) (history : List Done) (targets : List (Option ℕ)) → nodes ≡ view.world.nodes → sent ≡ view.world.sent
     → history ≡ view.world.history → targets ≡ view.targets → after_answer nodes sent history targets view ≡ view
 same_fields view nodes sent history targets n s h t = λ i. after_answer (n i) (s i) (h i) (t i) view
 
@@ -293,7 +316,7 @@ pub stays : (view old new : WorldState) (place : ℕ) → view ≡ old → Takes
 stays view old new place same takes e = (subst (TakesMemory place) same takes, e ∙ same)
 
 pub ask_takes : (place to : ℕ) (ask : Ask) (view old : WorldState) → view ≡ old → IsWorld view → slice_get view.world.sent place ≡ Some (AskMessage ask)
-    → slice_get view.targets place ≡ Some to → to < length view.world.nodes → is_crashed to old ≡ false → TakesMemory place view
+    → slice_get view.targets place ≡ Some (Some to) → to < length view.world.nodes → is_crashed to old ≡ false → TakesMemory place view
 ask_takes place to ask view old same kept sent target within running =
     let found = slice_get_there view.world.nodes to within in
     Ask_takes ask to found.0 sent target (node_at_place 0 to to view.world.nodes kept.nodes (omega arith) ∙ found.1) (ap (is_crashed to) same ∙ running)

@@ -1,5 +1,5 @@
 -- Nodes that act on what they hold: the world and its ring are kept.
-use Rattle.std.proofs.Common.{◌≡◌, ◌≢◌, ℕ, zero, suc, ◌+◌, ◌<◌, inl, inr, Bool, true, false, Option, None, Some, Result, Ok, Err, List, [], ◌∷◌, ◌++◌, length, set, refl, sym, ◌∙◌, ap, subst, arith}
+use Rattle.std.proofs.Common.{◌≡◌, ◌≢◌, ℕ, zero, suc, ◌<◌, inl, inr, Bool, true, false, Option, None, Some, Result, Ok, Err, List, [], ◌∷◌, ◌++◌, length, set, refl, sym, ◌∙◌, ap, subst, arith}
 use Rattle.std.specs.Prelude.{slice_get, IsErrAnd, ◌==◌, cond, ◌&&◌, nat_le, is_some}
 use Rattle.std.proofs.lemmas.Bool.{true≢false}
 use Rattle.std.proofs.lemmas.Option.{slice_get_within, same_Some}
@@ -35,14 +35,14 @@ use Rattle.chord_world.specs.Handing.IsMissing.{Uncreated, Missing}
 use Rattle.chord_world.specs.Handing.CannotAct.{Is_missing, Is_crashed}
 use Rattle.chord_world.specs.Linking.{with_node}
 use Rattle.chord_world.specs.Members.{is_gone, links_unless, member_links}
-use Rattle.chord_world.specs.State.{WorldState, IsWorld, ring_of, with_sent, is_crashed, KeepsRing}
+use Rattle.chord_world.specs.State.{WorldState, AreAimed, IsWorld, ring_of, with_sent, is_crashed, KeepsRing}
 use Rattle.chord_world.specs.Steps.{Advances}
 use Rattle.chord_world.proofs.Acting.{After, SendsCall, acted, acts_at, keeps_same, ring_stays, put_is, links_here}
 use Rattle.chord_world.proofs.Keeping.{with_nodes}
 use Rattle.chord_world.proofs.Upkeeping.{retires}
 use Rattle.chord_world.proofs.Pointing.{node_stands, node_within}
-use Rattle.chord_world.proofs.Placing.{node_at_place, put_node_place, node_number}
-use Rattle.chord_world.proofs.Posting.{set_same, length_pushed}
+use Rattle.chord_world.proofs.Placing.{node_at_place, put_node_place, node_number, aimed_pushed}
+use Rattle.chord_world.proofs.Posting.{set_same}
 
 -- ---- who acts
 
@@ -116,11 +116,11 @@ kept_leave fault node after h = h.1
 
 -- ---- a node that does a step, with no call executed
 
-pub hands : (place : ℕ) (node after : Node) (taken sent : Option Message) (target : Option ℕ) (view old new : WorldState) → view ≡ old → IsWorld view
+pub hands : (place : ℕ) (node after : Node) (taken sent : Option Message) (target : Option (Option ℕ)) (view old new : WorldState) → view ≡ old → IsWorld view
     → slice_get view.world.nodes place ≡ Some node → is_crashed place old ≡ false → IsStill node after → WasSent view.world.sent taken → NodeStep node taken after sent None
-    → SendsCall (length view.world.nodes) (length view.world.callers) sent → length (with_one view.targets target) ≡ length (with_one view.world.sent sent)
+    → SendsCall (length view.world.nodes) (length view.world.callers) sent → AreAimed (with_one view.world.sent sent) (with_one view.targets target)
     → new ≡ acted after sent target None view → After old new
-hands place node after taken sent target view old new same kept here running still was does call paired is =
+hands place node after taken sent target view old new same kept here running still was does call aimed is =
     acts_at place node after taken sent target None view old new same kept
     (record {
       here = here;
@@ -129,7 +129,7 @@ hands place node after taken sent target view old new same kept here running sti
       was = was;
       does = does;
       call = call;
-      paired = paired;
+      aimed = aimed;
       ring = ring_stays place node after view kept here still.gone still.links;
     })
     is
@@ -254,7 +254,7 @@ resent_ends from to number part (Some parcelled) q e =
 
 -- the world after a node changed and sent a part
 abbrev pub after_sending : Node → Part → WorldState → WorldState
-after_sending after part view = with_sent (PartMessage part) 0 (with_node after view)
+after_sending after part view = with_sent (PartMessage part) None (with_node after view)
 
 pub part_known : (place to : ℕ) (node : Node) (part : Part) (view : WorldState) → IsWorld view → slice_get view.world.nodes place ≡ Some node → to < length view.world.nodes
     → (part.from ≡ node.number) × (part.to ≡ to) → (part.from < length view.world.nodes) × (part.to < length view.world.nodes)
@@ -269,8 +269,8 @@ pub sends_after : (place to : ℕ) (node after : Node) (part : Part) (view old n
     → to < length view.world.nodes → IsStill node after → (part.from ≡ node.number) × (part.to ≡ to) → NodeStep node None after (Some (PartMessage part)) None → new ≡ after_sending after part view
     → After old new
 sends_after place to node after part view old new same kept here running there still ends does is =
-    hands place node after None (Some (PartMessage part)) (Some 0) view old new same kept here running still tt does (part_known place to node part view kept here there ends)
-    (length_pushed view.targets 0 ∙ ap (λ n. n + 1) kept.targets ∙ sym (length_pushed view.world.sent (PartMessage part))) is
+    hands place node after None (Some (PartMessage part)) (Some None) view old new same kept here running still tt does (part_known place to node part view kept here there ends)
+    (aimed_pushed view.world.sent view.targets (PartMessage part) None kept.targets tt) is
 
 pub sends_part : {E : Type 0} (Is : Call (Result Part E)) (place number : ℕ) (node after : Node) (part : Part) (view old new : WorldState) → view ≡ old → IsWorld view
     → slice_get view.world.nodes place ≡ Some node → is_crashed place old ≡ false → Is node (Ok part) after → number ≡ length view.world.sent → new ≡ after_sending after part view
@@ -280,17 +280,17 @@ sends_part Is place number node after part view old new same kept here running d
     (record { node = node; after = after; part = part; here = node_stands place view view node refl kept here; running = ap (is_crashed place) same ∙ running; is = does; numbered = at; new_is = is })
 
 -- in the words of the code
-abbrev pub after_giving : List Node → List Message → List ℕ → WorldState → WorldState
+abbrev pub after_giving : List Node → List Message → List (Option ℕ) → WorldState → WorldState
 after_giving nodes sent targets view = record view { world = record view.world { nodes = nodes; sent = sent }; targets = targets }
 
-pub giving_is : (place to slot : ℕ) (part : Part) (view : WorldState) (nodes : List Node) (sent before : List Message) (targets earlier : List ℕ) → IsWorld view
-    → (does : DoesAt (GiveIs slot to) SendSteps place view.world.nodes (Ok part) nodes) → sent ≡ before ++ PartMessage part ∷ [] → before ≡ view.world.sent → targets ≡ earlier ++ 0 ∷ [] → earlier ≡ view.targets
+pub giving_is : (place to slot : ℕ) (part : Part) (view : WorldState) (nodes : List Node) (sent before : List Message) (targets earlier : List (Option ℕ)) → IsWorld view
+    → (does : DoesAt (GiveIs slot to) SendSteps place view.world.nodes (Ok part) nodes) → sent ≡ before ++ PartMessage part ∷ [] → before ≡ view.world.sent → targets ≡ earlier ++ None ∷ [] → earlier ≡ view.targets
     → after_giving nodes sent targets view ≡ after_sending does.after part view
 giving_is place to slot part view nodes sent before targets earlier kept does s s' t t' =
     let still = still_give slot to part does.node does.after does.is in
     let put : nodes ≡ put_node does.after view.world.nodes = put_is place does.node does.after nodes view kept does.here still.number does.new_is in
     let messages : sent ≡ view.world.sent ++ PartMessage part ∷ [] = s ∙ ap (λ (xs : List Message). xs ++ PartMessage part ∷ []) s' in
-    let goes : targets ≡ view.targets ++ 0 ∷ [] = t ∙ ap (λ (xs : List ℕ). xs ++ 0 ∷ []) t' in
+    let goes : targets ≡ view.targets ++ None ∷ [] = t ∙ ap (λ (xs : List (Option ℕ)). xs ++ None ∷ []) t' in
     λ i. after_giving (put i) (messages i) (goes i) view
 
 pub gives : (place to slot : ℕ) (part : Part) (view old new : WorldState) (nodes : List Node) → view ≡ old → IsWorld view → is_crashed place old ≡ false → to < length view.world.nodes
@@ -320,12 +320,12 @@ give_kept place to give.NoSegment node after h = h.1
 give_kept place to give.NumbersSpent node after h = h.2
 give_kept place to give.Memory node after h = h.2
 
-pub give_stays : (place to slot : ℕ) (fault : GiveFault) (view : WorldState) (nodes : List Node) (sent : List Message) (targets : List ℕ)
+pub give_stays : (place to slot : ℕ) (fault : GiveFault) (view : WorldState) (nodes : List Node) (sent : List Message) (targets : List (Option ℕ))
     → (does : DoesAt (GiveIs slot to) SendSteps place view.world.nodes (Err fault) nodes) → sent ≡ view.world.sent → targets ≡ view.targets → after_giving nodes sent targets view ≡ view
 give_stays place to slot fault view nodes sent targets does s t =
     let n = nodes_stay (GiveIs slot to) SendSteps place (Err fault) view.world.nodes nodes does (give_kept slot to fault does.node does.after does.is) in λ i. after_giving (n i) (s i) (t i) view
 
-pub give_refused_at : (place to slot : ℕ) (fault : GiveFault) (view old : WorldState) (nodes : List Node) (sent : List Message) (targets : List ℕ) (result : Result Outcome Refusal) → view ≡ old → IsWorld view
+pub give_refused_at : (place to slot : ℕ) (fault : GiveFault) (view old : WorldState) (nodes : List Node) (sent : List Message) (targets : List (Option ℕ)) (result : Result Outcome Refusal) → view ≡ old → IsWorld view
     → HasNode to old → is_crashed place old ≡ false → (does : DoesAt (GiveIs slot to) SendSteps place view.world.nodes (Err fault) nodes) → sent ≡ view.world.sent → targets ≡ view.targets
     → IsErrAnd result (λ e. e ≡ refusal_of_give fault) → GiveStepIs place slot to old result (after_giving nodes sent targets view)
 give_refused_at place to slot fault view old nodes sent targets result same kept there running does s t is =

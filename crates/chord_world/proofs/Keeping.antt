@@ -26,7 +26,7 @@ pub further : (old new : World) → ∥ Reached old ∥₁ → WorldStep old new
 further old new reached step = ∥∥₁_map reached (λ run. Goes_on run step)
 
 pub new_is_world : (r : ℕ) → 2 ≤ r → r ≤ 16 → IsWorld (new_world r)
-new_is_world r low high = record { reached = ∣ Stays ∣₁; nodes = tt; callers = tt; targets = refl; calls = tt; crashed = refl; ring = λ some. absurd (some refl); low = low; high = high }
+new_is_world r low high = record { reached = ∣ Stays ∣₁; nodes = tt; callers = tt; targets = tt; calls = tt; crashed = refl; ring = λ some. absurd (some refl); low = low; high = high }
 
 -- ---- a first node
 

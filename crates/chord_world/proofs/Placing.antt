@@ -1,13 +1,14 @@
 -- Nodes and callers stand in the order of their numbers: a look-up is by place, and a put is a write.
-use Rattle.std.proofs.Common.{◌≡◌, ◌≢◌, ℕ, zero, suc, ◌+◌, ◌≤◌, Some, List, [], ◌∷◌, ◌++◌, length, set, refl, ◌∙◌, ap, subst, arith}
+use Rattle.std.proofs.Common.{◌≡◌, ◌≢◌, ℕ, zero, suc, ◌+◌, ◌≤◌, Option, None, Some, List, [], ◌∷◌, ◌++◌, length, set, refl, ◌∙◌, ap, subst, arith}
 use Rattle.std.specs.Prelude.{slice_get}
 use Rattle.chord_map.proofs.Equal.{eqb_same, eqb_other}
+use Rattle.chord_caller.specs.declared.ask.Ask.{Ask}
 use Rattle.chord_caller.specs.Caller.{Caller}
 use Rattle.chord_model.specs.declared.message.Message.{Message}
 use Rattle.chord_model.specs.declared.message.Message.TheVariants.{Ask as AskMessage, Told as ToldMessage, Full as FullMessage, Part as PartMessage, Got as GotMessage, Declined as DeclinedMessage, Note as NoteMessage}
 use Rattle.chord_model.specs.Node.{Node}
 use Rattle.chord_model.specs.World.{node_at, put_node, caller_at, put_caller}
-use Rattle.chord_world.specs.State.{NodesFrom, CallersFrom, IsKnown, AreKnown}
+use Rattle.chord_world.specs.State.{NodesFrom, CallersFrom, IsKnown, AreKnown, IsAimed, AreAimed}
 
 -- ---- nodes
 
@@ -110,3 +111,26 @@ pub call_at : (nodes count : ℕ) (sent : List Message) (place : ℕ) (message :
 call_at nodes count [] place message all e = cc
 call_at nodes count (other ∷ sent) zero message all e = let same : other ≡ message = cc in subst (IsKnown nodes count) same all.0
 call_at nodes count (other ∷ sent) (suc place) message all e = call_at nodes count sent place message all.1 e
+
+-- ---- where messages go
+
+pub aimed_pushed : (sent : List Message) (targets : List (Option ℕ)) (message : Message) (to : Option ℕ) → AreAimed sent targets → IsAimed message to → AreAimed (sent ++ message ∷ []) (targets ++ to ∷ [])
+aimed_pushed [] [] message to all here = (here, tt)
+aimed_pushed [] (other ∷ targets) message to all here = absurd all
+aimed_pushed (other ∷ sent) [] message to all here = absurd all
+aimed_pushed (other ∷ sent) (past ∷ targets) message to all here = (all.0, aimed_pushed sent targets message to all.1 here)
+
+-- an Ask that was sent goes to a node
+ask_aimed : (ask : Ask) (to : Option ℕ) → IsAimed (AskMessage ask) to → (node : ℕ) × (to ≡ Some node)
+ask_aimed ask None here = absurd here
+ask_aimed ask (Some node) here = (node, refl)
+
+pub aimed_at : (sent : List Message) (targets : List (Option ℕ)) (place : ℕ) (ask : Ask) (to : Option ℕ) → AreAimed sent targets → slice_get sent place ≡ Some (AskMessage ask) → slice_get targets place ≡ Some to
+    → (node : ℕ) × (to ≡ Some node)
+aimed_at [] targets place ask to all e t = cc
+aimed_at (message ∷ sent) [] place ask to all e t = absurd all
+aimed_at (message ∷ sent) (target ∷ targets) zero ask to all e t =
+    let called : message ≡ AskMessage ask = cc in
+    let aim : target ≡ to = cc in
+    ask_aimed ask to (subst (IsAimed (AskMessage ask)) aim (subst (λ m. IsAimed m target) called all.0))
+aimed_at (message ∷ sent) (target ∷ targets) (suc place) ask to all e t = aimed_at sent targets place ask to all.1 e t

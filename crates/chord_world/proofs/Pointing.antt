@@ -60,7 +60,7 @@ pointed_after place finger peer node view old new same kept here running is =
       was = tt;
       does = Links_change (pointed finger peer node).links refl;
       call = tt;
-      paired = kept.targets;
+      aimed = kept.targets;
       ring = pointed_ring place finger peer node view kept here runs;
     })
     is

@@ -1,5 +1,5 @@
 -- Calls that are submitted.
-use Rattle.std.proofs.Common.{◌≡◌, ◌≢◌, ℕ, zero, suc, false, ◌+◌, ◌<◌, ◌≤◌, None, Some, Ok, Err, List, [], ◌∷◌, ◌++◌, length, set, get_or, refl, sym, ◌∙◌, ap, subst, arith, length-append}
+use Rattle.std.proofs.Common.{◌≡◌, ◌≢◌, ℕ, zero, suc, false, ◌<◌, ◌≤◌, Option, None, Some, Ok, Err, List, [], ◌∷◌, ◌++◌, length, map, set, get_or, refl, sym, ◌∙◌, ap, subst, arith}
 use Rattle.std.proofs.lemmas.Option.{slice_get_past, slice_get_within}
 use Rattle.std.proofs.lemmas.List.{length-set}
 use Rattle.std.specs.Prelude.{◌==◌, slice_get}
@@ -22,7 +22,7 @@ use Rattle.chord_world.specs.declared.refusal.Refusal.{Refusal}
 use Rattle.chord_world.specs.Refusals.{refusal_of}
 use Rattle.chord_world.specs.Steps.{with_ask, Sends, RefusesCall, SubmitStepIs}
 use Rattle.chord_world.specs.Sending.{CanSubmit, Submitted}
-use Rattle.chord_world.proofs.Placing.{caller_at_place, put_caller_place, callers_set, caller_number, calls_pushed}
+use Rattle.chord_world.proofs.Placing.{caller_at_place, put_caller_place, callers_set, caller_number, calls_pushed, aimed_pushed}
 use Rattle.chord_world.proofs.Keeping.{further}
 
 -- only memory can be missing
@@ -44,6 +44,12 @@ pub slice_get_there : {A : Type 0} (xs : List A) (place : ℕ) → place < lengt
 slice_get_there [] place within = absurd (omega arith)
 slice_get_there (y ∷ xs) zero within = (y, refl)
 slice_get_there (y ∷ xs) (suc place) within = slice_get_there xs place (omega arith)
+
+-- and what of it is kept in another list
+pub got_of : {A B : Type 0} (f : A → B) (xs : List A) (place : ℕ) (x : A) → place < length xs → x ≡ get_or xs place x → slice_get (map f xs) place ≡ Some (f x)
+got_of f [] place x within e = absurd (omega arith)
+got_of f (y ∷ xs) zero x within e = ap (λ z. Some (f z)) (sym e)
+got_of f (y ∷ xs) (suc place) x within e = got_of f xs place x (omega arith) e
 
 -- writing what stands there changes nothing
 pub set_same : {A : Type 0} (xs : List A) (place : ℕ) (x : A) → slice_get xs place ≡ Some x → set xs place x ≡ xs
@@ -91,9 +97,6 @@ pub sends_step : (caller via : ℕ) (request : Request) (old : WorldState) (core
     → WorldStep old.world (with_ask after ask via old).world
 sends_step caller via request old core after ask there submits = Calls caller core after None (Some (AskLetter ask)) there.1 tt (submit_steps request core ask after submits)
 
-pub length_pushed : {A : Type 0} (xs : List A) (x : A) → length (xs ++ x ∷ []) ≡ length xs + 1
-length_pushed xs x = length-append xs (x ∷ [])
-
 pub sent_is_world : (caller via : ℕ) (request : Request) (old : WorldState) (core after : Caller) (ask : Ask) → IsThere caller via old core → SubmitIs request core (Ok ask) after
     → IsWorld old → IsWorld (with_ask after ask via old)
 sent_is_world caller via request old core after ask there submits kept =
@@ -109,7 +112,7 @@ sent_is_world caller via request old core after ask there submits kept =
       reached = further old.world (with_ask after ask via old).world kept.reached (sends_step caller via request old core after ask there submits);
       nodes = kept.nodes;
       callers = subst (CallersFrom 0) (sym put) (callers_set 0 caller after old.world.callers kept.callers (omega arith));
-      targets = length_pushed old.targets via ∙ ap (λ n. n + 1) kept.targets ∙ sym (length_pushed old.world.sent (AskMessage ask));
+      targets = aimed_pushed old.world.sent old.targets (AskMessage ask) (Some via) kept.targets tt;
       calls = subst (λ n. AreKnown (length old.world.nodes) n (old.world.sent ++ AskMessage ask ∷ [])) (sym count) (calls_pushed (length old.world.nodes) (length old.world.callers) old.world.sent (AskMessage ask) kept.calls (omega arith));
       crashed = kept.crashed;
       ring = kept.ring;
@@ -118,18 +121,18 @@ sent_is_world caller via request old core after ask there submits kept =
     }
 
 -- in the words of the code: the callers, the messages and the targets as they are then
-abbrev pub posted : List Caller → List Message → List ℕ → WorldState → WorldState
+abbrev pub posted : List Caller → List Message → List (Option ℕ) → WorldState → WorldState
 posted callers sent targets view = record view { world = record view.world { callers = callers; sent = sent }; targets = targets }
 
-pub posted_is : (caller via : ℕ) (request : Request) (view : WorldState) (callers : List Caller) (sent before : List Message) (targets earlier : List ℕ) (ask : Ask) → IsWorld view
-    → (did : Submitted caller request view.world.callers ask callers) → sent ≡ before ++ AskMessage ask ∷ [] → before ≡ view.world.sent → targets ≡ earlier ++ via ∷ [] → earlier ≡ view.targets
+pub posted_is : (caller via : ℕ) (request : Request) (view : WorldState) (callers : List Caller) (sent before : List Message) (targets earlier : List (Option ℕ)) (ask : Ask) → IsWorld view
+    → (did : Submitted caller request view.world.callers ask callers) → sent ≡ before ++ AskMessage ask ∷ [] → before ≡ view.world.sent → targets ≡ earlier ++ Some via ∷ [] → earlier ≡ view.targets
     → posted callers sent targets view ≡ with_ask did.after ask via view
 posted_is caller via request view callers sent before targets earlier ask kept did s s' t t' =
     let at = sent_number request did.core did.after ask did.submits ∙ caller_number 0 caller did.core view.world.callers kept.callers did.here in
     let number : did.after.number ≡ caller = omega arith in
     let put : callers ≡ put_caller did.after view.world.callers = did.new_is ∙ sym (put_caller_place 0 caller did.after view.world.callers kept.callers (omega arith)) in
     let messages : sent ≡ view.world.sent ++ AskMessage ask ∷ [] = s ∙ ap (λ (xs : List Message). xs ++ AskMessage ask ∷ []) s' in
-    let nodes : targets ≡ view.targets ++ via ∷ [] = t ∙ ap (λ (xs : List ℕ). xs ++ via ∷ []) t' in
+    let nodes : targets ≡ view.targets ++ Some via ∷ [] = t ∙ ap (λ (xs : List (Option ℕ)). xs ++ Some via ∷ []) t' in
     λ i. posted (put i) (messages i) (nodes i) view
 
 pub there_of : (caller via : ℕ) (request : Request) (view : WorldState) (ask : Ask) (callers : List Caller) → IsWorld view → via < length view.world.nodes

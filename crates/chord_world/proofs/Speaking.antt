@@ -1,5 +1,5 @@
 -- Callers that send again, show a note or meet one.
-use Rattle.std.proofs.Common.{◌≡◌, ℕ, ◌+◌, ◌<◌, Option, None, Some, Result, Ok, Err, List, [], ◌∷◌, ◌++◌, length, set, get_or, refl, sym, ◌∙◌, ap, subst, arith}
+use Rattle.std.proofs.Common.{◌≡◌, ℕ, ◌<◌, Option, None, Some, Result, Ok, Err, List, [], ◌∷◌, ◌++◌, length, set, get_or, refl, sym, ◌∙◌, ap, subst, arith}
 use Rattle.std.specs.Prelude.{slice_get, slice_set, Contains, OnOk, OnErr, IsErrAnd}
 use Rattle.std.specs.declared.alloc.AllocError.{AllocError}
 use Rattle.std.proofs.lemmas.Option.{slice_get_within}
@@ -19,32 +19,32 @@ use Rattle.chord_model.specs.World.WorldStep.{Calls}
 use Rattle.chord_world.specs.declared.outcome.Outcome.{Outcome}
 use Rattle.chord_world.specs.declared.refusal.Refusal.{Refusal}
 use Rattle.chord_world.specs.declared.refusal.Refusal.TheVariants as refused
-use Rattle.chord_world.specs.State.{WorldState, CallersFrom, IsKnown, AreKnown, IsWorld, IsThere, with_heard, with_sent}
+use Rattle.chord_world.specs.State.{WorldState, CallersFrom, IsKnown, AreKnown, IsAimed, IsWorld, IsThere, with_heard, with_sent}
 use Rattle.chord_world.specs.Calling.CannotAskAgain.{Is_idle, No_memory}
 use Rattle.chord_world.specs.Calling.{CallerIs, WantedIs, IsIdle, IsWaiting, AsksAgain, CannotAskAgain, AgainIs, SendsAgain, ResendStepIs, note_of, SendsNote, with_note, MeetsNote, MeetIs, SentIs, Met, MeetsAt}
 use Rattle.chord_world.specs.Calling.IsIdle.{Not_pending}
-use Rattle.chord_world.proofs.Placing.{caller_at_place, put_caller_place, callers_set, caller_number, calls_pushed}
+use Rattle.chord_world.proofs.Placing.{caller_at_place, put_caller_place, callers_set, caller_number, calls_pushed, aimed_pushed}
 use Rattle.chord_world.proofs.Keeping.{further}
-use Rattle.chord_world.proofs.Posting.{length_pushed, got, set_same, posted, caller_stands}
+use Rattle.chord_world.proofs.Posting.{got, set_same, posted, caller_stands}
 
 -- ---- a caller that sends and is as it was
 
 put_here : (place : ℕ) (core : Caller) (callers : List Caller) → CallersFrom 0 callers → slice_get callers place ≡ Some core → put_caller core callers ≡ callers
 put_here place core callers numbered here = put_caller_place 0 place core callers numbered (caller_number 0 place core callers numbered here) ∙ set_same callers place core here
 
-pub sent_step : (place to : ℕ) (core : Caller) (letter : Letter) (view : WorldState) → IsWorld view → slice_get view.world.callers place ≡ Some core → CallerStep core None core (Some letter)
+pub sent_step : (place : ℕ) (to : Option ℕ) (core : Caller) (letter : Letter) (view : WorldState) → IsWorld view → slice_get view.world.callers place ≡ Some core → CallerStep core None core (Some letter)
     → WorldStep view.world (with_sent (message_of letter) to view).world
 sent_step place to core letter view kept here step =
     subst (λ (callers : List Caller). WorldStep view.world (record view.world { callers = callers; sent = view.world.sent ++ message_of letter ∷ [] })) (put_here place core view.world.callers kept.callers here)
     (Calls place core core None (Some letter) (caller_at_place 0 place place view.world.callers kept.callers (omega arith) ∙ here) tt step)
 
-pub sent_is_world : (place to : ℕ) (core : Caller) (letter : Letter) (view : WorldState) → IsWorld view → slice_get view.world.callers place ≡ Some core → CallerStep core None core (Some letter)
-    → IsKnown (length view.world.nodes) (length view.world.callers) (message_of letter) → IsWorld (with_sent (message_of letter) to view)
-sent_is_world place to core letter view kept here step call = record {
+pub sent_is_world : (place : ℕ) (to : Option ℕ) (core : Caller) (letter : Letter) (view : WorldState) → IsWorld view → slice_get view.world.callers place ≡ Some core → CallerStep core None core (Some letter)
+    → IsKnown (length view.world.nodes) (length view.world.callers) (message_of letter) → IsAimed (message_of letter) to → IsWorld (with_sent (message_of letter) to view)
+sent_is_world place to core letter view kept here step call aim = record {
   reached = further view.world (with_sent (message_of letter) to view).world kept.reached (sent_step place to core letter view kept here step);
   nodes = kept.nodes;
   callers = kept.callers;
-  targets = length_pushed view.targets to ∙ ap (λ n. n + 1) kept.targets ∙ sym (length_pushed view.world.sent (message_of letter));
+  targets = aimed_pushed view.world.sent view.targets (message_of letter) to kept.targets aim;
   calls = calls_pushed (length view.world.nodes) (length view.world.callers) view.world.sent (message_of letter) kept.calls call;
   crashed = kept.crashed;
   ring = kept.ring;
@@ -53,11 +53,11 @@ sent_is_world place to core letter view kept here step call = record {
 }
 
 -- in the words of the code
-pub sent_now : (message : Message) (to : ℕ) (view : WorldState) (number : ℕ) (sent : List Message) (targets : List ℕ) → SentIs message to view.world.sent view.targets (Ok number) sent targets
+pub sent_now : (message : Message) (to : Option ℕ) (view : WorldState) (number : ℕ) (sent : List Message) (targets : List (Option ℕ)) → SentIs message to view.world.sent view.targets (Ok number) sent targets
     → posted view.world.callers sent targets view ≡ with_sent message to view
 sent_now message to view number sent targets h = λ i. posted view.world.callers (h.1 i) (h.2 i) view
 
-pub sent_not : (message : Message) (to : ℕ) (view : WorldState) (refused : AllocError) (sent : List Message) (targets : List ℕ) → SentIs message to view.world.sent view.targets (Err refused) sent targets
+pub sent_not : (message : Message) (to : Option ℕ) (view : WorldState) (refused : AllocError) (sent : List Message) (targets : List (Option ℕ)) → SentIs message to view.world.sent view.targets (Err refused) sent targets
     → posted view.world.callers sent targets view ≡ view
 sent_not message to view refused sent targets h = λ i. posted view.world.callers (h.0 i) (h.1 i) view
 
@@ -155,33 +155,33 @@ asks_pending named core ask asks = record {
   pending = rw (asks.resends.1, asks.resends.2) refl;
 }
 
-pub again_memory : (caller via : ℕ) (named : Option ℕ) (view old : WorldState) (core : Caller) (ask : Ask) (denied : AllocError) (sent : List Message) (targets : List ℕ) (result : Result Outcome Refusal)
-    → view ≡ old → IsThere caller via old core → AsksAgain named core ask → SentIs (AskMessage ask) via view.world.sent view.targets (Err denied) sent targets
+pub again_memory : (caller via : ℕ) (named : Option ℕ) (view old : WorldState) (core : Caller) (ask : Ask) (denied : AllocError) (sent : List Message) (targets : List (Option ℕ)) (result : Result Outcome Refusal)
+    → view ≡ old → IsThere caller via old core → AsksAgain named core ask → SentIs (AskMessage ask) (Some via) view.world.sent view.targets (Err denied) sent targets
     → IsErrAnd result (λ e. e ≡ refused.Memory) → ResendStepIs caller via named old result (posted view.world.callers sent targets view)
 again_memory caller via named view old core ask denied sent targets (Ok outcome) same there asks stays is = absurd is
 again_memory caller via named view old core ask denied sent targets (Err e) same there asks stays is =
     subst (λ r. ResendStepIs caller via named old (Err r) (posted view.world.callers sent targets view)) (sym is)
-    ((core, there, asks_pending named core ask asks), sent_not (AskMessage ask) via view denied sent targets stays ∙ same)
+    ((core, there, asks_pending named core ask asks), sent_not (AskMessage ask) (Some via) view denied sent targets stays ∙ same)
 
-pub again_sends : (caller via number : ℕ) (named : Option ℕ) (view old : WorldState) (core : Caller) (ask : Ask) (sent : List Message) (targets : List ℕ) → view ≡ old → IsThere caller via old core
-    → AsksAgain named core ask → SentIs (AskMessage ask) via view.world.sent view.targets (Ok number) sent targets → SendsAgain caller via named old number (posted view.world.callers sent targets view)
+pub again_sends : (caller via number : ℕ) (named : Option ℕ) (view old : WorldState) (core : Caller) (ask : Ask) (sent : List Message) (targets : List (Option ℕ)) → view ≡ old → IsThere caller via old core
+    → AsksAgain named core ask → SentIs (AskMessage ask) (Some via) view.world.sent view.targets (Ok number) sent targets → SendsAgain caller via named old number (posted view.world.callers sent targets view)
 again_sends caller via number named view old core ask sent targets same there asks goes = record {
   core = core;
   ask = ask;
   there = there;
   asks = asks;
   numbered = goes.0 ∙ ap (λ (w : WorldState). length w.world.sent) same;
-  new_is = sent_now (AskMessage ask) via view number sent targets goes ∙ ap (with_sent (AskMessage ask) via) same;
+  new_is = sent_now (AskMessage ask) (Some via) view number sent targets goes ∙ ap (with_sent (AskMessage ask) (Some via)) same;
 }
 
 -- a note that goes out
-pub show_sends : (caller number : ℕ) (view old : WorldState) (core : Caller) (note : Note) (sent : List Message) (targets : List ℕ) → view ≡ old → caller_at caller old.world.callers ≡ Some core
-    → note ≡ note_of core → SentIs (NoteMessage note) 0 view.world.sent view.targets (Ok number) sent targets → SendsNote caller old number (posted view.world.callers sent targets view)
+pub show_sends : (caller number : ℕ) (view old : WorldState) (core : Caller) (note : Note) (sent : List Message) (targets : List (Option ℕ)) → view ≡ old → caller_at caller old.world.callers ≡ Some core
+    → note ≡ note_of core → SentIs (NoteMessage note) None view.world.sent view.targets (Ok number) sent targets → SendsNote caller old number (posted view.world.callers sent targets view)
 show_sends caller number view old core note sent targets same here is goes = record {
   core = core;
   here = here;
   numbered = goes.0 ∙ ap (λ (w : WorldState). length w.world.sent) same;
-  new_is = sent_now (NoteMessage note) 0 view number sent targets goes ∙ ap (with_sent (NoteMessage note) 0) same ∙ ap (λ n. with_sent (NoteMessage n) 0 old) is;
+  new_is = sent_now (NoteMessage note) None view number sent targets goes ∙ ap (with_sent (NoteMessage note) None) same ∙ ap (λ n. with_sent (NoteMessage n) None old) is;
 }
 
 -- the note of the code is the one that was sent

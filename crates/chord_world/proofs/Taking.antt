@@ -1,6 +1,5 @@
 -- Parts, and what comes of them, that are delivered.
-use Rattle.std.proofs.Common.{◌≡◌, ◌≢◌, ℕ, ◌+◌, ◌<◌, inl, inr, Bool, true, false, Option, None, Some, Ok, Err, List, length, get_or, refl, sym, ◌∙◌, ap, subst, arith}
-use Rattle.std.proofs.lemmas.Option.{slice_get_within}
+use Rattle.std.proofs.Common.{◌≡◌, ◌≢◌, ℕ, ◌<◌, inl, inr, Bool, true, false, Option, None, Some, Ok, Err, List, length, get_or, refl, sym, ◌∙◌, ap, subst, arith}
 use Rattle.std.specs.Prelude.{slice_get, Contains}
 use Rattle.std.specs.declared.alloc.AllocError.{AllocError}
 use Rattle.chord_handover.specs.declared.ticket.Ticket.{Ticket}
@@ -17,18 +16,18 @@ use Rattle.chord_model.specs.World.{World, Reached, put_node, with_one, node_at}
 use Rattle.chord_world.specs.declared.outcome.Outcome.{Outcome}
 use Rattle.chord_world.specs.Handing.{DoesAt}
 use Rattle.chord_world.specs.Linking.{with_node}
-use Rattle.chord_world.specs.State.{WorldState, IsWorld, is_crashed}
+use Rattle.chord_world.specs.declared.sent.Sent.{Sent}
+use Rattle.chord_world.specs.State.{WorldState, messages_of, AreAimed, IsWorld, is_crashed}
 use Rattle.chord_world.specs.Delivered.{IsFor, IsForCrashed, TakesMemory, Delivers}
 use Rattle.chord_world.specs.Delivered.TakesMemory.{Part_takes, Declined_takes}
 use Rattle.chord_world.specs.Delivered.Delivers.{Part_to_node, Got_to_node, Declined_to_node}
 use Rattle.chord_world.specs.Taking.{IsNumbered, GotSteps, outcome_of_given, outcome_of_freed, outcome_of_back, confirmation, no_target}
 use Rattle.chord_world.proofs.Acting.{After, SendsCall, acted, put_is}
-use Rattle.chord_world.proofs.Answering.{was_sent, read, sent_here}
+use Rattle.chord_world.proofs.Answering.{was_sent, place_within, read, sent_here}
 use Rattle.chord_world.proofs.Handing.{IsStill, hands, nodes_are}
 use Rattle.chord_world.proofs.Keeping.{with_nodes}
-use Rattle.chord_world.proofs.Placing.{node_number, call_at}
+use Rattle.chord_world.proofs.Placing.{node_number, call_at, aimed_pushed}
 use Rattle.chord_world.proofs.Pointing.{node_stands, node_within}
-use Rattle.chord_world.proofs.Posting.{length_pushed}
 
 -- ---- what a node takes in leaves it where it is
 
@@ -98,12 +97,16 @@ known_reply nodes count part given.Clash from to = tt
 known_reply nodes count part given.Full from to = tt
 known_reply nodes count part given.Part from to = tt
 
-reply_lengths : (targets : List ℕ) (sent : List Message) (message : Option Message) → length targets ≡ length sent → length (with_one targets (no_target message)) ≡ length (with_one sent message)
-reply_lengths targets sent None e = e
-reply_lengths targets sent (Some message) e = length_pushed targets 0 ∙ ap (λ n. n + 1) e ∙ sym (length_pushed sent message)
+reply_aimed : (sent : List Message) (targets : List (Option ℕ)) (part : Part) (answer : Given) → AreAimed sent targets → AreAimed (with_one sent (sent_for part answer)) (with_one targets (no_target (sent_for part answer)))
+reply_aimed sent targets part given.Got all = aimed_pushed sent targets (GotMessage (ticket_of_part part)) None all tt
+reply_aimed sent targets part given.Declined all = aimed_pushed sent targets (DeclinedMessage (ticket_of_part part)) None all tt
+reply_aimed sent targets part given.Early all = all
+reply_aimed sent targets part given.Clash all = all
+reply_aimed sent targets part given.Full all = all
+reply_aimed sent targets part given.Part all = all
 
 -- in the words of the code
-abbrev pub after_part : List Node → List Message → List ℕ → WorldState → WorldState
+abbrev pub after_part : List Node → List Message → List (Option ℕ) → WorldState → WorldState
 after_part nodes sent targets view = record view { world = record view.world { nodes = nodes; sent = sent }; targets = targets }
 
 -- a part that its receiver took in
@@ -112,7 +115,7 @@ pub record TookPart (place to : ℕ) (part : Part) (answer : Given) (view : Worl
   pub own : part.to ≡ to
   pub does : DoesAt (PartIs part) (PartSteps part) to view.world.nodes (Ok answer) nodes
 
-pub part_is : (place to : ℕ) (part : Part) (answer : Given) (ticket : Ticket) (view : WorldState) (nodes : List Node) (sent before : List Message) (targets earlier : List ℕ) → IsWorld view
+pub part_is : (place to : ℕ) (part : Part) (answer : Given) (ticket : Ticket) (view : WorldState) (nodes : List Node) (sent before : List Message) (targets earlier : List (Option ℕ)) → IsWorld view
     → (took : TookPart place to part answer view nodes) → ticket ≡ ticket_of_part part → sent ≡ with_one before (confirmation ticket answer) → before ≡ view.world.sent
     → targets ≡ with_one earlier (no_target (confirmation ticket answer)) → earlier ≡ view.targets
     → after_part nodes sent targets view ≡ acted took.does.after (sent_for part answer) (no_target (sent_for part answer)) None view
@@ -131,7 +134,7 @@ part_after place to part answer view old new nodes same kept running took is =
     hands to took.does.node took.does.after (Some (PartMessage part)) (sent_for part answer) (no_target (sent_for part answer)) view old new same kept took.does.here running
     (still_part part answer took.does.node took.does.after took.does.is) (was_sent view.world.sent place (PartMessage part) took.sent) took.does.steps
     (known_reply (length view.world.nodes) (length view.world.callers) part answer ends.0 ends.1)
-    (reply_lengths view.targets view.world.sent (sent_for part answer) kept.targets) is
+    (reply_aimed view.world.sent view.targets part answer kept.targets) is
 
 pub part_delivers : (place to : ℕ) (part : Part) (answer : Given) (view old new : WorldState) (nodes : List Node) (outcome : Outcome) → view ≡ old → IsWorld view → is_crashed to old ≡ false
     → (took : TookPart place to part answer view nodes) → new ≡ acted took.does.after (sent_for part answer) (no_target (sent_for part answer)) None view
@@ -148,13 +151,15 @@ pub record Came (place to : ℕ) (part : Part) (view : WorldState) : Type 0 wher
   pub sent : slice_get view.world.sent place ≡ Some (PartMessage part)
   pub own : part.to ≡ to
 
-pub came : (place to : ℕ) (view old : WorldState) (asked part : Part) (items : List Message) (read_as : Message) → view ≡ old → slice_get old.world.sent place ≡ Some (PartMessage asked)
-    → asked.to ≡ to → items ≡ view.world.sent → read_as ≡ get_or items place read_as → read_as ≡ PartMessage part → Came place to part view
-came place to view old asked part items read_as same here own is_sent is_read is_part =
+pub came : (place to : ℕ) (view old : WorldState) (asked part : Part) (items before : List Sent) (read_as : Sent) → view ≡ old → messages_of before ≡ view.world.sent
+    → slice_get old.world.sent place ≡ Some (PartMessage asked) → asked.to ≡ to → items ≡ before → read_as ≡ get_or items place read_as → read_as.message ≡ PartMessage part
+    → Came place to part view
+came place to view old asked part items before read_as same messages here own is_sent is_read is_part =
     let asked_here = sent_here view old place (PartMessage asked) same here in
-    let within = slice_get_within view.world.sent place (PartMessage asked) asked_here in
-    let room = ap length is_sent in
-    let sent = read items view.world.sent place read_as is_sent (omega arith) is_read ∙ ap (λ m. Some m) is_part in
+    let stands : slice_get (messages_of before) place ≡ Some (PartMessage asked) = ap (λ ms. slice_get ms place) messages ∙ asked_here in
+    let within = place_within items before place (PartMessage asked) is_sent stands in
+    let sent : slice_get view.world.sent place ≡ Some (PartMessage part) =
+    ap (λ ms. slice_get ms place) (sym messages) ∙ read items before place read_as (PartMessage part) is_sent within is_read is_part in
     record { sent = sent; own = ap (λ (p : Part). p.to) (same_part view place part asked sent asked_here) ∙ own }
 
 -- no answer to a part that was sent is a clash

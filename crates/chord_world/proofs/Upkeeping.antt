@@ -57,7 +57,7 @@ upkept_here step place links view nodes kept own moves relinks =
             was = tt;
             does = Links_change links me;
             call = tt;
-            paired = kept.targets;
+            aimed = kept.targets;
             ring = subst (Kept (ring_of view)) (sym ring)
                 (Kept-step (ring_of view) (with_links (ring_of view) place links) step (kept.ring (node_there place view.world.nodes node relinks.here)) moves);
           })
@@ -169,7 +169,7 @@ retires place node view nodes kept may is =
       was = tt;
       does = Retires may.leaving may.holds_none may.sends_none;
       call = tt;
-      paired = kept.targets;
+      aimed = kept.targets;
       ring = subst (Kept (ring_of view)) (sym (ring_departed place node (retired node) view.world.nodes view.crashed kept.crashed may.here refl refl))
           (Kept-departs (ring_of view) place (kept.ring (node_there place view.world.nodes node may.here)) may.can);
     })

@@ -69,7 +69,7 @@ pub record SendsAgain (caller via : ℕ) (named : Option ℕ) (old : WorldState)
   pub there : IsThere caller via old core
   pub asks : AsksAgain named core ask
   pub numbered : message ≡ length old.world.sent
-  pub new_is : new ≡ with_sent (AskMessage ask) via old
+  pub new_is : new ≡ with_sent (AskMessage ask) (Some via) old
 
 abbrev pub ResendStepIs : ℕ → ℕ → Option ℕ → WorldState → Result Outcome Refusal → WorldState → Type 0
 ResendStepIs caller via named old (Ok (did.Message message)) new = SendsAgain caller via named old message new
@@ -89,7 +89,7 @@ pub record SendsNote (caller : ℕ) (old : WorldState) (message : ℕ) (new : Wo
   pub core : Caller
   pub here : caller_at caller old.world.callers ≡ Some core
   pub numbered : message ≡ length old.world.sent
-  pub new_is : new ≡ with_sent (NoteMessage (note_of core)) 0 old
+  pub new_is : new ≡ with_sent (NoteMessage (note_of core)) None old
 
 abbrev pub ShowIs : ℕ → WorldState → Result Outcome Refusal → WorldState → Type 0
 ShowIs caller old (Ok (did.Message message)) new = SendsNote caller old message new
@@ -125,7 +125,7 @@ MeetIs caller message old (Err refusal) new = CallerIs caller old (Err refusal) 
 -- ---- how it comes about
 
 -- one more message, or was out of memory, and nothing changed
-abbrev pub SentIs : Message → ℕ → List Message → List ℕ → Result ℕ AllocError → List Message → List ℕ → Type 0
+abbrev pub SentIs : Message → Option ℕ → List Message → List (Option ℕ) → Result ℕ AllocError → List Message → List (Option ℕ) → Type 0
 SentIs message to sent targets (Ok number) sent' targets' = (number ≡ length sent) × (sent' ≡ sent ++ message ∷ []) × (targets' ≡ targets ++ to ∷ [])
 SentIs message to sent targets (Err refused) sent' targets' = (sent' ≡ sent) × (targets' ≡ targets)
 

@@ -33,12 +33,12 @@ outcome_of (answer.Forward to passed) count = did.Forwarded count
 outcome_of answer.Dropped count = did.Dropped
 outcome_of answer.Full count = did.Full count
 
--- the node that an answer goes to, where it is a call; 0 stands for none
-abbrev pub target_of : Answered → Option ℕ
-target_of (answer.Told told) = Some 0
-target_of (answer.Forward to passed) = Some to
+-- what an answer sends goes to this node, where it is an Ask
+abbrev pub target_of : Answered → Option (Option ℕ)
+target_of (answer.Told told) = Some None
+target_of (answer.Forward to passed) = Some (Some to)
 target_of answer.Dropped = None
-target_of answer.Full = Some 0
+target_of answer.Full = Some None
 
 -- the world after this node answered a call so
 abbrev pub with_answer : Ask → Node → Node → Answered → WorldState → WorldState
@@ -61,7 +61,7 @@ outcome_heard KnownReply caller = did.Known
 pub data Delivers (message : ℕ) (old : WorldState) : Outcome → WorldState → Type 0 where
   -- a call comes to its node
   To_node : (ask : Ask) (to : ℕ) (node after : Node) (answered : Answered) → slice_get old.world.sent message ≡ Some (AskMessage ask)
-      → slice_get old.targets message ≡ Some to → node_at to old.world.nodes ≡ Some node → is_crashed to old ≡ false → AskIs ask node (Ok answered) after
+      → slice_get old.targets message ≡ Some (Some to) → node_at to old.world.nodes ≡ Some node → is_crashed to old ≡ false → AskIs ask node (Ok answered) after
       → Delivers message old (outcome_of answered (length old.world.sent)) (with_answer ask node after answered old)
   -- a reply comes to its caller
   To_caller : (told : Told) (core after : Caller) (heard : Heard) → slice_get old.world.sent message ≡ Some (ToldMessage told)
@@ -88,12 +88,12 @@ pub record IsAstray (message : ℕ) (old : WorldState) : Type 0 where
   pub ask : Ask
   pub to : ℕ
   pub sent : slice_get old.world.sent message ≡ Some (AskMessage ask)
-  pub target : slice_get old.targets message ≡ Some to
+  pub target : slice_get old.targets message ≡ Some (Some to)
   pub missing : node_at to old.world.nodes ≡ None
 
 -- the message of this number is for this node
 pub data IsFor (message : ℕ) (old : WorldState) : ℕ → Type 0 where
-  Ask_for : (ask : Ask) (to : ℕ) → slice_get old.world.sent message ≡ Some (AskMessage ask) → slice_get old.targets message ≡ Some to → IsFor message old to
+  Ask_for : (ask : Ask) (to : ℕ) → slice_get old.world.sent message ≡ Some (AskMessage ask) → slice_get old.targets message ≡ Some (Some to) → IsFor message old to
   Part_for : (part : Part) → slice_get old.world.sent message ≡ Some (PartMessage part) → IsFor message old part.to
   Got_for : (got : Ticket) → slice_get old.world.sent message ≡ Some (GotMessage got) → IsFor message old got.from
   Declined_for : (declined : Ticket) → slice_get old.world.sent message ≡ Some (DeclinedMessage declined) → IsFor message old declined.from
@@ -108,7 +108,7 @@ pub record IsForCrashed (message : ℕ) (old : WorldState) : Type 0 where
 
 -- the message of this number copies something, or makes something grow, where it is taken in
 pub data TakesMemory (message : ℕ) (old : WorldState) : Type 0 where
-  Ask_takes : (ask : Ask) (to : ℕ) (node : Node) → slice_get old.world.sent message ≡ Some (AskMessage ask) → slice_get old.targets message ≡ Some to
+  Ask_takes : (ask : Ask) (to : ℕ) (node : Node) → slice_get old.world.sent message ≡ Some (AskMessage ask) → slice_get old.targets message ≡ Some (Some to)
       → node_at to old.world.nodes ≡ Some node → is_crashed to old ≡ false → TakesMemory message old
   Told_takes : (told : Told) → slice_get old.world.sent message ≡ Some (ToldMessage told) → TakesMemory message old
   Part_takes : (part : Part) (node : Node) → slice_get old.world.sent message ≡ Some (PartMessage part) → node_at part.to old.world.nodes ≡ Some node

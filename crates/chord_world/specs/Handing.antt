@@ -94,7 +94,7 @@ pub record SendsPart {E : Type 0} (Is : Call (Result Part E)) (number : ℕ) (ol
   pub running : is_crashed number old ≡ false
   pub is : Is node (Ok part) after
   pub numbered : message ≡ length old.world.sent
-  pub new_is : new ≡ with_sent (PartMessage part) 0 (with_node after old)
+  pub new_is : new ≡ with_sent (PartMessage part) None (with_node after old)
 
 -- the first part of a segment that is given
 abbrev pub refusal_of_give : GiveFault → Refusal

@@ -1,5 +1,5 @@
 -- What a World of the program is seen as, and what it keeps.
-use Rattle.std.specs.Prelude.{◌≡◌, ◌≢◌, ℕ, Bool, true, false, ◌+◌, ◌<◌, ◌≤◌, Some, List, [], ◌∷◌, ◌++◌, length, slice_get, slice_index_or}
+use Rattle.std.specs.Prelude.{◌≡◌, ◌≢◌, ℕ, Bool, true, false, ◌+◌, ◌<◌, ◌≤◌, Option, None, Some, List, [], ◌∷◌, ◌++◌, map, length, slice_get, slice_index_or}
 use Rattle.chord_ring.specs.Ring.{KeepsPrincipals}
 use Rattle.chord_ring.specs.Sound.{IsSound}
 use Rattle.chord_ring.specs.Steps.{Ring}
@@ -8,13 +8,22 @@ use Rattle.chord_model.specs.declared.message.Message.{Message}
 use Rattle.chord_model.specs.declared.message.Message.TheVariants.{Ask as AskMessage, Told as ToldMessage, Full as FullMessage, Part as PartMessage, Got as GotMessage, Declined as DeclinedMessage, Note as NoteMessage}
 use Rattle.chord_model.specs.Node.{Node}
 use Rattle.chord_model.specs.World.{World, Reached, empty_world, caller_at, put_caller}
+use Rattle.chord_world.specs.declared.sent.Sent.{Sent}
 use Rattle.chord_world.specs.Members.{ring_with}
+
+-- the messages of what was sent
+abbrev pub messages_of : List Sent → List Message
+messages_of sent = map (λ (one : Sent). one.message) sent
+
+-- and for each the node that it goes to, where it is an Ask
+abbrev pub targets_of : List Sent → List (Option ℕ)
+targets_of sent = map (λ (one : Sent). one.to) sent
 
 -- the world of the definitions; for each message sent the node that it goes to, where it is an Ask; for each node
 -- whether it crashed; and how many successors a node may list
 pub record WorldState : Type 0 where
   pub world : World
-  pub targets : List ℕ
+  pub targets : List (Option ℕ)
   pub crashed : List Bool
   pub r : ℕ
 
@@ -51,13 +60,26 @@ abbrev pub AreKnown : ℕ → ℕ → List Message → Type 0
 AreKnown nodes callers [] = Unit {0}
 AreKnown nodes callers (message ∷ rest) = IsKnown nodes callers message × AreKnown nodes callers rest
 
--- some steps lead to it, its nodes and callers stand at their numbers, each message has its node and is one of its
+-- an Ask goes to a node, and no other message does
+abbrev pub IsAimed : Message → Option ℕ → Type 0
+IsAimed (AskMessage ask) None = ⊥
+IsAimed (AskMessage ask) (Some to) = Unit {0}
+IsAimed message None = Unit {0}
+IsAimed message (Some to) = ⊥
+
+-- each does so
+abbrev pub AreAimed : List Message → List (Option ℕ) → Type 0
+AreAimed [] [] = Unit {0}
+AreAimed (message ∷ rest) (to ∷ targets) = IsAimed message to × AreAimed rest targets
+AreAimed messages targets = ⊥
+
+-- some steps lead to it, its nodes and callers stand at their numbers, each Ask has its node, each message is one of its
 -- callers' or between its nodes, and its nodes make a sound ring
 pub record IsWorld (state : WorldState) : Type 0 where
   pub reached : ∥ Reached state.world ∥₁
   pub nodes : NodesFrom 0 state.world.nodes
   pub callers : CallersFrom 0 state.world.callers
-  pub targets : length state.targets ≡ length state.world.sent
+  pub targets : AreAimed state.world.sent state.targets
   pub calls : AreKnown (length state.world.nodes) (length state.world.callers) state.world.sent
   pub crashed : length state.crashed ≡ length state.world.nodes
   pub ring : state.world.nodes ≢ [] → IsSound (ring_of state)
@@ -72,8 +94,8 @@ IsThere caller via state core = (via < length state.world.nodes) × (caller_at c
 abbrev pub with_heard : Caller → WorldState → WorldState
 with_heard after old = record old { world = record old.world { callers = put_caller after old.world.callers } }
 
--- the world after this message was sent to this node; 0 stands for none
-abbrev pub with_sent : Message → ℕ → WorldState → WorldState
+-- the world after this message was sent, to this node where it is an Ask
+abbrev pub with_sent : Message → Option ℕ → WorldState → WorldState
 with_sent message to old =
     record old { world = record old.world { sent = old.world.sent ++ message ∷ [] }; targets = old.targets ++ to ∷ [] }
 

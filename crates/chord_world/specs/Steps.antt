@@ -84,7 +84,7 @@ abbrev pub with_ask : Caller → Ask → ℕ → WorldState → WorldState
 with_ask after ask via old =
     record old {
       world = record old.world { callers = put_caller after old.world.callers; sent = old.world.sent ++ AskMessage ask ∷ [] };
-      targets = old.targets ++ via ∷ [];
+      targets = old.targets ++ Some via ∷ [];
     }
 
 -- the call was submitted and sent under this number

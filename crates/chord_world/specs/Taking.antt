@@ -33,10 +33,10 @@ confirmation ticket given.Got = Some (GotMessage ticket)
 confirmation ticket given.Declined = Some (DeclinedMessage ticket)
 confirmation ticket answer = None
 
--- no message of these is a call
-abbrev pub no_target : Option Message → Option ℕ
+-- no message of these is an Ask
+abbrev pub no_target : Option Message → Option (Option ℕ)
 no_target None = None
-no_target (Some message) = Some 0
+no_target (Some message) = Some None
 
 -- what came of a Got
 abbrev pub outcome_of_freed : Bool → Outcome

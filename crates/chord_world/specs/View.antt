@@ -1,11 +1,11 @@
 -- What the fields of a World are seen as.
 use Rattle.chord_world.specs.declared.world.World.TheInside.{Inside}
-use Rattle.chord_world.specs.State.{WorldState}
+use Rattle.chord_world.specs.State.{WorldState, messages_of, targets_of}
 
 abbrev pub state_of : {S : Type 0} → Inside S → WorldState
 state_of a = record {
-  world = record { nodes = a.nodes.items; callers = a.callers.items; sent = a.sent.items; history = a.history.items };
-  targets = a.targets.items;
+  world = record { nodes = a.nodes.items; callers = a.callers.items; sent = messages_of a.sent.items; history = a.history.items };
+  targets = targets_of a.sent.items;
   crashed = a.crashed.items;
   r = a.r;
 }

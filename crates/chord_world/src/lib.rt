@@ -10,6 +10,7 @@ mod members;
 mod outcome;
 mod refusal;
 mod running;
+mod sent;
 mod step;
 mod steps;
 mod world;

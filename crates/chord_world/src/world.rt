@@ -11,6 +11,7 @@ ghost use Rattle.chord_world.specs.Linking.{LinksAre};
 
 use crate::outcome::Outcome;
 use crate::refusal::Refusal;
+use crate::sent::Sent;
 use crate::step::Step;
 use chord_caller::CallerCore;
 use chord_links::Links;
@@ -28,8 +29,7 @@ pub struct World<S: EntryStore> {
     pub(crate) r: usize,
     pub(crate) nodes: Vec<Node<S>>,
     pub(crate) callers: Vec<CallerCore>,
-    pub(crate) sent: Vec<Message>,
-    pub(crate) targets: Vec<u64>,
+    pub(crate) sent: Vec<Sent>,
     pub(crate) crashed: Vec<bool>,
     pub(crate) history: Vec<Done>,
 }
@@ -59,7 +59,6 @@ impl<S: EntryStore> World<S> {
             nodes: Vec::new(alloc),
             callers: Vec::new(alloc),
             sent: Vec::new(alloc),
-            targets: Vec::new(alloc),
             crashed: Vec::new(alloc),
             history: Vec::new(alloc),
         }
@@ -88,7 +87,10 @@ impl<S: EntryStore> World<S> {
     pub fn message(&self, number: u64) -> Option<&Message>
         ensures { option_copied result ≡ slice_get self.now.world.sent number }
     {
-        self.sent.get(number as usize)
+        match self.sent.get(number as usize) {
+            Some(sent) => Some(&sent.message),
+            None => None,
+        }
     }
 
     /// The calls of a caller whose replies it took, in the order taken.

@@ -5,7 +5,7 @@ ghost use Rattle.chord_caller.specs.declared.told.Told.{Told as ToldOf};
 ghost use Rattle.chord_caller.specs.declared.ask.Ask.{Ask as AskOf};
 ghost use Rattle.chord_model.specs.declared.message.Message.TheVariants.{Ask as AskMessage, Told as ToldMessage};
 ghost use Rattle.chord_model.specs.World.{with_one};
-ghost use Rattle.chord_world.specs.State.{KeepsRing};
+ghost use Rattle.chord_world.specs.State.{messages_of, targets_of, KeepsRing};
 ghost use Rattle.chord_world.specs.Steps.{Advances};
 ghost use Rattle.chord_world.specs.Delivered.{DeliverIs, outcome_of, outcome_heard, target_of};
 ghost use Rattle.chord_world.specs.Delivering.{AnswersAt, HearsAt, IsOwed, message_by};
@@ -13,7 +13,8 @@ ghost use Rattle.chord_world.specs.Delivering.{AnswersAt, HearsAt, IsOwed, messa
 use crate::members::is_out;
 use crate::outcome::Outcome;
 use crate::refusal::{Refusal, StepFault};
-use crate::steps::outgoing::make_room;
+use crate::sent::Sent;
+use crate::steps::outgoing::push_message;
 use crate::world::World;
 use chord_caller::{Ask, CallerCore, Heard, TakeFault, Told};
 use chord_node::{Answered, Message, Node};
@@ -65,36 +66,20 @@ fn outcome_of_heard(heard: Heard, caller: u64) -> Outcome
 }
 
 /// Sends what the answer to a call of this caller sends.
-fn post(
-    sent: &mut Vec<Message>,
-    targets: &mut Vec<u64>,
-    caller: u64,
-    number: u64,
-    answered: Answered,
-) -> Outcome
-    requires sent { vec_len sent.old < vec_capacity sent.old }
-    requires targets { vec_len targets.old < vec_capacity targets.old }
-    ensures sent { sent.new.items ≡ with_one sent.old.items (message_by caller number answered) }
-    ensures targets { targets.new.items ≡ with_one targets.old.items (target_of answered) }
-    ensures outcome { result ≡ outcome_of answered (length sent.old.items) }
+fn post(sent: &mut Vec<Sent>, caller: u64, number: u64, answered: Answered) -> Outcome
+    requires { vec_len sent.old < vec_capacity sent.old }
+    ensures sent { messages_of sent.new.items ≡ with_one (messages_of sent.old.items) (message_by caller number answered) }
+    ensures targets { targets_of sent.new.items ≡ with_one (targets_of sent.old.items) (target_of answered) }
+    ensures outcome { result ≡ outcome_of answered (length (messages_of sent.old.items)) }
 {
-    let count = sent.len() as u64;
     match answered {
-        Answered::Told(told) => {
-            sent.push_reserved(Message::Told(told));
-            targets.push_reserved(0);
-            Outcome::Told(count)
-        }
+        Answered::Told(told) => Outcome::Told(push_message(sent, Message::Told(told), None)),
         Answered::Forward(to, passed) => {
-            sent.push_reserved(Message::Ask(passed));
-            targets.push_reserved(to);
-            Outcome::Forwarded(count)
+            Outcome::Forwarded(push_message(sent, Message::Ask(passed), Some(to)))
         }
         Answered::Dropped => Outcome::Dropped,
         Answered::Full => {
-            sent.push_reserved(Message::Full { caller, number });
-            targets.push_reserved(0);
-            Outcome::Full(count)
+            Outcome::Full(push_message(sent, Message::Full { caller, number }, None))
         }
     }
 }
@@ -118,20 +103,22 @@ impl<S: EntryStore> World<S> {
         ensures step { Advances self.old result self.new }
         ensures ring { KeepsRing self.old self.new }
     {
-        let to = self.targets[place];
+        let Some(to) = self.sent[place].to else {
+            unreachable!()
+        };
         if to >= self.nodes.len() as u64 {
             return Err(Refusal::NoSuchNode);
         }
         if is_out(&self.crashed, to) {
             return Err(Refusal::Step(StepFault::Crashed));
         }
-        if make_room(&mut self.sent, &mut self.targets).is_err() {
+        if self.sent.reserve(1).is_err() {
             return Err(Refusal::Memory);
         }
         if self.history.reserve(1).is_err() {
             return Err(Refusal::Memory);
         }
-        let Message::Ask(ask) = &self.sent[place] else {
+        let Message::Ask(ask) = &self.sent[place].message else {
             unreachable!()
         };
         let caller = ask.caller;
@@ -140,7 +127,7 @@ impl<S: EntryStore> World<S> {
             return Err(Refusal::Memory);
         };
         note(&mut self.history, done);
-        Ok(post(&mut self.sent, &mut self.targets, caller, number, answered))
+        Ok(post(&mut self.sent, caller, number, answered))
     }
 
     /// A reply is taken in by its caller.
@@ -151,7 +138,7 @@ impl<S: EntryStore> World<S> {
         ensures step { Advances self.old result self.new }
         ensures ring { KeepsRing self.old self.new }
     {
-        let Message::Told(told) = &self.sent[place] else {
+        let Message::Told(told) = &self.sent[place].message else {
             unreachable!()
         };
         let caller = told.caller;
@@ -175,7 +162,7 @@ impl<S: EntryStore> World<S> {
             return Err(Refusal::NoSuchMessage);
         }
         let place = message as usize;
-        match &self.sent[place] {
+        match &self.sent[place].message {
             Message::Ask(_) => self.deliver_ask(place),
             Message::Told(_) => self.deliver_told(place),
             Message::Full { .. } => Ok(Outcome::HeardFull),

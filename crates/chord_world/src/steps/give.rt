@@ -7,7 +7,7 @@ ghost use Rattle.chord_world.specs.Handing.{DoesAt, GiveStepIs, SendPartIs};
 
 use crate::outcome::Outcome;
 use crate::refusal::{Refusal, StepFault};
-use crate::steps::outgoing::{make_room, push_message, send};
+use crate::steps::outgoing::{push_message, send};
 use crate::world::World;
 use chord_handover::Part;
 use chord_node::{GiveFault, Message, Node};
@@ -37,9 +37,9 @@ impl<S: EntryStore> World<S> {
         self.is_there(to)?;
         self.can_act(node)?;
         self.nodes[node as usize].may_give(place as usize, to)?;
-        make_room(&mut self.sent, &mut self.targets)?;
+        self.sent.reserve(1)?;
         let part = give_in(&mut self.nodes, node as usize, place as usize, to)?;
-        let message = push_message(&mut self.sent, &mut self.targets, Message::Part(part), 0);
+        let message = push_message(&mut self.sent, Message::Part(part), None);
         Ok(Outcome::Message(message))
     }
 
@@ -60,7 +60,7 @@ impl<S: EntryStore> World<S> {
             return Err(Refusal::Step(StepFault::NoPart));
         }
         let part = self.nodes[node as usize].resend_part(to, number, part)?;
-        let message = send(&mut self.sent, &mut self.targets, Message::Part(part), 0)?;
+        let message = send(&mut self.sent, Message::Part(part), None)?;
         Ok(Outcome::Message(message))
     }
 }

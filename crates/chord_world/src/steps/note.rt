@@ -1,5 +1,5 @@
 //! Notes that are shown and met.
-ghost use Rattle.std.specs.Prelude.{◌≡◌, ◌<◌, length};
+ghost use Rattle.std.specs.Prelude.{◌<◌, length};
 ghost use Rattle.chord_world.specs.State.{KeepsRing};
 ghost use Rattle.chord_world.specs.Steps.{Advances};
 ghost use Rattle.chord_world.specs.Calling.{CallerIs, ShowIs, MeetsAt, MeetIs};
@@ -44,7 +44,7 @@ impl<S: EntryStore> World<S> {
     {
         self.is_caller(caller)?;
         let note = self.callers[caller as usize].show()?;
-        let message = send(&mut self.sent, &mut self.targets, Message::Note(note), 0)?;
+        let message = send(&mut self.sent, Message::Note(note), None)?;
         Ok(Outcome::Message(message))
     }
 
@@ -58,7 +58,7 @@ impl<S: EntryStore> World<S> {
         if message >= self.sent.len() as u64 {
             return Err(Refusal::NoSuchMessage);
         }
-        let Message::Note(note) = &self.sent[message as usize] else {
+        let Message::Note(note) = &self.sent[message as usize].message else {
             return Err(Refusal::Step(StepFault::NotNote));
         };
         meet_at(&mut self.callers, caller as usize, note)?;

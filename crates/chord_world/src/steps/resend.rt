@@ -49,7 +49,7 @@ impl<S: EntryStore> World<S> {
     {
         self.are_there(caller, via)?;
         let ask = ask_again(&self.callers[caller as usize], number)?;
-        let message = send(&mut self.sent, &mut self.targets, Message::Ask(ask), via)?;
+        let message = send(&mut self.sent, Message::Ask(ask), Some(via))?;
         Ok(Outcome::Message(message))
     }
 }

@@ -6,7 +6,7 @@ ghost use Rattle.chord_world.specs.Sending.{MaySubmit, CanSubmit, SubmitsAt};
 
 use crate::outcome::Outcome;
 use crate::refusal::Refusal;
-use crate::steps::outgoing::make_room;
+use crate::steps::outgoing::push_message;
 use crate::world::World;
 use chord_caller::{Ask, CallerCore};
 use chord_map::Request;
@@ -56,15 +56,13 @@ impl<S: EntryStore> World<S> {
         ensures ring { KeepsRing self.old self.new }
     {
         self.may_submit(caller, via, request)?;
-        if make_room(&mut self.sent, &mut self.targets).is_err() {
+        if self.sent.reserve(1).is_err() {
             return Err(Refusal::Memory);
         }
         let Ok(ask) = submit_at(&mut self.callers, caller as usize, request) else {
             return Err(Refusal::Memory);
         };
-        let number = self.sent.len() as u64;
-        self.sent.push_reserved(Message::Ask(ask));
-        self.targets.push_reserved(via);
+        let number = push_message(&mut self.sent, Message::Ask(ask), Some(via));
         Ok(Outcome::Message(number))
     }
 }

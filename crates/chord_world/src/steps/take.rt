@@ -1,14 +1,13 @@
 //! Parts, and what comes of them, that are delivered.
 ghost use Rattle.std.specs.Prelude.{◌≡◌, ◌≢◌, ◌<◌, Some, [], length, slice_get};
 ghost use Rattle.std.specs.Vec.{vec_len, vec_capacity};
-ghost use Rattle.chord_handover.specs.declared.ticket.Ticket.{Ticket as TicketOf};
 ghost use Rattle.chord_handover.specs.Handover.{Part as PartOf};
 ghost use Rattle.chord_node.specs.declared.handovers.given.Given.TheVariants.{Clash};
 ghost use Rattle.chord_node.specs.declared.handovers.given.Back.TheVariants.{Clash as BackClash};
 ghost use Rattle.chord_model.specs.declared.message.Message.TheVariants.{Part as PartMessage, Got as GotMessage, Declined as DeclinedMessage};
 ghost use Rattle.chord_node.specs.Received.{PartIs, PartSteps, GotIs, BackIs, BackSteps};
 ghost use Rattle.chord_model.specs.World.{with_one};
-ghost use Rattle.chord_world.specs.State.{KeepsRing};
+ghost use Rattle.chord_world.specs.State.{messages_of, targets_of, KeepsRing};
 ghost use Rattle.chord_world.specs.Steps.{Advances};
 ghost use Rattle.chord_world.specs.Delivered.{DeliverIs};
 ghost use Rattle.chord_world.specs.Handing.{DoesAt};
@@ -17,7 +16,8 @@ ghost use Rattle.chord_world.specs.Taking.{IsNumbered, GotSteps, outcome_of_give
 use crate::members::is_out;
 use crate::outcome::Outcome;
 use crate::refusal::{Refusal, StepFault};
-use crate::steps::outgoing::{make_room, push_message};
+use crate::sent::Sent;
+use crate::steps::outgoing::push_message;
 use crate::world::World;
 use chord_handover::{Declined, Got, Part, Ticket};
 use chord_node::{Back, Given, Message, Node};
@@ -66,19 +66,16 @@ fn take_back_in<S: EntryStore>(
 }
 
 /// Sends what the answer to a part of this handover sends.
-fn confirm(sent: &mut Vec<Message>, targets: &mut Vec<u64>, ticket: Ticket, given: Given) -> Outcome
+fn confirm(sent: &mut Vec<Sent>, ticket: Ticket, given: Given) -> Outcome
     requires fits { given ≢ Clash }
-    requires sent { vec_len sent.old < vec_capacity sent.old }
-    requires targets { vec_len targets.old < vec_capacity targets.old }
-    ensures sent { sent.new.items ≡ with_one sent.old.items (confirmation ticket given) }
-    ensures targets { targets.new.items ≡ with_one targets.old.items (no_target (confirmation ticket given)) }
-    ensures outcome { outcome_of_given given (length sent.old.items) ≡ Some result }
+    requires room { vec_len sent.old < vec_capacity sent.old }
+    ensures sent { messages_of sent.new.items ≡ with_one (messages_of sent.old.items) (confirmation ticket given) }
+    ensures targets { targets_of sent.new.items ≡ with_one (targets_of sent.old.items) (no_target (confirmation ticket given)) }
+    ensures outcome { outcome_of_given given (length (messages_of sent.old.items)) ≡ Some result }
 {
     match given {
-        Given::Got => Outcome::Got(push_message(sent, targets, Message::Got(ticket), 0)),
-        Given::Declined => {
-            Outcome::Declined(push_message(sent, targets, Message::Declined(ticket), 0))
-        }
+        Given::Got => Outcome::Got(push_message(sent, Message::Got(ticket), None)),
+        Given::Declined => Outcome::Declined(push_message(sent, Message::Declined(ticket), None)),
         Given::Early => Outcome::Early,
         Given::Clash => unreachable!(),
         Given::Full => Outcome::NoRoom,
@@ -122,10 +119,10 @@ impl<S: EntryStore> World<S> {
         if is_out(&self.crashed, to) {
             return Err(Refusal::Step(StepFault::Crashed));
         }
-        if make_room(&mut self.sent, &mut self.targets).is_err() {
+        if self.sent.reserve(1).is_err() {
             return Err(Refusal::Memory);
         }
-        let Message::Part(part) = &self.sent[place] else {
+        let Message::Part(part) = &self.sent[place].message else {
             unreachable!()
         };
         let ticket = Ticket::of(part);
@@ -133,7 +130,7 @@ impl<S: EntryStore> World<S> {
         let Ok(given) = take_in(&mut self.nodes, to as usize, part) else {
             return Err(Refusal::Memory);
         };
-        Ok(confirm(&mut self.sent, &mut self.targets, ticket, given))
+        Ok(confirm(&mut self.sent, ticket, given))
     }
 
     /// That a handover was taken is heard by its sender.

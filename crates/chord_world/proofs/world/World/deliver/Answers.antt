@@ -1,4 +1,4 @@
-use Rattle.std.proofs.Common.{Some, refl, sym, ◌∙◌, ap, arith}
+use Rattle.std.proofs.Common.{refl, sym, ap, arith}
 use Rattle.chord_handover.specs.Handover.{Part}
 use Rattle.chord_model.specs.declared.message.Message.TheVariants.{Ask as AskMessage, Told as ToldMessage}
 use Rattle.chord_world.specs.View.{state_of}
@@ -12,7 +12,7 @@ deliver_ask-requires-clause-ask g c =
     let view : WorldState = state_of c.self.inside in (
       c.in-Ask.field-0,
       sent_there view c.args.self.now c.args.message (AskMessage c.in-Ask.field-0) c.self.view_is
-          (read view.world.sent view.world.sent c.args.message c.index.result.now refl (omega arith) c.index.ensures ∙ ap (λ m. Some m) c.in-Ask.is),
+          (read c.self.inside.sent.items c.self.inside.sent.items c.args.message c.index.result.now _ refl (omega arith) c.index.ensures c.in-Ask.is),
     )
 
 pub deliver_told-requires-clause-told : goal.deliver_told-requires-clause-told
@@ -20,7 +20,7 @@ deliver_told-requires-clause-told g c =
     let view : WorldState = state_of c.self.inside in (
       c.in-Told.field-0,
       sent_there view c.args.self.now c.args.message (ToldMessage c.in-Told.field-0) c.self.view_is
-          (read view.world.sent view.world.sent c.args.message c.index.result.now refl (omega arith) c.index.ensures ∙ ap (λ m. Some m) c.in-Told.is),
+          (read c.self.inside.sent.items c.self.inside.sent.items c.args.message c.index.result.now _ refl (omega arith) c.index.ensures c.in-Told.is),
     )
 
 pub deliver_part-requires-clause-part : goal.deliver_part-requires-clause-part
@@ -28,7 +28,7 @@ deliver_part-requires-clause-part g c =
     let view : WorldState = state_of c.self.inside in (
       c.in-Part.part,
       sent_there view c.args.self.now c.args.message (PartMessage c.in-Part.part) c.self.view_is
-          (read view.world.sent view.world.sent c.args.message c.index.result.now refl (omega arith) c.index.ensures ∙ ap (λ m. Some m) c.in-Part.is),
+          (read c.self.inside.sent.items c.self.inside.sent.items c.args.message c.index.result.now _ refl (omega arith) c.index.ensures c.in-Part.is),
       ap (λ (p : Part). p.to) (sym c.part.view_is),
     )
 
@@ -36,20 +36,20 @@ pub deliver_got-requires-clause-got : goal.deliver_got-requires-clause-got
 deliver_got-requires-clause-got g c =
     let view : WorldState = state_of c.self.inside in
     sent_there view c.args.self.now c.args.message (GotMessage c.in-Got.got) c.self.view_is
-    (read view.world.sent view.world.sent c.args.message c.index.result.now refl (omega arith) c.index.ensures ∙ ap (λ m. Some m) c.in-Got.is)
+    (read c.self.inside.sent.items c.self.inside.sent.items c.args.message c.index.result.now _ refl (omega arith) c.index.ensures c.in-Got.is)
 
 pub deliver_declined-requires-clause-declined : goal.deliver_declined-requires-clause-declined
 deliver_declined-requires-clause-declined g c =
     let view : WorldState = state_of c.self.inside in
     sent_there view c.args.self.now c.args.message (DeclinedMessage c.in-Declined.declined) c.self.view_is
-    (read view.world.sent view.world.sent c.args.message c.index.result.now refl (omega arith) c.index.ensures ∙ ap (λ m. Some m) c.in-Declined.is)
+    (read c.self.inside.sent.items c.self.inside.sent.items c.args.message c.index.result.now _ refl (omega arith) c.index.ensures c.in-Declined.is)
 
 pub returns-in-Note-clause-answer : goal.returns-in-Note-clause-answer
 returns-in-Note-clause-answer g c = (
   (
     c.in-Note.field-0,
     sent_there _ c.args.self.now c.args.message (NoteMessage c.in-Note.field-0) c.self.view_is
-        (read c.self.inside.sent.items c.self.inside.sent.items c.args.message c.index.result.now refl (omega arith) c.index.ensures ∙ ap (λ m. Some m) c.in-Note.is),
+        (read c.self.inside.sent.items c.self.inside.sent.items c.args.message c.index.result.now _ refl (omega arith) c.index.ensures c.in-Note.is),
   ),
   refl,
 )
@@ -58,10 +58,10 @@ pub returns-in-Full-clause-answer : goal.returns-in-Full-clause-answer
 returns-in-Full-clause-answer g c =
     let view : WorldState = state_of c.self.inside in
     full_delivers c.args.message _ _ view c.args.self.now c.self.view_is c.self.invariant
-    (read view.world.sent view.world.sent c.args.message c.index.result.now refl (omega arith) c.index.ensures ∙ ap (λ m. Some m) c.in-Full.is)
+    (read c.self.inside.sent.items c.self.inside.sent.items c.args.message c.index.result.now _ refl (omega arith) c.index.ensures c.in-Full.is)
 
 pub returns-in-Full-clause-step : goal.returns-in-Full-clause-step
 returns-in-Full-clause-step g c =
     let view : WorldState = state_of c.self.inside in
     full_step c.args.message _ _ view c.args.self.now c.self.view_is c.self.invariant
-    (read view.world.sent view.world.sent c.args.message c.index.result.now refl (omega arith) c.index.ensures ∙ ap (λ m. Some m) c.in-Full.is)
+    (read c.self.inside.sent.items c.self.inside.sent.items c.args.message c.index.result.now _ refl (omega arith) c.index.ensures c.in-Full.is)

@@ -1,15 +1,14 @@
 use Rattle.std.proofs.Common.{Ok, Err, List, length, refl, sym, ◌∙◌, ap, subst, arith}
-use Rattle.std.proofs.lemmas.Option.{slice_get_within}
 use Rattle.chord_model.specs.declared.message.Message.{Message}
 use Rattle.chord_node.specs.Received.{PartIs, PartSteps}
 use Rattle.chord_world.specs.Handing.{DoesAt}
 use Rattle.chord_world.specs.View.{state_of}
-use Rattle.chord_world.specs.State.{WorldState, IsWorld}
+use Rattle.chord_world.specs.State.{WorldState, IsWorld, messages_of, targets_of}
 use Rattle.chord_world.specs.Delivered.{IsFor}
 use Rattle.chord_world.specs.Delivered.IsFor.{Part_for}
 use Rattle.chord_world.specs.Taking.{outcome_of_given}
 use Rattle.chord_world.proofs.Acting.{keeps_same}
-use Rattle.chord_world.proofs.Answering.{read_is, sent_here, stays, same_fields}
+use Rattle.chord_world.proofs.Answering.{place_within, read_is, sent_here, stays, same_fields}
 use Rattle.chord_world.proofs.Handing.{nodes_stay}
 use Rattle.chord_world.proofs.RingLemmas.{flag_old}
 use Rattle.chord_world.proofs.Taking.{TookPart, Came, came, numbered, receiver_place, for_out, part_fits, part_is, part_after, part_delivers, part_stays, part_takes}
@@ -30,22 +29,20 @@ returns-then-is_err-clause-answer g c =
     let asked = sent_here view c.args.self.now c.args.place _ c.self.view_is c.requires.part.1 in
     stays view c.args.self.now _ c.args.place c.self.view_is
     (part_takes c.args.place c.args.to c.requires.part.0 view c.args.self.now c.self.view_is c.self.invariant asked c.requires.part.2 running)
-    (same_fields view view.world.nodes c.make_room.new.sent.items view.world.history c.make_room.new.targets.items refl c.make_room.ensures.sent refl c.make_room.ensures.targets)
+    (same_fields view view.world.nodes (messages_of c.reserve.new.self.items) view.world.history (targets_of c.reserve.new.self.items) refl (ap messages_of c.reserve.ensures.items) refl (ap targets_of c.reserve.ensures.items))
 
 pub index-requires : goal.index-requires
 index-requires g c =
     let view : WorldState = state_of c.self.inside in
-    let within = slice_get_within view.world.sent c.args.place _ (sent_here view c.args.self.now c.args.place _ c.self.view_is c.requires.part.1) in
-    let same = ap length c.make_room.ensures.sent in
+    let within = place_within c.reserve.new.self.items c.self.inside.sent.items c.args.place _ c.reserve.ensures.items (sent_here view c.args.self.now c.args.place _ c.self.view_is c.requires.part.1) in
     omega arith
 
 pub unreachable-requires : goal.unreachable-requires
 unreachable-requires g c =
     let view : WorldState = state_of c.self.inside in
     let asked = sent_here view c.args.self.now c.args.place _ c.self.view_is c.requires.part.1 in
-    let within = slice_get_within view.world.sent c.args.place _ asked in
-    let same = ap length c.make_room.ensures.sent in
-    c.in_default.not-Part c.requires.part.0 (read_is c.make_room.new.sent.items view.world.sent c.args.place c.index.result.now _ c.make_room.ensures.sent (omega arith) c.index.ensures asked)
+    let within = place_within c.reserve.new.self.items c.self.inside.sent.items c.args.place _ c.reserve.ensures.items asked in
+    c.in_default.not-Part c.requires.part.0 (read_is c.reserve.new.self.items c.self.inside.sent.items c.args.place c.index.result.now _ c.reserve.ensures.items within c.index.ensures asked)
 
 pub take_in-requires-clause-place : goal.take_in-requires-clause-place
 take_in-requires-clause-place g c =
@@ -59,8 +56,8 @@ take_in-requires-clause-numbered g c =
 pub take_in-requires-clause-to : goal.take_in-requires-clause-to
 take_in-requires-clause-to g c =
     let view : WorldState = state_of c.self.inside in
-    let it : Came c.args.place c.args.to c.in-Part.part view = came c.args.place c.args.to view c.args.self.now c.requires.part.0 c.in-Part.part c.make_room.new.sent.items c.index.result.now
-    c.self.view_is c.requires.part.1 c.requires.part.2 c.make_room.ensures.sent c.index.ensures c.in-Part.is in
+    let it : Came c.args.place c.args.to c.in-Part.part view = came c.args.place c.args.to view c.args.self.now c.requires.part.0 c.in-Part.part c.reserve.new.self.items c.self.inside.sent.items c.index.result.now
+    c.self.view_is refl c.requires.part.1 c.requires.part.2 c.reserve.ensures.items c.index.ensures c.in-Part.is in
     it.own
 
 pub invariant_of-self-in_default-take_in : goal.invariant_of-self-in_default-take_in
@@ -68,18 +65,18 @@ invariant_of-self-in_default-take_in g c =
     let view : WorldState = state_of c.self.inside in
     let does : DoesAt (PartIs c.in-Part.part) (PartSteps c.in-Part.part) c.args.to view.world.nodes (Err _) c.take_in.new.nodes.items = c.in_default-take_in.ensures in
     let same = nodes_stay (PartIs c.in-Part.part) (PartSteps c.in-Part.part) c.args.to (Err _) view.world.nodes c.take_in.new.nodes.items does (part_stays c.in-Part.part _ does.node does.after does.is) in
-    let all = same_fields view c.take_in.new.nodes.items c.make_room.new.sent.items view.world.history c.make_room.new.targets.items same c.make_room.ensures.sent refl c.make_room.ensures.targets in
+    let all = same_fields view c.take_in.new.nodes.items (messages_of c.reserve.new.self.items) view.world.history (targets_of c.reserve.new.self.items) same (ap messages_of c.reserve.ensures.items) refl (ap targets_of c.reserve.ensures.items) in
     subst IsWorld (sym all) c.self.invariant
 
 pub returns-in_default-take_in : goal.returns-in_default-take_in
 returns-in_default-take_in g c =
     let view : WorldState = state_of c.self.inside in
     let running = flag_old c.args.to view c.args.self.now _ _ c.self.view_is c.deref.ensures.value c.is_out.ensures c.if-is_out.false in
-    let it : Came c.args.place c.args.to c.in-Part.part view = came c.args.place c.args.to view c.args.self.now c.requires.part.0 c.in-Part.part c.make_room.new.sent.items c.index.result.now
-    c.self.view_is c.requires.part.1 c.requires.part.2 c.make_room.ensures.sent c.index.ensures c.in-Part.is in
+    let it : Came c.args.place c.args.to c.in-Part.part view = came c.args.place c.args.to view c.args.self.now c.requires.part.0 c.in-Part.part c.reserve.new.self.items c.self.inside.sent.items c.index.result.now
+    c.self.view_is refl c.requires.part.1 c.requires.part.2 c.reserve.ensures.items c.index.ensures c.in-Part.is in
     let does : DoesAt (PartIs c.in-Part.part) (PartSteps c.in-Part.part) c.args.to view.world.nodes (Err _) c.take_in.new.nodes.items = c.in_default-take_in.ensures in
     let same = nodes_stay (PartIs c.in-Part.part) (PartSteps c.in-Part.part) c.args.to (Err _) view.world.nodes c.take_in.new.nodes.items does (part_stays c.in-Part.part _ does.node does.after does.is) in
-    let all = same_fields view c.take_in.new.nodes.items c.make_room.new.sent.items view.world.history c.make_room.new.targets.items same c.make_room.ensures.sent refl c.make_room.ensures.targets in record {
+    let all = same_fields view c.take_in.new.nodes.items (messages_of c.reserve.new.self.items) view.world.history (targets_of c.reserve.new.self.items) same (ap messages_of c.reserve.ensures.items) refl (ap targets_of c.reserve.ensures.items) in record {
       answer = stays view c.args.self.now _ c.args.place c.self.view_is (part_takes c.args.place c.args.to c.in-Part.part view c.args.self.now c.self.view_is c.self.invariant it.sent it.own running) all;
       step = all ∙ c.self.view_is;
       ring = keeps_same view c.args.self.now _ c.self.view_is same refl;
@@ -88,8 +85,8 @@ returns-in_default-take_in g c =
 pub confirm-requires-clause-fits : goal.confirm-requires-clause-fits
 confirm-requires-clause-fits g c =
     let view : WorldState = state_of c.self.inside in
-    let it : Came c.args.place c.args.to c.in-Part.part view = came c.args.place c.args.to view c.args.self.now c.requires.part.0 c.in-Part.part c.make_room.new.sent.items c.index.result.now
-    c.self.view_is c.requires.part.1 c.requires.part.2 c.make_room.ensures.sent c.index.ensures c.in-Part.is in
+    let it : Came c.args.place c.args.to c.in-Part.part view = came c.args.place c.args.to view c.args.self.now c.requires.part.0 c.in-Part.part c.reserve.new.self.items c.self.inside.sent.items c.index.result.now
+    c.self.view_is refl c.requires.part.1 c.requires.part.2 c.reserve.ensures.items c.index.ensures c.in-Part.is in
     let does : DoesAt (PartIs c.in-Part.part) (PartSteps c.in-Part.part) c.args.to view.world.nodes (Ok c.in-Ok.given) c.take_in.new.nodes.items = c.in-Ok.ensures in
     part_fits c.args.place c.args.to c.in-Part.part c.in-Ok.given view c.take_in.new.nodes.items c.self.invariant it does c.no_delivery_clashes.ensures.taken
 
@@ -97,27 +94,27 @@ pub invariant_of-self-2 : goal.invariant_of-self-2
 invariant_of-self-2 g c =
     let view : WorldState = state_of c.self.inside in
     let running = flag_old c.args.to view c.args.self.now _ _ c.self.view_is c.deref.ensures.value c.is_out.ensures c.if-is_out.false in
-    let it : Came c.args.place c.args.to c.in-Part.part view = came c.args.place c.args.to view c.args.self.now c.requires.part.0 c.in-Part.part c.make_room.new.sent.items c.index.result.now
-    c.self.view_is c.requires.part.1 c.requires.part.2 c.make_room.ensures.sent c.index.ensures c.in-Part.is in
+    let it : Came c.args.place c.args.to c.in-Part.part view = came c.args.place c.args.to view c.args.self.now c.requires.part.0 c.in-Part.part c.reserve.new.self.items c.self.inside.sent.items c.index.result.now
+    c.self.view_is refl c.requires.part.1 c.requires.part.2 c.reserve.ensures.items c.index.ensures c.in-Part.is in
     let does : DoesAt (PartIs c.in-Part.part) (PartSteps c.in-Part.part) c.args.to view.world.nodes (Ok c.in-Ok.given) c.take_in.new.nodes.items = c.in-Ok.ensures in
     let took : TookPart c.args.place c.args.to c.in-Part.part c.in-Ok.given view c.take_in.new.nodes.items = record { sent = it.sent; own = it.own; does = does } in
-    let is = part_is c.args.place c.args.to c.in-Part.part c.in-Ok.given c.of-ticket.result view c.take_in.new.nodes.items c.confirm.new.sent.items c.make_room.new.sent.items c.confirm.new.targets.items c.make_room.new.targets.items
-    c.self.invariant took c.of-ticket.ensures c.confirm.ensures.sent c.make_room.ensures.sent c.confirm.ensures.targets c.make_room.ensures.targets in
+    let is = part_is c.args.place c.args.to c.in-Part.part c.in-Ok.given c.of-ticket.result view c.take_in.new.nodes.items (messages_of c.confirm.new.sent.items) (messages_of c.reserve.new.self.items) (targets_of c.confirm.new.sent.items) (targets_of c.reserve.new.self.items)
+    c.self.invariant took c.of-ticket.ensures c.confirm.ensures.sent (ap messages_of c.reserve.ensures.items) c.confirm.ensures.targets (ap targets_of c.reserve.ensures.items) in
     (part_after c.args.place c.args.to c.in-Part.part c.in-Ok.given view c.args.self.now _ c.take_in.new.nodes.items c.self.view_is c.self.invariant running took is).world
 
 pub returns : goal.returns
 returns g c =
     let view : WorldState = state_of c.self.inside in
     let running = flag_old c.args.to view c.args.self.now _ _ c.self.view_is c.deref.ensures.value c.is_out.ensures c.if-is_out.false in
-    let it : Came c.args.place c.args.to c.in-Part.part view = came c.args.place c.args.to view c.args.self.now c.requires.part.0 c.in-Part.part c.make_room.new.sent.items c.index.result.now
-    c.self.view_is c.requires.part.1 c.requires.part.2 c.make_room.ensures.sent c.index.ensures c.in-Part.is in
+    let it : Came c.args.place c.args.to c.in-Part.part view = came c.args.place c.args.to view c.args.self.now c.requires.part.0 c.in-Part.part c.reserve.new.self.items c.self.inside.sent.items c.index.result.now
+    c.self.view_is refl c.requires.part.1 c.requires.part.2 c.reserve.ensures.items c.index.ensures c.in-Part.is in
     let does : DoesAt (PartIs c.in-Part.part) (PartSteps c.in-Part.part) c.args.to view.world.nodes (Ok c.in-Ok.given) c.take_in.new.nodes.items = c.in-Ok.ensures in
     let took : TookPart c.args.place c.args.to c.in-Part.part c.in-Ok.given view c.take_in.new.nodes.items = record { sent = it.sent; own = it.own; does = does } in
-    let is = part_is c.args.place c.args.to c.in-Part.part c.in-Ok.given c.of-ticket.result view c.take_in.new.nodes.items c.confirm.new.sent.items c.make_room.new.sent.items c.confirm.new.targets.items c.make_room.new.targets.items
-    c.self.invariant took c.of-ticket.ensures c.confirm.ensures.sent c.make_room.ensures.sent c.confirm.ensures.targets c.make_room.ensures.targets in
+    let is = part_is c.args.place c.args.to c.in-Part.part c.in-Ok.given c.of-ticket.result view c.take_in.new.nodes.items (messages_of c.confirm.new.sent.items) (messages_of c.reserve.new.self.items) (targets_of c.confirm.new.sent.items) (targets_of c.reserve.new.self.items)
+    c.self.invariant took c.of-ticket.ensures c.confirm.ensures.sent (ap messages_of c.reserve.ensures.items) c.confirm.ensures.targets (ap targets_of c.reserve.ensures.items) in
     let after = part_after c.args.place c.args.to c.in-Part.part c.in-Ok.given view c.args.self.now _ c.take_in.new.nodes.items c.self.view_is c.self.invariant running took is in record {
       answer = part_delivers c.args.place c.args.to c.in-Part.part c.in-Ok.given view c.args.self.now _ c.take_in.new.nodes.items c.confirm.result c.self.view_is c.self.invariant running took is
-          (ap (λ (xs : List Message). outcome_of_given c.in-Ok.given (length xs)) (sym c.make_room.ensures.sent) ∙ c.confirm.ensures.outcome);
+          (ap (λ (xs : List Message). outcome_of_given c.in-Ok.given (length xs)) (sym (ap messages_of c.reserve.ensures.items)) ∙ c.confirm.ensures.outcome);
       step = after.step;
       ring = after.ring;
     }

@@ -1,6 +1,5 @@
-use Rattle.std.proofs.Common.{◌≡◌, Some, List, length, refl, ◌∙◌, ap}
+use Rattle.std.proofs.Common.{◌≡◌, Some, List, length, refl, ap}
 use Rattle.std.specs.Prelude.{slice_get}
-use Rattle.std.proofs.lemmas.Option.{slice_get_within}
 use Rattle.chord_model.specs.declared.message.Message.TheVariants.{Told as ToldMessage}
 use Rattle.chord_world.specs.View.{state_of}
 use Rattle.chord_world.specs.State.{WorldState}
@@ -8,29 +7,29 @@ use Rattle.chord_world.proofs.Placing.{call_at}
 use Rattle.chord_world.specs.Delivering.{Hears}
 use Rattle.chord_world.specs.Delivered.TakesMemory.{Told_takes}
 use Rattle.chord_caller.specs.Caller.{Caller}
-use Rattle.chord_world.proofs.Answering.{read, sent_here, stays, told_owed, told_to, told_step, told_is_world, told_delivers, heard_is, world_after, step_after, delivers_after}
+use Rattle.chord_world.proofs.Answering.{place_within, read, sent_here, stays, told_owed, told_to, told_step, told_is_world, told_delivers, heard_is, world_after, step_after, delivers_after}
 use Rattle.chord_world.proofs.Acting.{keeps_same}
 use Rattle.chord_world.proofs.world.World.deliver_told.Goals as goal
 
 pub hear_at-requires-clause-place : goal.hear_at-requires-clause-place
 hear_at-requires-clause-place g c =
     let view : WorldState = state_of c.self.inside in
-    let within = slice_get_within view.world.sent c.args.place _ (sent_here view c.args.self.now c.args.place _ c.self.view_is c.requires.told.1) in
-    let sent : slice_get view.world.sent c.args.place ≡ Some (ToldMessage c.in-Told.told) = read view.world.sent view.world.sent c.args.place c.index.result.now refl within c.index.ensures ∙ ap (λ m. Some m) c.in-Told.is in
+    let within = place_within c.self.inside.sent.items c.self.inside.sent.items c.args.place _ refl (sent_here view c.args.self.now c.args.place _ c.self.view_is c.requires.told.1) in
+    let sent : slice_get view.world.sent c.args.place ≡ Some (ToldMessage c.in-Told.told) = read c.self.inside.sent.items c.self.inside.sent.items c.args.place c.index.result.now _ refl within c.index.ensures c.in-Told.is in
     call_at (length view.world.nodes) (length view.world.callers) view.world.sent c.args.place (ToldMessage c.in-Told.told) c.self.invariant.calls sent
 
 pub hear_at-requires-clause-owed : goal.hear_at-requires-clause-owed
 hear_at-requires-clause-owed g c =
     let view : WorldState = state_of c.self.inside in
-    let within = slice_get_within view.world.sent c.args.place _ (sent_here view c.args.self.now c.args.place _ c.self.view_is c.requires.told.1) in
-    let sent : slice_get view.world.sent c.args.place ≡ Some (ToldMessage c.in-Told.told) = read view.world.sent view.world.sent c.args.place c.index.result.now refl within c.index.ensures ∙ ap (λ m. Some m) c.in-Told.is in
+    let within = place_within c.self.inside.sent.items c.self.inside.sent.items c.args.place _ refl (sent_here view c.args.self.now c.args.place _ c.self.view_is c.requires.told.1) in
+    let sent : slice_get view.world.sent c.args.place ≡ Some (ToldMessage c.in-Told.told) = read c.self.inside.sent.items c.self.inside.sent.items c.args.place c.index.result.now _ refl within c.index.ensures c.in-Told.is in
     told_owed c.in-Told.told c.args.place view c.self.invariant (c.headline.ensures view.world c.self.invariant.reached) sent
 
 pub invariant_of-self-2 : goal.invariant_of-self-2
 invariant_of-self-2 g c =
     let view : WorldState = state_of c.self.inside in
-    let within = slice_get_within view.world.sent c.args.place _ (sent_here view c.args.self.now c.args.place _ c.self.view_is c.requires.told.1) in
-    let sent : slice_get view.world.sent c.args.place ≡ Some (ToldMessage c.in-Told.told) = read view.world.sent view.world.sent c.args.place c.index.result.now refl within c.index.ensures ∙ ap (λ m. Some m) c.in-Told.is in
+    let within = place_within c.self.inside.sent.items c.self.inside.sent.items c.args.place _ refl (sent_here view c.args.self.now c.args.place _ c.self.view_is c.requires.told.1) in
+    let sent : slice_get view.world.sent c.args.place ≡ Some (ToldMessage c.in-Told.told) = read c.self.inside.sent.items c.self.inside.sent.items c.args.place c.index.result.now _ refl within c.index.ensures c.in-Told.is in
     let did : Hears c.in-Told.told.caller c.in-Told.told view.world.callers c.in-Ok.heard c.hear_at.new.callers.items = c.in-Ok.ensures in
     let to = told_to c.args.place c.in-Told.told view c.in-Ok.heard c.hear_at.new.callers.items sent did in
     let is = heard_is c.in-Told.told view c.in-Ok.heard c.hear_at.new.callers.items c.self.invariant did in
@@ -39,8 +38,8 @@ invariant_of-self-2 g c =
 pub returns : goal.returns
 returns g c =
     let view : WorldState = state_of c.self.inside in
-    let within = slice_get_within view.world.sent c.args.place _ (sent_here view c.args.self.now c.args.place _ c.self.view_is c.requires.told.1) in
-    let sent : slice_get view.world.sent c.args.place ≡ Some (ToldMessage c.in-Told.told) = read view.world.sent view.world.sent c.args.place c.index.result.now refl within c.index.ensures ∙ ap (λ m. Some m) c.in-Told.is in
+    let within = place_within c.self.inside.sent.items c.self.inside.sent.items c.args.place _ refl (sent_here view c.args.self.now c.args.place _ c.self.view_is c.requires.told.1) in
+    let sent : slice_get view.world.sent c.args.place ≡ Some (ToldMessage c.in-Told.told) = read c.self.inside.sent.items c.self.inside.sent.items c.args.place c.index.result.now _ refl within c.index.ensures c.in-Told.is in
     let did : Hears c.in-Told.told.caller c.in-Told.told view.world.callers c.in-Ok.heard c.hear_at.new.callers.items = c.in-Ok.ensures in
     let to = told_to c.args.place c.in-Told.told view c.in-Ok.heard c.hear_at.new.callers.items sent did in
     let is = heard_is c.in-Told.told view c.in-Ok.heard c.hear_at.new.callers.items c.self.invariant did in record {
@@ -53,6 +52,6 @@ returns g c =
 pub returns-in_default-hear_at-clause-answer : goal.returns-in_default-hear_at-clause-answer
 returns-in_default-hear_at-clause-answer g c =
     let view : WorldState = state_of c.self.inside in
-    let within = slice_get_within view.world.sent c.args.place _ (sent_here view c.args.self.now c.args.place _ c.self.view_is c.requires.told.1) in
-    let sent : slice_get view.world.sent c.args.place ≡ Some (ToldMessage c.in-Told.told) = read view.world.sent view.world.sent c.args.place c.index.result.now refl within c.index.ensures ∙ ap (λ m. Some m) c.in-Told.is in
+    let within = place_within c.self.inside.sent.items c.self.inside.sent.items c.args.place _ refl (sent_here view c.args.self.now c.args.place _ c.self.view_is c.requires.told.1) in
+    let sent : slice_get view.world.sent c.args.place ≡ Some (ToldMessage c.in-Told.told) = read c.self.inside.sent.items c.self.inside.sent.items c.args.place c.index.result.now _ refl within c.index.ensures c.in-Told.is in
     stays view c.args.self.now _ c.args.place c.self.view_is (Told_takes c.in-Told.told sent) (ap (λ (cs : List Caller). record view { world = record view.world { callers = cs } }) c.in_default-hear_at.ensures)

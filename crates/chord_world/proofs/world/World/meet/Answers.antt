@@ -1,4 +1,4 @@
-use Rattle.std.proofs.Common.{◌≡◌, Some, refl, ◌∙◌, ap, arith}
+use Rattle.std.proofs.Common.{◌≡◌, Some, refl, arith}
 use Rattle.std.specs.Prelude.{slice_get}
 use Rattle.chord_model.specs.declared.message.Message.TheVariants.{Note as NoteMessage}
 use Rattle.chord_world.specs.View.{state_of}
@@ -15,14 +15,14 @@ meet_at-requires g c = caller_in c.args.caller _ c.args.self.now _ c.self.view_i
 pub returns-in_err-meet_at-clause-answer : goal.returns-in_err-meet_at-clause-answer
 returns-in_err-meet_at-clause-answer g c =
     let view : WorldState = state_of c.self.inside in
-    let sent : slice_get view.world.sent c.args.message ≡ Some (NoteMessage c.in-Note.note) = read view.world.sent view.world.sent c.args.message c.index.result.now refl (omega arith) c.index.ensures ∙ ap (λ m. Some m) c.in-Note.is in
+    let sent : slice_get view.world.sent c.args.message ≡ Some (NoteMessage c.in-Note.note) = read c.self.inside.sent.items c.self.inside.sent.items c.args.message c.index.result.now _ refl (omega arith) c.index.ensures c.in-Note.is in
     meets_not c.args.caller c.args.message view c.args.self.now c.in-Note.note c.meet_at.new.callers.items c.from_residual-in_err-meet_at.result c.self.view_is c.in_ok-is_caller.ensures
     (sent_there view c.args.self.now c.args.message (NoteMessage c.in-Note.note) c.self.view_is sent) c.in_err-meet_at.ensures c.from_residual-in_err-meet_at.ensures.1
 
 pub invariant_of-self-2 : goal.invariant_of-self-2
 invariant_of-self-2 g c =
     let view : WorldState = state_of c.self.inside in
-    let sent : slice_get view.world.sent c.args.message ≡ Some (NoteMessage c.in-Note.note) = read view.world.sent view.world.sent c.args.message c.index.result.now refl (omega arith) c.index.ensures ∙ ap (λ m. Some m) c.in-Note.is in
+    let sent : slice_get view.world.sent c.args.message ≡ Some (NoteMessage c.in-Note.note) = read c.self.inside.sent.items c.self.inside.sent.items c.args.message c.index.result.now _ refl (omega arith) c.index.ensures c.in-Note.is in
     let met : Met c.args.caller c.in-Note.note view.world.callers c.meet_at.new.callers.items = c.in_ok-meet_at.ensures in
     world_after view _ _ (met_is c.args.caller c.in-Note.note view c.meet_at.new.callers.items c.self.invariant met)
     (heard_is_world c.args.caller met.core _ view c.self.invariant met.here refl
@@ -31,7 +31,7 @@ invariant_of-self-2 g c =
 pub returns : goal.returns
 returns g c =
     let view : WorldState = state_of c.self.inside in
-    let sent : slice_get view.world.sent c.args.message ≡ Some (NoteMessage c.in-Note.note) = read view.world.sent view.world.sent c.args.message c.index.result.now refl (omega arith) c.index.ensures ∙ ap (λ m. Some m) c.in-Note.is in
+    let sent : slice_get view.world.sent c.args.message ≡ Some (NoteMessage c.in-Note.note) = read c.self.inside.sent.items c.self.inside.sent.items c.args.message c.index.result.now _ refl (omega arith) c.index.ensures c.in-Note.is in
     let met : Met c.args.caller c.in-Note.note view.world.callers c.meet_at.new.callers.items = c.in_ok-meet_at.ensures in record {
       answer = meets_after c.args.caller c.args.message view c.args.self.now c.in-Note.note c.meet_at.new.callers.items c.self.view_is c.self.invariant sent met;
       step = step_after view c.args.self.now _ _ c.self.view_is (met_is c.args.caller c.in-Note.note view c.meet_at.new.callers.items c.self.invariant met)

@@ -1,10 +1,10 @@
-use Rattle.std.proofs.Common.{◌<◌, inl, inr, length, refl, sym, ◌∙◌, ap, arith}
+use Rattle.std.proofs.Common.{None, ◌<◌, inl, inr, length, refl, sym, ◌∙◌, ap, arith}
 use Rattle.std.specs.Prelude.{is_some}
 use Rattle.chord_node.specs.declared.fault.ResendFault.TheVariants.{Memory}
 use Rattle.chord_model.specs.declared.message.Message.TheVariants.{Part as PartMessage}
 use Rattle.chord_world.specs.Handing.{Resends}
 use Rattle.chord_world.specs.View.{state_of}
-use Rattle.chord_world.specs.State.{WorldState, with_sent}
+use Rattle.chord_world.specs.State.{WorldState, with_sent, messages_of, targets_of}
 use Rattle.chord_world.proofs.Handing.{acts_within, has_node, part_not, part_refused, same_node, resends, sends_part}
 use Rattle.chord_world.proofs.Pointing.{node_missing}
 use Rattle.chord_world.proofs.Posting.{got}
@@ -43,7 +43,7 @@ returns-in_err-message-clause-answer g c =
     let has = has_node c.args.to view c.args.self.now c.self.view_is c.self.invariant there in
     part_refused c.args.node c.args.to c.args.number c.args.part c.index.result.now Memory view c.args.self.now _ c.from_residual-in_err-message.result c.self.view_is c.self.invariant has c.in_ok-can_act.ensures.1 here
     (ap is_some c.in_ok-part.ensures.answer) c.from_residual-in_err-message.ensures.1
-    (sent_not (PartMessage c.in_ok-part.part) 0 view _ c.send.new.sent.items c.send.new.targets.items c.in_err-message.ensures ∙ c.self.view_is)
+    (sent_not (PartMessage c.in_ok-part.part) None view _ (messages_of c.send.new.sent.items) (targets_of c.send.new.sent.items) c.in_err-message.ensures ∙ c.self.view_is)
 
 pub invariant_of-self-2 : goal.invariant_of-self-2
 invariant_of-self-2 g c =
@@ -51,8 +51,8 @@ invariant_of-self-2 g c =
     let within = acts_within c.args.node view c.args.self.now c.self.view_is c.self.invariant c.in_ok-can_act.ensures.0 in
     let here = got view.world.nodes c.args.node c.index.result.now within c.index.ensures in
     let there : c.args.to < length view.world.nodes = omega arith in
-    let is = sent_now (PartMessage c.in_ok-part.part) 0 view c.in_ok-message.message c.send.new.sent.items c.send.new.targets.items c.in_ok-message.ensures
-    ∙ sym (ap (with_sent (PartMessage c.in_ok-part.part) 0) (same_node c.args.node c.index.result.now view c.self.invariant here)) in
+    let is = sent_now (PartMessage c.in_ok-part.part) None view c.in_ok-message.message (messages_of c.send.new.sent.items) (targets_of c.send.new.sent.items) c.in_ok-message.ensures
+    ∙ sym (ap (with_sent (PartMessage c.in_ok-part.part) None) (same_node c.args.node c.index.result.now view c.self.invariant here)) in
     let after = resends c.args.node c.args.to c.args.number c.args.part c.index.result.now c.in_ok-part.part view c.args.self.now _ c.self.view_is c.self.invariant here c.in_ok-can_act.ensures.1 there
     c.in_ok-part.ensures.answer c.in_ok-part.ensures.step is in
     after.world
@@ -64,8 +64,8 @@ returns g c =
     let here = got view.world.nodes c.args.node c.index.result.now within c.index.ensures in
     let there : c.args.to < length view.world.nodes = omega arith in
     let has = has_node c.args.to view c.args.self.now c.self.view_is c.self.invariant there in
-    let is = sent_now (PartMessage c.in_ok-part.part) 0 view c.in_ok-message.message c.send.new.sent.items c.send.new.targets.items c.in_ok-message.ensures
-    ∙ sym (ap (with_sent (PartMessage c.in_ok-part.part) 0) (same_node c.args.node c.index.result.now view c.self.invariant here)) in
+    let is = sent_now (PartMessage c.in_ok-part.part) None view c.in_ok-message.message (messages_of c.send.new.sent.items) (targets_of c.send.new.sent.items) c.in_ok-message.ensures
+    ∙ sym (ap (with_sent (PartMessage c.in_ok-part.part) None) (same_node c.args.node c.index.result.now view c.self.invariant here)) in
     let after = resends c.args.node c.args.to c.args.number c.args.part c.index.result.now c.in_ok-part.part view c.args.self.now _ c.self.view_is c.self.invariant here c.in_ok-can_act.ensures.1 there
     c.in_ok-part.ensures.answer c.in_ok-part.ensures.step is in record {
       answer = (

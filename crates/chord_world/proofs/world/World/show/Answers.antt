@@ -1,8 +1,8 @@
-use Rattle.std.proofs.Common.{◌≡◌, Some, length, sym, subst, arith, refl}
+use Rattle.std.proofs.Common.{◌≡◌, None, Some, length, sym, subst, arith, refl}
 use Rattle.std.specs.Prelude.{slice_get}
 use Rattle.chord_caller.specs.Caller.Letter.{NoteLetter}
 use Rattle.chord_world.specs.View.{state_of}
-use Rattle.chord_world.specs.State.{WorldState, IsKnown}
+use Rattle.chord_world.specs.State.{WorldState, IsKnown, messages_of, targets_of}
 use Rattle.chord_model.specs.declared.message.Message.TheVariants.{Note as NoteMessage}
 use Rattle.chord_world.proofs.Answering.{world_after, step_after}
 use Rattle.chord_world.proofs.Posting.{got, caller_stands}
@@ -20,18 +20,18 @@ invariant_of-self-2 g c =
     let view : WorldState = state_of c.self.inside in
     let within = caller_in c.args.caller view c.args.self.now _ c.self.view_is c.self.invariant c.in_ok-is_caller.ensures.1.1 in
     let here : slice_get view.world.callers c.args.caller ≡ Some c.index.result.now = got view.world.callers c.args.caller c.index.result.now within c.index.ensures in
-    world_after view _ _ (sent_now _ 0 view c.in_ok-message.message c.send.new.sent.items c.send.new.targets.items c.in_ok-message.ensures)
-    (sent_is_world c.args.caller 0 c.index.result.now (NoteLetter c.in_ok-note.note) view c.self.invariant here c.in_ok-note.ensures.step
-    (subst (λ n. IsKnown (length view.world.nodes) (length view.world.callers) (NoteMessage n)) (sym c.in_ok-note.ensures.note) (note_call c.args.caller c.index.result.now view c.self.invariant here)))
+    world_after view _ _ (sent_now _ None view c.in_ok-message.message (messages_of c.send.new.sent.items) (targets_of c.send.new.sent.items) c.in_ok-message.ensures)
+    (sent_is_world c.args.caller None c.index.result.now (NoteLetter c.in_ok-note.note) view c.self.invariant here c.in_ok-note.ensures.step
+    (subst (λ n. IsKnown (length view.world.nodes) (length view.world.callers) (NoteMessage n)) (sym c.in_ok-note.ensures.note) (note_call c.args.caller c.index.result.now view c.self.invariant here)) tt)
 
 pub returns : goal.returns
 returns g c =
     let view : WorldState = state_of c.self.inside in
     let within = caller_in c.args.caller view c.args.self.now _ c.self.view_is c.self.invariant c.in_ok-is_caller.ensures.1.1 in
     let here : slice_get view.world.callers c.args.caller ≡ Some c.index.result.now = got view.world.callers c.args.caller c.index.result.now within c.index.ensures in record {
-      answer = show_sends c.args.caller c.in_ok-message.message view c.args.self.now c.index.result.now c.in_ok-note.note c.send.new.sent.items c.send.new.targets.items c.self.view_is
+      answer = show_sends c.args.caller c.in_ok-message.message view c.args.self.now c.index.result.now c.in_ok-note.note (messages_of c.send.new.sent.items) (targets_of c.send.new.sent.items) c.self.view_is
           (caller_stands c.args.caller view c.args.self.now c.index.result.now c.self.view_is c.self.invariant here) c.in_ok-note.ensures.note c.in_ok-message.ensures;
-      step = step_after view c.args.self.now _ _ c.self.view_is (sent_now _ 0 view c.in_ok-message.message c.send.new.sent.items c.send.new.targets.items c.in_ok-message.ensures)
-          (sent_step c.args.caller 0 c.index.result.now (NoteLetter c.in_ok-note.note) view c.self.invariant here c.in_ok-note.ensures.step);
+      step = step_after view c.args.self.now _ _ c.self.view_is (sent_now _ None view c.in_ok-message.message (messages_of c.send.new.sent.items) (targets_of c.send.new.sent.items) c.in_ok-message.ensures)
+          (sent_step c.args.caller None c.index.result.now (NoteLetter c.in_ok-note.note) view c.self.invariant here c.in_ok-note.ensures.step);
       ring = keeps_same _ c.args.self.now _ c.self.view_is refl refl;
     }

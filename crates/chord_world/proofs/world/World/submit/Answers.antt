@@ -1,7 +1,7 @@
-use Rattle.std.proofs.Common.{◌≡◌, length, arith, ap, refl}
+use Rattle.std.proofs.Common.{◌≡◌, ◌∙◌, length, ap, refl}
 use Rattle.std.proofs.lemmas.Option.{slice_get_within}
 use Rattle.chord_world.specs.View.{state_of}
-use Rattle.chord_world.specs.State.{WorldState}
+use Rattle.chord_world.specs.State.{WorldState, messages_of, targets_of}
 use Rattle.chord_world.proofs.Posting.{can_submit, node_there, posted_is, posted_is_world, posted_sends, posted_step}
 use Rattle.chord_world.proofs.Acting.{keeps_same}
 use Rattle.chord_world.proofs.world.World.submit.Goals as goal
@@ -21,18 +21,18 @@ pub invariant_of-self-2 : goal.invariant_of-self-2
 invariant_of-self-2 g c =
     let view : WorldState = state_of c.self.inside in
     let node = node_there c.args.caller c.args.via c.args.request.now view c.args.self.now c.self.view_is c.in_ok-may_submit.ensures in
-    let is = posted_is c.args.caller c.args.via c.args.request.now view c.submit_at.new.callers.items c.push_reserved.new.self.items _ c.push_reserved-2.new.self.items _ c.in-Ok.ask c.self.invariant c.in-Ok.ensures
-    c.push_reserved.ensures.items c.make_room.ensures.sent c.push_reserved-2.ensures.items c.make_room.ensures.targets in
+    let is = posted_is c.args.caller c.args.via c.args.request.now view c.submit_at.new.callers.items (messages_of c.push_message-number.new.sent.items) _ (targets_of c.push_message-number.new.sent.items) _ c.in-Ok.ask c.self.invariant
+    c.in-Ok.ensures c.push_message-number.ensures.sent (ap messages_of c.reserve.ensures.items) c.push_message-number.ensures.targets (ap targets_of c.reserve.ensures.items) in
     posted_is_world c.args.caller c.args.via c.args.request.now view c.submit_at.new.callers.items c.in-Ok.ask _ c.self.invariant node c.in-Ok.ensures is
 
 pub returns : goal.returns
 returns g c =
     let view : WorldState = state_of c.self.inside in
     let node = node_there c.args.caller c.args.via c.args.request.now view c.args.self.now c.self.view_is c.in_ok-may_submit.ensures in
-    let is = posted_is c.args.caller c.args.via c.args.request.now view c.submit_at.new.callers.items c.push_reserved.new.self.items _ c.push_reserved-2.new.self.items _ c.in-Ok.ask c.self.invariant c.in-Ok.ensures
-    c.push_reserved.ensures.items c.make_room.ensures.sent c.push_reserved-2.ensures.items c.make_room.ensures.targets in
-    let number : c.len-number.result ≡ length c.self.inside.sent.items = let same = ap length c.make_room.ensures.sent in omega arith in record {
-      answer = posted_sends c.args.caller c.args.via c.len-number.result c.args.request.now view c.args.self.now c.submit_at.new.callers.items c.in-Ok.ask _ c.self.view_is c.self.invariant node c.in-Ok.ensures number is;
+    let is = posted_is c.args.caller c.args.via c.args.request.now view c.submit_at.new.callers.items (messages_of c.push_message-number.new.sent.items) _ (targets_of c.push_message-number.new.sent.items) _ c.in-Ok.ask c.self.invariant
+    c.in-Ok.ensures c.push_message-number.ensures.sent (ap messages_of c.reserve.ensures.items) c.push_message-number.ensures.targets (ap targets_of c.reserve.ensures.items) in
+    let number : c.push_message-number.result ≡ length view.world.sent = c.push_message-number.ensures.number ∙ ap (λ xs. length (messages_of xs)) c.reserve.ensures.items in record {
+      answer = posted_sends c.args.caller c.args.via c.push_message-number.result c.args.request.now view c.args.self.now c.submit_at.new.callers.items c.in-Ok.ask _ c.self.view_is c.self.invariant node c.in-Ok.ensures number is;
       step = posted_step c.args.caller c.args.via c.args.request.now view c.args.self.now c.submit_at.new.callers.items c.in-Ok.ask _ c.self.view_is c.self.invariant node c.in-Ok.ensures is;
       ring = keeps_same _ c.args.self.now _ c.self.view_is refl refl;
     }
