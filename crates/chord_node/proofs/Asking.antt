@@ -1,7 +1,7 @@
 -- What an Ask does to a node, from what it does to a segment and a store.
 use Rattle.std.proofs.Common.{◌≡◌, ◌≢◌, ◌-◌, ◌||◌, ◌==◌, ℕ, zero, suc, ◌<◌, Bool, true, false, cond, Option, None, Some, Result, Ok, Err, List, [], ◌∷◌, length, get_or, set, refl, sym, ◌∙◌, ap, subst, arith, leb}
 use Rattle.std.proofs.lemmas.Bool.{ltb-false, leb-true}
-use Rattle.std.specs.Prelude.{find, position, is_some}
+use Rattle.std.specs.Prelude.{find, position, is_some, OnErr}
 use Rattle.std.specs.List.{position_or_len}
 use Rattle.std.proofs.lemmas.List.Quantifiers.{position-Some}
 use Rattle.std.proofs.lemmas.Option.{slice_get_past}
@@ -243,3 +243,13 @@ pub asked_past : (ask : Ask) (noting : Bool) (view old : Node) → view ≡ old 
 asked_past ask noting view old e held answered v none passed =
     let P : Node → Type 0 = λ old. AskNotes ask noting old (Ok (answered, None)) old in
     subst P e (asked_elsewhere ask noting view held answered v none passed)
+
+on_err : {A E : Type 0} (result : Result A E) (P : Type 0) → P → OnErr result P
+on_err (Ok a) P p = tt
+on_err (Err e) P p = p
+
+-- where a segment is found for the key, the node holds it, whatever came of the call
+pub holds_here : {A : Type 0} (result : Result A AllocError) (x : ℕ) (view old : Node) → view ≡ old → (held : List RoomySegment) (i : ℕ) (s : RoomySegment) → view.held ≡ segments_of held
+    → IsPlace x held i s → OnErr result (is_some (segment_with x old.held) ≡ true)
+holds_here result x view old e held i s v place =
+    on_err result _ (ap (λ (n : Node). is_some (segment_with x n.held)) (sym e) ∙ ap (λ ks. is_some (segment_with x ks)) v ∙ ap is_some (with_here x held i s place))

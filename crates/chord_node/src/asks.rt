@@ -4,3 +4,4 @@ pub mod answered;
 mod apply;
 pub(crate) mod execute;
 pub(crate) mod pass_on;
+pub(crate) mod take;

@@ -1,9 +1,9 @@
 //! A node with one store.
-ghost use Rattle.std.specs.Prelude.{◌≡◌, ◌≢◌, ◌≤◌, true, Some, None, [], length, slice_get, position, is_some, IfOk, IfErr};
+ghost use Rattle.std.specs.Prelude.{◌≡◌, ◌≢◌, ◌≤◌, true, false, Some, None, [], length, slice_get, position, is_some, IfOk, IfErr, OnErr};
 ghost use Rattle.chord_ident.specs.Circle.{in_span};
 ghost use Rattle.chord_links.specs.NodeLinks.{alone};
 ghost use Rattle.chord_segment.specs.Marks.{mark_of};
-ghost use Rattle.chord_segment.specs.Segment.{RoomySegment};
+ghost use Rattle.chord_segment.specs.Segment.{RoomySegment, id_of};
 ghost use Rattle.chord_model.specs.declared.message.Message.TheVariants.{Got as GotMessage};
 ghost use Rattle.chord_model.specs.declared.phase.Phase.TheVariants.{Gone};
 ghost use Rattle.chord_model.specs.Node.{newborn, founder, segment_with, NodeStep};
@@ -15,6 +15,7 @@ ghost use Rattle.chord_node.specs.Received.{PartIs, PartSteps, GotIs, BackIs, Ba
 use crate::asks::answered::Answered;
 use crate::asks::execute::answer_in;
 use crate::asks::pass_on::pass_on;
+use crate::asks::take::{answer_taken, pass_taken};
 use crate::fault::{CutAtFault, GiveFault, MergeFault, NotStaying, ResendFault, RetireFault};
 use crate::handovers::give::prepare_give;
 use crate::handovers::given::{Back, Given};
@@ -122,6 +123,33 @@ impl<S: EntryStore> Node<S> {
         ensures step { AskStepsNoting ask.now self.old result self.new }
     {
         self.answer(ask, true)
+    }
+
+    /// Answers as `on_ask` does a call that is handed over with its key's identifier. No digest is computed and no request
+    /// copied, so it is out of memory only where the node holds the key. The call is dropped then.
+    pub fn take_ask(&mut self, id: Id, ask: Ask) -> Result<Answered, AllocError>
+        requires { id.number ≡ id_of ask.request }
+        ensures answer { AskIs ask self.old result self.new }
+        ensures step { AskSteps ask self.old result self.new }
+        ensures holds { OnErr result (is_some (segment_with (id_of ask.request) self.old.held) ≡ true) }
+    {
+        let (told, _) = self.answer_at(id, ask)?;
+        Ok(told)
+    }
+
+    /// Answers a call that is handed over with its key's identifier.
+    fn answer_at(&mut self, id: Id, ask: Ask) -> Result<(Answered, Option<Done>), AllocError>
+        requires { id.number ≡ id_of ask.request }
+        ensures answer { AskNotes ask false self.old result self.new }
+        ensures step { AskStepsNoting ask self.old result self.new }
+        ensures holds { OnErr result (is_some (segment_with (id_of ask.request) self.old.held) ≡ true) }
+    {
+        let Some(place) = place_with(&self.held, id) else {
+            return Ok((pass_taken(&self.links, ask, id), None));
+        };
+        let segment = &mut self.held[place];
+        let store = self.store.as_mut().unwrap();
+        answer_taken(self.alloc, segment, store, ask)
     }
 
     /// Answers a call, and gives a copy of the call that was executed, if that is wanted.

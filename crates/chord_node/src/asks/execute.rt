@@ -13,6 +13,19 @@ use chord_segment::{Done, Past, Segment};
 use chord_store::{EntryStore, StoreFault};
 use std::alloc::{AllocError, Global};
 
+/// An equal copy of the call.
+fn copy_of(ask: &Ask) -> Result<Ask, AllocError>
+    ensures { IfOk result (λ copy. copy ≡ ask.now) }
+{
+    Ok(Ask {
+        caller: ask.caller,
+        number: ask.number,
+        floor: ask.floor,
+        request: ask.request.try_copy()?,
+        hops: ask.hops,
+    })
+}
+
 /// A copy of the request, where one is wanted.
 fn noted_request(request: &Request, noting: bool) -> Result<Option<Request>, AllocError>
     ensures { IfOk result (λ noted. noted ≡ only_if noting request.now) }
@@ -39,23 +52,69 @@ fn noted_done(ask: &Ask, request: Option<Request>, reply: Option<Reply>) -> Opti
     }
 }
 
+/// Executes a new call that the segment has room for, unless the store has none. All that can fail comes before the first
+/// change. The segment keeps the request itself.
+pub(crate) fn execute_ready<S: EntryStore>(
+    alloc: Global,
+    segment: &mut Segment,
+    store: &mut S,
+    ask: Ask,
+    noted: Option<Request>,
+    noting: bool,
+) -> Result<(Answered, Option<Done>), AllocError>
+    requires key { in_span segment.old.segment.span (id_of ask.request) ≡ true }
+    requires new { past_at ask.caller ask.number segment.old.segment ≡ New }
+    requires room { segment.old.room ≡ Some ask.caller }
+    requires noted { noted ≡ only_if noting ask.request }
+    ensures answers { AnswersIn ask noting segment.old.segment (S.content store.old) (S.limit store.old) result segment.new.segment (S.content store.new) }
+    ensures limit { S.limit store.new ≡ S.limit store.old }
+{
+    let replies = match apply(alloc, store, &ask.request, noting) {
+        Ok(replies) => replies,
+        Err(StoreFault::Full) => return Ok((Answered::Full, None)),
+        Err(StoreFault::Memory) => return Err(AllocError),
+    };
+    let Replies {
+        kept,
+        told,
+        noted: noted_reply,
+    } = replies;
+    let note = noted_done(&ask, noted, noted_reply);
+    let told = Told {
+        caller: ask.caller,
+        number: ask.number,
+        reply: told,
+    };
+    let done = Done {
+        caller: ask.caller,
+        number: ask.number,
+        request: ask.request,
+        reply: kept,
+    };
+    match segment.append(done, ask.floor) {
+        Ok(()) => {}
+        Err(_) => unreachable!(),
+    }
+    Ok((Answered::Told(told), note))
+}
+
 /// What the execution of a call takes memory for, the store apart: room in the segment, and copies of the request.
 fn prepare(
     segment: &mut Segment,
     ask: &Ask,
     noting: bool,
-) -> Result<(Request, Option<Request>), AllocError>
+) -> Result<(Ask, Option<Request>), AllocError>
     ensures same { segment.new.segment ≡ segment.old.segment }
     ensures room { OnOk result (segment.new.room ≡ Some ask.now.caller) }
-    ensures copies { IfOk result (λ both. (both.0 ≡ ask.now.request) × (both.1 ≡ only_if noting ask.now.request)) }
+    ensures copies { IfOk result (λ both. (both.0 ≡ ask.now) × (both.1 ≡ only_if noting ask.now.request)) }
 {
     segment.reserve(ask.caller)?;
-    let request = ask.request.try_copy()?;
+    let copy = copy_of(ask)?;
     let noted = noted_request(&ask.request, noting)?;
-    Ok((request, noted))
+    Ok((copy, noted))
 }
 
-/// Executes a new call, unless the store has no room. All that can fail comes before the first change.
+/// Executes a copy of a new call, unless the store has no room.
 fn execute_in<S: EntryStore>(
     alloc: Global,
     segment: &mut Segment,
@@ -68,40 +127,14 @@ fn execute_in<S: EntryStore>(
     ensures answers { AnswersIn ask.now noting segment.old.segment (S.content store.old) (S.limit store.old) result segment.new.segment (S.content store.new) }
     ensures limit { S.limit store.new ≡ S.limit store.old }
 {
-    let Ok((request, noted)) = prepare(segment, ask, noting) else {
+    let Ok((copy, noted)) = prepare(segment, ask, noting) else {
         return if is_full(store, &ask.request) {
             Ok((Answered::Full, None))
         } else {
             Err(AllocError)
         };
     };
-    let replies = match apply(alloc, store, &ask.request, noting) {
-        Ok(replies) => replies,
-        Err(StoreFault::Full) => return Ok((Answered::Full, None)),
-        Err(StoreFault::Memory) => return Err(AllocError),
-    };
-    let Replies {
-        kept,
-        told,
-        noted: noted_reply,
-    } = replies;
-    let done = Done {
-        caller: ask.caller,
-        number: ask.number,
-        request,
-        reply: kept,
-    };
-    match segment.append(done, ask.floor) {
-        Ok(()) => {}
-        Err(_) => unreachable!(),
-    }
-    let note = noted_done(ask, noted, noted_reply);
-    let told = Told {
-        caller: ask.caller,
-        number: ask.number,
-        reply: told,
-    };
-    Ok((Answered::Told(told), note))
+    execute_ready(alloc, segment, store, copy, noted, noting)
 }
 
 /// Answers a call whose key lies in the segment's span, and gives a copy of the call that it executed, if that is

@@ -13,7 +13,7 @@ use chord_route::{Hop, next_hop};
 use std::alloc::AllocError;
 
 /// The node that a hop goes to.
-fn peer_of_hop(hop: Hop) -> Peer
+pub(crate) fn peer_of_hop(hop: Hop) -> Peer
     ensures { result ≡ peer_of hop }
 {
     match hop {

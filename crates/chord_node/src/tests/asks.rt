@@ -1,4 +1,5 @@
 //! Calls.
+ghost use Rattle.std.specs.Prelude.{◌<◌, ◌≤◌};
 
 use super::{A, C, ask, found, insert, inserted, newborn};
 use crate::{Answered, Node, Phase};
@@ -157,4 +158,47 @@ fn passes_on(alloc: Global) -> Option<(Peer, bool, bool)> {
 #[test]
 fn a_call_is_passed_on(rt: HostRuntime) {
     assert_eq!(rt; passes_on(rt.alloc()), Some((OTHER, true, true)));
+}
+
+/// What the node answers to the insert of this value under `abc`, as this call of caller 0, which is handed over.
+fn taken(alloc: Global, node: &mut Node<CappedStore>, number: u64, value: &[u8]) -> Option<Answered>
+    requires some { 0 < number }
+    requires near { number ≤ 16 }
+{
+    let call = ask(number, 0, insert(alloc, b"abc", value).ok()?);
+    let id = Id::of_bytes(call.request.key());
+    node.take_ask(id, call).ok()
+}
+
+/// At a node with room for one pair: whether a call that is handed over is told Added, and when it comes again, and
+/// whether one that would add a second pair is refused.
+fn takes_calls(alloc: Global) -> Option<(bool, bool, bool)> {
+    let mut node = found(alloc, CappedStore::new(alloc, 1))?;
+    let first = taken(alloc, &mut node, 1, b"x")?;
+    let again = taken(alloc, &mut node, 1, b"x")?;
+    let full = taken(alloc, &mut node, 2, b"y")?;
+    Some((
+        is_told(&first, 1, &Reply::Added),
+        is_told(&again, 1, &Reply::Added),
+        is_full(&full),
+    ))
+}
+
+/// A call that is handed over is answered as any other.
+#[test]
+fn a_call_is_taken(rt: HostRuntime) {
+    assert_eq!(rt; takes_calls(rt.alloc()), Some((true, true, true)));
+}
+
+/// Whether a call that is handed over goes on with one hop less, and is dropped where no other node is known.
+fn takes_calls_astray(alloc: Global) -> Option<(bool, bool)> {
+    let passed = taken(alloc, &mut neighbour(alloc), 1, b"x")?;
+    let dropped = taken(alloc, &mut newborn(alloc, 1), 1, b"x")?;
+    Some((is_passed(&passed), is_dropped(&dropped)))
+}
+
+/// A call that is handed over goes on where the node does not hold its key.
+#[test]
+fn a_taken_call_goes_on(rt: HostRuntime) {
+    assert_eq!(rt; takes_calls_astray(rt.alloc()), Some((true, true)));
 }

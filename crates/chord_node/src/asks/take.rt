@@ -1,0 +1,81 @@
+//! A call that is handed over: nothing of it is copied.
+ghost use Rattle.std.specs.Prelude.{◌≡◌, true, false};
+ghost use Rattle.chord_ident.specs.Circle.{in_span};
+ghost use Rattle.chord_segment.specs.Segment.{id_of, past_at};
+ghost use Rattle.chord_segment.specs.Segment.Past.{New};
+ghost use Rattle.chord_node.specs.Asked.{AnswersIn};
+ghost use Rattle.chord_node.specs.Passed.{PassesOn};
+
+use crate::asks::answered::Answered;
+use crate::asks::apply::is_full;
+use crate::asks::execute::execute_ready;
+use crate::asks::pass_on::peer_of_hop;
+use chord_caller::{Ask, Told};
+use chord_ident::Id;
+use chord_links::Links;
+use chord_route::next_hop;
+use chord_segment::{Done, Past, Segment};
+use chord_store::EntryStore;
+use std::alloc::{AllocError, Global};
+
+/// Executes a new call, unless the store has no room.
+fn execute_taken<S: EntryStore>(
+    alloc: Global,
+    segment: &mut Segment,
+    store: &mut S,
+    ask: Ask,
+) -> Result<(Answered, Option<Done>), AllocError>
+    requires key { in_span segment.old.segment.span (id_of ask.request) ≡ true }
+    requires new { past_at ask.caller ask.number segment.old.segment ≡ New }
+    ensures answers { AnswersIn ask false segment.old.segment (S.content store.old) (S.limit store.old) result segment.new.segment (S.content store.new) }
+    ensures limit { S.limit store.new ≡ S.limit store.old }
+{
+    let Ok(()) = segment.reserve(ask.caller) else {
+        return if is_full(store, &ask.request) {
+            Ok((Answered::Full, None))
+        } else {
+            Err(AllocError)
+        };
+    };
+    execute_ready(alloc, segment, store, ask, None, false)
+}
+
+/// Answers a call whose key lies in the segment's span.
+pub(crate) fn answer_taken<S: EntryStore>(
+    alloc: Global,
+    segment: &mut Segment,
+    store: &mut S,
+    ask: Ask,
+) -> Result<(Answered, Option<Done>), AllocError>
+    requires key { in_span segment.old.segment.span (id_of ask.request) ≡ true }
+    ensures answers { AnswersIn ask false segment.old.segment (S.content store.old) (S.limit store.old) result segment.new.segment (S.content store.new) }
+    ensures limit { S.limit store.new ≡ S.limit store.old }
+{
+    match segment.find(ask.caller, ask.number) {
+        Past::Seen => Ok((Answered::Dropped, None)),
+        Past::Kept(done) => {
+            let reply = done.reply.try_copy()?;
+            let told = Told {
+                caller: ask.caller,
+                number: ask.number,
+                reply,
+            };
+            Ok((Answered::Told(told), None))
+        }
+        Past::New => execute_taken(alloc, segment, store, ask),
+    }
+}
+
+/// Passes the call itself on to the next hop towards its key's identifier, with one hop less. It is dropped where its hops
+/// are spent or the node knows no other.
+pub(crate) fn pass_taken(links: &Links, mut ask: Ask, target: Id) -> Answered
+    requires { target.number ≡ id_of ask.request }
+    ensures { PassesOn links.now ask result }
+{
+    let peer = peer_of_hop(next_hop(links, target));
+    if ask.hops == 0 || peer.no == links.me().no {
+        return Answered::Dropped;
+    }
+    ask.hops -= 1;
+    Answered::Forward(peer.no, ask)
+}
