@@ -2,13 +2,11 @@
 // With ample memory nothing is refused.
 
 use super::askers::MapAsker;
-use super::sessions::{ADDED, INSERT, INSERT_2, calls, insert, is_added, three};
+use super::sessions::{ADDED, INSERT, INSERT_2, begun, calls, insert, is_added, three};
 use crate::{CallFault, Client, SendFault, Served, serve};
 use chord_map::Request;
 use chord_wire::{Answer, Answers};
 use std::alloc::{AllocError, Global};
-use std::process::Abort;
-use std::test::Fail;
 
 /// A writer with room, so that it is not the one that is refused.
 fn roomy(alloc: Global) -> Result<Vec<u8>, AllocError> {
@@ -25,30 +23,37 @@ fn request(alloc: Global) -> Result<Request, AllocError> {
     }
 }
 
-#[test]
-fn a_session_writes_whole_frames(rt: HostRuntime) -> Result<(), Fail> {
-    let alloc = rt.alloc();
-    let (input, output) = match three(alloc) {
-        Ok(whole) => whole,
-        Err(_) => three(alloc)?,
-    };
-    let mut written = roomy(alloc)?;
-    let mut asker = MapAsker::new(alloc);
-    let served = serve(alloc, &mut input.as_slice(), &mut written, &mut asker, 10);
-    if served == Served::Ended {
-        assert_eq!(rt; written.as_slice(), output.as_slice());
-    } else {
-        assert_eq!(rt; served, Served::Memory);
-        assert!(rt; matches!(written.len(), 0 | 15 | 36));
-        assert_eq!(rt; Some(written.as_slice()), output.get(..written.len()));
+/// The three frames and their answers, made again where there was no memory.
+fn three_frames(alloc: Global) -> Result<(Vec<u8>, Vec<u8>), AllocError> {
+    match three(alloc) {
+        Ok(whole) => Ok(whole),
+        Err(_) => three(alloc),
     }
-    Ok(())
 }
 
-/// A call that wants memory wrote its whole frame or nothing.
-fn is_refused(rt: &impl Abort, fault: CallFault, written: &[u8], frame: &[u8]) {
-    assert_eq!(rt; fault, CallFault::Memory);
-    assert!(rt; written.is_empty() || written == frame);
+/// How a session over the three frames ends, and how many bytes of their answers it writes.
+fn session(alloc: Global) -> Option<(Served, usize)> {
+    let (input, output) = three_frames(alloc).ok()?;
+    let mut written = roomy(alloc).ok()?;
+    let mut asker = MapAsker::new(alloc);
+    let served = serve(alloc, &mut input.as_slice(), &mut written, &mut asker, 10);
+    Some((served, begun(&output, &written)?))
+}
+
+#[test]
+fn a_session_writes_whole_frames(rt: HostRuntime) {
+    let told = session(rt.alloc());
+    assert!(rt;
+        matches!(
+            told,
+            Some((Served::Ended, 51) | (Served::Memory, 0 | 15 | 36))
+        )
+    );
+}
+
+/// Whether a call that wants memory wrote its whole frame or nothing.
+fn is_refused(fault: CallFault, written: &[u8], frame: &[u8]) -> bool {
+    fault == CallFault::Memory && (written.is_empty() || written == frame)
 }
 
 /// A call with ample turns, whose answer is there.
@@ -63,48 +68,55 @@ fn answered(
     calls(alloc, (&mut reader, written), answers, version, request, 10)
 }
 
-#[test]
-fn a_call_made_again_is_answered(rt: HostRuntime) -> Result<(), Fail> {
-    let alloc = rt.alloc();
-    let request = request(alloc)?;
-    for (version, frame) in [(1, INSERT.as_slice()), (2, INSERT_2.as_slice())] {
-        let mut written = roomy(alloc)?;
-        let mut answers = Answers::new(alloc);
-        let answer = match answered(alloc, version, &mut written, &mut answers, &request) {
-            Ok(answer) => answer,
-            Err(fault) => {
-                is_refused(&rt, fault, &written, frame);
-                written.clear();
-                answered(alloc, version, &mut written, &mut answers, &request)
-                    .ok()
-                    .ok_or("no answer")?
+/// Whether a call, made again where it wants memory, is answered and writes exactly this frame.
+fn is_answered(alloc: Global, version: u8, frame: &[u8]) -> Option<bool> {
+    let request = request(alloc).ok()?;
+    let mut written = roomy(alloc).ok()?;
+    let mut answers = Answers::new(alloc);
+    let first = answered(alloc, version, &mut written, &mut answers, &request);
+    let answer = match first {
+        Ok(answer) => answer,
+        Err(fault) => {
+            if !is_refused(fault, &written, frame) {
+                return Some(false);
             }
-        };
-        assert!(rt; is_added(&answer));
-        assert_eq!(rt; written.as_slice(), frame);
+            written.clear();
+            answered(alloc, version, &mut written, &mut answers, &request).ok()?
+        }
+    };
+    Some(is_added(&answer) && written.as_slice() == frame)
+}
+
+#[test]
+fn a_call_made_again_is_answered(rt: HostRuntime) {
+    assert_eq!(rt; is_answered(rt.alloc(), 1, &INSERT), Some(true));
+    assert_eq!(rt; is_answered(rt.alloc(), 2, &INSERT_2), Some(true));
+}
+
+/// Sends a request that keeps the limits.
+fn sent(
+    alloc: Global,
+    client: &mut Client,
+    written: &mut Vec<u8>,
+) -> Option<Result<u64, SendFault>> {
+    let request = request(alloc).ok()?;
+    request.check().ok()?;
+    Some(client.send(written, request))
+}
+
+/// What a send is answered, made again where it wants memory and wrote nothing, and whether the request is written.
+fn sent_again(alloc: Global) -> Option<(Result<u64, SendFault>, bool)> {
+    let mut written = roomy(alloc).ok()?;
+    let mut client = Client::new(alloc, 2, 16)?;
+    let mut number = sent(alloc, &mut client, &mut written)?;
+    if number == Err(SendFault::Memory) && written.is_empty() {
+        number = sent(alloc, &mut client, &mut written)?;
     }
-    Ok(())
+    Some((number, written.as_slice() == INSERT_2.as_slice()))
 }
 
 /// A client whose send wanted memory wrote nothing, and sends under the same number then.
 #[test]
-fn a_send_made_again_has_the_same_number(rt: HostRuntime) -> Result<(), Fail> {
-    let alloc = rt.alloc();
-    let first = request(alloc)?;
-    let second = request(alloc)?;
-    let mut written = roomy(alloc)?;
-    let mut client = Client::new(alloc, 2, 16).ok_or("no client")?;
-    if first.check().is_err() || second.check().is_err() {
-        return Err(Fail::from("no request"));
-    }
-    let sent = match client.send(&mut written, first) {
-        Err(SendFault::Memory) => {
-            assert!(rt; written.is_empty());
-            client.send(&mut written, second)
-        }
-        sent => sent,
-    };
-    assert_eq!(rt; sent, Ok(1));
-    assert_eq!(rt; written.as_slice(), INSERT_2.as_slice());
-    Ok(())
+fn a_send_made_again_has_the_same_number(rt: HostRuntime) {
+    assert_eq!(rt; sent_again(rt.alloc()), Some((Ok(1), true)));
 }
