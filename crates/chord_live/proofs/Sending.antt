@@ -11,13 +11,13 @@ use Rattle.chord_node.specs.declared.asks.answered.Answered.TheVariants as answe
 use Rattle.chord_model.specs.declared.message.Message.{Message}
 use Rattle.chord_model.specs.declared.message.Message.TheVariants.{Ask as AskMessage}
 
-same_message : (ask : Ask) (answer : Answered) → message_in (answer_to ask answer) ≡ sent_by ask answer
+same_message : (ask : Ask) (answer : Answered) → message_in (answer_to ask.caller ask.number answer) ≡ sent_by ask answer
 same_message ask (answered.Told told) = refl
 same_message ask (answered.Forward to passed) = refl
 same_message ask answered.Full = refl
 same_message ask answered.Dropped = refl
 
-pub asked : (ask : Ask) (answer : Answered) (message : Message) (old new : Node) (sent : Option (Target × Message)) → message ≡ AskMessage ask → sent ≡ answer_to ask answer
+pub asked : (ask : Ask) (answer : Answered) (message : Message) (old new : Node) (sent : Option (Target × Message)) → message ≡ AskMessage ask → sent ≡ answer_to ask.caller ask.number answer
     → AskSteps ask old (Ok answer) new → (done : Option Done) × NodeStep old (Some message) new (message_in sent) done
 asked ask answer message old new sent is goes step = (
   ask_done ask old,

@@ -1,7 +1,6 @@
 -- What a node does with a message, and what it sends.
 use Rattle.std.specs.Prelude.{◌≡◌, ℕ, Bool, Option, None, Some, Result, Ok, Err}
 use Rattle.std.specs.declared.alloc.AllocError.{AllocError}
-use Rattle.chord_caller.specs.declared.ask.Ask.{Ask}
 use Rattle.chord_handover.specs.Handover.{Part, ticket_of_part}
 use Rattle.chord_map.specs.declared.done.Done.{Done}
 use Rattle.chord_live.specs.declared.target.Target.{Target}
@@ -25,12 +24,12 @@ IsFor (GotMessage ticket) number = ticket.from ≡ number
 IsFor (DeclinedMessage ticket) number = ticket.from ≡ number
 IsFor message number = ⊥
 
--- what the answer to a call sends, and to whom
-abbrev pub answer_to : Ask → Answered → Option (Target × Message)
-answer_to ask (answered.Told told) = Some (ToCaller ask.caller, ToldMessage told)
-answer_to ask (answered.Forward to passed) = Some (ToNode to, AskMessage passed)
-answer_to ask answered.Full = Some (ToCaller ask.caller, FullMessage ask.caller ask.number)
-answer_to ask answered.Dropped = None
+-- what the answer to a call of this caller and number sends, and to whom
+abbrev pub answer_to : ℕ → ℕ → Answered → Option (Target × Message)
+answer_to caller number (answered.Told told) = Some (ToCaller caller, ToldMessage told)
+answer_to caller number (answered.Forward to passed) = Some (ToNode to, AskMessage passed)
+answer_to caller number answered.Full = Some (ToCaller caller, FullMessage caller number)
+answer_to caller number answered.Dropped = None
 
 -- what the answer to a part of a handover sends to its sender
 abbrev pub confirmed : Part → Given → Option (Target × Message)
@@ -40,7 +39,7 @@ confirmed part answer = None
 
 -- what comes of a message: the node's call for it, what that sends, and what the node is then
 abbrev pub DealIs : Message → Node → Result (Option (Target × Message)) AllocError → Node → Type 0
-DealIs (AskMessage ask) old (Ok sent) new = (answer : Answered) × AskIs ask old (Ok answer) new × (sent ≡ answer_to ask answer)
+DealIs (AskMessage ask) old (Ok sent) new = (answer : Answered) × AskIs ask old (Ok answer) new × (sent ≡ answer_to ask.caller ask.number answer)
 DealIs (AskMessage ask) old (Err fault) new = AskIs ask old (Err fault) new
 DealIs (PartMessage part) old (Ok sent) new = (answer : Given) × PartIs part old (Ok answer) new × (sent ≡ confirmed part answer)
 DealIs (PartMessage part) old (Err fault) new = PartIs part old (Err fault) new

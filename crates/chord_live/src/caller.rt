@@ -14,6 +14,7 @@ ghost use Rattle.chord_table.specs.Shown.{CallerShown};
 
 use crate::fault::{AskFault, BeginFault, CollectFault, OpenFault, RetryFault, WaitFault};
 use crate::heard::Heard;
+use crate::keyed::Keyed;
 use crate::note_parcel::NoteParcel;
 use crate::owned::Owned;
 use crate::ring::Ring;
@@ -404,7 +405,7 @@ impl<'a, J: Naming, S: EntryStore> Caller<'a, J, S> {
         ensures not_full { result ≢ Heard.Full → WasNotToldFull number self.old self.new }
     {
         let ring = self.ring;
-        match ring.carry(rt, via, parcel) {
+        match ring.carry(rt, via, Keyed::new(parcel)) {
             Some(carried) if carried.caller == self.no => {
                 self.own.take(&ring.table, carried.parcel, number)
             }

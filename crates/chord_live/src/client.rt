@@ -13,6 +13,7 @@ ghost use Rattle.chord_table.specs.Shown.{CallerShown};
 use crate::carried::Carried;
 use crate::fault::{AskFault, BeginFault, OpenClientFault, RetryFault, WaitFault};
 use crate::guesses::Guesses;
+use crate::keyed::Keyed;
 use crate::owned_client::OwnedClient;
 use crate::ring::Ring;
 use crate::target::Target;
@@ -185,26 +186,14 @@ impl<'a, J: Naming, S: EntryStore> Client<'a, J, S> {
         ensures full { result ≡ Err WaitFault.Full → WasToldFull number self.old self.new }
         ensures not_full { result ≢ Err WaitFault.Full → WasNotToldFull number self.old self.new }
     {
-        match self.ring.carry(rt, via, parcel) {
+        match self.ring.carry(rt, via, Keyed::new(parcel)) {
             Some(carried) => self.take(rt, carried, number),
             None => Err(WaitFault::NoAnswer),
         }
     }
 
-    /// The identifier of the key, where there is more than one node to ask.
-    fn id_to_guess(&self, request: &Request) -> Option<Id> {
-        if self.ring.was(1) {
-            Some(Id::of_bytes(request.key()))
-        } else {
-            None
-        }
-    }
-
     /// The member that answered last for such an identifier, else `via`.
-    fn first_node(&self, id: Option<Id>, via: u64) -> u64 {
-        let Some(id) = id else {
-            return via;
-        };
+    fn first_node(&self, id: Id, via: u64) -> u64 {
         match self.guesses.guess(id) {
             Some(no) if self.ring.is_live(no) => no,
             _ => via,
@@ -212,13 +201,12 @@ impl<'a, J: Naming, S: EntryStore> Client<'a, J, S> {
     }
 
     /// Notes which node answered, or that none did.
-    fn note_node(&mut self, id: Option<Id>, node: Option<u64>)
+    fn note_node(&mut self, id: Id, node: Option<u64>)
         ensures { self.new ≡ self.old }
     {
-        match (id, node) {
-            (Some(id), Some(no)) => self.guesses.note(id, no),
-            (Some(id), None) => self.guesses.forget(id),
-            (None, _) => {}
+        match node {
+            Some(no) => self.guesses.note(id, no),
+            None => self.guesses.forget(id),
         }
     }
 
@@ -227,7 +215,6 @@ impl<'a, J: Naming, S: EntryStore> Client<'a, J, S> {
     fn carry_by_guess(
         &mut self,
         rt: &impl Wait,
-        id: Option<Id>,
         via: u64,
         parcel: Parcel<J>,
         number: u64,
@@ -237,7 +224,9 @@ impl<'a, J: Naming, S: EntryStore> Client<'a, J, S> {
         ensures full { result ≡ Err WaitFault.Full → WasToldFull number self.old self.new }
         ensures not_full { result ≢ Err WaitFault.Full → WasNotToldFull number self.old self.new }
     {
-        match self.ring.carry(rt, self.first_node(id, via), parcel) {
+        let keyed = Keyed::new(parcel);
+        let id = keyed.id;
+        match self.ring.carry(rt, self.first_node(id, via), keyed) {
             Some(carried) => {
                 self.note_node(id, Some(carried.from));
                 self.take(rt, carried, number)
@@ -336,7 +325,6 @@ impl<'a, J: Naming, S: EntryStore> Client<'a, J, S> {
     fn bring<R: Wait + Clock>(
         &mut self,
         rt: &R,
-        id: Option<Id>,
         via: u64,
         parcel: Parcel<J>,
         number: u64,
@@ -347,7 +335,7 @@ impl<'a, J: Naming, S: EntryStore> Client<'a, J, S> {
         ensures full { result ≡ Err WaitFault.Full → WasToldFull number self.old self.new }
         ensures not_full { result ≢ Err WaitFault.Full → WasNotToldFull number self.old self.new }
     {
-        match self.carry_by_guess(rt, id, via, parcel, number) {
+        match self.carry_by_guess(rt, via, parcel, number) {
             Err(WaitFault::NoAnswer) => {}
             ended => return ended,
         }
@@ -367,12 +355,11 @@ impl<'a, J: Naming, S: EntryStore> Client<'a, J, S> {
         ensures full { result ≡ Err AskFault.Full → WasToldFull (next_number self.old.caller) self.old self.new }
         ensures not_full { result ≢ Err AskFault.Full → WasNotToldFull (next_number self.old.caller) self.old self.new }
     {
-        let id = self.id_to_guess(&request);
         let (number, parcel) = match self.submit(via, request) {
             Ok(sent) => sent,
             Err(fault) => return Err(AskFault::from(fault)),
         };
-        match self.bring(rt, id, via, parcel, number) {
+        match self.bring(rt, via, parcel, number) {
             Ok(reply) => Ok(reply),
             Err(fault) => Err(AskFault::from(fault)),
         }

@@ -19,6 +19,7 @@ mod fault;
 mod gate;
 mod guesses;
 mod heard;
+mod keyed;
 mod locked;
 mod note_parcel;
 mod owned;

@@ -3,7 +3,8 @@ ghost use Rattle.std.specs.Prelude.{◌≡◌, ◌≤◌, ◌++◌, [], ◌∷�
 ghost use Rattle.chord_live.specs.Tidy.{TidyIs};
 ghost use Rattle.chord_node.specs.Moves.{LeaveIs, RetireIs};
 
-use crate::dealing::{deal, is_for};
+use crate::dealing::{deal_by_id, is_for};
+use crate::keyed::Keyed;
 use crate::target::Target;
 use crate::tidying::{Tidied, tidy};
 use chord_ident::Id;
@@ -58,17 +59,18 @@ impl<J: Naming, S: EntryStore> Locked<J, S> {
 
     /// Takes a message in, makes the node's call for it, and sends what that answers. A message that is not for the
     /// node is lost, and so is one where the node is out of memory.
-    pub fn answer(&mut self, table: &Shared<J>, parcel: Parcel<J>) -> Option<(Target, Parcel<J>)>
-        ensures messages { self.new.messages ≡ self.old.messages ++ parcel ∷ [] }
+    pub fn answer(&mut self, table: &Shared<J>, keyed: Keyed<J>) -> Option<(Target, Keyed<J>)>
+        ensures messages { self.new.messages ≡ self.old.messages ++ keyed.parcel ∷ [] }
     {
+        let Keyed { parcel, id } = keyed;
         let message = self.seat.receive(table, parcel);
         if !is_for(&message, self.node.number()) {
             return None;
         }
-        match deal(&mut self.node, message) {
+        match deal_by_id(&mut self.node, id, message) {
             Ok(Some((target, sent))) => {
                 let parcel = self.seat.send(table, &self.node, sent);
-                Some((target, parcel))
+                Some((target, Keyed { parcel, id }))
             }
             Ok(None) => {
                 self.seat.local(table, &self.node);

@@ -3,6 +3,7 @@
 use crate::carried::Carried;
 use crate::fault::NoSuchNode;
 use crate::gate::{Gate, Open};
+use crate::keyed::Keyed;
 use crate::place::Place;
 use crate::ring::Ring;
 use crate::target::Target;
@@ -24,12 +25,12 @@ impl<J: Naming, S: EntryStore> Ring<J, S> {
         rt: &impl Wait,
         no: u64,
         gate: &impl Gate,
-        parcel: Parcel<J>,
-    ) -> Option<(Target, Parcel<J>)> {
+        keyed: Keyed<J>,
+    ) -> Option<(Target, Keyed<J>)> {
         let slot = self.slots.get(no as usize)?;
         match &mut *slot.place.lock(rt) {
             Place::Here(locked) => {
-                let sent = locked.answer(&self.table, parcel);
+                let sent = locked.answer(&self.table, keyed);
                 gate.pass(no);
                 sent
             }
@@ -71,29 +72,31 @@ impl<J: Naming, S: EntryStore> Ring<J, S> {
                 return Ok(());
             }
             if let Some(parcel) = self.receive(rt, &slot.parcels, Duration::from_millis(IDLE)) {
-                if let Some((target, sent)) = self.answer(rt, no, gate, parcel) {
-                    self.post(rt, target, sent);
+                let keyed = Keyed::new(parcel);
+                if let Some((target, sent)) = self.answer(rt, no, gate, keyed) {
+                    self.post(rt, target, sent.parcel);
                 }
             }
         }
         unreachable!()
     }
 
-    /// Carries a parcel from node to node, each event under that node's lock, until one answers a caller.
-    pub(crate) fn carry(&self, rt: &impl Wait, via: u64, parcel: Parcel<J>) -> Option<Carried<J>> {
+    /// Carries a parcel from node to node, each event under that node's lock, until one answers a caller. The identifier
+    /// goes with it.
+    pub(crate) fn carry(&self, rt: &impl Wait, via: u64, keyed: Keyed<J>) -> Option<Carried<J>> {
         let mut to = via;
-        let mut passed = parcel;
+        let mut passed = keyed;
         for _ in 0..HOPS {
             match self.answer(rt, to, &Open, passed)? {
-                (Target::Node(next), parcel) => {
+                (Target::Node(next), sent) => {
                     to = next;
-                    passed = parcel;
+                    passed = sent;
                 }
-                (Target::Caller(caller), parcel) => {
+                (Target::Caller(caller), sent) => {
                     return Some(Carried {
                         from: to,
                         caller,
-                        parcel,
+                        parcel: sent.parcel,
                     });
                 }
             }

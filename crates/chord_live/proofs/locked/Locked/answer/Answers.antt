@@ -9,7 +9,7 @@ send-parcel-requires g c =
     let node = λ (s : NodeSight). s.node in
     let seat = c.receive-message.ensures.seat in
     record {
-      event = acted c.self.inside.seat c.receive-message.new.self c.args.parcel c.receive-message.result c.self.inside.node c.deal.new.node c.in-Ok-Some.field-0
+      event = acted c.self.inside.seat c.receive-message.new.self c.args.keyed.parcel c.receive-message.result c.self.inside.node c.deal_by_id.new.node c.in-Ok-Some.field-0
           (Some c.in-Ok-Some.sent) seat c.receive-message.ensures.message (c.self.invariant ∙ sym (ap node seat)) (ap message_in c.in-Ok-Some.field-0-is)
           c.in-Ok-Some.ensures.step;
     }
@@ -21,7 +21,7 @@ local-requires g c =
     record {
       event = (
         None,
-        acted c.self.inside.seat c.receive-message.new.self c.args.parcel c.receive-message.result c.self.inside.node c.deal.new.node c.in-Ok-None.field-0 None seat
+        acted c.self.inside.seat c.receive-message.new.self c.args.keyed.parcel c.receive-message.result c.self.inside.node c.deal_by_id.new.node c.in-Ok-None.field-0 None seat
             c.receive-message.ensures.message (c.self.invariant ∙ sym (ap node seat)) (ap message_in c.in-Ok-None.field-0-is) c.in-Ok-None.ensures.step,
       );
     }
