@@ -8,7 +8,6 @@ use crate::{
 };
 use chord_map::{Bytes, Reply, Request, Values};
 use std::alloc::{AllocError, Global};
-use std::test::Fail;
 
 // Insert x under a, number 1.
 const INSERT: [u8; 19] = [
@@ -123,109 +122,149 @@ fn fault_in(answer: &Answer) -> Option<(u64, FaultCode)> {
     }
 }
 
-#[test]
-fn writes_requests(rt: HostRuntime) -> Result<(), Fail> {
-    let alloc = rt.alloc();
-    let request = insert(alloc, b"a", b"x")?;
-    assert!(rt; request.check().is_ok());
-    let frame = write_request(alloc, 1, &request)?;
-    assert_eq!(rt; frame.as_slice(), INSERT.as_slice());
-    let frame = write_request_2(alloc, 1, 0, &request)?;
-    assert_eq!(rt; frame.as_slice(), INSERT_2.as_slice());
-    Ok(())
+/// Whether a request is written as these frames in versions 1 and 2.
+fn is_written(alloc: Global) -> Option<(bool, bool)> {
+    let request = insert(alloc, b"a", b"x").ok()?;
+    request.check().ok()?;
+    let first = write_request(alloc, 1, &request).ok()?;
+    let second = write_request_2(alloc, 1, 0, &request).ok()?;
+    Some((
+        first.as_slice() == INSERT.as_slice(),
+        second.as_slice() == INSERT_2.as_slice(),
+    ))
 }
 
 #[test]
-fn writes_replies(rt: HostRuntime) -> Result<(), Fail> {
-    let alloc = rt.alloc();
-    let frame = write_reply(alloc, 1, &Reply::Added)?;
-    assert_eq!(rt; frame.as_slice(), ADDED.as_slice());
-    let reply = values(alloc, &[b"x".as_slice()])?;
-    assert!(rt; is_writable(&reply));
-    let frame = write_reply(alloc, 2, &reply)?;
-    assert_eq!(rt; frame.as_slice(), ONE_VALUE.as_slice());
-    Ok(())
+fn writes_requests(rt: HostRuntime) {
+    assert_eq!(rt; is_written(rt.alloc()), Some((true, true)));
+}
+
+/// Whether these replies are written as these frames.
+fn are_written(alloc: Global) -> Option<(bool, bool)> {
+    let added = write_reply(alloc, 1, &Reply::Added).ok()?;
+    let found = values(alloc, &[b"x"]).ok()?;
+    if !is_writable(&found) {
+        return None;
+    }
+    let found = write_reply(alloc, 2, &found).ok()?;
+    Some((
+        added.as_slice() == ADDED.as_slice(),
+        found.as_slice() == ONE_VALUE.as_slice(),
+    ))
 }
 
 #[test]
-fn writes_faults(rt: HostRuntime) -> Result<(), Fail> {
-    let frame = write_fault(rt.alloc(), 0, FaultCode::BadVersion)?;
+fn writes_replies(rt: HostRuntime) {
+    assert_eq!(rt; are_written(rt.alloc()), Some((true, true)));
+}
+
+/// Whether a fault is written as this frame.
+fn is_fault_written(alloc: Global, number: u64, code: FaultCode, frame: &[u8]) -> Option<bool> {
+    if code == FaultCode::Memory {
+        return None;
+    }
+    let written = write_fault(alloc, number, code).ok()?;
+    Some(written.as_slice() == frame)
+}
+
+#[test]
+fn writes_faults(rt: HostRuntime) {
     let wanted = [0, 0, 0, 0x0b, 1, 0xff, 0, 0, 0, 0, 0, 0, 0, 0, 2];
-    assert_eq!(rt; frame.as_slice(), wanted.as_slice());
-    Ok(())
+    assert_eq!(rt;
+        is_fault_written(rt.alloc(), 0, FaultCode::BadVersion, &wanted),
+        Some(true)
+    );
+}
+
+/// Whether the reply with these values has a frame.
+fn has_frame(alloc: Global, all: &[&[u8]]) -> Option<bool> {
+    let reply = values(alloc, all).ok()?;
+    Some(is_writable(&reply))
 }
 
 #[test]
-fn tells_what_has_a_frame(rt: HostRuntime) -> Result<(), Fail> {
+fn tells_what_has_a_frame(rt: HostRuntime) {
+    let alloc = rt.alloc();
     let long = [7u8; 4097];
     assert!(rt; is_writable(&Reply::Absent));
-    for (all, wanted) in [
-        ([].as_slice(), true),
-        ([&long[..4096]].as_slice(), true),
-        ([long.as_slice()].as_slice(), false),
-        ([b"x".as_slice(), b"x".as_slice()].as_slice(), false),
-        ([b"y".as_slice(), b"x".as_slice()].as_slice(), false),
-    ] {
-        let reply = values(rt.alloc(), all)?;
-        assert_eq!(rt; is_writable(&reply), wanted);
+    assert_eq!(rt; has_frame(alloc, &[]), Some(true));
+    assert_eq!(rt; has_frame(alloc, &[&long[..4096]]), Some(true));
+    assert_eq!(rt; has_frame(alloc, &[&long]), Some(false));
+    assert_eq!(rt; has_frame(alloc, &[b"x", b"x"]), Some(false));
+    assert_eq!(rt; has_frame(alloc, &[b"y", b"x"]), Some(false));
+}
+
+/// Whether these bytes are the insert in this version.
+fn reads_insert(alloc: Global, bytes: &[u8], version: u8) -> Option<bool> {
+    let whole = request_of(alloc, bytes).ok()??;
+    is_insert(alloc, &whole, version).ok()
+}
+
+#[test]
+fn reads_whole_requests(rt: HostRuntime) {
+    assert_eq!(rt; reads_insert(rt.alloc(), &INSERT, 1), Some(true));
+    assert_eq!(rt; reads_insert(rt.alloc(), &INSERT_2, 2), Some(true));
+}
+
+/// Whether these bytes, fed one at a time, are the insert in this version, and how many are left then.
+fn reads_pieces(alloc: Global, bytes: &[u8], version: u8) -> Option<(bool, usize)> {
+    let mut frames = Frames::new(alloc);
+    if !keeps_pieces(&mut frames, bytes).ok()? {
+        return None;
     }
-    Ok(())
+    let pieced = frames.next().ok()??;
+    let is_insert = is_insert(alloc, &pieced, version).ok()?;
+    Some((is_insert, frames.left()))
 }
 
 #[test]
-fn reads_whole_requests(rt: HostRuntime) -> Result<(), Fail> {
-    let alloc = rt.alloc();
-    for (bytes, version) in [(INSERT.as_slice(), 1), (INSERT_2.as_slice(), 2)] {
-        let whole = request_of(alloc, bytes)?.ok_or("not whole")?;
-        assert!(rt; is_insert(alloc, &whole, version)?);
-    }
-    Ok(())
+fn reads_requests_in_any_pieces(rt: HostRuntime) {
+    assert_eq!(rt; reads_pieces(rt.alloc(), &INSERT, 1), Some((true, 0)));
+    assert_eq!(rt; reads_pieces(rt.alloc(), &INSERT_2, 2), Some((true, 0)));
+}
+
+/// How many bytes of answers there are, whether the first one is read, and how many are left then.
+fn first_in_pieces(alloc: Global) -> Option<(usize, bool, usize)> {
+    let mut answers = answers_in_pieces(alloc).ok()?;
+    let before = answers.left();
+    let first = answers.next().ok()??;
+    Some((before, is_reply(&first, 1, &Reply::Added), answers.left()))
 }
 
 #[test]
-fn reads_requests_in_any_pieces(rt: HostRuntime) -> Result<(), Fail> {
-    let alloc = rt.alloc();
-    for (bytes, version) in [(INSERT.as_slice(), 1), (INSERT_2.as_slice(), 2)] {
-        let mut frames = Frames::new(alloc);
-        assert!(rt; keeps_pieces(&mut frames, bytes)?);
-        let pieced = frames.next()?.ok_or("not whole")?;
-        assert!(rt; is_insert(alloc, &pieced, version)?);
-        assert_eq!(rt; frames.left(), 0);
-    }
-    Ok(())
+fn reads_answers_in_any_pieces(rt: HostRuntime) {
+    assert_eq!(rt; first_in_pieces(rt.alloc()), Some((60, true, 45)));
+}
+
+/// Whether the next answer is reply 2 with these values, and how many bytes are left then.
+fn next_values(alloc: Global, answers: &mut Answers, all: &[&[u8]]) -> Option<(bool, usize)> {
+    let answer = answers.next().ok()??;
+    let wanted = values(alloc, all).ok()?;
+    Some((is_reply(&answer, 2, &wanted), answers.left()))
+}
+
+/// The same of the second answer and the third, and whether none is left.
+fn values_in_pieces(alloc: Global) -> Option<((bool, usize), (bool, usize), bool)> {
+    let mut answers = answers_in_pieces(alloc).ok()?;
+    let _first = answers.next().ok()??;
+    let second = next_values(alloc, &mut answers, &[b"x"])?;
+    let third = next_values(alloc, &mut answers, &[b"x", b"y"])?;
+    Some((second, third, answers.next().ok()?.is_none()))
 }
 
 #[test]
-fn reads_answers_in_any_pieces(rt: HostRuntime) -> Result<(), Fail> {
-    let alloc = rt.alloc();
-    let mut answers = answers_in_pieces(alloc)?;
-    assert_eq!(rt; answers.left(), 60);
-    let first = answers.next()?.ok_or("no reply")?;
-    assert!(rt; is_reply(&first, 1, &Reply::Added));
-    assert_eq!(rt; answers.left(), 45);
-    Ok(())
+fn reads_values_in_any_pieces(rt: HostRuntime) {
+    let wanted = ((true, 24), (true, 0), true);
+    assert_eq!(rt; values_in_pieces(rt.alloc()), Some(wanted));
+}
+
+/// The fault of these bytes.
+fn fault_of(alloc: Global, bytes: &[u8]) -> Option<WireFault> {
+    request_of(alloc, bytes).err()
 }
 
 #[test]
-fn reads_values_in_any_pieces(rt: HostRuntime) -> Result<(), Fail> {
-    let alloc = rt.alloc();
-    let mut answers = answers_in_pieces(alloc)?;
-    answers.next()?.ok_or("no reply")?;
-    for (all, left) in [
-        ([b"x".as_slice()].as_slice(), 24),
-        ([b"x".as_slice(), b"y".as_slice()].as_slice(), 0),
-    ] {
-        let answer = answers.next()?.ok_or("no reply")?;
-        assert!(rt; is_reply(&answer, 2, &values(alloc, all)?));
-        assert_eq!(rt; answers.left(), left);
-    }
-    assert!(rt; answers.next()?.is_none());
-    Ok(())
-}
-
-#[test]
-fn tells_the_faults_of_the_rows(rt: HostRuntime) -> Result<(), Fail> {
-    let alloc = rt.alloc();
+fn tells_the_faults_of_the_rows(rt: HostRuntime) {
     for (bytes, code, number) in [
         ([0u8; 4].as_slice(), FaultCode::BadLength, 0),
         ([0, 0, 0x11, 0x15].as_slice(), FaultCode::BadLength, 0),
@@ -251,133 +290,194 @@ fn tells_the_faults_of_the_rows(rt: HostRuntime) -> Result<(), Fail> {
             1,
         ),
     ] {
-        let fault = request_of(alloc, bytes).err().ok_or("no fault")?;
-        assert_eq!(rt; fault, WireFault { code, number });
+        let fault = fault_of(rt.alloc(), bytes);
+        assert_eq!(rt; fault, Some(WireFault { code, number }));
     }
-    Ok(())
+}
+
+/// The fault of a request with another byte at a place, where it is told again and nothing is consumed.
+fn request_fault(alloc: Global, frame: &[u8], place: usize, byte: u8) -> Option<WireFault> {
+    let bytes = changed(alloc, frame, place, byte).ok()?;
+    let mut frames = Frames::new(alloc);
+    frames.feed(&bytes).ok()?;
+    let fault = frames.next().err()?;
+    let again = frames.next().err()?;
+    if again == fault && frames.left() == bytes.len() {
+        Some(fault)
+    } else {
+        None
+    }
+}
+
+/// The first place where a request with another byte has another fault than its row says.
+fn other_request_fault(
+    alloc: Global,
+    frame: &[u8],
+    rows: &[(usize, u8, FaultCode, u64)],
+) -> Option<usize> {
+    for (place, byte, code, number) in rows {
+        let (code, number) = (*code, *number);
+        let fault = request_fault(alloc, frame, *place, *byte);
+        if fault != Some(WireFault { code, number }) {
+            return Some(*place);
+        }
+    }
+    None
 }
 
 #[test]
-fn each_field_of_a_request_has_its_faults(rt: HostRuntime) -> Result<(), Fail> {
+fn each_field_of_a_request_has_its_faults(rt: HostRuntime) {
     let alloc = rt.alloc();
-    for (bytes, place, byte, code, number) in [
-        (INSERT.as_slice(), 3, 0x0b, FaultCode::BadLength, 0),
-        (INSERT.as_slice(), 2, 0x12, FaultCode::BadLength, 0),
-        (INSERT.as_slice(), 4, 9, FaultCode::BadVersion, 0),
-        (INSERT.as_slice(), 4, 0, FaultCode::BadVersion, 0),
-        (INSERT.as_slice(), 5, 4, FaultCode::BadOperation, 0),
-        (INSERT.as_slice(), 5, 0, FaultCode::BadOperation, 0),
-        (INSERT.as_slice(), 14, 0, FaultCode::BadKey, 1),
-        (INSERT.as_slice(), 14, 5, FaultCode::BadKey, 1),
-        (INSERT.as_slice(), 14, 4, FaultCode::BadValue, 1),
-        (INSERT.as_slice(), 17, 2, FaultCode::BadValue, 1),
-        (INSERT.as_slice(), 16, 0x10, FaultCode::BadValue, 1),
-        (INSERT.as_slice(), 17, 0, FaultCode::Trailing, 1),
-        (RETRIEVE.as_slice(), 4, 9, FaultCode::BadVersion, 0),
-        (RETRIEVE.as_slice(), 5, 4, FaultCode::BadOperation, 0),
-        (RETRIEVE.as_slice(), 5, 1, FaultCode::BadValue, 1),
-        (RETRIEVE.as_slice(), 14, 0, FaultCode::BadKey, 1),
-        (RETRIEVE.as_slice(), 14, 2, FaultCode::BadKey, 1),
-        (INSERT_2.as_slice(), 3, 0x0b, FaultCode::BadLength, 0),
-        (INSERT_2.as_slice(), 4, 3, FaultCode::BadVersion, 0),
-        (INSERT_2.as_slice(), 4, 1, FaultCode::BadKey, 1),
-        (INSERT_2.as_slice(), 5, 4, FaultCode::BadOperation, 0),
-        (INSERT_2.as_slice(), 13, 0, FaultCode::BadFloor, 0),
-        (INSERT_2.as_slice(), 13, 17, FaultCode::BadFloor, 17),
-        (INSERT_2.as_slice(), 21, 1, FaultCode::BadFloor, 1),
-        (INSERT_2.as_slice(), 22, 0, FaultCode::BadKey, 1),
-        (INSERT_2.as_slice(), 25, 2, FaultCode::BadValue, 1),
-        (INSERT_2.as_slice(), 25, 0, FaultCode::Trailing, 1),
-    ] {
-        let bytes = changed(alloc, bytes, place, byte)?;
-        let mut frames = Frames::new(alloc);
-        frames.feed(&bytes)?;
-        let fault = frames.next().err().ok_or("no fault")?;
-        assert_eq!(rt; fault, WireFault { code, number }, "at {place}");
-        // It is told again, and nothing is consumed.
-        assert_eq!(rt; frames.next().err().ok_or("no fault")?, fault);
-        assert_eq!(rt; frames.left(), bytes.len());
+    let rows = [
+        (3, 0x0b, FaultCode::BadLength, 0),
+        (2, 0x12, FaultCode::BadLength, 0),
+        (4, 9, FaultCode::BadVersion, 0),
+        (4, 0, FaultCode::BadVersion, 0),
+        (5, 4, FaultCode::BadOperation, 0),
+        (5, 0, FaultCode::BadOperation, 0),
+        (14, 0, FaultCode::BadKey, 1),
+        (14, 5, FaultCode::BadKey, 1),
+        (14, 4, FaultCode::BadValue, 1),
+        (17, 2, FaultCode::BadValue, 1),
+        (16, 0x10, FaultCode::BadValue, 1),
+        (17, 0, FaultCode::Trailing, 1),
+    ];
+    assert_eq!(rt; other_request_fault(alloc, &INSERT, &rows), None);
+    let rows = [
+        (4, 9, FaultCode::BadVersion, 0),
+        (5, 4, FaultCode::BadOperation, 0),
+        (5, 1, FaultCode::BadValue, 1),
+        (14, 0, FaultCode::BadKey, 1),
+        (14, 2, FaultCode::BadKey, 1),
+    ];
+    assert_eq!(rt; other_request_fault(alloc, &RETRIEVE, &rows), None);
+    let rows = [
+        (3, 0x0b, FaultCode::BadLength, 0),
+        (4, 3, FaultCode::BadVersion, 0),
+        (4, 1, FaultCode::BadKey, 1),
+        (5, 4, FaultCode::BadOperation, 0),
+        (13, 0, FaultCode::BadFloor, 0),
+        (13, 17, FaultCode::BadFloor, 17),
+        (21, 1, FaultCode::BadFloor, 1),
+        (22, 0, FaultCode::BadKey, 1),
+        (25, 2, FaultCode::BadValue, 1),
+        (25, 0, FaultCode::Trailing, 1),
+    ];
+    assert_eq!(rt; other_request_fault(alloc, &INSERT_2, &rows), None);
+}
+
+/// The fault of an answer with another byte at a place.
+fn answer_fault(alloc: Global, frame: &[u8], place: usize, byte: u8) -> Option<WireFault> {
+    let bytes = changed(alloc, frame, place, byte).ok()?;
+    answer_of(alloc, &bytes).err()
+}
+
+/// The first place where an answer with another byte has another fault than its row says.
+fn other_answer_fault(
+    alloc: Global,
+    frame: &[u8],
+    rows: &[(usize, u8, FaultCode, u64)],
+) -> Option<usize> {
+    for (place, byte, code, number) in rows {
+        let (code, number) = (*code, *number);
+        let fault = answer_fault(alloc, frame, *place, *byte);
+        if fault != Some(WireFault { code, number }) {
+            return Some(*place);
+        }
     }
-    Ok(())
+    None
 }
 
 #[test]
-fn each_field_of_an_answer_has_its_faults(rt: HostRuntime) -> Result<(), Fail> {
+fn each_field_of_an_answer_has_its_faults(rt: HostRuntime) {
     let alloc = rt.alloc();
-    for (bytes, place, byte, code, number) in [
-        (ADDED.as_slice(), 3, 0x0a, FaultCode::BadLength, 0),
-        (ADDED.as_slice(), 1, 0x3f, FaultCode::BadLength, 0),
-        (ADDED.as_slice(), 4, 2, FaultCode::BadVersion, 0),
-        (ADDED.as_slice(), 5, 1, FaultCode::BadOperation, 0),
-        (ADDED.as_slice(), 5, 0x84, FaultCode::BadOperation, 0),
-        (ADDED.as_slice(), 14, 3, FaultCode::BadValue, 1),
-        (ADDED.as_slice(), 5, 0x82, FaultCode::BadValue, 1),
-        (ONE_VALUE.as_slice(), 5, 0x83, FaultCode::Trailing, 2),
-        (ONE_VALUE.as_slice(), 17, 0, FaultCode::Trailing, 2),
-        (ONE_VALUE.as_slice(), 17, 2, FaultCode::BadValue, 2),
-        (ONE_VALUE.as_slice(), 14, 1, FaultCode::BadValue, 2),
-        (ONE_VALUE.as_slice(), 19, 2, FaultCode::BadValue, 2),
-        (ONE_VALUE.as_slice(), 18, 0x10, FaultCode::BadValue, 2),
-        (ONE_VALUE.as_slice(), 19, 0, FaultCode::Trailing, 2),
-        (TWO_VALUES.as_slice(), 23, 0x78, FaultCode::BadValue, 2),
-        (TWO_VALUES.as_slice(), 23, 0x77, FaultCode::BadValue, 2),
-    ] {
-        let bytes = changed(alloc, bytes, place, byte)?;
-        let fault = answer_of(alloc, &bytes).err().ok_or("no fault")?;
-        assert_eq!(rt; fault, WireFault { code, number }, "at {place}");
-    }
-    Ok(())
+    let rows = [
+        (3, 0x0a, FaultCode::BadLength, 0),
+        (1, 0x3f, FaultCode::BadLength, 0),
+        (4, 2, FaultCode::BadVersion, 0),
+        (5, 1, FaultCode::BadOperation, 0),
+        (5, 0x84, FaultCode::BadOperation, 0),
+        (14, 3, FaultCode::BadValue, 1),
+        (5, 0x82, FaultCode::BadValue, 1),
+    ];
+    assert_eq!(rt; other_answer_fault(alloc, &ADDED, &rows), None);
+    let rows = [
+        (5, 0x83, FaultCode::Trailing, 2),
+        (17, 0, FaultCode::Trailing, 2),
+        (17, 2, FaultCode::BadValue, 2),
+        (14, 1, FaultCode::BadValue, 2),
+        (19, 2, FaultCode::BadValue, 2),
+        (18, 0x10, FaultCode::BadValue, 2),
+        (19, 0, FaultCode::Trailing, 2),
+    ];
+    assert_eq!(rt; other_answer_fault(alloc, &ONE_VALUE, &rows), None);
+    let rows = [
+        (23, 0x78, FaultCode::BadValue, 2),
+        (23, 0x77, FaultCode::BadValue, 2),
+    ];
+    assert_eq!(rt; other_answer_fault(alloc, &TWO_VALUES, &rows), None);
+}
+
+/// Whether the code of this number has it, is one of the protocol, and is read from its frame.
+fn is_read_back(alloc: Global, number: u8) -> Option<bool> {
+    let code = FaultCode::from_number(number)?;
+    let frame = fault_frame(alloc, number).ok()?;
+    let answer = answer_of(alloc, &frame).ok()??;
+    let is_read = fault_in(&answer) == Some((1, code));
+    Some(is_read && code.to_number() == number && code != FaultCode::Memory)
 }
 
 #[test]
-fn faults_are_read_back(rt: HostRuntime) -> Result<(), Fail> {
+fn faults_are_read_back(rt: HostRuntime) {
     for number in [1, 2, 3, 4, 5, 6, 8, 9, 10, 11, 12] {
-        let code = FaultCode::from_number(number).ok_or("no fault")?;
-        assert_eq!(rt; code.to_number(), number);
-        assert_ne!(rt; code, FaultCode::Memory);
-        let frame = fault_frame(rt.alloc(), number)?;
-        let answer = answer_of(rt.alloc(), &frame)?.ok_or("not whole")?;
-        assert_eq!(rt; fault_in(&answer), Some((1, code)));
+        assert_eq!(rt; is_read_back(rt.alloc(), number), Some(true), "{number}");
     }
-    Ok(())
+}
+
+/// Whether the code of this number is written as its frame.
+fn is_code_written(alloc: Global, number: u8) -> Option<bool> {
+    let code = FaultCode::from_number(number)?;
+    let frame = fault_frame(alloc, number).ok()?;
+    is_fault_written(alloc, 1, code, &frame)
 }
 
 #[test]
-fn faults_are_written(rt: HostRuntime) -> Result<(), Fail> {
+fn faults_are_written(rt: HostRuntime) {
     for number in [1, 2, 3, 4, 5, 6, 8, 9, 10, 11, 12] {
-        let code = FaultCode::from_number(number).ok_or("no fault")?;
-        assert_ne!(rt; code, FaultCode::Memory);
-        let frame = fault_frame(rt.alloc(), number)?;
-        let written = write_fault(rt.alloc(), 1, code)?;
-        assert_eq!(rt; written.as_slice(), frame.as_slice());
+        let written = is_code_written(rt.alloc(), number);
+        assert_eq!(rt; written, Some(true), "{number}");
     }
-    Ok(())
+}
+
+/// The fault of an answer with the fault of this number.
+fn fault_of_number(alloc: Global, number: u8) -> Option<FaultCode> {
+    let frame = fault_frame(alloc, number).ok()?;
+    Some(answer_of(alloc, &frame).err()?.code)
 }
 
 #[test]
-fn no_other_code_is_a_fault(rt: HostRuntime) -> Result<(), Fail> {
+fn no_other_code_is_a_fault(rt: HostRuntime) {
     for number in [0, 7, 13] {
         assert_eq!(rt; FaultCode::from_number(number), None);
-        let frame = fault_frame(rt.alloc(), number)?;
-        let fault = answer_of(rt.alloc(), &frame).err().ok_or("no fault")?;
-        assert_eq!(rt; fault.code, FaultCode::BadValue);
+        let fault = fault_of_number(rt.alloc(), number);
+        assert_eq!(rt; fault, Some(FaultCode::BadValue));
     }
-    Ok(())
+}
+
+/// How long the frame of the longest request is, whether it is read back, and its number and floor.
+fn longest(alloc: Global) -> Option<(usize, bool, (u64, u64))> {
+    let long = [7u8; 4096];
+    let request = insert(alloc, &long[..255], &long).ok()?;
+    request.check().ok()?;
+    let frame = write_request_2(alloc, 17, 1, &request).ok()?;
+    let wire = request_of(alloc, &frame).ok()??;
+    let is_same = wire.request == request;
+    Some((frame.len(), is_same, (wire.number, wire.floor)))
 }
 
 #[test]
-fn the_longest_request_is_read_back(rt: HostRuntime) -> Result<(), Fail> {
-    let alloc = rt.alloc();
-    let long = [7u8; 4096];
-    let request = insert(alloc, &long[..255], &long)?;
-    assert!(rt; request.check().is_ok());
-    let frame = write_request_2(alloc, 17, 1, &request)?;
-    assert_eq!(rt; frame.len(), 4376);
-    let wire = request_of(alloc, &frame)?.ok_or("not whole")?;
-    assert_eq!(rt; wire.request, request);
-    assert_eq!(rt; wire.number, 17);
-    assert_eq!(rt; wire.floor, 1);
-    Ok(())
+fn the_longest_request_is_read_back(rt: HostRuntime) {
+    assert_eq!(rt; longest(rt.alloc()), Some((4376, true, (17, 1))));
 }
 
 #[test]
@@ -388,9 +488,20 @@ fn laws_are_called() {
     laws::values_of_a_map_have_a_frame();
 }
 
+/// Whether the code has this text.
+fn says(alloc: Global, code: FaultCode, wanted: &str) -> Option<bool> {
+    let text = format!(in alloc; "{code}").ok()?;
+    Some(text.as_str() == wanted)
+}
+
+/// Whether the fault has this text.
+fn tells(alloc: Global, fault: WireFault, wanted: &str) -> Option<bool> {
+    let text = format!(in alloc; "{fault}").ok()?;
+    Some(text.as_str() == wanted)
+}
+
 #[test]
-fn faults_say_what_is_wrong(rt: HostRuntime) -> Result<(), Fail> {
-    let alloc = rt.alloc();
+fn faults_say_what_is_wrong(rt: HostRuntime) {
     for (code, wanted) in [
         (FaultCode::BadLength, "bad length"),
         (FaultCode::BadFloor, "bad floor"),
@@ -398,14 +509,12 @@ fn faults_say_what_is_wrong(rt: HostRuntime) -> Result<(), Fail> {
         (FaultCode::Full, "the store is full"),
         (FaultCode::NoAnswer, "no answer came in time"),
     ] {
-        let text = format!(in alloc; "{code}")?;
-        assert_eq!(rt; text.as_str(), wanted);
+        assert_eq!(rt; says(rt.alloc(), code, wanted), Some(true));
     }
     let fault = WireFault {
         code: FaultCode::Trailing,
         number: 7,
     };
-    let text = format!(in alloc; "{fault}")?;
-    assert_eq!(rt; text.as_str(), "request 7: bytes behind the last field");
-    Ok(())
+    let wanted = "request 7: bytes behind the last field";
+    assert_eq!(rt; tells(rt.alloc(), fault, wanted), Some(true));
 }
