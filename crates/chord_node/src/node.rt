@@ -108,21 +108,22 @@ impl<S: EntryStore> Node<S> {
     }
 
     /// Answers a call: again or for the first time where the node holds the key, with Full where its store has no
-    /// room for what the call would add. A call for a key that it does not hold is passed on or dropped.
-    pub fn on_ask(&mut self, ask: &Ask) -> Result<Answered, AllocError>
-        ensures answer { AskIs ask.now self.old result self.new }
-        ensures step { AskSteps ask.now self.old result self.new }
-    {
-        let (answered, _) = self.answer(ask, false)?;
-        Ok(answered)
-    }
-
-    /// The same, and a copy of the call that was executed, if one was.
-    pub fn on_ask_noting(&mut self, ask: &Ask) -> Result<(Answered, Option<Done>), AllocError>
+    /// room for what the call would add. A call for a key that it does not hold is passed on or dropped. Where the call
+    /// was executed, a copy of it is given with its reply.
+    pub fn on_ask(&mut self, ask: &Ask) -> Result<(Answered, Option<Done>), AllocError>
         ensures answer { AskNotes ask.now true self.old result self.new }
         ensures step { AskStepsNoting ask.now self.old result self.new }
     {
-        self.answer(ask, true)
+        let x = Id::of_bytes(ask.request.key());
+        let Some(place) = place_with(&self.held, x) else {
+            match pass_on(&self.links, ask, x) {
+                Ok(passed) => return Ok((passed, None)),
+                Err(fault) => return Err(fault),
+            }
+        };
+        let segment = &mut self.held[place];
+        let store = self.store.as_mut().unwrap();
+        answer_in(self.alloc, segment, store, ask)
     }
 
     /// Answers as `on_ask` does a call that is handed over with its key's identifier. No digest is computed and no request
@@ -150,23 +151,6 @@ impl<S: EntryStore> Node<S> {
         let segment = &mut self.held[place];
         let store = self.store.as_mut().unwrap();
         answer_taken(self.alloc, segment, store, ask)
-    }
-
-    /// Answers a call, and gives a copy of the call that was executed, if that is wanted.
-    fn answer(&mut self, ask: &Ask, noting: bool) -> Result<(Answered, Option<Done>), AllocError>
-        ensures answer { AskNotes ask.now noting self.old result self.new }
-        ensures step { AskStepsNoting ask.now self.old result self.new }
-    {
-        let x = Id::of_bytes(ask.request.key());
-        let Some(place) = place_with(&self.held, x) else {
-            match pass_on(&self.links, ask, x) {
-                Ok(passed) => return Ok((passed, None)),
-                Err(fault) => return Err(fault),
-            }
-        };
-        let segment = &mut self.held[place];
-        let store = self.store.as_mut().unwrap();
-        answer_in(self.alloc, segment, store, ask, noting)
     }
 
     /// Its number.

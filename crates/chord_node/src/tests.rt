@@ -67,7 +67,8 @@ pub fn inserted<S: EntryStore>(
     requires near { number ≤ 16 }
 {
     let request = insert(alloc, key, value).ok()?;
-    node.on_ask(&ask(number, 0, request)).ok()
+    let (answered, _) = node.on_ask(&ask(number, 0, request)).ok()?;
+    Some(answered)
 }
 
 /// Node 0, at A, which holds the whole circle.

@@ -1,11 +1,12 @@
 //! Seats of one table.
 ghost use Rattle.std.specs.Prelude.{◌≡◌, [], IfOk};
+ghost use Rattle.chord_node.specs.Asked.{AskSteps};
 
 use crate::{BlankTable, CallerSeat, Naming, NodeSeat, Parcel, Registrar, Shared};
-use chord_caller::{CallerCore, Heard};
+use chord_caller::{Ask, CallerCore, Heard};
 use chord_ident::Id;
 use chord_links::{Links, Peer};
-use chord_map::{Bytes, Reply, Request};
+use chord_map::{Reply, Request};
 use chord_node::{Answered, Message, Node};
 use chord_store::{CappedStore, EntryStore};
 use std::alloc::{AllocError, Global};
@@ -17,10 +18,7 @@ mod clients;
 
 /// Insert `x` under `abc`.
 fn insert(alloc: Global) -> Result<Request, AllocError> {
-    Ok(Request::Insert {
-        key: Bytes::from_slice(alloc, b"abc")?,
-        value: Bytes::from_slice(alloc, b"x")?,
-    })
+    Request::insert(alloc, b"abc", b"x")
 }
 
 /// Whether it is the first call of caller 0, to insert `x` under `abc`.
@@ -49,6 +47,14 @@ fn ask<J: Naming>(
     Ok(seat.send(table, core, Message::Ask(ask)))
 }
 
+/// What the node answers to the call.
+fn answered<S: EntryStore>(node: &mut Node<S>, ask: &Ask) -> Result<Answered, AllocError>
+    ensures { AskSteps ask.now node.old result node.new }
+{
+    let (answered, _) = node.on_ask(ask)?;
+    Ok(answered)
+}
+
 /// The node does the call that comes, and its reply goes out.
 fn reply<J: Naming, S: EntryStore>(
     table: &Shared<J>,
@@ -61,7 +67,7 @@ fn reply<J: Naming, S: EntryStore>(
     let Message::Ask(ask) = seat.receive(table, parcel) else {
         return Err(Fail::from("no call"));
     };
-    let Answered::Told(told) = node.on_ask(&ask)? else {
+    let Answered::Told(told) = answered(node, &ask)? else {
         return Err(Fail::from("no reply"));
     };
     Ok(seat.send(table, node, Message::Told(told)))

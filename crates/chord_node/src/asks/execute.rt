@@ -26,17 +26,6 @@ fn copy_of(ask: &Ask) -> Result<Ask, AllocError>
     })
 }
 
-/// A copy of the request, where one is wanted.
-fn noted_request(request: &Request, noting: bool) -> Result<Option<Request>, AllocError>
-    ensures { IfOk result (λ noted. noted ≡ only_if noting request.now) }
-{
-    if noting {
-        Ok(Some(request.try_copy()?))
-    } else {
-        Ok(None)
-    }
-}
-
 /// The call with this request and this reply, where there are both.
 fn noted_done(ask: &Ask, request: Option<Request>, reply: Option<Reply>) -> Option<Done>
     ensures { result ≡ done_with ask.now request reply }
@@ -99,18 +88,14 @@ pub(crate) fn execute_ready<S: EntryStore>(
 }
 
 /// What the execution of a call takes memory for, the store apart: room in the segment, and copies of the request.
-fn prepare(
-    segment: &mut Segment,
-    ask: &Ask,
-    noting: bool,
-) -> Result<(Ask, Option<Request>), AllocError>
+fn prepare(segment: &mut Segment, ask: &Ask) -> Result<(Ask, Request), AllocError>
     ensures same { segment.new.segment ≡ segment.old.segment }
     ensures room { OnOk result (segment.new.room ≡ Some ask.now.caller) }
-    ensures copies { IfOk result (λ both. (both.0 ≡ ask.now) × (both.1 ≡ only_if noting ask.now.request)) }
+    ensures copies { IfOk result (λ both. (both.0 ≡ ask.now) × (both.1 ≡ ask.now.request)) }
 {
     segment.reserve(ask.caller)?;
     let copy = copy_of(ask)?;
-    let noted = noted_request(&ask.request, noting)?;
+    let noted = ask.request.try_copy()?;
     Ok((copy, noted))
 }
 
@@ -120,34 +105,31 @@ fn execute_in<S: EntryStore>(
     segment: &mut Segment,
     store: &mut S,
     ask: &Ask,
-    noting: bool,
 ) -> Result<(Answered, Option<Done>), AllocError>
     requires key { in_span segment.old.segment.span (id_of ask.now.request) ≡ true }
     requires new { past_at ask.now.caller ask.now.number segment.old.segment ≡ New }
-    ensures answers { AnswersIn ask.now noting segment.old.segment (S.content store.old) (S.limit store.old) result segment.new.segment (S.content store.new) }
+    ensures answers { AnswersIn ask.now true segment.old.segment (S.content store.old) (S.limit store.old) result segment.new.segment (S.content store.new) }
     ensures limit { S.limit store.new ≡ S.limit store.old }
 {
-    let Ok((copy, noted)) = prepare(segment, ask, noting) else {
+    let Ok((copy, noted)) = prepare(segment, ask) else {
         return if is_full(store, &ask.request) {
             Ok((Answered::Full, None))
         } else {
             Err(AllocError)
         };
     };
-    execute_ready(alloc, segment, store, copy, noted, noting)
+    execute_ready(alloc, segment, store, copy, Some(noted), true)
 }
 
-/// Answers a call whose key lies in the segment's span, and gives a copy of the call that it executed, if that is
-/// wanted.
+/// Answers a call whose key lies in the segment's span, and gives a copy of the call that it executed, if it did.
 pub(crate) fn answer_in<S: EntryStore>(
     alloc: Global,
     segment: &mut Segment,
     store: &mut S,
     ask: &Ask,
-    noting: bool,
 ) -> Result<(Answered, Option<Done>), AllocError>
     requires key { in_span segment.old.segment.span (id_of ask.now.request) ≡ true }
-    ensures answers { AnswersIn ask.now noting segment.old.segment (S.content store.old) (S.limit store.old) result segment.new.segment (S.content store.new) }
+    ensures answers { AnswersIn ask.now true segment.old.segment (S.content store.old) (S.limit store.old) result segment.new.segment (S.content store.new) }
     ensures limit { S.limit store.new ≡ S.limit store.old }
 {
     match segment.find(ask.caller, ask.number) {
@@ -161,6 +143,6 @@ pub(crate) fn answer_in<S: EntryStore>(
             };
             Ok((Answered::Told(told), None))
         }
-        Past::New => execute_in(alloc, segment, store, ask, noting),
+        Past::New => execute_in(alloc, segment, store, ask),
     }
 }

@@ -67,7 +67,7 @@ fn fills_up(alloc: Global) -> Option<(bool, bool, bool)> {
     inserted(alloc, &mut node, 1, b"abc", b"x")?;
     let full = inserted(alloc, &mut node, 2, b"abc", b"y")?;
     let request = insert(alloc, b"abc", b"x").ok()?;
-    let (present, done) = node.on_ask_noting(&ask(3, 0, request)).ok()?;
+    let (present, done) = node.on_ask(&ask(3, 0, request)).ok()?;
     Some((
         is_full(&full),
         is_told(&present, 3, &Reply::Present),
@@ -84,7 +84,8 @@ fn a_full_store_adds_nothing(rt: HostRuntime) {
 /// What a node answers to the retrieve of `abc` as call 2, at a floor of 1.
 fn retrieved(alloc: Global, node: &mut Node<CappedStore>) -> Option<Answered> {
     let key = Bytes::from_slice(alloc, b"abc").ok()?;
-    node.on_ask(&ask(2, 1, Request::Retrieve { key })).ok()
+    let (answered, _) = node.on_ask(&ask(2, 1, Request::Retrieve { key })).ok()?;
+    Some(answered)
 }
 
 /// The set of x alone.
@@ -150,7 +151,7 @@ fn passes_on(alloc: Global) -> Option<(Peer, bool, bool)> {
     let passed = inserted(alloc, &mut node, 1, b"abc", b"x")?;
     let mut spent = ask(1, 0, insert(alloc, b"abc", b"x").ok()?);
     spent.hops = 0;
-    let dropped = node.on_ask(&spent).ok()?;
+    let (dropped, _) = node.on_ask(&spent).ok()?;
     Some((first, is_passed(&passed), is_dropped(&dropped)))
 }
 

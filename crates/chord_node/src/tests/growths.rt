@@ -40,8 +40,8 @@ fn insert_x(alloc: Global) -> Result<Ask, AllocError> {
 /// What the node answers to the call, which comes again where there was no memory.
 fn answered(node: &mut Node<CappedStore>, call: &Ask) -> Result<Answered, AllocError> {
     match node.on_ask(call) {
-        Ok(answered) => Ok(answered),
-        Err(_) => node.on_ask(call),
+        Ok((answered, _)) => Ok(answered),
+        Err(_) => Ok(node.on_ask(call)?.0),
     }
 }
 

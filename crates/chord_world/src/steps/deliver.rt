@@ -32,7 +32,7 @@ fn answer_at<S: EntryStore>(
     ensures { AnswersAt place ask.now nodes.old.items result nodes.new.items }
 {
     let node = &mut nodes[place];
-    node.on_ask_noting(ask)
+    node.on_ask(ask)
 }
 
 /// The caller at the place hears a copy of the reply.

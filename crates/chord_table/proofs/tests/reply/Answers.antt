@@ -26,6 +26,6 @@ pub send-requires : goal.send-requires
 send-requires g c =
     let call = c.in-Ask.ask in
     let old = c.args.node.now in
-    let new = c.on_ask.new.self in
-    let step = subst (λ (a : Answered). AskSteps call old (Ok a) new) c.in-Told.is c.in_ok-told.ensures.step in
+    let new = c.answered.new.node in
+    let step = subst (λ (a : Answered). AskSteps call old (Ok a) new) c.in-Told.is c.in_ok-told.ensures in
     record { event = does_what_came c.args.seat.now c.receive.new.self c.args.parcel (ToldMessage c.in-Told.told) old new call (ask_done call old) c.receive.ensures.seat c.requires c.in-Ask.ensures.message step }

@@ -4,4 +4,4 @@ use Rattle.chord_world.proofs.steps.deliver.answer_at.Goals as goal
 
 pub returns : goal.returns
 returns g c =
-    answers_from c.args.place c.args.ask.now c.args.nodes.now.items c.index_mut-node.result.now c.on_ask_noting.new.self c.on_ask_noting.result _ c.requires c.index_mut-node.ensures.value c.on_ask_noting.ensures.answer refl
+    answers_from c.args.place c.args.ask.now c.args.nodes.now.items c.index_mut-node.result.now c.on_ask.new.self c.on_ask.result _ c.requires c.index_mut-node.ensures.value c.on_ask.ensures.answer refl
