@@ -20,7 +20,7 @@ use Rattle.chord_model.specs.World.WorldStep.{Calls}
 use Rattle.chord_world.specs.State.{WorldState, IsThere, CallersFrom, AreKnown, IsWorld}
 use Rattle.chord_world.specs.declared.refusal.Refusal.{Refusal}
 use Rattle.chord_world.specs.Refusals.{refusal_of}
-use Rattle.chord_world.specs.Steps.{with_ask, Sends, RefusesCall, SubmitStepIs}
+use Rattle.chord_world.specs.Steps.{with_ask, Sends, RefusesCall, RefusesSubmit}
 use Rattle.chord_world.specs.Sending.{CanSubmit, Submitted}
 use Rattle.chord_world.proofs.Placing.{caller_at_place, put_caller_place, callers_set, caller_number, calls_pushed, aimed_pushed}
 use Rattle.chord_world.proofs.Keeping.{further}
@@ -146,15 +146,15 @@ posted_sends caller via number request view old callers ask new same kept node d
     (record { core = did.core; after = did.after; ask = ask; there = there_of caller via request view ask callers kept node did; submits = did.submits; numbered = at; new_is = is })
 
 -- the caller's refusal is that of the step
-refused_by : (caller via : ℕ) (request : Request) (old : WorldState) (fault : SubmitFault) → RefusesCall caller via request old fault → SubmitStepIs caller via request old (Err (refusal_of fault)) old
-refused_by caller via request old (Bad fault) h = ((Bad fault, refl, h), refl)
-refused_by caller via request old WindowFull h = ((WindowFull, refl, h), refl)
-refused_by caller via request old NumbersSpent h = ((NumbersSpent, refl, h), refl)
-refused_by caller via request old Memory h = ((Memory, refl, h), refl)
+refused_by : (caller via : ℕ) (request : Request) (old : WorldState) (fault : SubmitFault) → RefusesCall caller via request old fault → RefusesSubmit caller via request old (refusal_of fault)
+refused_by caller via request old (Bad fault) h = (Bad fault, refl, h)
+refused_by caller via request old WindowFull h = (WindowFull, refl, h)
+refused_by caller via request old NumbersSpent h = (NumbersSpent, refl, h)
+refused_by caller via request old Memory h = (Memory, refl, h)
 
 pub submit_refused : (caller via : ℕ) (request : Request) (old : WorldState) (fault : SubmitFault) (refusal : Refusal) → refusal ≡ refusal_of fault → RefusesCall caller via request old fault
-    → SubmitStepIs caller via request old (Err refusal) old
-submit_refused caller via request old fault refusal e h = subst (λ x. SubmitStepIs caller via request old (Err x) old) (sym e) (refused_by caller via request old fault h)
+    → RefusesSubmit caller via request old refusal
+submit_refused caller via request old fault refusal e h = subst (RefusesSubmit caller via request old) (sym e) (refused_by caller via request old fault h)
 
 -- all of it, over the view of the fields
 pub node_there : (caller via : ℕ) (request : Request) (view old : WorldState) → view ≡ old → RefusesCall caller via request old Memory → via < length view.world.nodes

@@ -203,4 +203,4 @@ pub meets_not : (caller message : ℕ) (view old : WorldState) (note : Note) (ca
 meets_not caller message view old note callers (Ok outcome) same there sent stays is = absurd is
 meets_not caller message view old note callers (Err e) same there sent stays is =
     subst (λ r. MeetIs caller message old (Err r) (posted callers view.world.sent view.targets view)) (sym is)
-    (there, (note, sent), ap (λ cs. posted cs view.world.sent view.targets view) stays ∙ same)
+    ((there, (note, sent)), ap (λ cs. posted cs view.world.sent view.targets view) stays ∙ same)

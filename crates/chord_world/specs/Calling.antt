@@ -12,6 +12,7 @@ use Rattle.chord_world.specs.declared.outcome.Outcome.TheVariants as did
 use Rattle.chord_world.specs.declared.refusal.Refusal.{Refusal}
 use Rattle.chord_world.specs.declared.refusal.Refusal.TheVariants as refused
 use Rattle.chord_world.specs.declared.refusal.StepFault.TheVariants as step_fault
+use Rattle.chord_world.specs.Refusals.{DoneOrRefused}
 use Rattle.chord_world.specs.State.{WorldState, IsThere, with_heard, with_sent}
 
 -- the caller and the node are there, or the first refusal that fits is answered
@@ -71,12 +72,17 @@ pub record SendsAgain (caller via : ℕ) (named : Option ℕ) (old : WorldState)
   pub numbered : message ≡ length old.world.sent
   pub new_is : new ≡ with_sent (AskMessage ask) (Some via) old
 
+abbrev pub DoesResend : ℕ → ℕ → Option ℕ → WorldState → Outcome → WorldState → Type 0
+DoesResend caller via named old (did.Message message) new = SendsAgain caller via named old message new
+DoesResend caller via named old outcome new = ⊥
+
+abbrev pub RefusesResend : ℕ → ℕ → Option ℕ → WorldState → Refusal → Type 0
+RefusesResend caller via named old (refused.Step step_fault.Idle) = (core : Caller) × IsThere caller via old core × IsIdle named core
+RefusesResend caller via named old refused.Memory = (core : Caller) × IsThere caller via old core × IsWaiting named core
+RefusesResend caller via named old refusal = AreThere caller via old (Err refusal)
+
 abbrev pub ResendStepIs : ℕ → ℕ → Option ℕ → WorldState → Result Outcome Refusal → WorldState → Type 0
-ResendStepIs caller via named old (Ok (did.Message message)) new = SendsAgain caller via named old message new
-ResendStepIs caller via named old (Ok outcome) new = ⊥
-ResendStepIs caller via named old (Err (refused.Step step_fault.Idle)) new = ((core : Caller) × IsThere caller via old core × IsIdle named core) × (new ≡ old)
-ResendStepIs caller via named old (Err refused.Memory) new = ((core : Caller) × IsThere caller via old core × IsWaiting named core) × (new ≡ old)
-ResendStepIs caller via named old (Err refusal) new = AreThere caller via old (Err refusal) × (new ≡ old)
+ResendStepIs caller via named = DoneOrRefused (DoesResend caller via named) (RefusesResend caller via named)
 
 -- ---- a note
 
@@ -91,11 +97,16 @@ pub record SendsNote (caller : ℕ) (old : WorldState) (message : ℕ) (new : Wo
   pub numbered : message ≡ length old.world.sent
   pub new_is : new ≡ with_sent (NoteMessage (note_of core)) None old
 
+abbrev pub DoesShow : ℕ → WorldState → Outcome → WorldState → Type 0
+DoesShow caller old (did.Message message) new = SendsNote caller old message new
+DoesShow caller old outcome new = ⊥
+
+abbrev pub RefusesShow : ℕ → WorldState → Refusal → Type 0
+RefusesShow caller old refused.Memory = CallerIs caller old (Ok tt)
+RefusesShow caller old refusal = CallerIs caller old (Err refusal)
+
 abbrev pub ShowIs : ℕ → WorldState → Result Outcome Refusal → WorldState → Type 0
-ShowIs caller old (Ok (did.Message message)) new = SendsNote caller old message new
-ShowIs caller old (Ok outcome) new = ⊥
-ShowIs caller old (Err refused.Memory) new = CallerIs caller old (Ok tt) × (new ≡ old)
-ShowIs caller old (Err refusal) new = CallerIs caller old (Err refusal) × (new ≡ old)
+ShowIs caller = DoneOrRefused (DoesShow caller) (RefusesShow caller)
 
 -- the caller after it met the note
 abbrev pub with_note : Note → Caller → Caller
@@ -113,14 +124,18 @@ pub record MeetsNote (caller message : ℕ) (old new : WorldState) : Type 0 wher
 abbrev pub IsNoNote : ℕ → WorldState → Type 0
 IsNoNote message state = (message < length state.world.sent) × ((note : Note) → slice_get state.world.sent message ≢ Some (NoteMessage note))
 
+abbrev pub DoesMeet : ℕ → ℕ → WorldState → Outcome → WorldState → Type 0
+DoesMeet caller message old did.Met new = MeetsNote caller message old new
+DoesMeet caller message old outcome new = ⊥
+
+abbrev pub RefusesMeet : ℕ → ℕ → WorldState → Refusal → Type 0
+RefusesMeet caller message old refused.NoSuchMessage = CallerIs caller old (Ok tt) × (length old.world.sent ≤ message)
+RefusesMeet caller message old (refused.Step step_fault.NotNote) = CallerIs caller old (Ok tt) × IsNoNote message old
+RefusesMeet caller message old refused.Memory = CallerIs caller old (Ok tt) × ((note : Note) × (slice_get old.world.sent message ≡ Some (NoteMessage note)))
+RefusesMeet caller message old refusal = CallerIs caller old (Err refusal)
+
 abbrev pub MeetIs : ℕ → ℕ → WorldState → Result Outcome Refusal → WorldState → Type 0
-MeetIs caller message old (Ok did.Met) new = MeetsNote caller message old new
-MeetIs caller message old (Ok outcome) new = ⊥
-MeetIs caller message old (Err refused.NoSuchMessage) new = CallerIs caller old (Ok tt) × (length old.world.sent ≤ message) × (new ≡ old)
-MeetIs caller message old (Err (refused.Step step_fault.NotNote)) new = CallerIs caller old (Ok tt) × IsNoNote message old × (new ≡ old)
-MeetIs caller message old (Err refused.Memory) new =
-    CallerIs caller old (Ok tt) × ((note : Note) × (slice_get old.world.sent message ≡ Some (NoteMessage note))) × (new ≡ old)
-MeetIs caller message old (Err refusal) new = CallerIs caller old (Err refusal) × (new ≡ old)
+MeetIs caller message = DoneOrRefused (DoesMeet caller message) (RefusesMeet caller message)
 
 -- ---- how it comes about
 

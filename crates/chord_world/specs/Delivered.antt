@@ -22,6 +22,7 @@ use Rattle.chord_world.specs.declared.outcome.Outcome.TheVariants as did
 use Rattle.chord_world.specs.declared.refusal.Refusal.{Refusal}
 use Rattle.chord_world.specs.declared.refusal.Refusal.TheVariants as refused
 use Rattle.chord_world.specs.declared.refusal.StepFault.TheVariants as step_fault
+use Rattle.chord_world.specs.Refusals.{DoneOrRefused}
 use Rattle.chord_world.specs.State.{WorldState, with_heard, is_crashed}
 use Rattle.chord_world.specs.Linking.{with_node}
 use Rattle.chord_world.specs.Taking.{outcome_of_given, outcome_of_freed, outcome_of_back, with_reply}
@@ -117,14 +118,16 @@ pub data TakesMemory (message : ℕ) (old : WorldState) : Type 0 where
       → node_at declined.from old.world.nodes ≡ Some node → is_crashed declined.from old ≡ false → BackIs declined node (Err alloc_error) node
       → TakesMemory message old
 
--- what a World answers where the message of this number is delivered
+-- why the message of this number is not delivered
+abbrev pub RefusesDeliver : ℕ → WorldState → Refusal → Type 0
+RefusesDeliver message old refused.NotCreated = old.world.nodes ≡ []
+RefusesDeliver message old refused.NoSuchNode = IsAstray message old
+RefusesDeliver message old refused.NoSuchMessage = (old.world.nodes ≢ []) × (length old.world.sent ≤ message)
+RefusesDeliver message old (refused.Step step_fault.Crashed) = IsForCrashed message old
+RefusesDeliver message old (refused.Step step_fault.NeedsMeet) = (note : Note) × (slice_get old.world.sent message ≡ Some (NoteMessage note))
+RefusesDeliver message old refused.Memory = TakesMemory message old
+RefusesDeliver message old refusal = ⊥
+
+-- what a World answers where it is delivered
 abbrev pub DeliverIs : ℕ → WorldState → Result Outcome Refusal → WorldState → Type 0
-DeliverIs message old (Ok outcome) new = Delivers message old outcome new
-DeliverIs message old (Err refused.NotCreated) new = (old.world.nodes ≡ []) × (new ≡ old)
-DeliverIs message old (Err refused.NoSuchNode) new = IsAstray message old × (new ≡ old)
-DeliverIs message old (Err refused.NoSuchMessage) new = (old.world.nodes ≢ []) × (length old.world.sent ≤ message) × (new ≡ old)
-DeliverIs message old (Err (refused.Step step_fault.Crashed)) new = IsForCrashed message old × (new ≡ old)
-DeliverIs message old (Err (refused.Step step_fault.NeedsMeet)) new =
-    ((note : Note) × (slice_get old.world.sent message ≡ Some (NoteMessage note))) × (new ≡ old)
-DeliverIs message old (Err refused.Memory) new = TakesMemory message old × (new ≡ old)
-DeliverIs message old (Err refusal) new = ⊥
+DeliverIs message = DoneOrRefused (Delivers message) (RefusesDeliver message)

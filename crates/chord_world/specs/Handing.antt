@@ -22,6 +22,7 @@ use Rattle.chord_world.specs.declared.outcome.Outcome.TheVariants as did
 use Rattle.chord_world.specs.declared.refusal.Refusal.{Refusal}
 use Rattle.chord_world.specs.declared.refusal.Refusal.TheVariants as refused
 use Rattle.chord_world.specs.declared.refusal.StepFault.TheVariants as step_fault
+use Rattle.chord_world.specs.Refusals.{DoneOrRefused}
 use Rattle.chord_world.specs.State.{WorldState, ring_of, with_sent, is_crashed}
 use Rattle.chord_world.specs.Linking.{with_node}
 
@@ -78,10 +79,15 @@ pub record RefusedBy {A E : Type 0} (Is : Call (Result A E)) (refusal_of : E →
   pub is : Is node (Err fault) node
   pub told : refusal ≡ refusal_of fault
 
+abbrev pub DoesMove : {E : Type 0} → Call (Result (Unit {0}) E) → ℕ → WorldState → Outcome → WorldState → Type 0
+DoesMove Is number old did.Done new = Moved Is number old new
+DoesMove Is number old outcome new = ⊥
+
+abbrev pub RefusesMove : {E : Type 0} → Call (Result (Unit {0}) E) → (E → Refusal) → ℕ → WorldState → Refusal → Type 0
+RefusesMove Is refusal_of number old refusal = CannotAct number old refusal ⊎ RefusedBy Is refusal_of number old refusal
+
 abbrev pub MoveIs : {E : Type 0} → Call (Result (Unit {0}) E) → (E → Refusal) → ℕ → WorldState → Result Outcome Refusal → WorldState → Type 0
-MoveIs Is refusal_of number old (Ok did.Done) new = Moved Is number old new
-MoveIs Is refusal_of number old (Ok outcome) new = ⊥
-MoveIs Is refusal_of number old (Err refusal) new = (CannotAct number old refusal ⊎ RefusedBy Is refusal_of number old refusal) × (new ≡ old)
+MoveIs Is refusal_of number = DoneOrRefused (DoesMove Is number) (RefusesMove Is refusal_of number)
 
 -- ---- a node that sends a part
 
@@ -106,11 +112,15 @@ refusal_of_give give.Memory = refused.Memory
 abbrev pub CannotGive : ℕ → ℕ → WorldState → Refusal → Type 0
 CannotGive number to old refusal = IsMissing to old refusal ⊎ (HasNode to old × CannotAct number old refusal)
 
+abbrev pub DoesGive : ℕ → ℕ → ℕ → WorldState → Outcome → WorldState → Type 0
+DoesGive number place to old (did.Message message) new = HasNode to old × SendsPart (GiveIs place to) number old message new
+DoesGive number place to old outcome new = ⊥
+
+abbrev pub RefusesGive : ℕ → ℕ → ℕ → WorldState → Refusal → Type 0
+RefusesGive number place to old refusal = CannotGive number to old refusal ⊎ (HasNode to old × RefusedBy (GiveIs place to) refusal_of_give number old refusal)
+
 abbrev pub GiveStepIs : ℕ → ℕ → ℕ → WorldState → Result Outcome Refusal → WorldState → Type 0
-GiveStepIs number place to old (Ok (did.Message message)) new = HasNode to old × SendsPart (GiveIs place to) number old message new
-GiveStepIs number place to old (Ok outcome) new = ⊥
-GiveStepIs number place to old (Err refusal) new =
-    (CannotGive number to old refusal ⊎ (HasNode to old × RefusedBy (GiveIs place to) refusal_of_give number old refusal)) × (new ≡ old)
+GiveStepIs number place to = DoneOrRefused (DoesGive number place to) (RefusesGive number place to)
 
 -- a part again
 abbrev pub refusal_of_resend : ResendFault → Refusal
@@ -127,10 +137,15 @@ RefusesPart number to item place old refusal =
     (CanAct number old × (node_at to old.world.nodes ≡ None) × (refusal ≡ refused.Step step_fault.NoPart))
     ⊎ (HasNode to old × RefusedBy (Resends to item place) refusal_of_resend number old refusal)
 
+abbrev pub DoesSendPart : ℕ → ℕ → ℕ → ℕ → WorldState → Outcome → WorldState → Type 0
+DoesSendPart number to item place old (did.Message message) new = HasNode to old × SendsPart (Resends to item place) number old message new
+DoesSendPart number to item place old outcome new = ⊥
+
+abbrev pub RefusesSendPart : ℕ → ℕ → ℕ → ℕ → WorldState → Refusal → Type 0
+RefusesSendPart number to item place old refusal = CannotAct number old refusal ⊎ RefusesPart number to item place old refusal
+
 abbrev pub SendPartIs : ℕ → ℕ → ℕ → ℕ → WorldState → Result Outcome Refusal → WorldState → Type 0
-SendPartIs number to item place old (Ok (did.Message message)) new = HasNode to old × SendsPart (Resends to item place) number old message new
-SendPartIs number to item place old (Ok outcome) new = ⊥
-SendPartIs number to item place old (Err refusal) new = (CannotAct number old refusal ⊎ RefusesPart number to item place old refusal) × (new ≡ old)
+SendPartIs number to item place = DoneOrRefused (DoesSendPart number to item place) (RefusesSendPart number to item place)
 
 -- ---- refusals
 
@@ -164,12 +179,16 @@ abbrev pub NeededIs : ℕ → WorldState → Bool → Type 0
 NeededIs number old true = IsNeeded number old
 NeededIs number old false = (is_member (ring_of old).members number ≡ false) ⊎ CanDepart (ring_of old).members number
 
+abbrev pub DoesRetire : ℕ → WorldState → Outcome → WorldState → Type 0
+DoesRetire number old did.Done new = CanDepart (ring_of old).members number × Moved RetireIs number old new
+DoesRetire number old outcome new = ⊥
+
+abbrev pub RefusesRetire : ℕ → WorldState → Refusal → Type 0
+RefusesRetire number old refused.Unsafe = HasNode number old × IsNeeded number old
+RefusesRetire number old refusal = CannotAct number old refusal ⊎ ((¬ IsNeeded number old) × RefusedBy RetireIs refusal_of_retire number old refusal)
+
 abbrev pub RetireStepIs : ℕ → WorldState → Result Outcome Refusal → WorldState → Type 0
-RetireStepIs number old (Ok did.Done) new = CanDepart (ring_of old).members number × Moved RetireIs number old new
-RetireStepIs number old (Ok outcome) new = ⊥
-RetireStepIs number old (Err refused.Unsafe) new = HasNode number old × IsNeeded number old × (new ≡ old)
-RetireStepIs number old (Err refusal) new =
-    (CannotAct number old refusal ⊎ ((¬ IsNeeded number old) × RefusedBy RetireIs refusal_of_retire number old refusal)) × (new ≡ old)
+RetireStepIs number = DoneOrRefused (DoesRetire number) (RefusesRetire number)
 
 -- ---- how it comes about
 

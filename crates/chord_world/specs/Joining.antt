@@ -1,5 +1,5 @@
 -- What a World answers where a node joins.
-use Rattle.std.specs.Prelude.{◌≡◌, ◌≢◌, ℕ, false, Some, Result, Ok, Err, List, [], ◌∷◌, ◌++◌, length, slice_get, IsTrue}
+use Rattle.std.specs.Prelude.{◌≡◌, ◌≢◌, ℕ, false, Some, Result, List, [], ◌∷◌, ◌++◌, length, slice_get, IsTrue}
 use Rattle.std.specs.List.{Contains}
 use Rattle.chord_ident.specs.declared.id.Id.{Id}
 use Rattle.chord_links.specs.NodeLinks.{NodeLinks}
@@ -13,6 +13,7 @@ use Rattle.chord_world.specs.declared.outcome.Outcome.TheVariants as did
 use Rattle.chord_world.specs.declared.refusal.Refusal.{Refusal}
 use Rattle.chord_world.specs.declared.refusal.Refusal.TheVariants as refused
 use Rattle.chord_world.specs.declared.refusal.StepFault.TheVariants as step_fault
+use Rattle.chord_world.specs.Refusals.{DoneOrRefused}
 use Rattle.chord_world.specs.State.{WorldState, ring_of}
 
 -- the world with one more node, which has these links and a store of this limit
@@ -28,14 +29,18 @@ pub record JoinsBehind (id : Id) (behind limit : ℕ) (old : WorldState) (number
   pub new_is : new ≡ with_newborn links limit old
 
 -- the limits are those of the stores at hand
+abbrev pub DoesJoin : Id → ℕ → List ℕ → WorldState → Outcome → WorldState → Type 0
+DoesJoin id behind limits old (did.Node number) new = (limit : ℕ) × (slice_get limits 0 ≡ Some limit) × JoinsBehind id behind limit old number new
+DoesJoin id behind limits old outcome new = ⊥
+
+abbrev pub RefusesJoin : Id → ℕ → List ℕ → WorldState → Refusal → Type 0
+RefusesJoin id behind limits old refused.NotCreated = old.world.nodes ≡ []
+RefusesJoin id behind limits old refused.NoSuchNode = (old.world.nodes ≢ []) × JoinRefused (ring_of old) id.number behind fault.NoSuchNode
+RefusesJoin id behind limits old refused.IdTaken = JoinRefused (ring_of old) id.number behind fault.IdTaken
+RefusesJoin id behind limits old refused.NoStore = IsTrue (is_member (ring_of old).members behind) × (¬ (Contains (ring_of old).ids id.number)) × (limits ≡ [])
+RefusesJoin id behind limits old (refused.Step step_fault.NotBetween) = JoinRefused (ring_of old) id.number behind fault.NotBetween × (limits ≢ [])
+RefusesJoin id behind limits old refused.Memory = JoinRefused (ring_of old) id.number behind fault.Memory × (limits ≢ [])
+RefusesJoin id behind limits old refusal = ⊥
+
 abbrev pub JoinIs : Id → ℕ → List ℕ → WorldState → Result Outcome Refusal → WorldState → Type 0
-JoinIs id behind limits old (Ok (did.Node number)) new = (limit : ℕ) × (slice_get limits 0 ≡ Some limit) × JoinsBehind id behind limit old number new
-JoinIs id behind limits old (Ok outcome) new = ⊥
-JoinIs id behind limits old (Err refused.NotCreated) new = (old.world.nodes ≡ []) × (new ≡ old)
-JoinIs id behind limits old (Err refused.NoSuchNode) new = (old.world.nodes ≢ []) × JoinRefused (ring_of old) id.number behind fault.NoSuchNode × (new ≡ old)
-JoinIs id behind limits old (Err refused.IdTaken) new = JoinRefused (ring_of old) id.number behind fault.IdTaken × (new ≡ old)
-JoinIs id behind limits old (Err refused.NoStore) new =
-    IsTrue (is_member (ring_of old).members behind) × (¬ (Contains (ring_of old).ids id.number)) × (limits ≡ []) × (new ≡ old)
-JoinIs id behind limits old (Err (refused.Step step_fault.NotBetween)) new = JoinRefused (ring_of old) id.number behind fault.NotBetween × (limits ≢ []) × (new ≡ old)
-JoinIs id behind limits old (Err refused.Memory) new = JoinRefused (ring_of old) id.number behind fault.Memory × (limits ≢ []) × (new ≡ old)
-JoinIs id behind limits old (Err refusal) new = ⊥
+JoinIs id behind limits = DoneOrRefused (DoesJoin id behind limits) (RefusesJoin id behind limits)

@@ -1,5 +1,5 @@
 -- What a World answers where a node's links are set, or read.
-use Rattle.std.specs.Prelude.{◌≡◌, ◌≢◌, ℕ, ◌≤◌, ◌⊎◌, true, false, Option, None, Some, Result, Ok, Err, List, [], slice_get, slice_set}
+use Rattle.std.specs.Prelude.{◌≡◌, ◌≢◌, ℕ, ◌≤◌, ◌⊎◌, true, false, Option, None, Some, Result, List, [], slice_get, slice_set}
 use Rattle.std.specs.Borrow.{Bor}
 use Rattle.chord_links.specs.declared.peer.Peer.{Peer}
 use Rattle.chord_links.specs.Fingers.{with_finger}
@@ -11,6 +11,7 @@ use Rattle.chord_world.specs.declared.outcome.Outcome.TheVariants as did
 use Rattle.chord_world.specs.declared.refusal.Refusal.{Refusal}
 use Rattle.chord_world.specs.declared.refusal.Refusal.TheVariants as refused
 use Rattle.chord_world.specs.declared.refusal.StepFault.TheVariants as step_fault
+use Rattle.chord_world.specs.Refusals.{DoneOrRefused}
 use Rattle.chord_world.specs.State.{WorldState, is_crashed}
 
 -- a node has the fingers 1 to 128
@@ -40,16 +41,19 @@ abbrev pub AreNodes : ℕ → ℕ → WorldState → Type 0
 AreNodes number to state =
     ((node : Node) × (node_at number state.world.nodes ≡ Some node)) × ((peer : Node) × (node_at to state.world.nodes ≡ Some peer))
 
+abbrev pub DoesFinger : ℕ → ℕ → ℕ → WorldState → Outcome → WorldState → Type 0
+DoesFinger number finger to old did.Done new = Points number finger to old new
+DoesFinger number finger to old outcome new = ⊥
+
+abbrev pub RefusesFinger : ℕ → ℕ → ℕ → WorldState → Refusal → Type 0
+RefusesFinger number finger to old refused.NotCreated = old.world.nodes ≡ []
+RefusesFinger number finger to old refused.NoSuchNode = (old.world.nodes ≢ []) × ((node_at number old.world.nodes ≡ None) ⊎ (node_at to old.world.nodes ≡ None))
+RefusesFinger number finger to old (refused.Step step_fault.Crashed) = AreNodes number to old × (is_crashed number old ≡ true)
+RefusesFinger number finger to old (refused.Step step_fault.BadFinger) = AreNodes number to old × (is_crashed number old ≡ false) × (¬ IsFinger finger)
+RefusesFinger number finger to old refusal = ⊥
+
 abbrev pub FingerIs : ℕ → ℕ → ℕ → WorldState → Result Outcome Refusal → WorldState → Type 0
-FingerIs number finger to old (Ok did.Done) new = Points number finger to old new
-FingerIs number finger to old (Ok outcome) new = ⊥
-FingerIs number finger to old (Err refused.NotCreated) new = (old.world.nodes ≡ []) × (new ≡ old)
-FingerIs number finger to old (Err refused.NoSuchNode) new =
-    (old.world.nodes ≢ []) × ((node_at number old.world.nodes ≡ None) ⊎ (node_at to old.world.nodes ≡ None)) × (new ≡ old)
-FingerIs number finger to old (Err (refused.Step step_fault.Crashed)) new = AreNodes number to old × (is_crashed number old ≡ true) × (new ≡ old)
-FingerIs number finger to old (Err (refused.Step step_fault.BadFinger)) new =
-    AreNodes number to old × (is_crashed number old ≡ false) × (¬ IsFinger finger) × (new ≡ old)
-FingerIs number finger to old (Err refusal) new = ⊥
+FingerIs number finger to = DoneOrRefused (DoesFinger number finger to) (RefusesFinger number finger to)
 
 -- the links of the node of this number, where there is one
 abbrev pub LinksAre : ℕ → WorldState → Option (Bor NodeLinks) → Type 0

@@ -1,5 +1,5 @@
--- The refusals of steps.
-use Rattle.std.specs.Prelude.{ℕ}
+-- The refusals of steps, and what a step is answered.
+use Rattle.std.specs.Prelude.{◌≡◌, ℕ, Result, Ok, Err}
 use Rattle.chord_caller.specs.declared.fault.SubmitFault.{SubmitFault}
 use Rattle.chord_caller.specs.declared.fault.SubmitFault.TheVariants.{Bad, WindowFull, NumbersSpent, Memory as NoMemory}
 use Rattle.chord_ring.specs.declared.ring_fault.RingFault.{RingFault}
@@ -7,9 +7,11 @@ use Rattle.chord_ring.specs.declared.ring_fault.RingFault.TheVariants as ring
 use Rattle.chord_ring.specs.declared.steps.StabiliseFault.TheVariants.{HeadDead, NotHead}
 use Rattle.chord_ring.specs.declared.steps.CandidateFault.TheVariants.{Dead, NotCloser}
 use Rattle.chord_ring.specs.declared.steps.DropFault.TheVariants.{HeadLive, Empty}
+use Rattle.chord_world.specs.declared.outcome.Outcome.{Outcome}
 use Rattle.chord_world.specs.declared.refusal.Refusal.{Refusal}
 use Rattle.chord_world.specs.declared.refusal.Refusal.TheVariants as refused
 use Rattle.chord_world.specs.declared.refusal.StepFault.TheVariants as step_fault
+use Rattle.chord_world.specs.State.{WorldState}
 
 -- the place of a refusal in the order in which they are checked
 abbrev pub number_of : Refusal → ℕ
@@ -43,3 +45,8 @@ refusal_of_ring (ring.Candidate NotCloser) = refused.Step step_fault.NotCloser
 refusal_of_ring (ring.Drop HeadLive) = refused.Step step_fault.HeadLive
 refusal_of_ring (ring.Drop Empty) = refused.Step step_fault.Empty
 refusal_of_ring ring.Memory = refused.Memory
+
+-- it did this, or it is refused for this and changes nothing
+abbrev pub DoneOrRefused : (WorldState → Outcome → WorldState → Type 0) → (WorldState → Refusal → Type 0) → WorldState → Result Outcome Refusal → WorldState → Type 0
+DoneOrRefused Does Refuses old (Ok outcome) new = Does old outcome new
+DoneOrRefused Does Refuses old (Err refusal) new = Refuses old refusal × (new ≡ old)

@@ -8,12 +8,12 @@ use Rattle.chord_caller.specs.Caller.{Caller}
 use Rattle.chord_caller.specs.Answers.{SubmitIs}
 use Rattle.chord_world.specs.declared.refusal.Refusal.{Refusal}
 use Rattle.chord_world.specs.State.{WorldState}
-use Rattle.chord_world.specs.Steps.{RefusesCall, SubmitStepIs}
+use Rattle.chord_world.specs.Steps.{RefusesCall, RefusesSubmit}
 
 -- the call can be refused memory alone, or the refusal is due
 abbrev pub MaySubmit : ℕ → ℕ → Request → WorldState → Result (Unit {0}) Refusal → Type 0
 MaySubmit caller via request state (Ok may) = RefusesCall caller via request state Memory
-MaySubmit caller via request state (Err refusal) = SubmitStepIs caller via request state (Err refusal) state
+MaySubmit caller via request state (Err refusal) = RefusesSubmit caller via request state refusal
 
 -- the caller at the place may submit the request, memory apart
 pub record CanSubmit (place : ℕ) (request : Request) (callers : List Caller) : Type 0 where

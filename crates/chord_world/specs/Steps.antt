@@ -19,14 +19,14 @@ use Rattle.chord_world.specs.declared.refusal.Refusal.TheVariants as refused
 use Rattle.chord_world.specs.declared.refusal.StepFault.TheVariants as step_fault
 use Rattle.chord_world.specs.declared.step.Step.{Step}
 use Rattle.chord_world.specs.declared.step.Step.TheVariants.{Create, Join, OpenCaller, Submit, Resend, Deliver, Show, Meet, Cut, Merge, Give, SendPart, Leave, Retire, Stabilise, Candidate, DropDead, Rectify, Crash, Finger}
-use Rattle.chord_world.specs.Refusals.{refusal_of}
+use Rattle.chord_world.specs.Refusals.{refusal_of, DoneOrRefused}
 use Rattle.chord_world.specs.State.{WorldState, IsThere}
-use Rattle.chord_world.specs.Calling.{AreThere, ResendStepIs, ShowIs, MeetIs}
-use Rattle.chord_world.specs.Linking.{FingerIs}
-use Rattle.chord_world.specs.Joining.{JoinIs}
-use Rattle.chord_world.specs.Upkeep.{UpkeepIs, CrashIs}
-use Rattle.chord_world.specs.Handing.{MoveIs, GiveStepIs, SendPartIs, RetireStepIs, refusal_of_cut, refusal_of_merge, refusal_of_leave}
-use Rattle.chord_world.specs.Delivered.{DeliverIs}
+use Rattle.chord_world.specs.Calling.{AreThere, DoesResend, RefusesResend, DoesShow, RefusesShow, DoesMeet, RefusesMeet}
+use Rattle.chord_world.specs.Linking.{DoesFinger, RefusesFinger}
+use Rattle.chord_world.specs.Joining.{DoesJoin, RefusesJoin}
+use Rattle.chord_world.specs.Upkeep.{DoesUpkeep, RefusesUpkeep, DoesCrash, RefusesCrash}
+use Rattle.chord_world.specs.Handing.{DoesMove, RefusesMove, DoesGive, RefusesGive, DoesSendPart, RefusesSendPart, DoesRetire, RefusesRetire, refusal_of_cut, refusal_of_merge, refusal_of_leave}
+use Rattle.chord_world.specs.Delivered.{Delivers, RefusesDeliver}
 
 -- an answered step is a step of the world, and a refused one changes nothing
 abbrev pub Advances : WorldState → Result Outcome Refusal → WorldState → Type 0
@@ -46,14 +46,19 @@ with_founder id limit old =
     record old { world = record old.world { nodes = founder (alone (record { no = 0; id = id }) old.r) limit ∷ [] }; crashed = false ∷ [] }
 
 -- the limits are those of the stores at hand
-abbrev pub CreateIs : Id → List ℕ → WorldState → Result Outcome Refusal → WorldState → Type 0
-CreateIs id limits old (Ok (did.Node number)) new =
+abbrev pub DoesCreate : Id → List ℕ → WorldState → Outcome → WorldState → Type 0
+DoesCreate id limits old (did.Node number) new =
     (old.world.nodes ≡ []) × (number ≡ 0) × ((limit : ℕ) × (slice_get limits 0 ≡ Some limit) × (new ≡ with_founder id limit old))
-CreateIs id limits old (Ok outcome) new = ⊥
-CreateIs id limits old (Err refused.AlreadyCreated) new = (old.world.nodes ≢ []) × (new ≡ old)
-CreateIs id limits old (Err refused.NoStore) new = (old.world.nodes ≡ []) × (limits ≡ []) × (new ≡ old)
-CreateIs id limits old (Err refused.Memory) new = (old.world.nodes ≡ []) × (limits ≢ []) × (new ≡ old)
-CreateIs id limits old (Err refusal) new = ⊥
+DoesCreate id limits old outcome new = ⊥
+
+abbrev pub RefusesCreate : List ℕ → WorldState → Refusal → Type 0
+RefusesCreate limits old refused.AlreadyCreated = old.world.nodes ≢ []
+RefusesCreate limits old refused.NoStore = (old.world.nodes ≡ []) × (limits ≡ [])
+RefusesCreate limits old refused.Memory = (old.world.nodes ≡ []) × (limits ≢ [])
+RefusesCreate limits old refusal = ⊥
+
+abbrev pub CreateIs : Id → List ℕ → WorldState → Result Outcome Refusal → WorldState → Type 0
+CreateIs id limits = DoneOrRefused (DoesCreate id limits) (RefusesCreate limits)
 
 -- a node that is created uses up the first store
 abbrev pub CreateLeaves : {S : Type 0} → Result Outcome Refusal → List S → List S → Type 0
@@ -70,12 +75,17 @@ abbrev pub with_caller : ℕ → WorldState → WorldState
 with_caller window old =
     record old { world = record old.world { callers = old.world.callers ++ new_caller (length old.world.callers) window ∷ [] } }
 
+abbrev pub DoesOpen : ℕ → WorldState → Outcome → WorldState → Type 0
+DoesOpen window old (did.Caller number) new = IsWindow window × (number ≡ length old.world.callers) × (new ≡ with_caller window old)
+DoesOpen window old outcome new = ⊥
+
+abbrev pub RefusesOpen : ℕ → WorldState → Refusal → Type 0
+RefusesOpen window old (refused.Step step_fault.BadWindow) = ¬ IsWindow window
+RefusesOpen window old refused.Memory = IsWindow window
+RefusesOpen window old refusal = ⊥
+
 abbrev pub OpenIs : ℕ → WorldState → Result Outcome Refusal → WorldState → Type 0
-OpenIs window old (Ok (did.Caller number)) new = IsWindow window × (number ≡ length old.world.callers) × (new ≡ with_caller window old)
-OpenIs window old (Ok outcome) new = ⊥
-OpenIs window old (Err (refused.Step step_fault.BadWindow)) new = (¬ IsWindow window) × (new ≡ old)
-OpenIs window old (Err refused.Memory) new = IsWindow window × (new ≡ old)
-OpenIs window old (Err refusal) new = ⊥
+OpenIs window = DoneOrRefused (DoesOpen window) (RefusesOpen window)
 
 -- ---- a call
 
@@ -104,40 +114,72 @@ pub record RefusesCall (caller via : ℕ) (request : Request) (old : WorldState)
   pub refuses : SubmitIs request core (Err fault) core
 
 -- and this is the refusal of the step
+abbrev pub RefusesCallAs : ℕ → ℕ → Request → WorldState → Refusal → Type 0
+RefusesCallAs caller via request old refusal = (fault : SubmitFault) × (refusal ≡ refusal_of fault) × RefusesCall caller via request old fault
+
+abbrev pub DoesSubmit : ℕ → ℕ → Request → WorldState → Outcome → WorldState → Type 0
+DoesSubmit caller via request old (did.Message number) new = Sends caller via request old number new
+DoesSubmit caller via request old outcome new = ⊥
+
 abbrev pub RefusesSubmit : ℕ → ℕ → Request → WorldState → Refusal → Type 0
-RefusesSubmit caller via request old refusal = (fault : SubmitFault) × (refusal ≡ refusal_of fault) × RefusesCall caller via request old fault
+RefusesSubmit caller via request old (refused.Step fault) = RefusesCallAs caller via request old (refused.Step fault)
+RefusesSubmit caller via request old refused.Memory = RefusesCallAs caller via request old refused.Memory
+RefusesSubmit caller via request old refusal = AreThere caller via old (Err refusal)
 
 abbrev pub SubmitStepIs : ℕ → ℕ → Request → WorldState → Result Outcome Refusal → WorldState → Type 0
-SubmitStepIs caller via request old (Ok (did.Message number)) new = Sends caller via request old number new
-SubmitStepIs caller via request old (Ok outcome) new = ⊥
-SubmitStepIs caller via request old (Err (refused.Step fault)) new = RefusesSubmit caller via request old (refused.Step fault) × (new ≡ old)
-SubmitStepIs caller via request old (Err refused.Memory) new = RefusesSubmit caller via request old refused.Memory × (new ≡ old)
-SubmitStepIs caller via request old (Err refusal) new = AreThere caller via old (Err refusal) × (new ≡ old)
+SubmitStepIs caller via request = DoneOrRefused (DoesSubmit caller via request) (RefusesSubmit caller via request)
 
 -- ---- all steps
 
--- what a step is answered, where the stores at hand have these limits
+-- what a step does, where the stores at hand have these limits
+abbrev pub Does : Step → List ℕ → WorldState → Outcome → WorldState → Type 0
+Does (Create id) limits old outcome new = DoesCreate id limits old outcome new
+Does (Join id behind) limits old outcome new = DoesJoin id behind limits old outcome new
+Does (OpenCaller window) limits old outcome new = DoesOpen window old outcome new
+Does (Submit caller via request) limits old outcome new = DoesSubmit caller via request old outcome new
+Does (Resend caller via number) limits old outcome new = DoesResend caller via number old outcome new
+Does (Deliver message) limits old outcome new = Delivers message old outcome new
+Does (Show caller) limits old outcome new = DoesShow caller old outcome new
+Does (Meet caller message) limits old outcome new = DoesMeet caller message old outcome new
+Does (Cut node place at) limits old outcome new = DoesMove (CutAtIs place at) node old outcome new
+Does (Merge node place behind) limits old outcome new = DoesMove (MergeIs place behind) node old outcome new
+Does (Give node place to) limits old outcome new = DoesGive node place to old outcome new
+Does (SendPart node to number part) limits old outcome new = DoesSendPart node to number part old outcome new
+Does (Leave node) limits old outcome new = DoesMove LeaveIs node old outcome new
+Does (Retire node) limits old outcome new = DoesRetire node old outcome new
+Does (Stabilise node head) limits old outcome new = DoesUpkeep (ring.Stabilise node head) node old outcome new
+Does (Candidate node peer) limits old outcome new = DoesUpkeep (ring.Candidate node peer) node old outcome new
+Does (DropDead node) limits old outcome new = DoesUpkeep (ring.DropDead node) node old outcome new
+Does (Rectify node notifier) limits old outcome new = DoesUpkeep (ring.Rectify node notifier) node old outcome new
+Does (Crash node) limits old outcome new = DoesCrash node old outcome new
+Does (Finger node finger to) limits old outcome new = DoesFinger node finger to old outcome new
+
+-- why it is refused
+abbrev pub Refuses : Step → List ℕ → WorldState → Refusal → Type 0
+Refuses (Create id) limits old refusal = RefusesCreate limits old refusal
+Refuses (Join id behind) limits old refusal = RefusesJoin id behind limits old refusal
+Refuses (OpenCaller window) limits old refusal = RefusesOpen window old refusal
+Refuses (Submit caller via request) limits old refusal = RefusesSubmit caller via request old refusal
+Refuses (Resend caller via number) limits old refusal = RefusesResend caller via number old refusal
+Refuses (Deliver message) limits old refusal = RefusesDeliver message old refusal
+Refuses (Show caller) limits old refusal = RefusesShow caller old refusal
+Refuses (Meet caller message) limits old refusal = RefusesMeet caller message old refusal
+Refuses (Cut node place at) limits old refusal = RefusesMove (CutAtIs place at) refusal_of_cut node old refusal
+Refuses (Merge node place behind) limits old refusal = RefusesMove (MergeIs place behind) refusal_of_merge node old refusal
+Refuses (Give node place to) limits old refusal = RefusesGive node place to old refusal
+Refuses (SendPart node to number part) limits old refusal = RefusesSendPart node to number part old refusal
+Refuses (Leave node) limits old refusal = RefusesMove LeaveIs refusal_of_leave node old refusal
+Refuses (Retire node) limits old refusal = RefusesRetire node old refusal
+Refuses (Stabilise node head) limits old refusal = RefusesUpkeep (ring.Stabilise node head) old refusal
+Refuses (Candidate node peer) limits old refusal = RefusesUpkeep (ring.Candidate node peer) old refusal
+Refuses (DropDead node) limits old refusal = RefusesUpkeep (ring.DropDead node) old refusal
+Refuses (Rectify node notifier) limits old refusal = RefusesUpkeep (ring.Rectify node notifier) old refusal
+Refuses (Crash node) limits old refusal = RefusesCrash node old refusal
+Refuses (Finger node finger to) limits old refusal = RefusesFinger node finger to old refusal
+
+-- what it is answered
 abbrev pub StepIs : Step → List ℕ → WorldState → Result Outcome Refusal → WorldState → Type 0
-StepIs (Create id) limits old result new = CreateIs id limits old result new
-StepIs (Join id behind) limits old result new = JoinIs id behind limits old result new
-StepIs (OpenCaller window) limits old result new = OpenIs window old result new
-StepIs (Submit caller via request) limits old result new = SubmitStepIs caller via request old result new
-StepIs (Resend caller via number) limits old result new = ResendStepIs caller via number old result new
-StepIs (Deliver message) limits old result new = DeliverIs message old result new
-StepIs (Show caller) limits old result new = ShowIs caller old result new
-StepIs (Meet caller message) limits old result new = MeetIs caller message old result new
-StepIs (Cut node place at) limits old result new = MoveIs (CutAtIs place at) refusal_of_cut node old result new
-StepIs (Merge node place behind) limits old result new = MoveIs (MergeIs place behind) refusal_of_merge node old result new
-StepIs (Give node place to) limits old result new = GiveStepIs node place to old result new
-StepIs (SendPart node to number part) limits old result new = SendPartIs node to number part old result new
-StepIs (Leave node) limits old result new = MoveIs LeaveIs refusal_of_leave node old result new
-StepIs (Retire node) limits old result new = RetireStepIs node old result new
-StepIs (Stabilise node head) limits old result new = UpkeepIs (ring.Stabilise node head) node old result new
-StepIs (Candidate node peer) limits old result new = UpkeepIs (ring.Candidate node peer) node old result new
-StepIs (DropDead node) limits old result new = UpkeepIs (ring.DropDead node) node old result new
-StepIs (Rectify node notifier) limits old result new = UpkeepIs (ring.Rectify node notifier) node old result new
-StepIs (Crash node) limits old result new = CrashIs node old result new
-StepIs (Finger node finger to) limits old result new = FingerIs node finger to old result new
+StepIs step limits = DoneOrRefused (Does step limits) (Refuses step limits)
 
 -- the stores at hand after a step
 abbrev pub StoresLeft : {S : Type 0} → Step → Result Outcome Refusal → List S → List S → Type 0

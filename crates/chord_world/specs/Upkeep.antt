@@ -1,5 +1,5 @@
 -- What a World answers to a step of the ring's upkeep, and where a node crashes.
-use Rattle.std.specs.Prelude.{◌≡◌, ◌≢◌, ℕ, true, false, Some, Result, Ok, Err, List, [], slice_get, slice_set, IsTrue}
+use Rattle.std.specs.Prelude.{◌≡◌, ◌≢◌, ℕ, true, false, Some, Result, List, [], slice_get, slice_set, IsTrue}
 use Rattle.std.specs.Option.{option_map}
 use Rattle.chord_links.specs.declared.peer.Peer.{Peer}
 use Rattle.chord_links.specs.NodeLinks.{NodeLinks}
@@ -16,7 +16,7 @@ use Rattle.chord_world.specs.declared.outcome.Outcome.{Outcome}
 use Rattle.chord_world.specs.declared.outcome.Outcome.TheVariants as did
 use Rattle.chord_world.specs.declared.refusal.Refusal.{Refusal}
 use Rattle.chord_world.specs.declared.refusal.Refusal.TheVariants as refused
-use Rattle.chord_world.specs.Refusals.{refusal_of_ring}
+use Rattle.chord_world.specs.Refusals.{refusal_of_ring, DoneOrRefused}
 use Rattle.chord_world.specs.State.{WorldState, ring_of}
 use Rattle.chord_world.specs.Linking.{with_node}
 
@@ -47,22 +47,24 @@ outcome_of_ring (ring.Candidate candidate) = did.Candidate (option_map (λ (peer
 outcome_of_ring ring.Done = did.Done
 
 -- the step was done, and this came of it
-pub record Upkeeps (step : RingStep) (number : ℕ) (old : WorldState) (outcome : Outcome) (new : WorldState) : Type 0 where
+pub record DoesUpkeep (step : RingStep) (number : ℕ) (old : WorldState) (outcome : Outcome) (new : WorldState) : Type 0 where
   pub did : RingDid
   pub told : outcome ≡ outcome_of_ring did
   pub is : Did (ring_of old) step did
   pub moves : Moves step number old new
 
 -- the ring refused it
-pub record RefusesUpkeep (step : RingStep) (old : WorldState) (refusal : Refusal) : Type 0 where
+pub record RingRefuses (step : RingStep) (old : WorldState) (refusal : Refusal) : Type 0 where
   pub fault : RingFault
   pub told : refusal ≡ refusal_of_ring fault
   pub is : Refused (ring_of old) step fault
 
+abbrev pub RefusesUpkeep : RingStep → WorldState → Refusal → Type 0
+RefusesUpkeep step old refused.NotCreated = old.world.nodes ≡ []
+RefusesUpkeep step old refusal = (old.world.nodes ≢ []) × RingRefuses step old refusal
+
 abbrev pub UpkeepIs : RingStep → ℕ → WorldState → Result Outcome Refusal → WorldState → Type 0
-UpkeepIs step number old (Ok outcome) new = Upkeeps step number old outcome new
-UpkeepIs step number old (Err refused.NotCreated) new = (old.world.nodes ≡ []) × (new ≡ old)
-UpkeepIs step number old (Err refusal) new = (old.world.nodes ≢ []) × RefusesUpkeep step old refusal × (new ≡ old)
+UpkeepIs step number = DoneOrRefused (DoesUpkeep step number) (RefusesUpkeep step)
 
 -- ---- a crash
 
@@ -70,11 +72,15 @@ UpkeepIs step number old (Err refusal) new = (old.world.nodes ≢ []) × Refuses
 abbrev pub with_crash : ℕ → WorldState → WorldState
 with_crash number old = record old { crashed = slice_set old.crashed number true }
 
+abbrev pub DoesCrash : ℕ → WorldState → Outcome → WorldState → Type 0
+DoesCrash number old did.Done new = CanDepart (ring_of old).members number × (new ≡ with_crash number old)
+DoesCrash number old outcome new = ⊥
+
+abbrev pub RefusesCrash : ℕ → WorldState → Refusal → Type 0
+RefusesCrash number old refused.NotCreated = old.world.nodes ≡ []
+RefusesCrash number old refused.NoSuchNode = (old.world.nodes ≢ []) × (is_member (ring_of old).members number ≡ false)
+RefusesCrash number old refused.Unsafe = IsTrue (is_member (ring_of old).members number) × (¬ (CanDepart (ring_of old).members number))
+RefusesCrash number old refusal = ⊥
+
 abbrev pub CrashIs : ℕ → WorldState → Result Outcome Refusal → WorldState → Type 0
-CrashIs number old (Ok did.Done) new = CanDepart (ring_of old).members number × (new ≡ with_crash number old)
-CrashIs number old (Ok outcome) new = ⊥
-CrashIs number old (Err refused.NotCreated) new = (old.world.nodes ≡ []) × (new ≡ old)
-CrashIs number old (Err refused.NoSuchNode) new = (old.world.nodes ≢ []) × (is_member (ring_of old).members number ≡ false) × (new ≡ old)
-CrashIs number old (Err refused.Unsafe) new =
-    IsTrue (is_member (ring_of old).members number) × (¬ (CanDepart (ring_of old).members number)) × (new ≡ old)
-CrashIs number old (Err refusal) new = ⊥
+CrashIs number = DoneOrRefused (DoesCrash number) (RefusesCrash number)

@@ -33,7 +33,7 @@ returns-then-is_err g c =
     let same = no_room view c.args.self.now _ _ c.self.view_is c.room_for_node.ensures.nodes c.room_for_node.ensures.crashed in
     let none : view.world.nodes ≡ [] = grind (arith, common_steps) in
     let some : 0 < length c.args.stores.now.items = search rules in record {
-      answer = (ap (λ (w : WorldState). w.world.nodes) (sym c.self.view_is) ∙ none, map_some g.S.EntryStore.limit c.args.stores.now.items some, same);
+      answer = ((ap (λ (w : WorldState). w.world.nodes) (sym c.self.view_is) ∙ none, map_some g.S.EntryStore.limit c.args.stores.now.items some), same);
       step = same;
       ring = keeps_same _ c.args.self.now _ c.self.view_is c.room_for_node.ensures.nodes c.room_for_node.ensures.crashed;
       stores = search rules;
@@ -45,7 +45,7 @@ returns-in-Err g c =
     let same = no_room view c.args.self.now _ _ c.self.view_is c.room_for_node.ensures.nodes c.room_for_node.ensures.crashed in
     let none : view.world.nodes ≡ [] = grind (arith, common_steps) in
     let some : 0 < length c.args.stores.now.items = search rules in record {
-      answer = (ap (λ (w : WorldState). w.world.nodes) (sym c.self.view_is) ∙ none, map_some g.S.EntryStore.limit c.args.stores.now.items some, same);
+      answer = ((ap (λ (w : WorldState). w.world.nodes) (sym c.self.view_is) ∙ none, map_some g.S.EntryStore.limit c.args.stores.now.items some), same);
       step = same;
       ring = keeps_same _ c.args.self.now _ c.self.view_is c.room_for_node.ensures.nodes c.room_for_node.ensures.crashed;
       stores = search rules;
@@ -55,4 +55,4 @@ pub returns-then-is_empty-clause-answer : goal.returns-then-is_empty-clause-answ
 returns-then-is_empty-clause-answer g c =
     let none : c.self.inside.nodes.items ≡ [] = grind (arith, common_steps) in
     let empty : c.args.stores.now.items ≡ [] = grind (arith, common_steps) in
-    (ap (λ (w : WorldState). w.world.nodes) (sym c.self.view_is) ∙ none, ap (map g.S.EntryStore.limit) empty, refl)
+    ((ap (λ (w : WorldState). w.world.nodes) (sym c.self.view_is) ∙ none, ap (map g.S.EntryStore.limit) empty), refl)

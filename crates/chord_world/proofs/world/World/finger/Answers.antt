@@ -10,29 +10,35 @@ use Rattle.chord_world.proofs.world.World.finger.Goals as goal
 pub returns-then-node-count-clause-answer : goal.returns-then-node-count-clause-answer
 returns-then-node-count-clause-answer g c =
     let nodes : length c.self.inside.nodes.items ≡ length c.args.self.now.world.nodes = ap (λ (w : WorldState). length w.world.nodes) c.self.view_is in (
-      created _ c.args.self.now c.self.view_is (omega arith),
-      elim c.then-node-count.branch [
-        | then-node-count-via-then-node-count w ↦ inl (node_missing c.args.node _ c.args.self.now c.self.view_is c.self.invariant (omega arith))
-        | then-node-count-via-else-node-count+then-to-count w ↦ inr (node_missing c.args.to _ c.args.self.now c.self.view_is c.self.invariant (omega arith))
-      ],
+      (
+        created _ c.args.self.now c.self.view_is (omega arith),
+        elim c.then-node-count.branch [
+          | then-node-count-via-then-node-count w ↦ inl (node_missing c.args.node _ c.args.self.now c.self.view_is c.self.invariant (omega arith))
+          | then-node-count-via-else-node-count+then-to-count w ↦ inr (node_missing c.args.to _ c.args.self.now c.self.view_is c.self.invariant (omega arith))
+        ],
+      ),
       refl,
     )
 
 pub returns-then-finger-lt1-clause-answer : goal.returns-then-finger-lt1-clause-answer
 returns-then-finger-lt1-clause-answer g c = (
-  (node_within c.args.node _ c.args.self.now c.self.view_is c.self.invariant (omega arith), node_within c.args.to _ c.args.self.now c.self.view_is c.self.invariant (omega arith)),
-  flag_old c.args.node _ c.args.self.now _ _ c.self.view_is c.deref.ensures.value c.is_out.ensures c.if-is_out.false,
-  (λ fits. elim c.then-finger-lt1.branch [
-    | then-finger-lt1-via-then-finger-lt1 w ↦ omega arith
-    | then-finger-lt1-via-else-finger-lt1+then-finger-gt128 w ↦ omega arith
-  ]),
+  (
+    (node_within c.args.node _ c.args.self.now c.self.view_is c.self.invariant (omega arith), node_within c.args.to _ c.args.self.now c.self.view_is c.self.invariant (omega arith)),
+    flag_old c.args.node _ c.args.self.now _ _ c.self.view_is c.deref.ensures.value c.is_out.ensures c.if-is_out.false,
+    (λ fits. elim c.then-finger-lt1.branch [
+      | then-finger-lt1-via-then-finger-lt1 w ↦ omega arith
+      | then-finger-lt1-via-else-finger-lt1+then-finger-gt128 w ↦ omega arith
+    ]),
+  ),
   refl,
 )
 
 pub returns-then-is_out-clause-answer : goal.returns-then-is_out-clause-answer
 returns-then-is_out-clause-answer g c = (
-  (node_within c.args.node _ c.args.self.now c.self.view_is c.self.invariant (omega arith), node_within c.args.to _ c.args.self.now c.self.view_is c.self.invariant (omega arith)),
-  flag_old c.args.node _ c.args.self.now _ _ c.self.view_is c.deref.ensures.value c.is_out.ensures c.if-is_out.true,
+  (
+    (node_within c.args.node _ c.args.self.now c.self.view_is c.self.invariant (omega arith), node_within c.args.to _ c.args.self.now c.self.view_is c.self.invariant (omega arith)),
+    flag_old c.args.node _ c.args.self.now _ _ c.self.view_is c.deref.ensures.value c.is_out.ensures c.if-is_out.true,
+  ),
   refl,
 )
 

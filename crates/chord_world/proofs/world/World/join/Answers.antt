@@ -20,21 +20,21 @@ pub returns-then-is_empty-2-clause-answer : goal.returns-then-is_empty-2-clause-
 returns-then-is_empty-2-clause-answer g c =
     let view : WorldState = state_of c.self.inside in
     let empty : c.args.stores.now.items ≡ [] = grind (arith, common_steps) in
-    (ap is_some (sym c.in-Some.ensures), unused_is c.args.id.number view c.args.self.now _ _ c.self.view_is c.deref.ensures.value c.is_used.ensures.no c.if-is_used.false, ap (map g.S.EntryStore.limit) empty, refl)
+    ((ap is_some (sym c.in-Some.ensures), unused_is c.args.id.number view c.args.self.now _ _ c.self.view_is c.deref.ensures.value c.is_used.ensures.no c.if-is_used.false, ap (map g.S.EntryStore.limit) empty), refl)
 
 pub returns-in_default-join_behind-clause-answer : goal.returns-in_default-join_behind-clause-answer
 returns-in_default-join_behind-clause-answer g c =
     let view : WorldState = state_of c.self.inside in
     let some : 0 < length c.args.stores.now.items = search rules in
     let apart : ¬ (IsBetween c.in-Some.pred.me.id.number c.args.id.number (first_entry c.in-Some.pred).id.number) = search rules in
-    ((c.in-Some.pred, sym c.in-Some.ensures, unused_is c.args.id.number view c.args.self.now _ _ c.self.view_is c.deref.ensures.value c.is_used.ensures.no c.if-is_used.false, apart), map_some g.S.EntryStore.limit c.args.stores.now.items some, refl)
+    (((c.in-Some.pred, sym c.in-Some.ensures, unused_is c.args.id.number view c.args.self.now _ _ c.self.view_is c.deref.ensures.value c.is_used.ensures.no c.if-is_used.false, apart), map_some g.S.EntryStore.limit c.args.stores.now.items some), refl)
 
 pub returns-then-is_err-clause-answer : goal.returns-then-is_err-clause-answer
 returns-then-is_err-clause-answer g c =
     let view : WorldState = state_of c.self.inside in
     let some : 0 < length c.args.stores.now.items = search rules in
     let same = no_room view c.args.self.now _ _ c.self.view_is c.room_for_node.ensures.nodes c.room_for_node.ensures.crashed in
-    ((c.in-Some.pred, sym c.in-Some.ensures, unused_is c.args.id.number view c.args.self.now _ _ c.self.view_is c.deref.ensures.value c.is_used.ensures.no c.if-is_used.false, c.in-Ok.ensures.variant.0 refl), map_some g.S.EntryStore.limit c.args.stores.now.items some, same)
+    (((c.in-Some.pred, sym c.in-Some.ensures, unused_is c.args.id.number view c.args.self.now _ _ c.self.view_is c.deref.ensures.value c.is_used.ensures.no c.if-is_used.false, c.in-Ok.ensures.variant.0 refl), map_some g.S.EntryStore.limit c.args.stores.now.items some), same)
 
 pub returns-then-is_err-clause-ring : goal.returns-then-is_err-clause-ring
 returns-then-is_err-clause-ring g c = keeps_same _ c.args.self.now _ c.self.view_is c.room_for_node.ensures.nodes c.room_for_node.ensures.crashed

@@ -12,7 +12,7 @@ returns-in_err-is_there-clause-answer g c =
     retire_not c.args.node c.args.self.now c.in_err-is_there.field-0.0 c.from_residual.result (Is_missing c.in_err-is_there.field-0.0 c.in_err-is_there.ensures) c.from_residual.ensures.1
 
 pub returns-then-is_needed-clause-answer : goal.returns-then-is_needed-clause-answer
-returns-then-is_needed-clause-answer g c = (c.in_ok-is_there.ensures, subst (NeededIs c.args.node c.args.self.now) c.if-is_needed.true c.is_needed.ensures, refl)
+returns-then-is_needed-clause-answer g c = ((c.in_ok-is_there.ensures, subst (NeededIs c.args.node c.args.self.now) c.if-is_needed.true c.is_needed.ensures), refl)
 
 pub returns-in_err-can_act-clause-answer : goal.returns-in_err-can_act-clause-answer
 returns-in_err-can_act-clause-answer g c =
