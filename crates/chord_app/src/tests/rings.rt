@@ -2,13 +2,14 @@
 ghost use Rattle.std.specs.Prelude.{◌≡◌, ◌≤◌, []};
 
 use chord_ident::Id;
-use chord_live::{Blank, Caller, Ring, Settings};
+use chord_live::{AskFault, Blank, Caller, Ring, Settings};
 use chord_map::{Bytes, Reply, Request};
 use chord_store::EntryStore;
 use chord_table::Naming;
 use std::alloc::{AllocError, Global};
 use std::sync::Wait;
 use std::test::Fail;
+use std::time::Clock;
 
 mod callers;
 mod dealing;
@@ -92,14 +93,14 @@ pub fn founded<J: Naming, S: EntryStore, R: Wait>(
     rt: &R,
     blank: Blank,
     store: S,
-) -> Result<Ring<J, S>, Fail>
+) -> Option<Ring<J, S>>
     requires name { blank ≡ J.name }
     requires vacant { S.content store ≡ [] }
 {
-    let ring = blank.open::<J, S>()?;
+    let ring = blank.open::<J, S>().ok()?;
     match ring.create(rt, Id::new(A), store) {
-        Ok(_) => Ok(ring),
-        Err(_) => Err(Fail::from("no node")),
+        Ok(_) => Some(ring),
+        Err(_) => None,
     }
 }
 
@@ -108,12 +109,46 @@ pub fn opened<'a, J: Naming, S: EntryStore, R: Wait>(
     rt: &R,
     ring: &'a Ring<J, S>,
     window: u64,
-) -> Result<Caller<'a, J, S>, Fail>
+) -> Option<Caller<'a, J, S>>
     requires some { 1 ≤ window }
     requires small { window ≤ 16 }
 {
-    match ring.open_caller(rt, window) {
-        Ok(caller) => Ok(caller),
-        Err(_) => Err(Fail::from("no caller")),
+    ring.open_caller(rt, window).ok()
+}
+
+/// Whether node `via` answers Added to a caller.
+pub fn adds<J: Naming, S: EntryStore, R: Wait + Clock>(
+    rt: &R,
+    caller: &mut Caller<'_, J, S>,
+    via: u64,
+    request: Result<Request, AllocError>,
+) -> bool {
+    match request {
+        Ok(request) => is_added(caller.ask(rt, via, request)),
+        Err(_) => false,
     }
+}
+
+/// Whether node `via` answers this value alone to a caller.
+pub fn sees<J: Naming, S: EntryStore, R: Wait + Clock>(
+    rt: &R,
+    caller: &mut Caller<'_, J, S>,
+    via: u64,
+    request: Result<Request, AllocError>,
+    value: &[u8],
+) -> bool {
+    match request {
+        Ok(request) => is_told(caller.ask(rt, via, request), value),
+        Err(_) => false,
+    }
+}
+
+/// Why node `via` does not answer a caller.
+pub fn unheard<J: Naming, S: EntryStore, R: Wait + Clock>(
+    rt: &R,
+    caller: &mut Caller<'_, J, S>,
+    via: u64,
+    request: Result<Request, AllocError>,
+) -> Option<AskFault> {
+    caller.ask(rt, via, request.ok()?).err()
 }

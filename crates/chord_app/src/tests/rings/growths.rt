@@ -13,7 +13,6 @@ use chord_store::{CappedStore, EntryStore};
 use chord_table::Naming;
 use std::alloc::{AllocError, Global};
 use std::marker::Brand;
-use std::process::Abort;
 use std::sync::Wait;
 use std::test::Fail;
 use std::thread;
@@ -29,7 +28,9 @@ fn refused_growths_of_a_ring(rt: HostRuntime) -> Result<(), Fail> {
         Err(NewFault::BadSettings) => return Err(Fail::from("bad settings")),
         Err(NewFault::Memory) => Blank::new(alloc, limits)?,
     };
-    two_nodes::<Brand, _>(&rt, alloc, blank)
+    let done = two_nodes::<Brand, _>(&rt, alloc, blank);
+    assert_eq!(rt; done, Some(true));
+    Ok(())
 }
 
 /// Node 0, made again with the same store where it was out of memory.
@@ -79,22 +80,33 @@ fn retrieve_b(alloc: Global) -> Result<Request, AllocError> {
     }
 }
 
-/// Two nodes, with a worker for the first, which holds `b`.
-fn two_nodes<J: Naming + Send + Sync, R: Threads + Wait + Clock + Abort + Sync>(
+/// A second node, and three rounds of ticks.
+fn settled<J: Naming, R: Wait>(rt: &R, alloc: Global, ring: &Ring<J, CappedStore>) -> bool {
+    if !joined(rt, ring, CappedStore::new(alloc, 4)) {
+        return false;
+    }
+    for _ in 0..3u64 {
+        if !ticked(rt, ring, 0) || !ticked(rt, ring, 1) {
+            return false;
+        }
+    }
+    true
+}
+
+/// Two nodes, with a worker for the first, which holds `b`, and whether their callers are answered.
+fn two_nodes<J: Naming + Send + Sync, R: Threads + Wait + Clock + Sync>(
     rt: &R,
     alloc: Global,
     blank: Blank,
-) -> Result<(), Fail>
+) -> Option<bool>
     requires { blank ≡ J.name }
 {
     let ring = match blank.open::<J, CappedStore>() {
         Ok(ring) => ring,
-        Err(_) => return Ok(()),
+        Err(_) => return Some(true),
     };
-    assert!(rt; created(rt, &ring, CappedStore::new(alloc, 4)));
-    assert!(rt; joined(rt, &ring, CappedStore::new(alloc, 4)));
-    for _ in 0..3u64 {
-        assert!(rt; ticked(rt, &ring, 0) && ticked(rt, &ring, 1));
+    if !created(rt, &ring, CappedStore::new(alloc, 4)) || !settled(rt, alloc, &ring) {
+        return None;
     }
     let ring = &ring;
     let (ended, done) = thread::join(
@@ -106,21 +118,41 @@ fn two_nodes<J: Naming + Send + Sync, R: Threads + Wait + Clock + Abort + Sync>(
             done
         },
     );
-    assert!(rt; ended);
-    done
+    Some(done? && ended)
 }
 
-fn use_the_ring<J: Naming, S: EntryStore, R: Wait + Clock + Abort>(
+fn use_the_ring<J: Naming, S: EntryStore, R: Wait + Clock>(
     rt: &R,
     alloc: Global,
     ring: &Ring<J, S>,
-) -> Result<(), Fail> {
+) -> Option<bool> {
     let mut zero = opened(rt, ring, 4)?;
     let mut one = opened(rt, ring, 4)?;
-    assert!(rt; asked(rt, &mut zero, insert_x(alloc)?, insert_x(alloc)?));
-    assert!(rt; begun_and_collected(rt, &mut one, retrieve_b(alloc)?, retrieve_b(alloc)?));
-    assert!(rt; told(&mut zero, &mut one));
-    Ok(())
+    let added = adds(rt, alloc, &mut zero) == Some(true);
+    let seen = sees(rt, alloc, &mut one) == Some(true);
+    Some(added && seen && told(&mut zero, &mut one))
+}
+
+/// Whether a caller is answered Added.
+fn adds<J: Naming, S: EntryStore, R: Wait + Clock>(
+    rt: &R,
+    alloc: Global,
+    caller: &mut Caller<'_, J, S>,
+) -> Option<bool> {
+    let request = insert_x(alloc).ok()?;
+    let again = insert_x(alloc).ok()?;
+    Some(asked(rt, caller, request, again))
+}
+
+/// Whether a caller is told of x.
+fn sees<J: Naming, S: EntryStore, R: Wait + Clock>(
+    rt: &R,
+    alloc: Global,
+    caller: &mut Caller<'_, J, S>,
+) -> Option<bool> {
+    let request = retrieve_b(alloc).ok()?;
+    let again = retrieve_b(alloc).ok()?;
+    Some(begun_and_collected(rt, caller, request, again))
 }
 
 /// Sends the pending request again, twice where it was out of memory.

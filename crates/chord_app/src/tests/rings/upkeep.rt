@@ -1,15 +1,15 @@
 //! Two nodes with a worker each, and rounds of ticks.
 ghost use Rattle.std.specs.Prelude.{◌≡◌};
 
-use super::{blank, founded, insert, is_added, is_told, opened, retrieve, settings};
+use super::{adds, blank, founded, insert, is_added, is_told, opened, retrieve, sees, settings};
 use chord_ident::Id;
-use chord_live::{Blank, Client, Gate, Open, Ring};
+use chord_links::Links;
+use chord_live::{Blank, Caller, Client, Gate, Open, Ring};
 use chord_map::Request;
 use chord_store::{CappedStore, EntryStore};
 use chord_table::Naming;
-use std::alloc::Global;
+use std::alloc::{AllocError, Global};
 use std::marker::Brand;
-use std::process::Abort;
 use std::sync::Wait;
 use std::sync::atomic::{AtomicBool, Ordering};
 use std::test::Fail;
@@ -64,47 +64,62 @@ impl<'a, R: Clock> Gate for Held<'a, R> {
 #[test]
 fn two_locks_at_once(rt: HostRuntime) -> Result<(), Fail> {
     let blank = blank(rt.alloc(), settings(2, 3, 20, 1_000))?;
-    two_nodes::<Brand, _>(&rt, rt.alloc(), blank, Then::TwoLocks)
+    let done = two_nodes::<Brand, _>(&rt, rt.alloc(), blank, Then::TwoLocks);
+    assert_eq!(rt; done, Some(true));
+    Ok(())
 }
 
 #[test]
 fn a_ring_without_a_crashed_node(rt: HostRuntime) -> Result<(), Fail> {
     let blank = blank(rt.alloc(), settings(2, 3, 20, 1_000))?;
-    two_nodes::<Brand, _>(&rt, rt.alloc(), blank, Then::Crash)
+    let done = two_nodes::<Brand, _>(&rt, rt.alloc(), blank, Then::Crash);
+    assert_eq!(rt; done, Some(true));
+    Ok(())
 }
 
 #[test]
 fn a_node_leaves_and_retires(rt: HostRuntime) -> Result<(), Fail> {
     let blank = blank(rt.alloc(), settings(2, 3, 20, 1_000))?;
-    two_nodes::<Brand, _>(&rt, rt.alloc(), blank, Then::Leave)
+    let done = two_nodes::<Brand, _>(&rt, rt.alloc(), blank, Then::Leave);
+    assert_eq!(rt; done, Some(true));
+    Ok(())
 }
 
 #[test]
 fn a_client_begins_where_it_was_answered(rt: HostRuntime) -> Result<(), Fail> {
     let blank = blank(rt.alloc(), settings(2, 3, 20, 1_000))?;
-    two_nodes::<Brand, _>(&rt, rt.alloc(), blank, Then::Guess)
+    let done = two_nodes::<Brand, _>(&rt, rt.alloc(), blank, Then::Guess);
+    assert_eq!(rt; done, Some(true));
+    Ok(())
 }
 
 #[test]
 fn a_client_asks_no_crashed_node(rt: HostRuntime) -> Result<(), Fail> {
     let blank = blank(rt.alloc(), settings(2, 3, 20, 1_000))?;
-    two_nodes::<Brand, _>(&rt, rt.alloc(), blank, Then::GuessCrashed)
+    let done = two_nodes::<Brand, _>(&rt, rt.alloc(), blank, Then::GuessCrashed);
+    assert_eq!(rt; done, Some(true));
+    Ok(())
 }
 
-/// Nodes A and M with a worker each.
-fn two_nodes<J: Naming + Send + Sync, R: Threads + Wait + Clock + Abort + Sync>(
+/// Node M joins by node A.
+fn joined<J: Naming, R: Wait>(rt: &R, alloc: Global, ring: &Ring<J, CappedStore>) -> bool {
+    ring.join(rt, Id::new(M), 0, CappedStore::new(alloc, 4))
+        .is_ok()
+}
+
+/// Nodes A and M with a worker each, and whether all that is done then is as it is to be.
+fn two_nodes<J: Naming + Send + Sync, R: Threads + Wait + Clock + Sync>(
     rt: &R,
     alloc: Global,
     blank: Blank,
     then: Then,
-) -> Result<(), Fail>
+) -> Option<bool>
     requires { blank ≡ J.name }
 {
     let ring = founded::<J, CappedStore, R>(rt, blank, CappedStore::new(alloc, 4))?;
-    assert!(rt;
-        ring.join(rt, Id::new(M), 0, CappedStore::new(alloc, 4))
-            .is_ok()
-    );
+    if !joined(rt, alloc, &ring) {
+        return None;
+    }
     let ring = &ring;
     let gate = Held {
         rt,
@@ -128,19 +143,27 @@ fn two_nodes<J: Naming + Send + Sync, R: Threads + Wait + Clock + Abort + Sync>(
             )
         },
     );
-    assert!(rt; ended && other);
-    done
+    Some(done? && ended && other)
+}
+
+/// A round of ticks.
+fn ticked<J: Naming, S: EntryStore, R: Wait + Clock>(rt: &R, ring: &Ring<J, S>) -> bool {
+    let zero = ring.tick(rt, 0).is_ok();
+    ring.tick(rt, 1).is_ok() && zero
 }
 
 /// Eight rounds of ticks, and what comes then.
-fn settle_and_then<
-    J: Naming + Send + Sync,
-    S: EntryStore + Send,
-    R: Threads + Wait + Clock + Abort + Sync,
->(rt: &R, alloc: Global, ring: &Ring<J, S>, gate: &Held<'_, R>, then: Then) -> Result<(), Fail> {
+fn settle_and_then<J: Naming + Send + Sync, S: EntryStore + Send, R: Threads + Wait + Clock + Sync>(
+    rt: &R,
+    alloc: Global,
+    ring: &Ring<J, S>,
+    gate: &Held<'_, R>,
+    then: Then,
+) -> Option<bool> {
     for _ in 0..8u64 {
-        assert_eq!(rt; ring.tick(rt, 0), Ok(()));
-        assert_eq!(rt; ring.tick(rt, 1), Ok(()));
+        if !ticked(rt, ring) {
+            return None;
+        }
         thread::sleep(rt, Duration::from_millis(5));
     }
     match then {
@@ -153,7 +176,7 @@ fn settle_and_then<
 }
 
 /// Whether a caller of its own is answered Added.
-fn adds<J: Naming, S: EntryStore, R: Wait + Clock>(
+fn adds_alone<J: Naming, S: EntryStore, R: Wait + Clock>(
     rt: &R,
     ring: &Ring<J, S>,
     via: u64,
@@ -166,137 +189,169 @@ fn adds<J: Naming, S: EntryStore, R: Wait + Clock>(
 }
 
 /// `b` lies at node 0, `abc` at node 1.
-fn two_locks<
-    J: Naming + Send + Sync,
-    S: EntryStore + Send,
-    R: Threads + Wait + Clock + Abort + Sync,
->(rt: &R, alloc: Global, ring: &Ring<J, S>, gate: &Held<'_, R>) -> Result<(), Fail> {
+fn two_locks<J: Naming + Send + Sync, S: EntryStore + Send, R: Threads + Wait + Clock + Sync>(
+    rt: &R,
+    alloc: Global,
+    ring: &Ring<J, S>,
+    gate: &Held<'_, R>,
+) -> Option<bool> {
     gate.stands.store(false, Ordering::SeqCst);
     gate.opened.store(false, Ordering::SeqCst);
-    let first = insert(alloc, b"b", b"y")?;
-    let second = insert(alloc, b"abc", b"x")?;
+    let first = insert(alloc, b"b", b"y").ok()?;
+    let second = insert(alloc, b"abc", b"x").ok()?;
     let (zero, one) = thread::join(
         rt,
-        move || adds(rt, ring, 0, first),
+        move || adds_alone(rt, ring, 0, first),
         move || {
             for _ in 0..10_000u64 {
                 if !gate.stands.load(Ordering::SeqCst) {
                     thread::sleep(rt, Duration::from_millis(1));
                 }
             }
-            let answered = gate.stands.load(Ordering::SeqCst) && adds(rt, ring, 1, second);
+            let answered = gate.stands.load(Ordering::SeqCst) && adds_alone(rt, ring, 1, second);
             let held = !gate.spent.load(Ordering::SeqCst);
             gate.opened.store(true, Ordering::SeqCst);
             answered && held
         },
     );
-    assert!(rt; zero && one);
-    Ok(())
+    Some(zero && one)
 }
 
 /// Node 0, which held nothing of `abc`, crashes; its neighbour drops it and answers.
-fn crash<J: Naming, S: EntryStore, R: Wait + Clock + Abort>(
+fn crash<J: Naming, S: EntryStore, R: Wait + Clock>(
     rt: &R,
     alloc: Global,
     ring: &Ring<J, S>,
-) -> Result<(), Fail> {
+) -> Option<bool> {
     let mut caller = opened(rt, ring, 1)?;
-    let added = caller.ask(rt, 0, insert(alloc, b"abc", b"x")?);
-    assert!(rt; is_added(added));
-    assert_eq!(rt; ring.crash(rt, 0), Ok(()));
-    assert_eq!(rt; ring.tick(rt, 1), Ok(()));
-    let seen = caller.ask(rt, 1, retrieve(alloc, b"abc")?);
-    assert!(rt; is_told(seen, b"x"));
-    Ok(())
+    let added = adds(rt, &mut caller, 0, insert(alloc, b"abc", b"x"));
+    let crashed = ring.crash(rt, 0).is_ok();
+    let dropped = ring.tick(rt, 1).is_ok();
+    let seen = sees(rt, &mut caller, 1, retrieve(alloc, b"abc"), b"x");
+    Some(added && crashed && dropped && seen)
+}
+
+/// Whether node 0 answers x alone to a call.
+fn calls<J: Naming, S: EntryStore, R: Wait + Clock>(
+    rt: &R,
+    caller: &mut Caller<'_, J, S>,
+    request: Result<Request, AllocError>,
+) -> bool {
+    match request {
+        Ok(request) => is_told(caller.call(rt, 0, request), b"x"),
+        Err(_) => false,
+    }
 }
 
 /// Node 1 leaves; what it held is at node 0 then.
-fn leave<J: Naming, S: EntryStore, R: Wait + Clock + Abort>(
+fn leave<J: Naming, S: EntryStore, R: Wait + Clock>(
     rt: &R,
     alloc: Global,
     ring: &Ring<J, S>,
-) -> Result<(), Fail> {
+) -> Option<bool> {
     let mut caller = opened(rt, ring, 1)?;
-    let added = caller.ask(rt, 0, insert(alloc, b"abc", b"x")?);
-    assert!(rt; is_added(added));
-    let called = caller.call(rt, 0, retrieve(alloc, b"abc")?);
-    assert!(rt; is_told(called, b"x"));
-    retires(rt, ring);
-    forgets(rt, ring)?;
-    let seen = caller.ask(rt, 0, retrieve(alloc, b"abc")?);
-    assert!(rt; is_told(seen, b"x"));
-    Ok(())
+    let added = adds(rt, &mut caller, 0, insert(alloc, b"abc", b"x"));
+    let called = calls(rt, &mut caller, retrieve(alloc, b"abc"));
+    let retired = retires(rt, ring);
+    let forgotten = forgets(rt, ring);
+    let seen = sees(rt, &mut caller, 0, retrieve(alloc, b"abc"), b"x");
+    Some(added && called && retired && forgotten && seen)
 }
 
 /// A client of the ring.
 fn client_of<'a, J: Naming, S: EntryStore, R: Wait>(
     rt: &R,
     ring: &'a Ring<J, S>,
-) -> Result<Client<'a, J, S>, Fail> {
-    match ring.open_client(rt, 1) {
-        Ok(client) => Ok(client),
-        Err(_) => Err(Fail::from("no client")),
+) -> Option<Client<'a, J, S>> {
+    ring.open_client(rt, 1).ok()
+}
+
+/// Whether a client that asks at node 0 is answered Added.
+fn client_adds<J: Naming, S: EntryStore, R: Wait + Clock>(
+    rt: &R,
+    client: &mut Client<'_, J, S>,
+    request: Result<Request, AllocError>,
+) -> bool {
+    match request {
+        Ok(request) => is_added(client.call(rt, 0, request)),
+        Err(_) => false,
+    }
+}
+
+/// Whether one is answered x alone.
+fn client_sees<J: Naming, S: EntryStore, R: Wait + Clock>(
+    rt: &R,
+    client: &mut Client<'_, J, S>,
+    request: Result<Request, AllocError>,
+) -> bool {
+    match request {
+        Ok(request) => is_told(client.call(rt, 0, request), b"x"),
+        Err(_) => false,
     }
 }
 
 /// `abc` lies at node 1, `eq` at node 0: each wrong guess is passed on. The client was answered by node 1 last, so it is
 /// answered there also where node 0, at which it asks, crashed.
-fn guess<J: Naming, S: EntryStore, R: Wait + Clock + Abort>(
+fn guess<J: Naming, S: EntryStore, R: Wait + Clock>(
     rt: &R,
     alloc: Global,
     ring: &Ring<J, S>,
-) -> Result<(), Fail> {
+) -> Option<bool> {
     let mut client = client_of(rt, ring)?;
-    let added = client.call(rt, 0, insert(alloc, b"abc", b"x")?);
-    assert!(rt; is_added(added));
-    let other = client.call(rt, 0, insert(alloc, b"eq", b"y")?);
-    assert!(rt; is_added(other));
-    let seen = client.call(rt, 0, retrieve(alloc, b"abc")?);
-    assert!(rt; is_told(seen, b"x"));
-    assert_eq!(rt; ring.crash(rt, 0), Ok(()));
-    let again = client.call(rt, 0, retrieve(alloc, b"abc")?);
-    assert!(rt; is_told(again, b"x"));
-    Ok(())
+    let added = client_adds(rt, &mut client, insert(alloc, b"abc", b"x"));
+    let other = client_adds(rt, &mut client, insert(alloc, b"eq", b"y"));
+    let seen = client_sees(rt, &mut client, retrieve(alloc, b"abc"));
+    let crashed = ring.crash(rt, 0).is_ok();
+    let again = client_sees(rt, &mut client, retrieve(alloc, b"abc"));
+    Some(added && other && seen && crashed && again)
 }
 
 /// Node 1 answered for `abc` and crashes: `eq`, whose guess it is, is asked for at node 0.
-fn guess_crashed<J: Naming, S: EntryStore, R: Wait + Clock + Abort>(
+fn guess_crashed<J: Naming, S: EntryStore, R: Wait + Clock>(
     rt: &R,
     alloc: Global,
     ring: &Ring<J, S>,
-) -> Result<(), Fail> {
+) -> Option<bool> {
     let mut client = client_of(rt, ring)?;
-    let added = client.call(rt, 0, insert(alloc, b"abc", b"x")?);
-    assert!(rt; is_added(added));
-    assert_eq!(rt; ring.crash(rt, 1), Ok(()));
-    let other = client.call(rt, 0, insert(alloc, b"eq", b"y")?);
-    assert!(rt; is_added(other));
-    Ok(())
+    let added = client_adds(rt, &mut client, insert(alloc, b"abc", b"x"));
+    let crashed = ring.crash(rt, 1).is_ok();
+    let other = client_adds(rt, &mut client, insert(alloc, b"eq", b"y"));
+    Some(added && crashed && other)
 }
 
 /// Node 1 leaves, and retires once node 0 holds all that it held.
-fn retires<J: Naming, S: EntryStore, R: Wait + Clock + Abort>(rt: &R, ring: &Ring<J, S>) {
-    assert_eq!(rt; ring.leave(rt, 1), Ok(()));
-    let mut left = false;
+fn retires<J: Naming, S: EntryStore, R: Wait + Clock>(rt: &R, ring: &Ring<J, S>) -> bool {
+    if ring.leave(rt, 1).is_err() {
+        return false;
+    }
     for _ in 0..1_000u64 {
-        if !left {
-            assert_eq!(rt; (ring.tick(rt, 0), ring.tick(rt, 1)), (Ok(()), Ok(())));
-            thread::sleep(rt, Duration::from_millis(1));
-            left = ring.retire(rt, 1).is_ok();
+        if !ticked(rt, ring) {
+            return false;
+        }
+        thread::sleep(rt, Duration::from_millis(1));
+        if ring.retire(rt, 1).is_ok() {
+            return true;
         }
     }
-    assert!(rt; left);
+    false
 }
 
-/// At its next tick node 0 has no finger at node 1 any more.
-fn forgets<J: Naming, S: EntryStore, R: Wait + Clock + Abort>(
-    rt: &R,
-    ring: &Ring<J, S>,
-) -> Result<(), Fail> {
-    assert_eq!(rt; ring.tick(rt, 0), Ok(()));
-    let links = ring.links_of(rt, 0).ok_or("no links")?;
-    for finger in 1..129 {
-        assert!(rt; !matches!(links.fingers().get(finger), Some(peer) if peer.no == 1));
+/// Whether node 0 has no finger at node 1 any more at its next tick.
+fn forgets<J: Naming, S: EntryStore, R: Wait + Clock>(rt: &R, ring: &Ring<J, S>) -> bool {
+    if ring.tick(rt, 0).is_err() {
+        return false;
     }
-    Ok(())
+    match ring.links_of(rt, 0) {
+        Some(links) => has_no_finger_at_1(&links),
+        None => false,
+    }
+}
+
+fn has_no_finger_at_1(links: &Links) -> bool {
+    for finger in 1..129 {
+        if matches!(links.fingers().get(finger), Some(peer) if peer.no == 1) {
+            return false;
+        }
+    }
+    true
 }
