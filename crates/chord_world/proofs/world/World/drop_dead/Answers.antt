@@ -19,8 +19,9 @@ invariant_of-self g c =
 
 pub returns : goal.returns
 returns g c =
-    let view : WorldState = state_of c.self.inside in record {
-      answer = record { did = ring.Done; told = refl; is = tt; moves = (upkept (step.DropDead c.args.node) c.args.node c.in_ok-links.links view c.args.self.now c.relink_at.new.nodes.items c.self.view_is c.self.invariant c.in_ok-links.ensures.own c.in_ok-links.ensures.done c.relink_at.ensures).moves };
-      step = (upkept (step.DropDead c.args.node) c.args.node c.in_ok-links.links view c.args.self.now c.relink_at.new.nodes.items c.self.view_is c.self.invariant c.in_ok-links.ensures.own c.in_ok-links.ensures.done c.relink_at.ensures).after.step;
-      ring = (upkept (step.DropDead c.args.node) c.args.node c.in_ok-links.links view c.args.self.now c.relink_at.new.nodes.items c.self.view_is c.self.invariant c.in_ok-links.ensures.own c.in_ok-links.ensures.done c.relink_at.ensures).after.ring;
+    let view : WorldState = state_of c.self.inside in
+    let kept = upkept (step.DropDead c.args.node) c.args.node c.in_ok-links.links view c.args.self.now c.relink_at.new.nodes.items c.self.view_is c.self.invariant c.in_ok-links.ensures.own c.in_ok-links.ensures.done c.relink_at.ensures in record {
+      answer = record { did = ring.Done; told = refl; is = tt; moves = kept.moves };
+      step = kept.after.step;
+      ring = kept.after.ring;
     }
