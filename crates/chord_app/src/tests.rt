@@ -6,11 +6,10 @@ use crate::command_line::{names_stores, no_stores};
 use crate::console::session::world;
 use crate::finish::{Fault, Finish};
 use crate::stores::add_store;
-use crate::tests::command_lines::printed;
+use crate::tests::command_lines::{prints, shows};
 use chord_store::{CappedStore, EntryStore, ListStore};
 use std::alloc::{AllocError, Global};
 use std::fmt::Write;
-use std::test::Fail;
 
 mod asks;
 mod clients;
@@ -35,26 +34,24 @@ fn two_stores(alloc: Global, limit: u64) -> Result<Vec<CappedStore>, AllocError>
 /// How a session ended, and whether it wrote what it was to write.
 type Ran = (Finish, bool);
 
+/// It is done, and wrote that.
+const DONE: Option<Ran> = Some((Finish::Done, true));
+
 /// Runs the script over these stores.
-fn runs<S: EntryStore>(
-    alloc: Global,
-    stores: Vec<S>,
-    script: &str,
-    wanted: &str,
-) -> Result<Ran, AllocError>
+fn runs<S: EntryStore>(alloc: Global, stores: Vec<S>, script: &str, wanted: &str) -> Ran
     requires { All (λ s. S.content s ≡ []) stores.items }
 {
     let mut reader = script.as_bytes();
     let mut written: Vec<u8> = Vec::new(alloc);
     let finish = world(alloc, stores, &mut reader, &mut written);
-    Ok((finish, written.as_slice() == wanted.as_bytes()))
+    (finish, written.as_slice() == wanted.as_bytes())
 }
 
 /// Runs the script over one list.
-fn over_a_list(alloc: Global, script: &str, wanted: &str) -> Result<Ran, AllocError> {
+fn over_a_list(alloc: Global, script: &str, wanted: &str) -> Option<Ran> {
     let mut stores = Vec::new(alloc);
-    add_store(&mut stores, ListStore::new(alloc))?;
-    runs(alloc, stores, script, wanted)
+    add_store(&mut stores, ListStore::new(alloc)).ok()?;
+    Some(runs(alloc, stores, script, wanted))
 }
 
 /// One store of one pair.
@@ -64,6 +61,12 @@ fn one_pair(alloc: Global) -> Result<Vec<CappedStore>, AllocError>
     let mut stores = Vec::new(alloc);
     add_store(&mut stores, CappedStore::new(alloc, 1))?;
     Ok(stores)
+}
+
+/// Runs the script over one store of one pair.
+fn over_one_pair(alloc: Global, script: &str, wanted: &str) -> Option<Ran> {
+    let stores = one_pair(alloc).ok()?;
+    Some(runs(alloc, stores, script, wanted))
 }
 
 const FIRST_RUN: &str = concat!(
@@ -134,7 +137,7 @@ const FULL_STORE_WRITES: &str = concat!(
 
 /// Each session over one list is done, and writes its lines.
 #[test]
-fn sessions_over_a_list(rt: HostRuntime) -> Result<(), Fail> {
+fn sessions_over_a_list(rt: HostRuntime) {
     for (script, wanted) in [
         (FIRST_RUN, FIRST_RUN_WRITES),
         (ONE_NODE_WORLD, ONE_NODE_WORLD_WRITES),
@@ -145,37 +148,32 @@ fn sessions_over_a_list(rt: HostRuntime) -> Result<(), Fail> {
         (FINGERS_AND_LISTS, FINGERS_AND_LISTS_WRITES),
         (MORE_REFUSALS, MORE_REFUSALS_WRITES),
     ] {
-        let ran = over_a_list(rt.alloc(), script, wanted)?;
-        assert_eq!(rt; ran, (Finish::Done, true), "{script}");
+        assert_eq!(rt; over_a_list(rt.alloc(), script, wanted), DONE, "{script}");
     }
-    Ok(())
 }
 
 /// Each session over a store of one pair is done, and writes its lines: calls that a full store refuses come again.
 #[test]
-fn sessions_over_one_pair(rt: HostRuntime) -> Result<(), Fail> {
+fn sessions_over_one_pair(rt: HostRuntime) {
     for (script, wanted) in [
         (FULL_STORE, FULL_STORE_WRITES),
         (FULL_STORE_RETRY, FULL_STORE_RETRY_WRITES),
     ] {
-        let ran = runs(rt.alloc(), one_pair(rt.alloc())?, script, wanted)?;
-        assert_eq!(rt; ran, (Finish::Done, true), "{script}");
+        assert_eq!(rt; over_one_pair(rt.alloc(), script, wanted), DONE, "{script}");
     }
-    Ok(())
 }
 
 #[test]
-fn bad_line(rt: HostRuntime) -> Result<(), Fail> {
+fn bad_line(rt: HostRuntime) {
     let script =
         "create 40000000000000000000000000000000\ncreat 80000000000000000000000000000000\n";
-    let ran = over_a_list(rt.alloc(), script, "node 0\n")?;
-    assert_eq!(rt; ran, (Finish::Fault(Fault::Line(2)), true));
-    Ok(())
+    let ran = over_a_list(rt.alloc(), script, "node 0\n");
+    assert_eq!(rt; ran, Some((Finish::Fault(Fault::Line(2)), true)));
 }
 
 /// Lines outside the grammar, each the first of its script.
 #[test]
-fn lines_outside_the_grammar(rt: HostRuntime) -> Result<(), Fail> {
+fn lines_outside_the_grammar(rt: HostRuntime) {
     let lines = [
         "\n",
         "create\n",
@@ -191,19 +189,21 @@ fn lines_outside_the_grammar(rt: HostRuntime) -> Result<(), Fail> {
         "create 4000000000000000000000000000000\n",
     ];
     for line in lines {
-        let ran = over_a_list(rt.alloc(), line, "")?;
-        assert_eq!(rt; ran, (Finish::Fault(Fault::Line(1)), true), "{line}");
+        let ran = over_a_list(rt.alloc(), line, "");
+        assert_eq!(rt; ran, Some((Finish::Fault(Fault::Line(1)), true)), "{line}");
     }
-    Ok(())
+}
+
+fn over_no_store(alloc: Global, script: &str, wanted: &str) -> Ran {
+    let none: Vec<ListStore> = Vec::new(alloc);
+    runs(alloc, none, script, wanted)
 }
 
 #[test]
-fn a_world_with_no_stores(rt: HostRuntime) -> Result<(), Fail> {
-    let none: Vec<ListStore> = Vec::new(rt.alloc());
+fn a_world_with_no_stores(rt: HostRuntime) {
     let script = "create 40000000000000000000000000000000";
-    let ran = runs(rt.alloc(), none, script, "refused 7 NoStore\n")?;
+    let ran = over_no_store(rt.alloc(), script, "refused 7 NoStore\n");
     assert_eq!(rt; ran, (Finish::Done, true));
-    Ok(())
 }
 
 /// A set of 1,000 values of two bytes, which are added one by one, and what is written.
@@ -275,45 +275,40 @@ const AT_THE_LIMIT: &str =
 const AT_THE_LIMIT_WRITES: &str =
     "message 2000\ntold 2001\nfresh setfull\nmessage 2002\ntold 2003\nfresh present\nmessage 2004\ntold 2005\nfresh removed\nmessage 2006\ntold 2007\nfresh added\n";
 
+/// Runs a script that fills a set and then asks for more.
+fn over_a_full_set(alloc: Global) -> Option<Ran> {
+    let (mut script, mut wanted) = full_set(alloc).ok()?;
+    script.push_str(AT_THE_LIMIT).ok()?;
+    wanted.push_str(AT_THE_LIMIT_WRITES).ok()?;
+    over_a_list(alloc, script.as_str(), wanted.as_str())
+}
+
 #[test]
-fn full_sets(rt: HostRuntime) -> Result<(), Fail> {
-    let (mut script, mut wanted) = full_set(rt.alloc())?;
-    script.push_str(AT_THE_LIMIT)?;
-    wanted.push_str(AT_THE_LIMIT_WRITES)?;
-    let ran = over_a_list(rt.alloc(), script.as_str(), wanted.as_str())?;
-    assert_eq!(rt; ran, (Finish::Done, true));
-    Ok(())
+fn full_sets(rt: HostRuntime) {
+    assert_eq!(rt; over_a_full_set(rt.alloc()), DONE);
 }
 
 /// The text of a command line without a command, and the status that the program ends with.
 #[test]
-fn a_command_is_wanted(rt: HostRuntime) -> Result<(), Fail> {
-    let (text, status) = printed(rt.alloc(), "chord")?;
+fn a_command_is_wanted(rt: HostRuntime) {
     let wanted =
         "error: 'chord' requires a subcommand but one was not provided\n  [subcommands: world, run, serve, ask, load, help]\n\nUsage: chord <COMMAND>\n\nFor more information, try '--help'.\n";
-    assert_eq!(rt; text.as_str(), wanted);
-    assert_eq!(rt; status, 2);
-    Ok(())
+    assert_eq!(rt; prints(rt.alloc(), "chord", wanted), Some((true, 2)));
 }
 
 #[test]
-fn the_version(rt: HostRuntime) -> Result<(), Fail> {
-    let (text, status) = printed(rt.alloc(), "chord --version")?;
-    assert_eq!(rt; text.as_str(), "chord 0.1.0\n");
-    assert_eq!(rt; status, 0);
-    Ok(())
+fn the_version(rt: HostRuntime) {
+    let printed = prints(rt.alloc(), "chord --version", "chord 0.1.0\n");
+    assert_eq!(rt; printed, Some((true, 0)));
 }
 
 /// What is written where the stores are no word of the option.
 #[test]
-fn faults_of_words(rt: HostRuntime) -> Result<(), Fail> {
-    let error = no_stores(rt.alloc(), "x")?;
-    assert_eq!(rt; error.exit_code(), 2);
-    let text = error.to_string(rt.alloc())?;
+fn faults_of_words(rt: HostRuntime) {
     let wanted =
         "error: invalid value 'x' for '--stores <WORD>': 1 to 64 of the letters t, l, n and c\n\nUsage: chord world [OPTIONS]\n\nFor more information, try '--help'.\n";
-    assert_eq!(rt; text.as_str(), wanted);
-    Ok(())
+    let shown = shows(rt.alloc(), no_stores(rt.alloc(), "x"), wanted);
+    assert_eq!(rt; shown, Some((true, 2)));
 }
 
 #[test]
@@ -339,25 +334,27 @@ fn with_room(alloc: Global) -> Result<Vec<u8>, AllocError> {
     }
 }
 
-/// Out of memory the session ends, and the line of that step is not written.
-#[test]
-fn a_refused_growth_ends_the_session(rt: HostRuntime) -> Result<(), Fail> {
-    let alloc = rt.alloc();
+/// How a session over one pair ends, and whether it writes its lines, or out of memory whole ones alone.
+fn over_one_pair_at_most(alloc: Global) -> Option<Ran> {
     let stores = match one_pair(alloc) {
         Ok(stores) => stores,
-        Err(_) => one_pair(alloc)?,
+        Err(_) => one_pair(alloc).ok()?,
     };
-    let mut written = with_room(alloc)?;
+    let mut written = with_room(alloc).ok()?;
     let mut reader = FULL_STORE_RETRY.as_bytes();
     let finish = world(alloc, stores, &mut reader, &mut written);
     let wanted = FULL_STORE_RETRY_WRITES.as_bytes();
-    if finish == Finish::OutOfMemory {
-        assert_eq!(rt; finish.status(), 3);
-        assert!(rt; wanted.starts_with(&written));
-        assert!(rt; written.last().is_none_or(|byte| *byte == b'\n'));
-        return Ok(());
+    if finish != Finish::OutOfMemory {
+        return Some((finish, written.as_slice() == wanted));
     }
-    assert_eq!(rt; finish, Finish::Done);
-    assert_eq!(rt; written.as_slice(), wanted);
-    Ok(())
+    let ends_a_line = written.last().is_none_or(|byte| *byte == b'\n');
+    Some((finish, ends_a_line && wanted.starts_with(&written)))
+}
+
+/// Out of memory the session ends, and the line of that step is not written.
+#[test]
+fn a_refused_growth_ends_the_session(rt: HostRuntime) {
+    let ran = over_one_pair_at_most(rt.alloc());
+    assert!(rt; matches!(ran, Some((Finish::Done | Finish::OutOfMemory, true))));
+    assert_eq!(rt; Finish::OutOfMemory.status(), 3);
 }

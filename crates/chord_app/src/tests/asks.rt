@@ -16,7 +16,6 @@ use std::alloc::{AllocError, Global};
 use std::io::{self, Read, Write};
 use std::net::{Net, TcpListener, TcpStream};
 use std::sync::Wait;
-use std::test::Fail;
 use std::thread;
 use std::thread::Threads;
 use std::time::Clock;
@@ -37,14 +36,20 @@ fn manner(port: u16, version: u8, window: u64, tries: u32) -> Manner {
     }
 }
 
-/// How asking ended, and what it wrote.
-type Asked = (Result<Finish, Finish>, Vec<u8>);
+/// How asking ended, and whether it wrote what it was to write.
+type Asked = (Result<Finish, Finish>, bool);
 
-fn asks<R: Net<Stream = TcpStream>>(rt: &R, alloc: Global, manner: Manner, input: &str) -> Asked {
+fn asks<R: Net<Stream = TcpStream>>(
+    rt: &R,
+    alloc: Global,
+    manner: Manner,
+    input: &str,
+    wanted: &str,
+) -> Asked {
     let mut reader = input.as_bytes();
-    let mut written = Vec::new(alloc);
+    let mut written: Vec<u8> = Vec::new(alloc);
     let finish = ask_lines(rt, alloc, manner, &mut reader, &mut written);
-    (finish, written)
+    (finish, written.as_slice() == wanted.as_bytes())
 }
 
 /// Asks the one request of these words.
@@ -53,13 +58,14 @@ fn asks_one<R: Net<Stream = TcpStream>>(
     alloc: Global,
     manner: Manner,
     words: &[&str],
+    wanted: &str,
 ) -> Asked {
-    let mut written = Vec::new(alloc);
-    let finish = match read_words(alloc, words) {
-        Ok(request) => ask_one(rt, alloc, manner, request, &mut written),
-        Err(_) => Err(Finish::BadCommandLine),
+    let Ok(request) = read_words(alloc, words) else {
+        return (Err(Finish::BadCommandLine), false);
     };
-    (finish, written)
+    let mut written: Vec<u8> = Vec::new(alloc);
+    let finish = ask_one(rt, alloc, manner, request, &mut written);
+    (finish, written.as_slice() == wanted.as_bytes())
 }
 
 /// Asks a ring of two nodes whose stores have room for so many pairs each, over so many connections in turn.
@@ -69,58 +75,50 @@ fn asks_a_ring<R: Threads + Wait + Clock + Net<Listener = TcpListener, Stream = 
     room: u64,
     connections: usize,
     how: (u8, u64, u32),
-    input: &str,
-) -> Result<Asked, Fail> {
+    (input, wanted): (&str, &str),
+) -> Option<Asked> {
     let plan = plan_with(alloc, 3)?;
-    let stores = two_stores(alloc, room)?;
-    let listener = TcpListener::bind(rt, "127.0.0.1:0")?;
+    let stores = two_stores(alloc, room).ok()?;
+    let listener = TcpListener::bind(rt, "127.0.0.1:0").ok()?;
     let (version, window, tries) = how;
-    let manner = manner(listener.local_addr()?.port(), version, window, tries);
+    let manner = manner(listener.local_addr().ok()?.port(), version, window, tries);
     let mut ends: Vec<u8> = Vec::new(alloc);
     let (served, asked) = thread::join(
         rt,
         || served_by(rt, alloc, &plan, &listener, stores, connections, &mut ends),
-        || asks(rt, alloc, manner, input),
+        || asks(rt, alloc, manner, input, wanted),
     );
-    if served.is_err() {
-        return Err(Fail::from("not served"));
-    }
-    Ok(asked)
+    served.ok()?;
+    Some(asked)
 }
 
 /// The same lines come of each version and window.
 #[test]
-fn each_kind_of_request(rt: HostRuntime) -> Result<(), Fail> {
-    let alloc = rt.alloc();
+fn each_kind_of_request(rt: HostRuntime) {
     for how in [(1, 1, 3), (2, 1, 3), (2, 4, 1), (2, 16, 3)] {
-        let (finish, written) = asks_a_ring(&rt, alloc, 4, 1, how, REQUESTS)?;
-        assert_eq!(rt; finish, Ok(Finish::Done));
-        assert!(rt; written.as_slice() == REPLIES.as_bytes());
+        let asked = asks_a_ring(&rt, rt.alloc(), 4, 1, how, (REQUESTS, REPLIES));
+        assert_eq!(rt; asked, Some((Ok(Finish::Done), true)));
     }
-    Ok(())
 }
 
 /// The lines before one that is no request are asked.
 #[test]
-fn a_line_outside_the_grammar(rt: HostRuntime) -> Result<(), Fail> {
-    let alloc = rt.alloc();
-    let input = "insert abc x\nretrieve\nretrieve abc\n";
-    let (finish, written) = asks_a_ring(&rt, alloc, 4, 1, (2, 16, 3), input)?;
-    assert_eq!(rt; finish, Err(Finish::Fault(Fault::Line(2))));
-    assert!(rt; written.as_slice() == b"added\n".as_slice());
-    Ok(())
+fn a_line_outside_the_grammar(rt: HostRuntime) {
+    let lines = ("insert abc x\nretrieve\nretrieve abc\n", "added\n");
+    let asked = asks_a_ring(&rt, rt.alloc(), 4, 1, (2, 16, 3), lines);
+    let fault = Err(Finish::Fault(Fault::Line(2)));
+    assert_eq!(rt; asked, Some((fault, true)));
 }
 
 /// A full store refuses at each try. What comes then goes over another connection, where the window is 1.
 #[test]
-fn a_full_store(rt: HostRuntime) -> Result<(), Fail> {
-    let input = "insert abc x\nretrieve abc\n";
+fn a_full_store(rt: HostRuntime) {
+    let lines = ("insert abc x\nretrieve abc\n", "full\nvalues 0\n");
+    let unanswered = Finish::Fault(Fault::Unanswered(1));
     for (connections, how) in [(2, (1, 1, 2)), (2, (2, 1, 2)), (1, (2, 16, 2))] {
-        let (finish, written) = asks_a_ring(&rt, rt.alloc(), 0, connections, how, input)?;
-        assert_eq!(rt; finish, Ok(Finish::Fault(Fault::Unanswered(1))));
-        assert!(rt; written.as_slice() == b"full\nvalues 0\n".as_slice());
+        let asked = asks_a_ring(&rt, rt.alloc(), 0, connections, how, lines);
+        assert_eq!(rt; asked, Some((Ok(unanswered), true)));
     }
-    Ok(())
 }
 
 /// A port at which nobody listens.
@@ -129,22 +127,36 @@ fn free_port<R: Net<Listener = TcpListener, Stream = TcpStream>>(rt: &R) -> io::
     Ok(listener.local_addr()?.port())
 }
 
-#[test]
-fn nobody_listens(rt: HostRuntime) -> Result<(), Fail> {
-    let manner = manner(free_port(&rt)?, 2, 1, 3);
-    let (finish, written) = asks(&rt, rt.alloc(), manner, "insert abc x\n");
-    assert_eq!(rt; finish, Err(Finish::Fault(Fault::Connect)));
-    assert!(rt; written.is_empty());
-    Ok(())
+/// Asks where nobody listens.
+fn asks_nobody<R: Net<Listener = TcpListener, Stream = TcpStream>>(
+    rt: &R,
+    alloc: Global,
+) -> Option<Asked> {
+    let manner = manner(free_port(rt).ok()?, 2, 1, 3);
+    Some(asks(rt, alloc, manner, "insert abc x\n", ""))
+}
+
+/// Asks the one request of these words there.
+fn asks_nobody_one<R: Net<Listener = TcpListener, Stream = TcpStream>>(
+    rt: &R,
+    alloc: Global,
+    words: &[&str],
+) -> Option<Asked> {
+    let manner = manner(free_port(rt).ok()?, 1, 1, 1);
+    Some(asks_one(rt, alloc, manner, words, ""))
 }
 
 #[test]
-fn nobody_listens_to_one_request(rt: HostRuntime) -> Result<(), Fail> {
-    let manner = manner(free_port(&rt)?, 1, 1, 1);
-    let (finish, written) = asks_one(&rt, rt.alloc(), manner, &["retrieve", "abc"]);
-    assert_eq!(rt; finish, Err(Finish::Fault(Fault::Connect)));
-    assert!(rt; written.is_empty());
-    Ok(())
+fn nobody_listens(rt: HostRuntime) {
+    let fault = Err(Finish::Fault(Fault::Connect));
+    assert_eq!(rt; asks_nobody(&rt, rt.alloc()), Some((fault, true)));
+}
+
+#[test]
+fn nobody_listens_to_one_request(rt: HostRuntime) {
+    let asked = asks_nobody_one(&rt, rt.alloc(), &["retrieve", "abc"]);
+    let fault = Err(Finish::Fault(Fault::Connect));
+    assert_eq!(rt; asked, Some((fault, true)));
 }
 
 /// Takes so many connections, and ends each behind its first bytes. The last one gets this answer first.
@@ -160,20 +172,27 @@ fn ends_early(listener: &TcpListener, connections: usize, answer: &[u8]) -> io::
     Ok(())
 }
 
-#[test]
-fn one_request(rt: HostRuntime) -> Result<(), Fail> {
-    let listener = TcpListener::bind(&rt, "127.0.0.1:0")?;
-    let manner = manner(listener.local_addr()?.port(), 1, 1, 1);
+/// Asks the one request of these words, to which Added is answered.
+fn asks_one_of_one<R: Threads + Net<Listener = TcpListener, Stream = TcpStream> + Sync>(
+    rt: &R,
+    alloc: Global,
+    words: &[&str],
+) -> Option<Asked> {
+    let listener = TcpListener::bind(rt, "127.0.0.1:0").ok()?;
+    let manner = manner(listener.local_addr().ok()?.port(), 1, 1, 1);
     let (server, asked) = thread::join(
-        &rt,
-        || ends_early(&listener, 1, ADDED.as_slice()),
-        || asks_one(&rt, rt.alloc(), manner, &["insert", "a b", ""]),
+        rt,
+        || ends_early(&listener, 1, &ADDED),
+        || asks_one(rt, alloc, manner, words, "added\n"),
     );
-    assert!(rt; server.is_ok());
-    let (finish, written) = asked;
-    assert_eq!(rt; finish, Ok(Finish::Done));
-    assert!(rt; written.as_slice() == b"added\n".as_slice());
-    Ok(())
+    server.ok()?;
+    Some(asked)
+}
+
+#[test]
+fn one_request(rt: HostRuntime) {
+    let asked = asks_one_of_one(&rt, rt.alloc(), &["insert", "a b", ""]);
+    assert_eq!(rt; asked, Some((Ok(Finish::Done), true)));
 }
 
 /// Asks in so many tries one that ends so many connections, the last one with this answer.
@@ -181,21 +200,19 @@ fn asks_one_that_ends<R: Threads + Net<Listener = TcpListener, Stream = TcpStrea
     rt: &R,
     alloc: Global,
     tries: u32,
-    input: &str,
+    (input, wanted): (&str, &str),
     ended: usize,
     answer: &[u8],
-) -> Result<Asked, Fail> {
-    let listener = TcpListener::bind(rt, "127.0.0.1:0")?;
-    let manner = manner(listener.local_addr()?.port(), 2, 1, tries);
+) -> Option<Asked> {
+    let listener = TcpListener::bind(rt, "127.0.0.1:0").ok()?;
+    let manner = manner(listener.local_addr().ok()?.port(), 2, 1, tries);
     let (server, asked) = thread::join(
         rt,
         || ends_early(&listener, ended, answer),
-        || asks(rt, alloc, manner, input),
+        || asks(rt, alloc, manner, input, wanted),
     );
-    if server.is_err() {
-        return Err(Fail::from("not served"));
-    }
-    Ok(asked)
+    server.ok()?;
+    Some(asked)
 }
 
 // Added, number 1.
@@ -203,26 +220,24 @@ const ADDED: [u8; 15] = [0, 0, 0, 0x0b, 1, 0x81, 0, 0, 0, 0, 0, 0, 0, 1, 1];
 
 /// An insert whose connection ended is lost and not sent again. The next request goes over another connection.
 #[test]
-fn a_lost_connection(rt: HostRuntime) -> Result<(), Fail> {
-    for (input, ended, answer, wanted) in [
+fn a_lost_connection(rt: HostRuntime) {
+    let unanswered = Finish::Fault(Fault::Unanswered(1));
+    for (lines, ended, answer) in [
         (
-            "insert abc x\ninsert abc y\n",
+            ("insert abc x\ninsert abc y\n", "lost\nadded\n"),
             2,
             ADDED.as_slice(),
-            "lost\nadded\n",
         ),
-        ("remove abc x\n", 1, [].as_slice(), "lost\n"),
+        (("remove abc x\n", "lost\n"), 1, [].as_slice()),
     ] {
-        let (finish, written) = asks_one_that_ends(&rt, rt.alloc(), 3, input, ended, answer)?;
-        assert!(rt; written.as_slice() == wanted.as_bytes());
-        assert_eq!(rt; finish, Ok(Finish::Fault(Fault::Unanswered(1))));
+        let asked = asks_one_that_ends(&rt, rt.alloc(), 3, lines, ended, answer);
+        assert_eq!(rt; asked, Some((Ok(unanswered), true)));
     }
-    Ok(())
 }
 
 /// A retrieve whose connection ended is asked again over another one, so many times at most.
 #[test]
-fn a_retrieve_is_asked_again(rt: HostRuntime) -> Result<(), Fail> {
+fn a_retrieve_is_asked_again(rt: HostRuntime) {
     let empty = [0u8, 0, 0, 0x0e, 1, 0x82, 0, 0, 0, 0, 0, 0, 0, 1, 0, 0, 0, 0];
     let bad_number = [0, 0, 0, 0x0b, 1, 0xff, 0, 0, 0, 0, 0, 0, 0, 1, 9];
     let unanswered = Finish::Fault(Fault::Unanswered(1));
@@ -233,23 +248,15 @@ fn a_retrieve_is_asked_again(rt: HostRuntime) -> Result<(), Fail> {
         (1, ADDED.as_slice(), "lost\n", unanswered),
         (1, bad_number.as_slice(), "fault 9\n", unanswered),
     ] {
+        let lines = ("retrieve abc\n", wanted);
         let ended = tries as usize;
-        let (told, written) = asks_one_that_ends(
-            &rt,
-            rt.alloc(),
-            tries,
-            "retrieve abc\n",
-            ended,
-            answer,
-        )?;
-        assert!(rt; written.as_slice() == wanted.as_bytes());
-        assert_eq!(rt; told, Ok(finish));
+        let asked = asks_one_that_ends(&rt, rt.alloc(), tries, lines, ended, answer);
+        assert_eq!(rt; asked, Some((Ok(finish), true)));
     }
-    Ok(())
 }
 
-fn is_insert(read: &Result<Request, LineFault>, wanted_key: &[u8], wanted: &[u8]) -> bool {
-    match read {
+fn is_insert(read: Result<Request, LineFault>, wanted_key: &[u8], wanted: &[u8]) -> bool {
+    match &read {
         Ok(Request::Insert { key, value }) => {
             key.as_slice() == wanted_key && value.as_slice() == wanted
         }
@@ -261,11 +268,15 @@ fn is_insert(read: &Result<Request, LineFault>, wanted_key: &[u8], wanted: &[u8]
 fn words_of_requests(rt: HostRuntime) {
     let alloc = rt.alloc();
     let line = read_line(alloc, b"insert x:0aFF x:-");
-    assert!(rt; is_insert(&line, &[10, 255], b""));
+    assert!(rt; is_insert(line, &[10, 255], b""));
     let words = read_words(alloc, &["insert", "a b", ""]);
-    assert!(rt; is_insert(&words, b"a b", b""));
+    assert!(rt; is_insert(words, b"a b", b""));
     let read = read_line(alloc, b"insert a ");
-    assert!(rt; is_insert(&read, b"a", b""));
+    assert!(rt; is_insert(read, b"a", b""));
+}
+
+fn is_no_request(read: Result<Request, LineFault>) -> bool {
+    matches!(&read, Err(LineFault::Grammar))
 }
 
 #[test]
@@ -287,11 +298,9 @@ fn words_that_are_no_request(rt: HostRuntime) {
         b"retrieve ",
         b"\xff ",
     ] {
-        let read = read_line(rt.alloc(), line);
-        assert!(rt; matches!(read, Err(LineFault::Grammar)));
+        assert!(rt; is_no_request(read_line(rt.alloc(), line)));
     }
-    let read = read_words(rt.alloc(), &[]);
-    assert!(rt; matches!(read, Err(LineFault::Grammar)));
+    assert!(rt; is_no_request(read_words(rt.alloc(), &[])));
 }
 
 fn lines_of(alloc: Global, outcomes: &[Outcome]) -> Result<String, AllocError> {
@@ -303,9 +312,8 @@ fn lines_of(alloc: Global, outcomes: &[Outcome]) -> Result<String, AllocError> {
     Ok(text)
 }
 
-#[test]
-fn outcomes_as_lines(rt: HostRuntime) -> Result<(), Fail> {
-    let alloc = rt.alloc();
+/// Whether outcomes of each kind are these lines.
+fn are_lines(alloc: Global, wanted: &str) -> Option<bool> {
     let outcomes = [
         Outcome::Reply(Reply::SetFull),
         Outcome::Full,
@@ -313,24 +321,50 @@ fn outcomes_as_lines(rt: HostRuntime) -> Result<(), Fail> {
         Outcome::Fault(FaultCode::NumberReused),
         Outcome::Lost,
     ];
-    let text = lines_of(alloc, &outcomes)?;
-    assert_eq!(rt; text.as_str(), "setfull\nfull\nnoanswer\nfault 8\nlost\n");
-    Ok(())
+    let text = lines_of(alloc, &outcomes).ok()?;
+    Some(text.as_str() == wanted)
 }
 
 #[test]
-fn options_of_ask(rt: HostRuntime) -> Result<(), Fail> {
-    let words = words(rt.alloc(), "ask --port 7001 insert a -b")?;
-    let found = ask_command(rt.alloc())?.try_get_matches_from(words.as_slice())?;
+fn outcomes_as_lines(rt: HostRuntime) {
+    let wanted = "setfull\nfull\nnoanswer\nfault 8\nlost\n";
+    assert_eq!(rt; are_lines(rt.alloc(), wanted), Some(true));
+}
+
+/// The port and the version of a command line, its window and tries, and how many words its request has.
+fn options(alloc: Global, line: &'static str) -> Option<((u16, u8), (u64, u32), usize)> {
+    let words = words(alloc, line).ok()?;
+    let found = ask_command(alloc)
+        .ok()?
+        .try_get_matches_from(words.as_slice())
+        .ok()?;
     let manner = manner_of(&found);
-    assert_eq!(rt; (manner.port, manner.version), (7001, 2));
-    assert_eq!(rt; (manner.window, manner.tries), (1, 3));
-    assert_eq!(rt; found.get_strs("request").map(|words| words.len()), Some(3));
-    Ok(())
+    let request = found.get_strs("request")?.len();
+    Some((
+        (manner.port, manner.version),
+        (manner.window, manner.tries),
+        request,
+    ))
 }
 
 #[test]
-fn refused_options_of_ask(rt: HostRuntime) -> Result<(), Fail> {
+fn options_of_ask(rt: HostRuntime) {
+    let options = options(rt.alloc(), "ask --port 7001 insert a -b");
+    assert_eq!(rt; options, Some(((7001, 2), (1, 3), 3)));
+}
+
+/// The status of a command line that is refused.
+fn refused(alloc: Global, line: &'static str) -> Option<i32> {
+    let words = words(alloc, line).ok()?;
+    let error = ask_command(alloc)
+        .ok()?
+        .try_get_matches_from(words.as_slice())
+        .err()?;
+    Some(error.exit_code())
+}
+
+#[test]
+fn refused_options_of_ask(rt: HostRuntime) {
     for line in [
         "ask --port 0",
         "ask --port 65536",
@@ -340,10 +374,6 @@ fn refused_options_of_ask(rt: HostRuntime) -> Result<(), Fail> {
         "ask --tries 1001",
         "ask --tries x",
     ] {
-        let words = words(rt.alloc(), line)?;
-        let found = ask_command(rt.alloc())?.try_get_matches_from(words.as_slice());
-        let error = found.err().ok_or("no fault")?;
-        assert_eq!(rt; error.exit_code(), 2, "{line}");
+        assert_eq!(rt; refused(rt.alloc(), line), Some(2), "{line}");
     }
-    Ok(())
 }

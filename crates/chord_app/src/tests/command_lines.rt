@@ -3,29 +3,45 @@
 use crate::command_line::{commands, no_number, small_number};
 use crate::finish::{Fault, Finish};
 use std::alloc::{AllocError, Global};
-use std::test::Fail;
 
 /// The words of a command line.
 pub fn words(alloc: Global, line: &'static str) -> Result<Vec<&'static str>, AllocError> {
     line.split_whitespace().collect(alloc)
 }
 
-/// What is printed for a command line, and the status that the program ends with.
-pub fn printed(alloc: Global, line: &'static str) -> Result<(String, i32), Fail> {
-    let words = words(alloc, line)?;
-    match commands(alloc)?.try_get_matches_from(words.as_slice()) {
-        Ok(_) => Err(Fail::from("no fault")),
-        Err(error) => Ok((error.to_string(alloc)?, error.exit_code())),
-    }
+/// Whether the fault of a command line has this text, and the status that the program ends with.
+pub fn shows(
+    alloc: Global,
+    error: Result<clap::Error, AllocError>,
+    wanted: &str,
+) -> Option<(bool, i32)> {
+    let error = error.ok()?;
+    let text = error.to_string(alloc).ok()?;
+    Some((text.as_str() == wanted, error.exit_code()))
+}
+
+/// Whether this is printed for a command line, and the status that the program ends with.
+pub fn prints(alloc: Global, line: &'static str, wanted: &str) -> Option<(bool, i32)> {
+    let words = words(alloc, line).ok()?;
+    let error = commands(alloc)
+        .ok()?
+        .try_get_matches_from(words.as_slice())
+        .err()?;
+    shows(alloc, Ok(error), wanted)
 }
 
 const USAGE: &str =
     "\n\nUsage: chord serve --plan <FILE> --port <N> <--connections <K>|--stay>\n\nFor more information, try '--help'.\n";
 
+/// Whether this text and the usage are printed for a command line, and the status that the program ends with.
+fn prints_usage(alloc: Global, line: &'static str, text: &str) -> Option<(bool, i32)> {
+    let wanted = format!(in alloc; "{text}{USAGE}").ok()?;
+    prints(alloc, line, wanted.as_str())
+}
+
 /// A plan, a port, and one of `--connections` and `--stay` are wanted.
 #[test]
-fn faults_of_serve(rt: HostRuntime) -> Result<(), Fail> {
-    let alloc = rt.alloc();
+fn faults_of_serve(rt: HostRuntime) {
     for (line, text) in [
         (
             "chord serve --port 7 --stay",
@@ -44,28 +60,42 @@ fn faults_of_serve(rt: HostRuntime) -> Result<(), Fail> {
             "error: the argument '--connections <K>' cannot be used with '--stay'",
         ),
     ] {
-        let (shown, status) = printed(alloc, line)?;
-        let wanted = format!(in alloc; "{text}{USAGE}")?;
-        assert_eq!(rt; shown.as_str(), wanted.as_str());
-        assert_eq!(rt; status, 2);
+        assert_eq!(rt; prints_usage(rt.alloc(), line, text), Some((true, 2)));
     }
-    Ok(())
+}
+
+/// Whether the command line is one of `serve` with the plan `p` and port 7, whether it has these connections, and
+/// whether it wants notes.
+fn serves(
+    alloc: Global,
+    line: &'static str,
+    connections: Option<&str>,
+) -> Option<(bool, bool, bool)> {
+    let words = words(alloc, line).ok()?;
+    let matches = commands(alloc)
+        .ok()?
+        .try_get_matches_from(words.as_slice())
+        .ok()?;
+    let (name, found) = matches.subcommand()?;
+    let is_serve = name == "serve"
+        && found.get_str("plan") == Some("p")
+        && found.get_str("port") == Some("7");
+    Some((
+        is_serve,
+        found.get_str("connections") == connections,
+        found.get_flag("notes"),
+    ))
 }
 
 /// What is taken: each alone, with notes or without.
 #[test]
-fn lines_of_serve(rt: HostRuntime) -> Result<(), Fail> {
-    let words = words(rt.alloc(), "chord serve --plan p --port 7 --stay --notes")?;
-    let matches = commands(rt.alloc())?.try_get_matches_from(words.as_slice())?;
-    let (name, found) = matches.subcommand().ok_or("no command")?;
-    assert_eq!(rt; name, "serve");
-    assert_eq!(rt; found.get_str("plan"), Some("p"));
-    assert_eq!(rt; found.get_str("port"), Some("7"));
-    Ok(())
+fn lines_of_serve(rt: HostRuntime) {
+    let line = "chord serve --plan p --port 7 --stay --notes";
+    assert_eq!(rt; serves(rt.alloc(), line, None), Some((true, true, true)));
 }
 
 #[test]
-fn options_of_serve(rt: HostRuntime) -> Result<(), Fail> {
+fn options_of_serve(rt: HostRuntime) {
     for (line, connections, notes) in [
         ("chord serve --plan p --port 7 --stay --notes", None, true),
         (
@@ -74,13 +104,9 @@ fn options_of_serve(rt: HostRuntime) -> Result<(), Fail> {
             false,
         ),
     ] {
-        let words = words(rt.alloc(), line)?;
-        let matches = commands(rt.alloc())?.try_get_matches_from(words.as_slice())?;
-        let (_, found) = matches.subcommand().ok_or("no command")?;
-        assert_eq!(rt; found.get_str("connections"), connections);
-        assert_eq!(rt; found.get_flag("notes"), notes);
+        let serves = serves(rt.alloc(), line, connections);
+        assert_eq!(rt; serves, Some((true, true, notes)));
     }
-    Ok(())
 }
 
 /// Ports and connections are numbers from 1 to 65,535.
@@ -94,14 +120,11 @@ fn numbers_of_serve(rt: HostRuntime) {
 }
 
 #[test]
-fn a_port_that_is_no_number(rt: HostRuntime) -> Result<(), Fail> {
-    let error = no_number(rt.alloc(), "port <N>", "0")?;
-    assert_eq!(rt; error.exit_code(), 2);
-    let text = error.to_string(rt.alloc())?;
+fn a_port_that_is_no_number(rt: HostRuntime) {
     let wanted =
         "error: invalid value '0' for '--port <N>': a number from 1 to 65535\n\nUsage: chord serve [OPTIONS] --plan <FILE> --port <N> <--connections <K>|--stay>\n\nFor more information, try '--help'.\n";
-    assert_eq!(rt; text.as_str(), wanted);
-    Ok(())
+    let shown = shows(rt.alloc(), no_number(rt.alloc(), "port <N>", "0"), wanted);
+    assert_eq!(rt; shown, Some((true, 2)));
 }
 
 const SERVE_HELP: &str = concat!(
@@ -119,11 +142,9 @@ const SERVE_HELP: &str = concat!(
 );
 
 #[test]
-fn help_of_serve(rt: HostRuntime) -> Result<(), Fail> {
-    let (shown, status) = printed(rt.alloc(), "chord serve --help")?;
-    assert_eq!(rt; shown.as_str(), SERVE_HELP);
-    assert_eq!(rt; status, 0);
-    Ok(())
+fn help_of_serve(rt: HostRuntime) {
+    let printed = prints(rt.alloc(), "chord serve --help", SERVE_HELP);
+    assert_eq!(rt; printed, Some((true, 0)));
 }
 
 #[test]
@@ -138,18 +159,21 @@ fn statuses(rt: HostRuntime) {
     }
 }
 
+/// The status of a fault, and whether it has this text.
+fn tells(alloc: Global, fault: Fault, wanted: &str) -> Option<(u8, bool)> {
+    let text = fault.to_string(alloc).ok()?;
+    Some((Finish::Fault(fault).status(), text.as_str() == wanted))
+}
+
 #[test]
-fn texts_of_faults(rt: HostRuntime) -> Result<(), Fail> {
-    let faults = [
+fn texts_of_faults(rt: HostRuntime) {
+    for (fault, wanted) in [
         (Fault::Line(7), "fault line 7"),
         (Fault::Read, "fault read"),
         (Fault::Write, "fault write"),
         (Fault::Listen, "fault listen"),
         (Fault::Node(1), "fault plan\nnode 1: the ring refuses it"),
-    ];
-    for (fault, wanted) in faults {
-        assert_eq!(rt; Finish::Fault(fault).status(), 1);
-        assert_eq!(rt; fault.to_string(rt.alloc())?.as_str(), wanted);
+    ] {
+        assert_eq!(rt; tells(rt.alloc(), fault, wanted), Some((1, true)));
     }
-    Ok(())
 }

@@ -12,7 +12,6 @@ use crate::tests::two_stores;
 use std::alloc::Global;
 use std::net::{Net, TcpListener, TcpStream};
 use std::sync::Wait;
-use std::test::Fail;
 use std::thread;
 use std::thread::Threads;
 use std::time::Clock;
@@ -46,17 +45,19 @@ fn is_table(table: &[u8], answered: &str, faults: &str) -> bool {
     }
 }
 
-/// How a load of 21 requests ended on a ring whose stores have room for so many pairs, and its table.
+/// How a load of 21 requests ended on a ring whose stores have room for so many pairs, and whether its table has so many
+/// answers and faults.
 fn loaded<R: Threads + Wait + Clock + Net<Listener = TcpListener, Stream = TcpStream> + Sync>(
     rt: &R,
     alloc: Global,
     room: u64,
     kind: Kind,
-) -> Result<(Result<Finish, Finish>, Vec<u8>), Fail> {
+    (answered, faults): (&str, &str),
+) -> Option<(Result<Finish, Finish>, bool)> {
     let plan = plan_with(alloc, 3)?;
-    let stores = two_stores(alloc, room)?;
-    let listener = TcpListener::bind(rt, "127.0.0.1:0")?;
-    let load = load(listener.local_addr()?.port(), kind, 21);
+    let stores = two_stores(alloc, room).ok()?;
+    let listener = TcpListener::bind(rt, "127.0.0.1:0").ok()?;
+    let load = load(listener.local_addr().ok()?.port(), kind, 21);
     let mut ends: Vec<u8> = Vec::new(alloc);
     let mut table: Vec<u8> = Vec::new(alloc);
     let lines: Vec<u8> = Vec::new(alloc);
@@ -65,38 +66,39 @@ fn loaded<R: Threads + Wait + Clock + Net<Listener = TcpListener, Stream = TcpSt
         || served_by(rt, alloc, &plan, &listener, stores, 2, &mut ends),
         || run_load(rt, alloc, load, Some(lines), &mut table),
     );
-    if served.is_err() {
-        return Err(Fail::from("not served"));
-    }
-    Ok((ended, table))
+    served.ok()?;
+    Some((ended, is_table(&table, answered, faults)))
 }
 
 #[test]
-fn loads_of_a_ring(rt: HostRuntime) -> Result<(), Fail> {
+fn loads_of_a_ring(rt: HostRuntime) {
     let unanswered = Finish::Fault(Fault::Unanswered(21));
-    for (room, kind, answered, faults, finish) in [
-        (4, Kind::Insert, " 21", " 0", Finish::Done),
-        (0, Kind::Retrieve, " 21", " 0", Finish::Done),
-        (0, Kind::Insert, " 0", " 21", unanswered),
+    for (room, kind, told, finish) in [
+        (4, Kind::Insert, (" 21", " 0"), Finish::Done),
+        (0, Kind::Retrieve, (" 21", " 0"), Finish::Done),
+        (0, Kind::Insert, (" 0", " 21"), unanswered),
     ] {
-        let (ended, table) = loaded(&rt, rt.alloc(), room, kind)?;
-        assert_eq!(rt; ended, Ok(finish));
-        assert!(rt; is_table(&table, answered, faults));
+        let ended = loaded(&rt, rt.alloc(), room, kind, told);
+        assert_eq!(rt; ended, Some((Ok(finish), true)));
     }
-    Ok(())
 }
 
-#[test]
-fn a_load_of_nobody(rt: HostRuntime) -> Result<(), Fail> {
-    let alloc = rt.alloc();
-    let listener = TcpListener::bind(&rt, "127.0.0.1:0")?;
-    let load = load(listener.local_addr()?.port(), Kind::Retrieve, 5);
+/// How a load ends where nobody listens, and how long its table is.
+fn loaded_by_nobody<
+    R: Threads + Wait + Clock + Net<Listener = TcpListener, Stream = TcpStream> + Sync,
+>(rt: &R, alloc: Global) -> Option<(Result<Finish, Finish>, usize)> {
+    let listener = TcpListener::bind(rt, "127.0.0.1:0").ok()?;
+    let load = load(listener.local_addr().ok()?.port(), Kind::Retrieve, 5);
     drop(listener);
     let mut table: Vec<u8> = Vec::new(alloc);
-    let ended = run_load(&rt, alloc, load, None::<Vec<u8>>, &mut table);
-    assert_eq!(rt; ended, Err(Finish::Fault(Fault::Connect)));
-    assert!(rt; table.is_empty());
-    Ok(())
+    let ended = run_load(rt, alloc, load, None::<Vec<u8>>, &mut table);
+    Some((ended, table.len()))
+}
+
+#[test]
+fn a_load_of_nobody(rt: HostRuntime) {
+    let fault = Err(Finish::Fault(Fault::Connect));
+    assert_eq!(rt; loaded_by_nobody(&rt, rt.alloc()), Some((fault, 0)));
 }
 
 #[test]
@@ -111,33 +113,53 @@ fn shares_of_connections(rt: HostRuntime) {
 }
 
 /// The load that a command line asks for.
-fn load_from(alloc: Global, line: &'static str) -> Result<Load, Fail> {
-    let words = words(alloc, line)?;
-    match load_command(alloc)?.try_get_matches_from(words.as_slice()) {
-        Ok(found) => Ok(load_of(&found)),
-        Err(_) => Err(Fail::from("refused")),
-    }
+fn load_from(alloc: Global, line: &'static str) -> Option<Load> {
+    let words = words(alloc, line).ok()?;
+    let found = load_command(alloc)
+        .ok()?
+        .try_get_matches_from(words.as_slice())
+        .ok()?;
+    Some(load_of(&found))
+}
+
+/// Its port, connections and requests in flight, its keys and the length of its values, its kind and its end.
+fn options(
+    alloc: Global,
+    line: &'static str,
+) -> Option<((u16, u64, u64), (u64, usize), (Kind, Until))> {
+    let load = load_from(alloc, line)?;
+    Some((
+        (load.port, load.connections, load.in_flight),
+        (load.keys, load.value_size),
+        (load.kind, load.until),
+    ))
 }
 
 #[test]
-fn options_of_load(rt: HostRuntime) -> Result<(), Fail> {
-    let load = load_from(rt.alloc(), "load --port 1 --kind insert --requests 7")?;
-    assert_eq!(rt; (load.port, load.connections, load.in_flight), (1, 1, 1));
-    assert_eq!(rt; (load.keys, load.value_size), (1000, 16));
-    assert_eq!(rt; (load.kind, load.until), (Kind::Insert, Until::Requests(7)));
-    Ok(())
+fn options_of_load(rt: HostRuntime) {
+    let options = options(rt.alloc(), "load --port 1 --kind insert --requests 7");
+    let wanted = ((1, 1, 1), (1000, 16), (Kind::Insert, Until::Requests(7)));
+    assert_eq!(rt; options, Some(wanted));
 }
 
 #[test]
-fn a_load_of_its_own(rt: HostRuntime) -> Result<(), Fail> {
-    let load = load_from(rt.alloc(), "load --port 1")?;
-    let wanted = (Kind::Retrieve, Until::Seconds(10));
-    assert_eq!(rt; (load.kind, load.until), wanted);
-    Ok(())
+fn a_load_of_its_own(rt: HostRuntime) {
+    let wanted = ((1, 1, 1), (1000, 16), (Kind::Retrieve, Until::Seconds(10)));
+    assert_eq!(rt; options(rt.alloc(), "load --port 1"), Some(wanted));
+}
+
+/// The status of a command line that is refused.
+fn refused(alloc: Global, line: &'static str) -> Option<i32> {
+    let words = words(alloc, line).ok()?;
+    let error = load_command(alloc)
+        .ok()?
+        .try_get_matches_from(words.as_slice())
+        .err()?;
+    Some(error.exit_code())
 }
 
 #[test]
-fn refused_options_of_load(rt: HostRuntime) -> Result<(), Fail> {
+fn refused_options_of_load(rt: HostRuntime) {
     for line in [
         "load --port 1 --connections 65",
         "load --port 1 --in-flight 17",
@@ -147,56 +169,80 @@ fn refused_options_of_load(rt: HostRuntime) -> Result<(), Fail> {
         "load --port 1 --seconds 3601",
         "load --port 1 --requests 0",
     ] {
-        let words = words(rt.alloc(), line)?;
-        let found = load_command(rt.alloc())?.try_get_matches_from(words.as_slice());
-        let error = found.err().ok_or("no fault")?;
-        assert_eq!(rt; error.exit_code(), 2, "{line}");
+        assert_eq!(rt; refused(rt.alloc(), line), Some(2), "{line}");
     }
-    Ok(())
+}
+
+/// Whether the report is this table.
+fn is_shown(alloc: Global, report: &Report, wanted: &str) -> Option<bool> {
+    let text = format!(in alloc; "{report}").ok()?;
+    Some(text.as_str() == wanted)
+}
+
+/// Whether the report of nothing in half a second is this table.
+fn shows_nothing(alloc: Global, wanted: &str) -> Option<bool> {
+    let mut report = Report::new(alloc).ok()?;
+    report.milliseconds = 500;
+    is_shown(alloc, &report, wanted)
 }
 
 #[test]
-fn an_empty_table(rt: HostRuntime) -> Result<(), Fail> {
-    let mut report = Report::new(rt.alloc())?;
-    report.milliseconds = 500;
+fn an_empty_table(rt: HostRuntime) {
     let wanted =
         "requests                0\nmilliseconds          500\na second                0\np50                     -\np90                     -\np99                     -\np99.9                   -\nfaults                  0";
-    let text = format!(in rt.alloc(); "{report}")?;
-    assert_eq!(rt; text.as_str(), wanted);
-    Ok(())
+    assert_eq!(rt; shows_nothing(rt.alloc(), wanted), Some(true));
+}
+
+/// Two reports of known times in one.
+fn joined(alloc: Global) -> Option<Report> {
+    let mut report = Report::new(alloc).ok()?;
+    report.milliseconds = 500;
+    report.times = first_thousand(alloc)?;
+    let mut other = Report::new(alloc).ok()?;
+    if !other.times.record(70, 1000) {
+        return None;
+    }
+    other.faults = 3;
+    report.join(&other);
+    Some(report)
+}
+
+/// Whether they are this table.
+fn shows_both(alloc: Global, wanted: &str) -> Option<bool> {
+    is_shown(alloc, &joined(alloc)?, wanted)
 }
 
 /// A table of known times.
 #[test]
-fn tables(rt: HostRuntime) -> Result<(), Fail> {
-    let alloc = rt.alloc();
-    let mut report = Report::new(alloc)?;
-    report.milliseconds = 500;
-    report.times = first_thousand(alloc)?;
-    let mut other = Report::new(alloc)?;
-    assert!(rt; other.times.record(70, 1000));
-    other.faults = 3;
-    report.join(&other);
+fn tables(rt: HostRuntime) {
     let wanted =
         "requests             2000\nmilliseconds          500\na second             4000\np50                    71 us\np90                   799 us\np99                   991 us\np99.9                1023 us\nfaults                  3";
-    let text = format!(in alloc; "{report}")?;
-    assert_eq!(rt; text.as_str(), wanted);
-    Ok(())
+    assert_eq!(rt; shows_both(rt.alloc(), wanted), Some(true));
 }
 
 /// The values below 1,000, each once.
-fn first_thousand(alloc: Global) -> Result<Histogram, Fail> {
-    let mut histogram = Histogram::new(alloc)?;
+fn first_thousand(alloc: Global) -> Option<Histogram> {
+    let mut histogram = Histogram::new(alloc).ok()?;
     for value in 0..1000 {
         if !histogram.record(value, 1) {
-            return Err(Fail::from("not recorded"));
+            return None;
         }
     }
-    Ok(histogram)
+    Some(histogram)
+}
+
+/// The half of one value.
+fn half_of(alloc: Global, value: u64) -> Option<u64> {
+    let mut histogram = Histogram::new(alloc).ok()?;
+    if histogram.record(value, 1) {
+        histogram.percentile(500)
+    } else {
+        None
+    }
 }
 
 #[test]
-fn buckets_of_values(rt: HostRuntime) -> Result<(), Fail> {
+fn buckets_of_values(rt: HostRuntime) {
     for (value, found) in [
         (0, 0),
         (31, 31),
@@ -211,25 +257,34 @@ fn buckets_of_values(rt: HostRuntime) -> Result<(), Fail> {
         (1_000_000, 1_015_807),
         (u64::MAX, u64::MAX),
     ] {
-        let mut histogram = Histogram::new(rt.alloc())?;
-        assert!(rt; histogram.record(value, 1));
-        assert_eq!(rt; histogram.percentile(500), Some(found), "{value}");
+        assert_eq!(rt; half_of(rt.alloc(), value), Some(found), "{value}");
     }
-    Ok(())
+}
+
+/// The half of no values, how many they are, and how many buckets there are.
+fn of_nothing(alloc: Global) -> Option<(Option<u64>, u64, usize)> {
+    let histogram = Histogram::new(alloc).ok()?;
+    let half = histogram.percentile(500);
+    Some((half, histogram.total(), histogram.buckets().len()))
 }
 
 #[test]
-fn an_empty_histogram(rt: HostRuntime) -> Result<(), Fail> {
-    let histogram = Histogram::new(rt.alloc())?;
-    assert_eq!(rt; histogram.percentile(500), None);
-    assert_eq!(rt; histogram.total(), 0);
-    assert_eq!(rt; histogram.buckets().len(), 976);
-    Ok(())
+fn an_empty_histogram(rt: HostRuntime) {
+    assert_eq!(rt; of_nothing(rt.alloc()), Some((None, 0, 976)));
+}
+
+/// A percentile of the values below 1,000.
+fn percentile(alloc: Global, thousandths: u64) -> Option<u64> {
+    let histogram = first_thousand(alloc)?;
+    if 1 <= thousandths && thousandths <= 1000 {
+        histogram.percentile(thousandths)
+    } else {
+        None
+    }
 }
 
 #[test]
-fn percentiles_of_a_thousand(rt: HostRuntime) -> Result<(), Fail> {
-    let histogram = first_thousand(rt.alloc())?;
+fn percentiles_of_a_thousand(rt: HostRuntime) {
     for (thousandths, found) in [
         (1, 0),
         (10, 9),
@@ -239,24 +294,29 @@ fn percentiles_of_a_thousand(rt: HostRuntime) -> Result<(), Fail> {
         (999, 1023),
         (1000, 1023),
     ] {
-        let told = histogram.percentile(thousandths);
+        let told = percentile(rt.alloc(), thousandths);
         assert_eq!(rt; told, Some(found), "{thousandths}");
     }
-    Ok(())
+}
+
+/// Whether a value is recorded so many times, and how many values there are then.
+fn recorded(histogram: &mut Histogram, times: u64) -> (bool, u64) {
+    (histogram.record(5, times), histogram.total())
+}
+
+/// The same in turn behind 1,000 values, and how many buckets there are.
+fn filled(alloc: Global) -> Option<(u64, [(bool, u64); 3], usize)> {
+    let mut histogram = first_thousand(alloc)?;
+    let total = histogram.total();
+    let first = recorded(&mut histogram, u64::MAX);
+    let second = recorded(&mut histogram, u64::MAX - 1000);
+    let third = recorded(&mut histogram, 1);
+    let buckets = histogram.buckets().len();
+    Some((total, [first, second, third], buckets))
 }
 
 #[test]
-fn the_most_values(rt: HostRuntime) -> Result<(), Fail> {
-    let mut histogram = first_thousand(rt.alloc())?;
-    assert_eq!(rt; histogram.total(), 1000);
-    for (times, is_recorded, total) in [
-        (u64::MAX, false, 1000),
-        (u64::MAX - 1000, true, u64::MAX),
-        (1, false, u64::MAX),
-    ] {
-        assert_eq!(rt; histogram.record(5, times), is_recorded);
-        assert_eq!(rt; histogram.total(), total);
-    }
-    assert_eq!(rt; histogram.buckets().len(), 976);
-    Ok(())
+fn the_most_values(rt: HostRuntime) {
+    let recorded = [(false, 1000), (true, u64::MAX), (false, u64::MAX)];
+    assert_eq!(rt; filled(rt.alloc()), Some((1000, recorded, 976)));
 }

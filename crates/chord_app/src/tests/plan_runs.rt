@@ -5,35 +5,46 @@ use crate::run::run;
 use crate::tests::clients::plan_of;
 use crate::tests::plans::{TWO_NODES, changed};
 use crate::tests::two_stores;
-use std::test::Fail;
+use std::alloc::Global;
+use std::sync::Wait;
+use std::thread::Threads;
+use std::time::Clock;
+
+/// How a plan runs over two stores with room for so many pairs, and whether it writes these lines.
+fn runs<R: Threads + Wait + Clock + Sync>(
+    rt: &R,
+    alloc: Global,
+    text: &str,
+    room: u64,
+    wanted: &str,
+) -> Option<(Finish, bool)> {
+    let plan = plan_of(alloc, text)?;
+    let stores = two_stores(alloc, room).ok()?;
+    let mut written: Vec<u8> = Vec::new(alloc);
+    let finish = run(rt, alloc, &plan, stores, &mut written);
+    Some((finish, written.as_slice() == wanted.as_bytes()))
+}
 
 /// The plan is run. Over stores without room the caller asks no more after the first request.
 #[test]
-fn plan_run(rt: HostRuntime) -> Result<(), Fail> {
-    let alloc = rt.alloc();
+fn plan_run(rt: HostRuntime) {
     for (room, wanted) in [
         (4, "0 1 added\n0 2 values 1 78\n0 3 absent\n"),
         (0, "0 1 full\n"),
     ] {
-        let plan = plan_of(alloc, TWO_NODES)?;
-        let stores = two_stores(alloc, room)?;
-        let mut written: Vec<u8> = Vec::new(alloc);
-        let finish = run(&rt, alloc, &plan, stores, &mut written);
-        assert_eq!(rt; finish, Finish::Done);
-        assert!(rt; written.as_slice() == wanted.as_bytes());
+        let ran = runs(&rt, rt.alloc(), TWO_NODES, room, wanted);
+        assert_eq!(rt; ran, Some((Finish::Done, true)));
     }
-    Ok(())
+}
+
+/// The same of a plan whose second node the ring refuses.
+fn runs_refused<R: Threads + Wait + Clock + Sync>(rt: &R, alloc: Global) -> Option<(Finish, bool)> {
+    let twice = changed(alloc, "id = \"c0", "id = \"40").ok()?;
+    runs(rt, alloc, twice.as_str(), 4, "")
 }
 
 #[test]
-fn refused_node(rt: HostRuntime) -> Result<(), Fail> {
-    let alloc = rt.alloc();
-    let twice = changed(alloc, "id = \"c0", "id = \"40")?;
-    let plan = plan_of(alloc, twice.as_str())?;
-    let stores = two_stores(alloc, 4)?;
-    let mut written: Vec<u8> = Vec::new(alloc);
-    let finish = run(&rt, alloc, &plan, stores, &mut written);
-    assert_eq!(rt; finish, Finish::Fault(Fault::Node(1)));
-    assert!(rt; written.is_empty());
-    Ok(())
+fn refused_node(rt: HostRuntime) {
+    let fault = Finish::Fault(Fault::Node(1));
+    assert_eq!(rt; runs_refused(&rt, rt.alloc()), Some((fault, true)));
 }

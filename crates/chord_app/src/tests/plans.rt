@@ -9,7 +9,6 @@ use crate::tests::clients::{insert, plan_of, remove, retrieve};
 use chord_ident::Id;
 use chord_map::Request;
 use std::alloc::{AllocError, Global};
-use std::test::Fail;
 
 /// The plan of `plans/two-nodes.toml`.
 pub const TWO_NODES: &str = concat!(
@@ -70,23 +69,22 @@ fn is_two_nodes(alloc: Global, plan: &Plan) -> Result<bool, AllocError> {
     Ok(has_the_asks(alloc, plan)? && same)
 }
 
-#[test]
-fn two_nodes(rt: HostRuntime) -> Result<(), Fail> {
-    let alloc = rt.alloc();
+/// Whether the plan of two nodes is read, again where a growth was refused.
+fn reads_two_nodes(alloc: Global) -> Option<bool> {
     let plan = match Plan::parse(alloc, TWO_NODES.as_bytes()) {
         Ok(plan) => plan,
-        // A growth was refused.
-        Err(fault) => {
-            assert!(rt; matches!(fault, PlanFault::OutOfMemory));
-            plan_of(alloc, TWO_NODES)?
-        }
+        Err(PlanFault::OutOfMemory) => plan_of(alloc, TWO_NODES)?,
+        Err(_) => return None,
     };
-    let same = match is_two_nodes(alloc, &plan) {
-        Ok(same) => same,
-        Err(_) => is_two_nodes(alloc, &plan)?,
-    };
-    assert!(rt; same);
-    Ok(())
+    match is_two_nodes(alloc, &plan) {
+        Ok(same) => Some(same),
+        Err(_) => is_two_nodes(alloc, &plan).ok(),
+    }
+}
+
+#[test]
+fn two_nodes(rt: HostRuntime) {
+    assert_eq!(rt; reads_two_nodes(rt.alloc()), Some(true));
 }
 
 /// Other keys, a store of each kind, an upper case identifier, no asks, and numbers at their limits.
@@ -97,9 +95,21 @@ const OTHER_PLAN: &str = concat!(
     "[[node]]\nid = \"00000000000000000000000000000001\"\nstore = \"capped\"\nlimit = 9223372036854775807\n",
 );
 
+/// The settings of the other plan, whether it has its nodes, and how many asks.
+fn other_plan(alloc: Global) -> Option<(PlanSettings, bool, usize)> {
+    let plan = plan_of(alloc, OTHER_PLAN)?;
+    let most = 9_223_372_036_854_775_807;
+    let nodes = [
+        node(0xc000_0000_0000_0000_0000_0000_0000_0001, StoreKind::Noted),
+        node(0, StoreKind::Capped(0)),
+        node(1, StoreKind::Capped(most)),
+    ];
+    let same = plan.nodes.as_slice() == nodes.as_slice();
+    Some((plan.settings, same, plan.asks.len()))
+}
+
 #[test]
-fn another_plan(rt: HostRuntime) -> Result<(), Fail> {
-    let plan = plan_of(rt.alloc(), OTHER_PLAN)?;
+fn another_plan(rt: HostRuntime) {
     let settings = PlanSettings {
         slots: 64,
         callers: 64,
@@ -107,42 +117,44 @@ fn another_plan(rt: HostRuntime) -> Result<(), Fail> {
         tries: 1000,
         wait_ms: 60_000,
     };
-    assert_eq!(rt; plan.settings, settings);
-    let most = 9_223_372_036_854_775_807;
-    let nodes = [
-        node(0xc000_0000_0000_0000_0000_0000_0000_0001, StoreKind::Noted),
-        node(0, StoreKind::Capped(0)),
-        node(1, StoreKind::Capped(most)),
-    ];
-    assert_eq!(rt; plan.nodes.as_slice(), nodes.as_slice());
-    assert!(rt; plan.asks.is_empty());
-    Ok(())
+    assert_eq!(rt; other_plan(rt.alloc()), Some((settings, true, 0)));
+}
+
+/// Whether the plan with the first such piece replaced is that of two nodes.
+fn is_unchanged(alloc: Global, old: &str, new: &str) -> Option<bool> {
+    let text = changed(alloc, old, new).ok()?;
+    let plan = plan_of(alloc, text.as_str())?;
+    is_two_nodes(alloc, &plan).ok()
 }
 
 #[test]
-fn a_value_of_a_retrieve_is_not_looked_at(rt: HostRuntime) -> Result<(), Fail> {
+fn a_value_of_a_retrieve_is_not_looked_at(rt: HostRuntime) {
     let asks = "key = \"abc\"\n[[ask]]";
     let with_a_value = "key = \"abc\"\nvalue = 3\n[[ask]]";
-    let text = changed(rt.alloc(), asks, with_a_value)?;
-    let plan = plan_of(rt.alloc(), text.as_str())?;
-    assert!(rt; is_two_nodes(rt.alloc(), &plan)?);
-    Ok(())
+    assert_eq!(rt; is_unchanged(rt.alloc(), asks, with_a_value), Some(true));
 }
 
 /// What is told of a plan that is refused.
-fn told(alloc: Global, document: &[u8]) -> Result<String, Fail> {
-    let fault = Plan::parse(alloc, document).err().ok_or("accepted")?;
-    Ok(fault.to_string(alloc)?)
+fn told(alloc: Global, document: &[u8]) -> Option<String> {
+    let fault = Plan::parse(alloc, document).err()?;
+    fault.to_string(alloc).ok()
+}
+
+/// Whether the document is refused with this text.
+fn tells(alloc: Global, document: &[u8], wanted: &str) -> Option<bool> {
+    let told = told(alloc, document)?;
+    Some(told.as_str() == wanted)
 }
 
 /// Whether the plan with the first such piece replaced is refused with this text.
-fn is_refused(alloc: Global, old: &str, new: &str, text: &str) -> Result<bool, Fail> {
-    let told = told(alloc, changed(alloc, old, new)?.as_bytes())?;
-    Ok(told.strip_prefix("fault plan\n") == Some(text))
+fn is_refused(alloc: Global, old: &str, new: &str, text: &str) -> Option<bool> {
+    let document = changed(alloc, old, new).ok()?;
+    let told = told(alloc, document.as_bytes())?;
+    Some(told.strip_prefix("fault plan\n") == Some(text))
 }
 
 #[test]
-fn faults_of_numbers(rt: HostRuntime) -> Result<(), Fail> {
+fn faults_of_numbers(rt: HostRuntime) {
     for (old, new, text) in [
         ("slots = 2\n", "", "slots: missing"),
         ("slots = 2", "slots = \"2\"", "slots: no whole number"),
@@ -162,9 +174,9 @@ fn faults_of_numbers(rt: HostRuntime) -> Result<(), Fail> {
         ("wait = 100", "wait = 0", "wait: not from 1 to 60000"),
         ("wait = 100", "wait = 60001", "wait: not from 1 to 60000"),
     ] {
-        assert!(rt; is_refused(rt.alloc(), old, new, text)?, "{new}: {text}");
+        let refused = is_refused(rt.alloc(), old, new, text);
+        assert_eq!(rt; refused, Some(true), "{new}: {text}");
     }
-    Ok(())
 }
 
 const ONE_NODE: &str = "[[node]]\nid = \"40000000000000000000000000000000\"\nstore = \"tree\"\n";
@@ -172,7 +184,7 @@ const ONE_NODE: &str = "[[node]]\nid = \"40000000000000000000000000000000\"\nsto
 const NO_NODES: &str = "slots = 1\ncallers = 0\nsuccessors = 3\ntries = 100\nwait = 100\n";
 
 #[test]
-fn faults_of_nodes(rt: HostRuntime) -> Result<(), Fail> {
+fn faults_of_nodes(rt: HostRuntime) {
     let list = "store = \"list\"";
     let no_hex = "node 1: id: not 32 hexadecimal digits";
     for (old, new, text) in [
@@ -194,14 +206,20 @@ fn faults_of_nodes(rt: HostRuntime) -> Result<(), Fail> {
             "node 1: limit: not from 0 to 9223372036854775807",
         ),
     ] {
-        assert!(rt; is_refused(rt.alloc(), old, new, text)?, "{new}: {text}");
+        let refused = is_refused(rt.alloc(), old, new, text);
+        assert_eq!(rt; refused, Some(true), "{new}: {text}");
     }
-    Ok(())
+}
+
+/// Whether the plan without nodes, with these pieces behind it, is refused with this text.
+fn is_no_plan(alloc: Global, rest: &str, nodes: &str, wanted: &str) -> Option<bool> {
+    let document = format!(in alloc; "{NO_NODES}{rest}{nodes}").ok()?;
+    tells(alloc, document.as_bytes(), wanted)
 }
 
 /// Documents with no tables where some are to be.
 #[test]
-fn faults_of_tables(rt: HostRuntime) -> Result<(), Fail> {
+fn faults_of_tables(rt: HostRuntime) {
     for (rest, nodes, wanted) in [
         ("", "", "fault plan\nnode: not from 1 to 1 tables"),
         ("node = []", "", "fault plan\nnode: not from 1 to 1 tables"),
@@ -210,15 +228,13 @@ fn faults_of_tables(rt: HostRuntime) -> Result<(), Fail> {
         ("ask = 3\n", ONE_NODE, "fault plan\nask: no tables"),
         ("ask = [3]\n", ONE_NODE, "fault plan\nask: no tables"),
     ] {
-        let document = format!(in rt.alloc(); "{NO_NODES}{rest}{nodes}")?;
-        let told = told(rt.alloc(), document.as_bytes())?;
-        assert_eq!(rt; told.as_str(), wanted);
+        let refused = is_no_plan(rt.alloc(), rest, nodes, wanted);
+        assert_eq!(rt; refused, Some(true), "{rest}");
     }
-    Ok(())
 }
 
 #[test]
-fn faults_of_asks(rt: HostRuntime) -> Result<(), Fail> {
+fn faults_of_asks(rt: HostRuntime) {
     let key = "key = \"abc\"";
     for (old, new, text) in [
         ("caller = 0\n", "", "ask 0: caller: missing"),
@@ -236,9 +252,9 @@ fn faults_of_asks(rt: HostRuntime) -> Result<(), Fail> {
         (key, "key = \"\"", "ask 0: key: the key is empty"),
         ("value = \"y\"\n", "", "ask 2: value: missing"),
     ] {
-        assert!(rt; is_refused(rt.alloc(), old, new, text)?, "{new}: {text}");
+        let refused = is_refused(rt.alloc(), old, new, text);
+        assert_eq!(rt; refused, Some(true), "{new}: {text}");
     }
-    Ok(())
 }
 
 /// The plan with so many bytes as the first key or value.
@@ -252,9 +268,16 @@ fn with_bytes(alloc: Global, name: &str, count: usize) -> Result<String, AllocEr
     changed(alloc, old.as_str(), new.as_str())
 }
 
+/// Whether a plan with so many bytes there is accepted, and one with a byte more is refused with this text.
+fn is_limit(alloc: Global, name: &str, most: usize, text: &str) -> Option<(bool, bool)> {
+    let document = with_bytes(alloc, name, most).ok()?;
+    let accepted = Plan::parse(alloc, document.as_bytes()).is_ok();
+    let document = with_bytes(alloc, name, most.saturating_add(1)).ok()?;
+    Some((accepted, tells(alloc, document.as_bytes(), text)?))
+}
+
 #[test]
-fn limits_of_requests(rt: HostRuntime) -> Result<(), Fail> {
-    let alloc = rt.alloc();
+fn limits_of_requests(rt: HostRuntime) {
     // The key abc and the value x are there besides.
     for (name, most, text) in [
         (
@@ -268,41 +291,48 @@ fn limits_of_requests(rt: HostRuntime) -> Result<(), Fail> {
             "fault plan\nask 0: value: the value has more than 4096 bytes",
         ),
     ] {
-        let document = with_bytes(alloc, name, most)?;
-        assert!(rt; Plan::parse(alloc, document.as_bytes()).is_ok());
-        let document = with_bytes(alloc, name, most.saturating_add(1))?;
-        let told = told(alloc, document.as_bytes())?;
-        assert_eq!(rt; told.as_str(), text);
+        let limit = is_limit(rt.alloc(), name, most, text);
+        assert_eq!(rt; limit, Some((true, true)), "{name}");
     }
-    Ok(())
+}
+
+/// Whether what is told of the document begins with this text.
+fn begins(alloc: Global, document: &[u8], wanted: &str) -> Option<bool> {
+    let told = told(alloc, document)?;
+    Some(told.as_str().starts_with(wanted))
+}
+
+/// The same of the plan with the first such piece replaced.
+fn begins_changed(alloc: Global, old: &str, new: &str, wanted: &str) -> Option<bool> {
+    let document = changed(alloc, old, new).ok()?;
+    begins(alloc, document.as_bytes(), wanted)
 }
 
 /// The line of a document that is no TOML is told.
 #[test]
-fn faults_of_documents(rt: HostRuntime) -> Result<(), Fail> {
-    let text = changed(rt.alloc(), "tries = 100", "tries =")?;
-    for (document, wanted) in [
-        (text.as_bytes(), "fault plan\nline 4: "),
-        (
-            b"slots = 2\nname = \"\xff\"\n".as_slice(),
-            "fault plan\nline 2: ",
-        ),
-    ] {
-        let told = told(rt.alloc(), document)?;
-        assert!(rt; told.as_str().starts_with(wanted));
-    }
-    Ok(())
+fn faults_of_documents(rt: HostRuntime) {
+    let alloc = rt.alloc();
+    let wanted = "fault plan\nline 4: ";
+    assert_eq!(rt;
+        begins_changed(alloc, "tries = 100", "tries =", wanted),
+        Some(true)
+    );
+    let document = b"slots = 2\nname = \"\xff\"\n";
+    assert_eq!(rt; begins(alloc, document, "fault plan\nline 2: "), Some(true));
+}
+
+/// Whether a document of as many bytes as there may be is accepted, and one with a byte more is refused.
+fn longest(alloc: Global) -> Option<(bool, bool)> {
+    let mut document = Vec::from_slice(alloc, TWO_NODES.as_bytes()).ok()?;
+    document.resize(PLAN_BYTES, b'\n').ok()?;
+    let accepted = Plan::parse(alloc, &document).is_ok();
+    document.push(b'\n').ok()?;
+    let refused = tells(alloc, &document, "fault plan\nmore than 1048576 bytes")?;
+    Some((accepted, refused))
 }
 
 /// As many bytes as there may be, and one more.
 #[test]
-fn lengths_of_documents(rt: HostRuntime) -> Result<(), Fail> {
-    let alloc = rt.alloc();
-    let mut document = Vec::from_slice(alloc, TWO_NODES.as_bytes())?;
-    document.resize(PLAN_BYTES, b'\n')?;
-    assert!(rt; Plan::parse(alloc, &document).is_ok());
-    document.push(b'\n')?;
-    let told = told(alloc, &document)?;
-    assert_eq!(rt; told.as_str(), "fault plan\nmore than 1048576 bytes");
-    Ok(())
+fn lengths_of_documents(rt: HostRuntime) {
+    assert_eq!(rt; longest(rt.alloc()), Some((true, true)));
 }

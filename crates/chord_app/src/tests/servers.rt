@@ -19,7 +19,6 @@ use std::fmt::Write as _;
 use std::io::{self, Read, Write};
 use std::net::{Net, OpenStream, Shutdown, SocketAddr, TcpListener, TcpStream};
 use std::sync::Wait;
-use std::test::Fail;
 use std::thread;
 use std::thread::Threads;
 use std::time::Clock;
@@ -107,41 +106,38 @@ fn writes<
     notes: &L,
     clients: Clients,
     wanted: &str,
-) -> Result<bool, Fail> {
+) -> Option<bool> {
     let plan = plan_with(alloc, callers)?;
-    let listener = TcpListener::bind(rt, "127.0.0.1:0")?;
-    let address = listener.local_addr()?;
+    let listener = TcpListener::bind(rt, "127.0.0.1:0").ok()?;
+    let address = listener.local_addr().ok()?;
     let (written, answered) = thread::join(
         rt,
         || served(rt, alloc, &plan, &listener, connections, notes),
         || clients.ask(rt, alloc, address),
     );
-    answered?;
-    let wanted = lines(alloc, address, wanted)?;
-    match written {
-        Ok(written) => Ok(written.as_slice() == wanted.as_bytes()),
-        Err(_) => Ok(false),
-    }
+    answered.ok()?;
+    let wanted = lines(alloc, address, wanted).ok()?;
+    Some(written.ok()?.as_slice() == wanted.as_bytes())
 }
 
 /// Also how the notes look.
 #[test]
-fn loopback_server(rt: HostRuntime) -> Result<(), Fail> {
+fn loopback_server(rt: HostRuntime) {
     let alloc = rt.alloc();
     let notes = Locked::new(rt, Vec::new(alloc));
     let wanted =
         "connection 0 ended\nconnection 1 truncated\nconnection 2 malformed 1\nconnection 3 callersspent\n";
-    assert!(rt; writes(&rt, alloc, (3, 4), &notes, Clients::Four, wanted)?);
+    let is_written = writes(&rt, alloc, (3, 4), &notes, Clients::Four, wanted);
+    assert_eq!(rt; is_written, Some(true));
     let noted: Vec<u8> = notes.into_inner();
     let wanted =
         "[INFO  chord] connection 0 ended\n[INFO  chord] connection 1 truncated\n[INFO  chord] connection 2 malformed 1\n[INFO  chord] connection 3 callersspent\n";
     assert!(rt; noted.as_slice() == wanted.as_bytes());
-    Ok(())
 }
 
 /// Refused bytes, another version, half of a frame that waits, and a client that never reads.
 #[test]
-fn faulty_clients(rt: HostRuntime) -> Result<(), Fail> {
+fn faulty_clients(rt: HostRuntime) {
     for (counts, clients, wanted) in [
         (
             (8, 8),
@@ -160,12 +156,9 @@ fn faulty_clients(rt: HostRuntime) -> Result<(), Fail> {
             "connection 0 write\nconnection 1 ended\n",
         ),
     ] {
-        assert!(rt;
-            writes(&rt, rt.alloc(), counts, &Discard, clients, wanted)?,
-            "{wanted}"
-        );
+        let is_written = writes(&rt, rt.alloc(), counts, &Discard, clients, wanted);
+        assert_eq!(rt; is_written, Some(true), "{wanted}");
     }
-    Ok(())
 }
 
 /// A client whose bytes end its connection: this is answered, and no more.
@@ -293,24 +286,27 @@ fn many_clients<R: Net>(rt: &R, alloc: Global, address: SocketAddr, count: u64) 
     Ok(())
 }
 
-#[test]
-fn sixty_four_at_once(rt: HostRuntime) -> Result<(), Fail> {
-    let alloc = rt.alloc();
+/// The lines of 64 connections that end in turn.
+fn sixty_four_ends(alloc: Global) -> Option<String> {
     let mut ends = String::new(alloc);
     for number in 0..64u32 {
-        writeln!(ends, "connection {number} ended")?;
+        writeln!(ends, "connection {number} ended").ok()?;
     }
-    assert!(rt;
-        writes(
-            &rt,
-            alloc,
-            (64, 64),
-            &Discard,
-            Clients::SixtyFour,
-            ends.as_str()
-        )?
-    );
-    Ok(())
+    Some(ends)
+}
+
+/// Whether 64 clients are answered at once, and their lines written.
+fn writes_sixty_four<
+    R: Threads + Wait + Clock + Net<Listener = TcpListener, Stream = TcpStream> + Sync,
+>(rt: &R, alloc: Global) -> Option<bool> {
+    let ends = sixty_four_ends(alloc)?;
+    let clients = Clients::SixtyFour;
+    writes(rt, alloc, (64, 64), &Discard, clients, ends.as_str())
+}
+
+#[test]
+fn sixty_four_at_once(rt: HostRuntime) {
+    assert_eq!(rt; writes_sixty_four(&rt, rt.alloc()), Some(true));
 }
 
 /// Half of a frame is sent, and another client is served meanwhile.
@@ -347,24 +343,34 @@ fn never_reads<R: Net>(rt: &R, alloc: Global, address: SocketAddr) -> io::Result
     leave(&mut stream)
 }
 
+/// Why a plan whose second node the ring refuses is not served.
+fn not_served<R: Threads + Wait + Clock + Net<Listener = TcpListener, Stream = TcpStream> + Sync>(
+    rt: &R,
+    alloc: Global,
+) -> Option<Finish> {
+    let twice = changed(alloc, "id = \"c0", "id = \"40").ok()?;
+    let plan = plan_of(alloc, twice.as_str())?;
+    let listener = TcpListener::bind(rt, "127.0.0.1:0").ok()?;
+    served(rt, alloc, &plan, &listener, 1, &Discard).err()
+}
+
 /// A node that the ring refuses ends the command before it listens.
 #[test]
-fn served_refused_node(rt: HostRuntime) -> Result<(), Fail> {
-    let twice = changed(rt.alloc(), "id = \"c0", "id = \"40")?;
-    let plan = plan_of(rt.alloc(), twice.as_str())?;
-    let listener = TcpListener::bind(&rt, "127.0.0.1:0")?;
-    let served = served(&rt, rt.alloc(), &plan, &listener, 1, &Discard);
-    assert_eq!(rt; served.err(), Some(Finish::Fault(Fault::Node(1))));
-    Ok(())
+fn served_refused_node(rt: HostRuntime) {
+    let fault = Finish::Fault(Fault::Node(1));
+    assert_eq!(rt; not_served(&rt, rt.alloc()), Some(fault));
+}
+
+/// Why a port that is taken is not listened at, and whether it is once it is free.
+fn listens<R: Net<Listener = TcpListener, Stream = TcpStream>>(rt: &R) -> Option<(Finish, bool)> {
+    let listener = TcpListener::bind(rt, "127.0.0.1:0").ok()?;
+    let port = listener.local_addr().ok()?.port();
+    let refused = listen(rt, port).err()?;
+    drop(listener);
+    Some((refused, listen(rt, port).is_ok()))
 }
 
 #[test]
-fn a_port_that_is_taken(rt: HostRuntime) -> Result<(), Fail> {
-    let listener = TcpListener::bind(&rt, "127.0.0.1:0")?;
-    let port = listener.local_addr()?.port();
-    let listened = listen(&rt, port);
-    assert_eq!(rt; listened.err(), Some(Finish::Fault(Fault::Listen)));
-    drop(listener);
-    assert!(rt; listen(&rt, port).is_ok());
-    Ok(())
+fn a_port_that_is_taken(rt: HostRuntime) {
+    assert_eq!(rt; listens(&rt), Some((Finish::Fault(Fault::Listen), true)));
 }

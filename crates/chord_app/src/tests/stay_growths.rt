@@ -98,10 +98,10 @@ fn served<
         + Send
         + Sync
         + 'static,
->(rt: &R, alloc: Global, (reader, writer): (PipeReader, PipeWriter)) -> Result<Ended, Fail> {
+>(rt: &R, alloc: Global, (reader, writer): (PipeReader, PipeWriter)) -> Option<Ended> {
     let plan = plan_with(alloc, 3)?;
-    let listener = TcpListener::bind(rt, "127.0.0.1:0")?;
-    let address = listener.local_addr()?;
+    let listener = TcpListener::bind(rt, "127.0.0.1:0").ok()?;
+    let address = listener.local_addr().ok()?;
     let mut room = [0u8; 256];
     let written = room.as_mut_slice();
     let (stayed, answered) = thread::join(
@@ -109,7 +109,7 @@ fn served<
         move || stays(rt, alloc, &plan, listener, reader, written),
         move || three_clients(rt, address, writer),
     );
-    Ok(Ended {
+    Some(Ended {
         stayed,
         answered: answered.unwrap_or(0),
         lines: count_of(&room, b'\n'),
@@ -121,7 +121,7 @@ fn served<
 /// One growth that is refused ends one connection at most, with `memory`, unless the start needed it.
 #[test]
 fn a_refused_growth_ends_one_connection(rt: HostRuntime) -> Result<(), Fail> {
-    let ended = served(&rt, rt.alloc(), io::pipe(&rt)?)?;
+    let ended = served(&rt, rt.alloc(), io::pipe(&rt)?).ok_or("not served")?;
     if ended.stayed.is_ok() {
         let cut_off = 3usize.saturating_sub(ended.answered);
         assert_eq!(rt; (ended.lines, ended.refused), (4, cut_off));

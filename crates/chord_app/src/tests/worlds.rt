@@ -2,20 +2,18 @@
 ghost use Rattle.std.specs.Prelude.{◌≡◌, []};
 ghost use Rattle.std.specs.List.{All};
 
-use crate::finish::Finish;
 use crate::stores::add_store;
-use crate::tests::{Ran, runs};
+use crate::tests::{DONE, Ran, runs};
 use chord_store::CappedStore;
 use std::alloc::{AllocError, Global};
 use std::fmt::Write;
-use std::test::Fail;
 
 /// Runs the script over two stores, the second of which has room for so many pairs.
-fn over_two(alloc: Global, room: u64, script: &str, wanted: &str) -> Result<Ran, AllocError> {
+fn over_two(alloc: Global, room: u64, script: &str, wanted: &str) -> Option<Ran> {
     let mut stores = Vec::new(alloc);
-    add_store(&mut stores, CappedStore::new(alloc, u64::MAX))?;
-    add_store(&mut stores, CappedStore::new(alloc, room))?;
-    runs(alloc, stores, script, wanted)
+    add_store(&mut stores, CappedStore::new(alloc, u64::MAX)).ok()?;
+    add_store(&mut stores, CappedStore::new(alloc, room)).ok()?;
+    Some(runs(alloc, stores, script, wanted))
 }
 
 /// A key moves to a node that joins, while its caller waits for a reply.
@@ -156,7 +154,7 @@ const FLOORS_AFTER_ANOTHER_CUT: &str = concat!(
 
 /// Each session is done, and writes its lines.
 #[test]
-fn sessions_of_two_nodes(rt: HostRuntime) -> Result<(), Fail> {
+fn sessions_of_two_nodes(rt: HostRuntime) {
     for (script, wanted) in [
         (MOVING_KEY, MOVING_KEY_WRITES),
         (LOST_CONFIRMATION, LOST_CONFIRMATION_WRITES),
@@ -168,22 +166,19 @@ fn sessions_of_two_nodes(rt: HostRuntime) -> Result<(), Fail> {
         (FLOORS_AFTER_ANOTHER_CUT, FLOORS_AFTER_A_CUT_WRITES),
         (CRASHED_HOLDER, CRASHED_HOLDER_WRITES),
     ] {
-        let ran = over_two(rt.alloc(), u64::MAX, script, wanted)?;
-        assert_eq!(rt; ran, (Finish::Done, true), "{script}");
+        let ran = over_two(rt.alloc(), u64::MAX, script, wanted);
+        assert_eq!(rt; ran, DONE, "{script}");
     }
-    Ok(())
 }
 
 /// A receiver with a full store takes a handover once there is room.
 #[test]
-fn receiver_with_a_full_store(rt: HostRuntime) -> Result<(), Fail> {
+fn receiver_with_a_full_store(rt: HostRuntime) {
     let (script, wanted) = (
         RECEIVER_WITH_A_FULL_STORE,
         RECEIVER_WITH_A_FULL_STORE_WRITES,
     );
-    let ran = over_two(rt.alloc(), 1, script, wanted)?;
-    assert_eq!(rt; ran, (Finish::Done, true));
-    Ok(())
+    assert_eq!(rt; over_two(rt.alloc(), 1, script, wanted), DONE);
 }
 
 const IN_TWO_PARTS: &str = concat!(
@@ -214,13 +209,16 @@ fn sixty_five_values(alloc: Global) -> Result<(String, String), AllocError> {
     Ok((script, wanted))
 }
 
+/// Runs the script of these values and of their handover.
+fn over_two_parts(alloc: Global) -> Option<Ran> {
+    let (mut script, mut wanted) = sixty_five_values(alloc).ok()?;
+    script.push_str(IN_TWO_PARTS).ok()?;
+    wanted.push_str(IN_TWO_PARTS_WRITES).ok()?;
+    over_two(alloc, u64::MAX, script.as_str(), wanted.as_str())
+}
+
 /// A handover of 65 pairs goes in two parts, and is held by its receiver when both have come.
 #[test]
-fn a_handover_in_two_parts(rt: HostRuntime) -> Result<(), Fail> {
-    let (mut script, mut wanted) = sixty_five_values(rt.alloc())?;
-    script.push_str(IN_TWO_PARTS)?;
-    wanted.push_str(IN_TWO_PARTS_WRITES)?;
-    let ran = over_two(rt.alloc(), u64::MAX, script.as_str(), wanted.as_str())?;
-    assert_eq!(rt; ran, (Finish::Done, true));
-    Ok(())
+fn a_handover_in_two_parts(rt: HostRuntime) {
+    assert_eq!(rt; over_two_parts(rt.alloc()), DONE);
 }
