@@ -73,8 +73,12 @@ fn is_two_nodes(alloc: Global, plan: &Plan) -> Result<bool, AllocError> {
 fn reads_two_nodes(alloc: Global) -> Option<bool> {
     let plan = match Plan::parse(alloc, TWO_NODES.as_bytes()) {
         Ok(plan) => plan,
-        Err(PlanFault::OutOfMemory) => plan_of(alloc, TWO_NODES)?,
-        Err(_) => return None,
+        Err(fault) => {
+            if !matches!(fault, PlanFault::OutOfMemory) {
+                return None;
+            }
+            plan_of(alloc, TWO_NODES)?
+        }
     };
     match is_two_nodes(alloc, &plan) {
         Ok(same) => Some(same),
