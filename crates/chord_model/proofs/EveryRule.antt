@@ -34,27 +34,27 @@ abbrev Used : Rule → World → World → Type 0
 Used rule old new = (step : WorldStep old new) × (rule_of step ≡ rule)
 
 -- the world after a step of a node, and of a caller
-abbrev acted : Node → Option Message → Option Done → World → World
+abbrev pub acted : Node → Option Message → Option Done → World → World
 acted after sent done old = record old { nodes = put_node after old.nodes; sent = with_one old.sent sent; history = with_one old.history done }
 
-abbrev called : Caller → Option Letter → World → World
+abbrev pub called : Caller → Option Letter → World → World
 called after sent old = record old { callers = put_caller after old.callers; sent = with_one old.sent (letter_sent sent) }
 
 -- ---- the first node gives the whole circle to the second, and is gone
 
-abbrev five : Id
+abbrev pub five : Id
 five = record { number = 5 }
 
 abbrev nine : Id
 nine = record { number = 9 }
 
-abbrev whole : Segment
+abbrev pub whole : Segment
 whole = empty_segment (record { after = five; upto = five })
 
-abbrev first_links : NodeLinks
+abbrev pub first_links : NodeLinks
 first_links = alone (record { no = 0; id = five }) 3
 
-abbrev second_links : NodeLinks
+abbrev pub second_links : NodeLinks
 second_links = alone (record { no = 1; id = nine }) 3
 
 abbrev first : Node
@@ -171,12 +171,12 @@ abbrev with_get : Segment
 with_get = append done_get 1 with_put
 
 -- a segment of the whole circle has each key
-holds_key : (key : List ℕ) (segment : Segment) (held : List Segment) → held ≡ segment ∷ [] → segment.span ≡ whole.span → segment_with (key_id key) held ≡ Some segment
+pub holds_key : (key : List ℕ) (segment : Segment) (held : List Segment) → held ≡ segment ∷ [] → segment.span ≡ whole.span → segment_with (key_id key) held ≡ Some segment
 unfolding segment_with
 holds_key key segment held one all =
     ap (segment_with (key_id key)) one ∙ ap (λ b. cond b (Some segment) None) (ap (λ span. in_span span (key_id key)) all ∙ whole_circle five (key_id key) (omega arith) (key_id-below key))
 
-appends : (key : List ℕ) (done : Done) (floor : ℕ) (segment : Segment) (held : List Segment) → held ≡ segment ∷ [] → segment.span ≡ whole.span
+pub appends : (key : List ℕ) (done : Done) (floor : ℕ) (segment : Segment) (held : List Segment) → held ≡ segment ∷ [] → segment.span ≡ whole.span
     → append_at (key_id key) done floor held ≡ append done floor segment ∷ []
 unfolding append_at
 appends key done floor segment held one all =

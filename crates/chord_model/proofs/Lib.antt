@@ -25,3 +25,4 @@ mod SeenFirst
 mod Merely
 mod Example
 mod EveryRule
+mod TwoParts

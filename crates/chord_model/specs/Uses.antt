@@ -1,6 +1,7 @@
--- Which rules a run uses.
-use Rattle.std.specs.Prelude.{Option, List, [], ◌∷◌}
+-- Which rules a run uses, and in how many parts handovers are taken in it.
+use Rattle.std.specs.Prelude.{ℕ, Option, List, [], ◌∷◌, ◌++◌}
 use Rattle.chord_caller.specs.Caller.{Letter, Caller, CallerStep}
+use Rattle.chord_handover.specs.Handover.{parts_in}
 use Rattle.chord_model.specs.declared.message.Message.{Message}
 use Rattle.chord_model.specs.Node.{Node, NodeStep}
 use Rattle.chord_model.specs.World.{World, WorldStep, Run}
@@ -91,3 +92,17 @@ rule_of (WorldStep.Acts number node after taken sent call here was step) = Rule.
 abbrev pub rules_of : {first last : World} → Run first last → List Rule
 rules_of Run.Stays = []
 rules_of (Run.Goes_on run step) = rule_of step ∷ rules_of run
+
+-- how many parts the handover has that a node takes by this step, if it takes one
+abbrev pub taking_by : {old new : Node} {taken sent : Option Message} {done : Option Done} → NodeStep old taken new sent done → List ℕ
+taking_by (NodeStep.Takes part handover here next stays whole) = parts_in handover.pairs ∷ []
+taking_by step = []
+
+abbrev pub taking_of : {old new : World} → WorldStep old new → List ℕ
+taking_of (WorldStep.Acts number node after taken sent call here was step) = taking_by step
+taking_of step = []
+
+-- how many parts each handover has that is taken in a run, the last one's first
+abbrev pub takings_of : {first last : World} → Run first last → List ℕ
+takings_of Run.Stays = []
+takings_of (Run.Goes_on run step) = taking_of step ++ takings_of run

@@ -1,5 +1,5 @@
 //! What holds of every world that some steps lead to. These functions do nothing: their contracts are the theorem.
-ghost use Rattle.std.specs.Prelude.{◌≡◌, ◌≢◌, ℕ, ◌+◌, ◌^◌, ◌<◌, Some, [], Contains};
+ghost use Rattle.std.specs.Prelude.{◌≡◌, ◌≢◌, ℕ, ◌+◌, ◌^◌, ◌<◌, Some, [], All, Contains};
 ghost use Rattle.chord_caller.specs.Caller.{Caller};
 ghost use Rattle.chord_handover.specs.declared.gather.Gather.TheVariants.{Unfit};
 ghost use Rattle.chord_handover.specs.declared.ticket.Ticket.{Ticket};
@@ -8,7 +8,7 @@ ghost use Rattle.chord_handover.specs.Handover.{Handover, Part, IsWhole, gathere
 ghost use Rattle.chord_model.specs.Headline.{MeetsNone, AllApart, Headline, OneHistory, IsNextFor, KeepNoneTwice, SeenFirst};
 ghost use Rattle.chord_model.specs.declared.message.Message.TheVariants.{Part as PartMessage, Declined as DeclinedMessage};
 ghost use Rattle.chord_model.specs.Node.{Node};
-ghost use Rattle.chord_model.specs.Uses.{Rule, rules_of};
+ghost use Rattle.chord_model.specs.Uses.{Rule, rules_of, takings_of};
 ghost use Rattle.chord_model.specs.World.{World, Run, Reached, HasOneHolder, node_at};
 ghost use Rattle.chord_model.specs.declared.phase.Phase.TheVariants.{Gone};
 ghost use Rattle.chord_segment.specs.Marks.{mark_of};
@@ -63,6 +63,11 @@ pub fn some_run()
 /// Some steps use every rule: one handover is taken, another is declined and taken back, and a node is gone.
 pub fn every_rule()
     ensures { (world : World) × (run : Reached world) × ((rule : Rule) → Contains (rules_of run) rule) }
+{}
+
+/// Some steps take a handover of two parts, and lead to a world in which no outbox has an item any more.
+pub fn two_parts()
+    ensures { (world : World) × (run : Reached world) × Contains (takings_of run) 2 × All (λ (node : Node). node.outbox ≡ []) world.nodes }
 {}
 
 /// What a caller knew at some time stands in the history before each call that it submitted later.

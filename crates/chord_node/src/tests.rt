@@ -168,5 +168,6 @@ fn laws_are_called() {
     laws::none_twice();
     laws::some_run();
     laws::every_rule();
+    laws::two_parts();
     laws::seen_first();
 }
