@@ -15,7 +15,8 @@ use Rattle.chord_wire.specs.declared.answer.Answer.TheVariants as answer
 use Rattle.chord_wire.specs.Fault.{fault, out_of_memory, code_of, code_number}
 use Rattle.chord_map.specs.Checked.{IsValue}
 use Rattle.chord_wire.specs.Spelling.{IsBytes, frame, value_field}
-use Rattle.chord_wire.specs.Replies.{IsReply, IsAnswer, reply_kind, reply_fields, values_field, answer_body}
+use Rattle.chord_wire.specs.Replies.{IsReply, IsAnswer, reply_kind, reply_fields, values_field, answer_body, kind_of, number_of, fields_of}
+use Rattle.chord_wire.specs.FaultTable.{IsKind}
 use Rattle.chord_wire.specs.Reading.{◌>>=◌, number_at, value_at, body_at, TakesNext, IsDecided, with_more}
 use Rattle.chord_wire.specs.ReadingReplies.{is_above, or_fault, status_of, status_at, code_at, rising_at, values_from, answer_at, ended, answer_fields, answer_in, answer_of_body, next_answer}
 use Rattle.chord_wire.proofs.Steps.{IsBytes-rest, IsBytes-front, IsBytes-back, bind_ok, guard_on, guard_then, ok_is, Takes, Takes-then, wide32, wide64, number_takes, number_again}
@@ -134,23 +135,11 @@ remove_status status reply =
 
 -- ---- what stands behind the number
 
-abbrev kind_of : Answer → ℕ
-kind_of (answer.Reply number reply) = reply_kind reply
-kind_of (answer.Fault number code) = 255
-
-abbrev number_of : Answer → ℕ
-number_of (answer.Reply number reply) = number
-number_of (answer.Fault number code) = number
-
-abbrev fields_of : Answer → List ℕ
-fields_of (answer.Reply number reply) = reply_fields reply
-fields_of (answer.Fault number code) = code_number code ∷ []
-
-abbrev FieldsFit : Answer → Type 0
+abbrev pub FieldsFit : Answer → Type 0
 FieldsFit (answer.Reply number reply) = IsReply reply
 FieldsFit (answer.Fault number code) = code ≢ Memory
 
-abbrev AnswerTaken : ℕ → ℕ → List ℕ → (Answer × List ℕ) → Type 0
+abbrev pub AnswerTaken : ℕ → ℕ → List ℕ → (Answer × List ℕ) → Type 0
 AnswerTaken kind number bytes x = Takes bytes (fields_of x.0) x.1 × (kind_of x.0 ≡ kind) × (number_of x.0 ≡ number) × FieldsFit x.0
 
 -- what an option gave
@@ -194,10 +183,7 @@ values_take number bytes x fits e =
     subst (AnswerTaken 130 number bytes) (ok_is (answer.Reply number (Values b.0.0), b.0.1) x b.2)
     (whole, refl, refl, record { count = omega (arith, v.1, few); each = v.2; rising = is_sorted b.0.0 v.3 })
 
-abbrev IsKind : ℕ → Type 0
-IsKind kind = ((kind ≡ 129) ⊎ (kind ≡ 131)) ⊎ ((kind ≡ 130) ⊎ (kind ≡ 255))
-
-answer_takes : (kind number : ℕ) (bytes : List ℕ) (x : Answer × List ℕ) → IsKind kind → IsBytes bytes → answer_at kind number bytes ≡ Ok x → AnswerTaken kind number bytes x
+pub answer_takes : (kind number : ℕ) (bytes : List ℕ) (x : Answer × List ℕ) → IsKind kind → IsBytes bytes → answer_at kind number bytes ≡ Ok x → AnswerTaken kind number bytes x
 unfolding answer_at
 answer_takes kind number bytes x (inl (inl insert)) fits =
     let P : ℕ → Type 0 = λ k. answer_at k number bytes ≡ Ok x → AnswerTaken k number bytes x in
@@ -212,7 +198,7 @@ answer_takes kind number bytes x (inr (inr fault)) fits =
     let P : ℕ → Type 0 = λ k. answer_at k number bytes ≡ Ok x → AnswerTaken k number bytes x in
     subst P (sym fault) (λ e. fault_takes number bytes x fits e)
 
-is_answer : (a : Answer) → number_of a < 2 ^ 64 → FieldsFit a → IsAnswer a
+pub is_answer : (a : Answer) → number_of a < 2 ^ 64 → FieldsFit a → IsAnswer a
 is_answer (answer.Reply number reply) small fits = (small, fits)
 is_answer (answer.Fault number code) small fits = (small, fits)
 
@@ -237,7 +223,7 @@ fields_take kind bytes a known fits e =
     let small : number_of d.0.0 < 2 ^ 64 = omega (arith, t.2, n.1) in
     subst (BodyTaken kind bytes) g.1 (is_answer d.0.0 small t.3, t.1, whole ∙ ap (λ (k : ℕ). to_be_bytes w64 k ++ fields_of d.0.0) (sym t.2))
 
-known_kind : (kind : ℕ) → (((eqb kind 129 || eqb kind 130) || eqb kind 131) || eqb kind 255) ≡ true → IsKind kind
+pub known_kind : (kind : ℕ) → (((eqb kind 129 || eqb kind 130) || eqb kind 131) || eqb kind 255) ≡ true → IsKind kind
 known_kind kind e = elim (or_cases ((eqb kind 129 || eqb kind 130) || eqb kind 131) (eqb kind 255) e) [
   | inr fault ↦ inr (inr (eqb-true _ _ fault))
   | inl first ↦ elim (or_cases (eqb kind 129 || eqb kind 130) (eqb kind 131) first) [
@@ -265,7 +251,7 @@ answer_taken (version ∷ kind ∷ bytes) a fits e =
 
 -- ---- a spelling is read again
 
-status_again : (number : ℕ) (reply : Reply) (rest : List ℕ) → IsReply reply → answer_at (reply_kind reply) number (reply_fields reply ++ rest) ≡ Ok (answer.Reply number reply, rest)
+pub status_again : (number : ℕ) (reply : Reply) (rest : List ℕ) → IsReply reply → answer_at (reply_kind reply) number (reply_fields reply ++ rest) ≡ Ok (answer.Reply number reply, rest)
 unfolding answer_at status_at values_from
 status_again number Added rest fits = refl
 status_again number Present rest fits = refl
@@ -277,7 +263,7 @@ status_again number (Values values) rest fits =
     let few : ltb 1000 (length values) ≡ false = le-ltb _ _ fits.count in
     ap (answer_at 130 number) regrouped ∙ rw (number_again w32 (2 ^ 32) wide32 (fault BadValue number) (length values) (flat_map value_field values ++ rest) (omega (arith, fits.count)), few, rising_again number None values rest fits.each (are_rising values fits.rising)) refl
 
-fault_again : (number : ℕ) (code : FaultCode) (rest : List ℕ) → code ≢ Memory → answer_at 255 number (code_number code ∷ rest) ≡ Ok (answer.Fault number code, rest)
+pub fault_again : (number : ℕ) (code : FaultCode) (rest : List ℕ) → code ≢ Memory → answer_at 255 number (code_number code ∷ rest) ≡ Ok (answer.Fault number code, rest)
 unfolding answer_at code_at
 fault_again number code rest ne = rw (code_again code ne) refl
 

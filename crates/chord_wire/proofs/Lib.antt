@@ -8,3 +8,5 @@ pub mod MapValues
 pub mod FrameLaws
 pub mod StreamLaws
 pub mod AnswerLaws
+pub mod FaultLaws
+pub mod AnswerFaults

@@ -5,3 +5,4 @@ pub mod Replies
 pub mod Reading
 pub mod ReadingReplies
 pub mod Streams
+pub mod FaultTable

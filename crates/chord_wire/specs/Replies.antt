@@ -69,3 +69,16 @@ answer_body (answer.Fault number code) = fault_body number code
 abbrev pub IsAnswer : Answer → Type 0
 IsAnswer (answer.Reply number reply) = (number < 2 ^ 64) × IsReply reply
 IsAnswer (answer.Fault number code) = (number < 2 ^ 64) × (code ≢ Memory)
+
+-- which answer it is, the number of its request, and what stands behind that
+abbrev pub kind_of : Answer → ℕ
+kind_of (answer.Reply number reply) = reply_kind reply
+kind_of (answer.Fault number code) = 255
+
+abbrev pub number_of : Answer → ℕ
+number_of (answer.Reply number reply) = number
+number_of (answer.Fault number code) = number
+
+abbrev pub fields_of : Answer → List ℕ
+fields_of (answer.Reply number reply) = reply_fields reply
+fields_of (answer.Fault number code) = code_number code ∷ []

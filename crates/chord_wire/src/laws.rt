@@ -1,10 +1,12 @@
 //! What is true of all streams, with no code.
-ghost use Rattle.std.specs.Prelude.{◌≡◌, ◌≤◌, ◌++◌, List, [], ℕ, length};
+ghost use Rattle.std.specs.Prelude.{◌≡◌, ◌≤◌, ◌↔◌, ◌++◌, List, [], ℕ, Err, length};
 ghost use Rattle.chord_wire.specs.declared.request.WireRequest.{WireRequest};
 ghost use Rattle.chord_wire.specs.Reading.{IsDecided, with_more, next_request};
 ghost use Rattle.chord_wire.specs.ReadingReplies.{next_answer};
 ghost use Rattle.chord_wire.specs.declared.answer.Answer.{Answer};
-ghost use Rattle.chord_wire.specs.Spelling.{IsWireRequest};
+ghost use Rattle.chord_wire.specs.declared.fault.WireFault.{WireFault};
+ghost use Rattle.chord_wire.specs.FaultTable.{FaultOf, AnswerFaultOf};
+ghost use Rattle.chord_wire.specs.Spelling.{IsBytes, IsWireRequest};
 ghost use Rattle.chord_wire.specs.Streams.{Spells, SpellsAnswers, HasNoNext, HasNoNextAnswer, request_frame, answer_frame};
 ghost use Rattle.chord_wire.specs.Replies.{AreValues, IsAnswer};
 ghost use Rattle.chord_map.specs.declared.pair.Pair.{Pair};
@@ -36,4 +38,10 @@ pub fn no_frame_begins_another()
 /// The values that a map of sets has under a key, at most 1,000 of at most 4,096 bytes, have a frame.
 pub fn values_of_a_map_have_a_frame()
     ensures { (key : List ℕ) (pairs : List Pair) → IsRising pairs → AllByRecursion (λ (pair : Pair). IsValue pair.value) pairs → length (values_at key pairs) ≤ 1000 → AreValues (values_at key pairs) }
+{}
+
+/// Reading tells a fault exactly where the table of faults has it at the front of the stream.
+pub fn faults_are_those_of_the_table()
+    ensures requests { (bytes : List ℕ) (fault : WireFault) → IsBytes bytes → (next_request bytes ≡ Err fault) ↔ FaultOf bytes fault }
+    ensures answers { (bytes : List ℕ) (fault : WireFault) → IsBytes bytes → (next_answer bytes ≡ Err fault) ↔ AnswerFaultOf bytes fault }
 {}

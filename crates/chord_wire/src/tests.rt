@@ -486,6 +486,7 @@ fn laws_are_called() {
     laws::one_reading();
     laws::no_frame_begins_another();
     laws::values_of_a_map_have_a_frame();
+    laws::faults_are_those_of_the_table();
 }
 
 /// Whether the code has this text.
