@@ -5,7 +5,7 @@ use Rattle.chord_map.specs.declared.pair.Pair.{Pair}
 use Rattle.chord_map.specs.declared.request.Request.TheVariants as request
 use Rattle.chord_map.specs.declared.reply.Reply.{Reply}
 use Rattle.chord_map.specs.declared.reply.Reply.TheVariants as reply
-use Rattle.chord_map.specs.Map.{has_pair, same_pair, values_at, reply_to, pairs_after, remove_pair}
+use Rattle.chord_map.specs.Map.{has_pair, same_pair, values_at, reply_to, pairs_after, pairs_by, remove_pair}
 use Rattle.chord_store.specs.declared.outcome.Inserted.{Inserted}
 use Rattle.chord_store.specs.declared.outcome.Inserted.TheVariants.{Added, Present, SetFull}
 use Rattle.chord_store.specs.declared.outcome.StoreFault.{StoreFault}
@@ -15,8 +15,7 @@ use Rattle.chord_map.specs.declared.request.Request.{Request}
 use Rattle.chord_map.specs.Map.{insert_pair, by_order, pair_cmp}
 use Rattle.chord_map.proofs.MapLemmas.{is_same}
 use Rattle.chord_map.proofs.Replies.{after_reply}
-use Rattle.chord_node.specs.declared.asks.apply.Replies.{Replies}
-use Rattle.chord_node.specs.Asked.{adds, is_full_for, AreReplies, Applied}
+use Rattle.chord_node.specs.Asked.{adds, is_full_for, IsValues, Applied}
 
 has_room : (did : Inserted) (pairs : List Pair) (limit : ℕ) → (did ≡ Added → length pairs < limit)
     → cond (adds (reply_for did)) (leb limit (length pairs)) false ≡ false
@@ -25,41 +24,39 @@ has_room Present pairs limit room = refl
 has_room SetFull pairs limit room = refl
 
 -- an insert that was answered so
-inserted_is : (pairs new : List Pair) (limit : ℕ) (key value : List ℕ) (did : Inserted) (noting : Bool) (replies : Replies)
-    → InsertIs (record { key = key; value = value }) pairs limit (Ok did) new → AreReplies (reply_for did) noting replies
-    → Applied (request.Insert key value) noting pairs limit (Ok replies) new
+inserted_is : (pairs new : List Pair) (limit : ℕ) (key value : List ℕ) (did : Inserted) (told : Reply)
+    → InsertIs (record { key = key; value = value }) pairs limit (Ok did) new → told ≡ reply_for did → Applied (request.Insert key value) pairs limit (Ok told) new
 unfolding is_full_for
-inserted_is pairs new limit key value did noting replies did_so are = (
-  subst (λ (r : Reply). AreReplies r noting replies) (sym did_so.0) are,
+inserted_is pairs new limit key value did told did_so is = (
+  is ∙ sym did_so.0,
   ap (λ (r : Reply). cond (adds r) (leb limit (length pairs)) false) did_so.0 ∙ has_room did pairs limit did_so.1,
   did_so.2,
 )
 
 -- an insert that was refused
-refused_is : (pairs new : List Pair) (limit : ℕ) (key value : List ℕ) (noting : Bool) (fault : StoreFault)
-    → InsertIs (record { key = key; value = value }) pairs limit (Err fault) new → Applied (request.Insert key value) noting pairs limit (Err fault) new
+refused_is : (pairs new : List Pair) (limit : ℕ) (key value : List ℕ) (fault : StoreFault)
+    → InsertIs (record { key = key; value = value }) pairs limit (Err fault) new → Applied (request.Insert key value) pairs limit (Err fault) new
 unfolding is_full_for
-refused_is pairs new limit key value noting Full refused =
+refused_is pairs new limit key value Full refused =
     (ap (λ (r : Reply). cond (adds r) (leb limit (length pairs)) false) refused.0 ∙ le-leb limit (length pairs) refused.1, refused.2)
-refused_is pairs new limit key value noting Memory refused =
+refused_is pairs new limit key value Memory refused =
     (ap (λ (r : Reply). cond (adds r) (leb limit (length pairs)) false) refused.0 ∙ lt-leb limit (length pairs) refused.1, refused.2)
 
 pub same_pairs : {key value key' value' : List ℕ} → key' ≡ key → value' ≡ value → ◌≡◌ {A = Pair} (record { key = key'; value = value' }) (record { key = key; value = value })
 same_pairs e f = cc
 
 -- the same for bytes that are the key and the value
-pub refused_for : (pairs new : List Pair) (limit : ℕ) (key value key' value' : List ℕ) (noting : Bool) (fault : StoreFault) → key' ≡ key → value' ≡ value
-    → InsertIs (record { key = key'; value = value' }) pairs limit (Err fault) new → Applied (request.Insert key value) noting pairs limit (Err fault) new
-refused_for pairs new limit key value key' value' noting fault e f refused =
+pub refused_for : (pairs new : List Pair) (limit : ℕ) (key value key' value' : List ℕ) (fault : StoreFault) → key' ≡ key → value' ≡ value
+    → InsertIs (record { key = key'; value = value' }) pairs limit (Err fault) new → Applied (request.Insert key value) pairs limit (Err fault) new
+refused_for pairs new limit key value key' value' fault e f refused =
     let at : Pair → Type 0 = λ pair. InsertIs pair pairs limit (Err fault) new in
-    refused_is pairs new limit key value noting fault (subst at (same_pairs e f) refused)
+    refused_is pairs new limit key value fault (subst at (same_pairs e f) refused)
 
-pub inserted_for : (pairs new : List Pair) (limit : ℕ) (key value key' value' : List ℕ) (did : Inserted) (noting : Bool) (replies : Replies) → key' ≡ key → value' ≡ value
-    → InsertIs (record { key = key'; value = value' }) pairs limit (Ok did) new → AreReplies (reply_for did) noting replies
-    → Applied (request.Insert key value) noting pairs limit (Ok replies) new
-inserted_for pairs new limit key value key' value' did noting replies e f did_so are =
+pub inserted_for : (pairs new : List Pair) (limit : ℕ) (key value key' value' : List ℕ) (did : Inserted) (told : Reply) → key' ≡ key → value' ≡ value
+    → InsertIs (record { key = key'; value = value' }) pairs limit (Ok did) new → told ≡ reply_for did → Applied (request.Insert key value) pairs limit (Ok told) new
+inserted_for pairs new limit key value key' value' did told e f did_so is =
     let at : Pair → Type 0 = λ pair. InsertIs pair pairs limit (Ok did) new in
-    inserted_is pairs new limit key value did noting replies (subst at (same_pairs e f) did_so) are
+    inserted_is pairs new limit key value did told (subst at (same_pairs e f) did_so) is
 
 -- what is not there leaves nothing behind
 none_step : (b : Bool) (other : Pair) (found : Bool) (xs ys : List Pair) → (b || found) ≡ false → (found ≡ false → xs ≡ ys) → cond (not b) (other ∷ xs) xs ≡ other ∷ ys
@@ -162,31 +159,37 @@ added_undone pair pair' pairs new newer limit did same added did_so r =
     r ∙ ap (λ (p : Pair). remove_pair p new) (sym same) ∙ ap (remove_pair pair) grown ∙ remove-insert pair pairs (absent pair.key pair.value pairs h.0)
 
 -- a remove that found its value, or did not
--- a remove that found its value, or did not
-removed_is : (found : Bool) (pairs new : List Pair) (limit : ℕ) (key value : List ℕ) (noting : Bool) (replies : Replies)
+removed_is : (found : Bool) (pairs new : List Pair) (limit : ℕ) (key value : List ℕ) (told : Reply)
     → found ≡ has_pair (record { key = key; value = value }) pairs → new ≡ remove_pair (record { key = key; value = value }) pairs
-    → AreReplies (cond found reply.Removed reply.Absent) noting replies
-    → Applied (request.Remove key value) noting pairs limit (Ok replies) new
+    → told ≡ cond found reply.Removed reply.Absent → Applied (request.Remove key value) pairs limit (Ok told) new
 unfolding is_full_for reply_to pairs_after
-removed_is true pairs new limit key value noting replies was change are = rw (sym was) (are, refl, change)
-removed_is false pairs new limit key value noting replies was change are =
-    rw (sym was) (are, refl, change ∙ none_removed (record { key = key; value = value }) pairs (sym was))
+removed_is true pairs new limit key value told was change is = rw (sym was) (is, refl, change)
+removed_is false pairs new limit key value told was change is =
+    rw (sym was) (is, refl, change ∙ none_removed (record { key = key; value = value }) pairs (sym was))
 
-pub removed_for : (found : Bool) (pairs new : List Pair) (limit : ℕ) (key value key' value' : List ℕ) (noting : Bool) (replies : Replies) → key' ≡ key → value' ≡ value
+pub removed_for : (found : Bool) (pairs new : List Pair) (limit : ℕ) (key value key' value' : List ℕ) (told : Reply) → key' ≡ key → value' ≡ value
     → found ≡ has_pair (record { key = key'; value = value' }) pairs → new ≡ remove_pair (record { key = key'; value = value' }) pairs
-    → AreReplies (cond found reply.Removed reply.Absent) noting replies
-    → Applied (request.Remove key value) noting pairs limit (Ok replies) new
-removed_for found pairs new limit key value key' value' noting replies e f was change are =
-    removed_is found pairs new limit key value noting replies
-    (was ∙ ap (λ (pair : Pair). has_pair pair pairs) (same_pairs e f)) (change ∙ ap (λ (pair : Pair). remove_pair pair pairs) (same_pairs e f)) are
+    → told ≡ cond found reply.Removed reply.Absent → Applied (request.Remove key value) pairs limit (Ok told) new
+removed_for found pairs new limit key value key' value' told e f was change is =
+    removed_is found pairs new limit key value told
+    (was ∙ ap (λ (pair : Pair). has_pair pair pairs) (same_pairs e f)) (change ∙ ap (λ (pair : Pair). remove_pair pair pairs) (same_pairs e f)) is
 
 -- a retrieve leaves the map as it was
-pub retrieved_is : (pairs : List Pair) (limit : ℕ) (key : List ℕ) (noting : Bool) (replies : Replies)
-    → AreReplies (reply.Values (values_at key pairs)) noting replies → Applied (request.Retrieve key) noting pairs limit (Ok replies) pairs
+pub retrieved_for : (pairs : List Pair) (limit : ℕ) (key key' : List ℕ) (values : List (List ℕ)) → key' ≡ key → values ≡ values_at key' pairs
+    → Applied (request.Retrieve key) pairs limit (Ok (reply.Values values)) pairs
 unfolding is_full_for reply_to pairs_after
-retrieved_is pairs limit key noting replies are = (are, refl, refl)
+retrieved_for pairs limit key key' values e is = (ap (λ (vs : List (List ℕ)). reply.Values vs) (is ∙ ap (λ (k : List ℕ). values_at k pairs) e), refl, refl)
 
-pub retrieved_for : (pairs : List Pair) (limit : ℕ) (key key' : List ℕ) (noting : Bool) (replies : Replies) → key' ≡ key
-    → AreReplies (reply.Values (values_at key' pairs)) noting replies → Applied (request.Retrieve key) noting pairs limit (Ok replies) pairs
-retrieved_for pairs limit key key' noting replies e are =
-    retrieved_is pairs limit key noting replies (subst (λ (k : List ℕ). AreReplies (reply.Values (values_at k pairs)) noting replies) e are)
+-- what told values has changed nothing
+pub values_stay : (asked : Request) (told : Reply) (pairs new : List Pair) → IsValues told → told ≡ reply_to asked pairs → new ≡ pairs_after asked pairs → new ≡ pairs
+values_stay asked (reply.Values values) pairs new is same change = change ∙ after_reply asked (reply.Values values) pairs (sym same) ∙ kept asked
+  where
+    kept : (asked : Request) → pairs_by asked (reply.Values values) pairs ≡ pairs
+    kept (request.Insert key value) = refl
+    kept (request.Retrieve key) = refl
+    kept (request.Remove key value) = refl
+values_stay asked reply.Added pairs new is same change = absurd is
+values_stay asked reply.Present pairs new is same change = absurd is
+values_stay asked reply.SetFull pairs new is same change = absurd is
+values_stay asked reply.Removed pairs new is same change = absurd is
+values_stay asked reply.Absent pairs new is same change = absurd is

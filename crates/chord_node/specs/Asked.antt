@@ -12,7 +12,6 @@ use Rattle.chord_map.specs.declared.done.Done.{Done}
 use Rattle.chord_segment.specs.Segment.{Segment, Past, id_of, past_at, append}
 use Rattle.chord_segment.specs.Segment.Past.{New, Kept, Seen}
 use Rattle.chord_caller.specs.declared.ask.Ask.{Ask}
-use Rattle.chord_node.specs.declared.asks.apply.Replies.{Replies}
 use Rattle.chord_node.specs.declared.asks.answered.Answered.{Answered}
 use Rattle.chord_node.specs.declared.asks.answered.Answered.TheVariants as answer
 use Rattle.chord_model.specs.declared.message.Message.{Message}
@@ -29,21 +28,16 @@ adds other = false
 unfoldable pub is_full_for : Request → List Pair → ℕ → Bool
 is_full_for request pairs limit = if adds (reply_to request pairs) then nat_le limit (length pairs) else false
 
--- the value, where it is wanted
-abbrev pub only_if : {A : Type 0} → Bool → A → Option A
-only_if true x = Some x
-only_if false x = None
+-- what a store was asked, what it held and its limit, what came of it, and what it holds then
+abbrev pub Applied : Request → List Pair → ℕ → Result Reply StoreFault → List Pair → Type 0
+Applied request old limit (Ok reply) new = (reply ≡ reply_to request old) × (is_full_for request old limit ≡ false) × (new ≡ pairs_after request old)
+Applied request old limit (Err fault.Full) new = (is_full_for request old limit ≡ true) × (new ≡ old)
+Applied request old limit (Err fault.Memory) new = (is_full_for request old limit ≡ false) × (new ≡ old)
 
--- each is this reply, and it is there once more where it is to be noted
-abbrev pub AreReplies : Reply → Bool → Replies → Type 0
-AreReplies reply noting replies = (replies.kept ≡ reply) × (replies.told ≡ reply) × (replies.noted ≡ only_if noting reply)
-
--- what a store was asked, whether to note the reply, what it held and its limit, what came of it, and what it holds then
-abbrev pub Applied : Request → Bool → List Pair → ℕ → Result Replies StoreFault → List Pair → Type 0
-Applied request noting old limit (Ok replies) new =
-    AreReplies (reply_to request old) noting replies × (is_full_for request old limit ≡ false) × (new ≡ pairs_after request old)
-Applied request noting old limit (Err fault.Full) new = (is_full_for request old limit ≡ true) × (new ≡ old)
-Applied request noting old limit (Err fault.Memory) new = (is_full_for request old limit ≡ false) × (new ≡ old)
+-- the reply tells values, as that of a Retrieve does
+abbrev pub IsValues : Reply → Type 0
+IsValues (reply.Values values) = Unit {0}
+IsValues other = ⊥
 
 -- the answer to a call that the segment knows so, over a store that holds these pairs
 abbrev pub past_answer : Past → Ask → List Pair → ℕ → Answered
@@ -74,10 +68,9 @@ abbrev pub entries_after : Option Done → Ask → List Pair → List Pair
 entries_after None ask pairs = pairs
 entries_after (Some done) ask pairs = pairs_after ask.request pairs
 
--- the call with this request and this reply, where there are both
-abbrev pub done_with : Ask → Option Request → Option Reply → Option Done
-done_with ask (Some request) (Some reply) = Some (record { caller = ask.caller; number = ask.number; request = request; reply = reply })
-done_with ask (Some request) None = None
+-- the call with this reply and this request, where there is one
+abbrev pub done_with : Ask → Option Request → Reply → Option Done
+done_with ask (Some request) reply = Some (record { caller = ask.caller; number = ask.number; request = request; reply = reply })
 done_with ask None reply = None
 
 -- the call, where it is to be noted

@@ -1,20 +1,11 @@
 //! A request applied to a store.
-ghost use Rattle.std.specs.Prelude.{◌≡◌, IfOk, Ok, if◌then◌else◌};
-ghost use Rattle.chord_map.specs.Map.{values_at};
-ghost use Rattle.chord_node.specs.Asked.{Applied, AreReplies, is_full_for, only_if};
+ghost use Rattle.std.specs.Prelude.{◌≡◌, IfOk, OnErr, Ok, if◌then◌else◌};
+ghost use Rattle.chord_node.specs.Asked.{Applied, IsValues, is_full_for};
 ghost use Rattle.chord_store.specs.Store.{reply_for};
 
-use chord_map::{Bytes, Reply, Request, Values};
+use chord_map::{Bytes, Reply, Request};
 use chord_store::{EntryStore, Inserted, StoreFault};
 use std::alloc::{AllocError, Global};
-
-/// The reply to a request as often as it is wanted: one is kept, one is sent, and one may be noted besides.
-#[derive(Debug, Drop)]
-pub(crate) struct Replies {
-    pub kept: Reply,
-    pub told: Reply,
-    pub noted: Option<Reply>,
-}
 
 /// The reply for what an insert did.
 fn reply_to_insert(did: Inserted) -> Reply
@@ -34,102 +25,35 @@ fn reply_to_remove(found: bool) -> Reply
     if found { Reply::Removed } else { Reply::Absent }
 }
 
-/// The replies for what an insert did.
-fn replies_to_insert(did: Inserted, noting: bool) -> Replies
-    ensures { AreReplies (reply_for did) noting result }
-{
-    Replies {
-        kept: reply_to_insert(did),
-        told: reply_to_insert(did),
-        noted: if noting {
-            Some(reply_to_insert(did))
-        } else {
-            None
-        },
-    }
-}
-
-/// The replies for whether a remove found its value.
-fn replies_to_remove(found: bool, noting: bool) -> Replies
-    ensures { AreReplies (if found then Reply.Removed else Reply.Absent) noting result }
-{
-    Replies {
-        kept: reply_to_remove(found),
-        told: reply_to_remove(found),
-        noted: if noting {
-            Some(reply_to_remove(found))
-        } else {
-            None
-        },
-    }
-}
-
 fn apply_insert<S: EntryStore>(
     store: &mut S,
     key: &Bytes,
     value: &Bytes,
-    noting: bool,
-) -> Result<Replies, StoreFault>
-    ensures applied { Applied (Request.Insert key.now value.now) noting (S.content store.old) (S.limit store.old) result (S.content store.new) }
+) -> Result<Reply, StoreFault>
+    ensures applied { Applied (Request.Insert key.now value.now) (S.content store.old) (S.limit store.old) result (S.content store.new) }
     ensures limit { S.limit store.new ≡ S.limit store.old }
 {
     match store.insert(key.as_slice(), value.as_slice()) {
-        Ok(did) => Ok(replies_to_insert(did, noting)),
+        Ok(did) => Ok(reply_to_insert(did)),
         Err(fault) => Err(fault),
     }
 }
 
-/// A copy of the values, where one is wanted.
-fn noted_values(values: &Values, noting: bool) -> Result<Option<Reply>, AllocError>
-    ensures { IfOk result (λ noted. noted ≡ only_if noting (Reply.Values values.now)) }
+fn apply_retrieve<S: EntryStore>(alloc: Global, store: &S, key: &Bytes) -> Result<Reply, StoreFault>
+    ensures { Applied (Request.Retrieve key.now) (S.content store.now) (S.limit store.now) result (S.content store.now) }
 {
-    if noting {
-        let copy = values.try_copy()?;
-        Ok(Some(Reply::Values(copy)))
-    } else {
-        Ok(None)
-    }
-}
-
-/// The replies to a retrieve.
-fn replies_to_retrieve<S: EntryStore>(
-    alloc: Global,
-    store: &S,
-    key: &[u8],
-    noting: bool,
-) -> Result<Replies, AllocError>
-    ensures { IfOk result (λ replies. AreReplies (Reply.Values (values_at key.now (S.content store.now))) noting replies) }
-{
-    let values = store.values(alloc, key)?;
-    let noted = noted_values(&values, noting)?;
-    let copy = values.try_copy()?;
-    Ok(Replies {
-        kept: Reply::Values(copy),
-        told: Reply::Values(values),
-        noted,
-    })
-}
-
-fn apply_retrieve<S: EntryStore>(
-    alloc: Global,
-    store: &S,
-    key: &Bytes,
-    noting: bool,
-) -> Result<Replies, StoreFault>
-    ensures { Applied (Request.Retrieve key.now) noting (S.content store.now) (S.limit store.now) result (S.content store.now) }
-{
-    let Ok(replies) = replies_to_retrieve(alloc, store, key.as_slice(), noting) else {
+    let Ok(values) = store.values(alloc, key.as_slice()) else {
         return Err(StoreFault::Memory);
     };
-    Ok(replies)
+    Ok(Reply::Values(values))
 }
 
-fn apply_remove<S: EntryStore>(store: &mut S, key: &Bytes, value: &Bytes, noting: bool) -> Replies
-    ensures applied { Applied (Request.Remove key.now value.now) noting (S.content store.old) (S.limit store.old) (Ok result) (S.content store.new) }
+fn apply_remove<S: EntryStore>(store: &mut S, key: &Bytes, value: &Bytes) -> Reply
+    ensures applied { Applied (Request.Remove key.now value.now) (S.content store.old) (S.limit store.old) (Ok result) (S.content store.new) }
     ensures limit { S.limit store.new ≡ S.limit store.old }
 {
     let found = store.remove(key.as_slice(), value.as_slice());
-    replies_to_remove(found, noting)
+    reply_to_remove(found)
 }
 
 /// Does the request. A refusal leaves the store as it was.
@@ -137,15 +61,29 @@ pub(crate) fn apply<S: EntryStore>(
     alloc: Global,
     store: &mut S,
     request: &Request,
-    noting: bool,
-) -> Result<Replies, StoreFault>
-    ensures applied { Applied request.now noting (S.content store.old) (S.limit store.old) result (S.content store.new) }
+) -> Result<Reply, StoreFault>
+    ensures applied { Applied request.now (S.content store.old) (S.limit store.old) result (S.content store.new) }
     ensures limit { S.limit store.new ≡ S.limit store.old }
 {
     match request {
-        Request::Insert { key, value } => apply_insert(store, key, value, noting),
-        Request::Retrieve { key } => apply_retrieve(alloc, store, key, noting),
-        Request::Remove { key, value } => Ok(apply_remove(store, key, value, noting)),
+        Request::Insert { key, value } => apply_insert(store, key, value),
+        Request::Retrieve { key } => apply_retrieve(alloc, store, key),
+        Request::Remove { key, value } => Ok(apply_remove(store, key, value)),
+    }
+}
+
+/// The reply once more. Only one that tells values takes memory.
+pub(crate) fn another(reply: &Reply) -> Result<Reply, AllocError>
+    ensures ok { IfOk result (λ copy. copy ≡ reply.now) }
+    ensures memory { OnErr result (IsValues reply.now) }
+{
+    match reply {
+        Reply::Values(values) => Ok(Reply::Values(values.try_copy()?)),
+        Reply::Added => Ok(Reply::Added),
+        Reply::Present => Ok(Reply::Present),
+        Reply::SetFull => Ok(Reply::SetFull),
+        Reply::Removed => Ok(Reply::Removed),
+        Reply::Absent => Ok(Reply::Absent),
     }
 }
 

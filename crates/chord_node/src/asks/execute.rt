@@ -1,12 +1,12 @@
 //! A call answered by a segment and a store.
-ghost use Rattle.std.specs.Prelude.{◌≡◌, Some, true, IfOk, OnOk};
+ghost use Rattle.std.specs.Prelude.{◌≡◌, Some, true, is_some, IfOk, IfSome, OnOk, OnErr};
 ghost use Rattle.chord_ident.specs.Circle.{in_span};
 ghost use Rattle.chord_segment.specs.Segment.{id_of, past_at};
 ghost use Rattle.chord_segment.specs.Segment.Past.{New};
-ghost use Rattle.chord_node.specs.Asked.{AnswersIn, only_if, done_with};
+ghost use Rattle.chord_node.specs.Asked.{AnswersIn, IsValues, done_with};
 
 use crate::asks::answered::Answered;
-use crate::asks::apply::{Replies, apply, is_full};
+use crate::asks::apply::{another, apply, is_full};
 use chord_caller::{Ask, Told};
 use chord_map::{Reply, Request};
 use chord_segment::{Done, Past, Segment};
@@ -26,53 +26,58 @@ fn copy_of(ask: &Ask) -> Result<Ask, AllocError>
     })
 }
 
-/// The call with this request and this reply, where there are both.
-fn noted_done(ask: &Ask, request: Option<Request>, reply: Option<Reply>) -> Option<Done>
-    ensures { result ≡ done_with ask.now request reply }
+/// The reply once more, for the segment to keep, and the call with it where its request is to be noted.
+fn copies_of(
+    ask: &Ask,
+    reply: &Reply,
+    noted: Option<Request>,
+) -> Result<(Reply, Option<Done>), AllocError>
+    ensures kept { IfOk result (λ both. both.0 ≡ reply.now) }
+    ensures note { IfOk result (λ both. both.1 ≡ done_with ask.now noted reply.now) }
+    ensures memory { OnErr result (IsValues reply.now) }
 {
-    match (request, reply) {
-        (Some(request), Some(reply)) => Some(Done {
-            caller: ask.caller,
-            number: ask.number,
-            request,
-            reply,
-        }),
-        _ => None,
-    }
+    let kept = another(reply)?;
+    let Some(request) = noted else {
+        return Ok((kept, None));
+    };
+    let reply = another(reply)?;
+    let done = Done {
+        caller: ask.caller,
+        number: ask.number,
+        request,
+        reply,
+    };
+    Ok((kept, Some(done)))
 }
 
 /// Executes a new call that the segment has room for, unless the store has none. All that can fail comes before the first
-/// change. The segment keeps the request itself.
+/// change, or behind a Retrieve, which changes nothing. The segment keeps the request itself.
 pub(crate) fn execute_ready<S: EntryStore>(
     alloc: Global,
     segment: &mut Segment,
     store: &mut S,
     ask: Ask,
     noted: Option<Request>,
-    noting: bool,
 ) -> Result<(Answered, Option<Done>), AllocError>
     requires key { in_span segment.old.segment.span (id_of ask.request) ≡ true }
     requires new { past_at ask.caller ask.number segment.old.segment ≡ New }
     requires room { segment.old.room ≡ Some ask.caller }
-    requires noted { noted ≡ only_if noting ask.request }
-    ensures answers { AnswersIn ask noting segment.old.segment (S.content store.old) (S.limit store.old) result segment.new.segment (S.content store.new) }
+    requires noted { IfSome noted (λ request. request ≡ ask.request) }
+    ensures answers { AnswersIn ask (is_some noted) segment.old.segment (S.content store.old) (S.limit store.old) result segment.new.segment (S.content store.new) }
     ensures limit { S.limit store.new ≡ S.limit store.old }
 {
-    let replies = match apply(alloc, store, &ask.request, noting) {
-        Ok(replies) => replies,
+    let reply = match apply(alloc, store, &ask.request) {
+        Ok(reply) => reply,
         Err(StoreFault::Full) => return Ok((Answered::Full, None)),
         Err(StoreFault::Memory) => return Err(AllocError),
     };
-    let Replies {
-        kept,
-        told,
-        noted: noted_reply,
-    } = replies;
-    let note = noted_done(&ask, noted, noted_reply);
+    let Ok((kept, note)) = copies_of(&ask, &reply, noted) else {
+        return Err(AllocError);
+    };
     let told = Told {
         caller: ask.caller,
         number: ask.number,
-        reply: told,
+        reply,
     };
     let done = Done {
         caller: ask.caller,
@@ -118,7 +123,7 @@ fn execute_in<S: EntryStore>(
             Err(AllocError)
         };
     };
-    execute_ready(alloc, segment, store, copy, Some(noted), true)
+    execute_ready(alloc, segment, store, copy, Some(noted))
 }
 
 /// Answers a call whose key lies in the segment's span, and gives a copy of the call that it executed, if it did.

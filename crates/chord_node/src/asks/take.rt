@@ -37,7 +37,7 @@ fn execute_taken<S: EntryStore>(
             Err(AllocError)
         };
     };
-    execute_ready(alloc, segment, store, ask, None, false)
+    execute_ready(alloc, segment, store, ask, None)
 }
 
 /// Answers a call whose key lies in the segment's span.
