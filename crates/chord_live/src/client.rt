@@ -200,12 +200,12 @@ impl<'a, J: Naming, S: EntryStore> Client<'a, J, S> {
         }
     }
 
-    /// Notes which node answered, or that none did.
-    fn note_node(&mut self, id: Id, node: Option<u64>)
+    /// Remembers which node answered, or that none did.
+    fn remember_node(&mut self, id: Id, node: Option<u64>)
         ensures { self.new ≡ self.old }
     {
         match node {
-            Some(no) => self.guesses.note(id, no),
+            Some(no) => self.guesses.remember(id, no),
             None => self.guesses.forget(id),
         }
     }
@@ -228,11 +228,11 @@ impl<'a, J: Naming, S: EntryStore> Client<'a, J, S> {
         let id = keyed.id;
         match self.ring.carry(rt, self.first_node(id, via), keyed) {
             Some(carried) => {
-                self.note_node(id, Some(carried.from));
+                self.remember_node(id, Some(carried.from));
                 self.take(rt, carried, number)
             }
             None => {
-                self.note_node(id, None);
+                self.remember_node(id, None);
                 Err(WaitFault::NoAnswer)
             }
         }

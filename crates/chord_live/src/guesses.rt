@@ -39,7 +39,7 @@ impl Guesses {
     }
 
     /// A node answered.
-    pub fn note(&mut self, id: Id, no: u64)
+    pub fn remember(&mut self, id: Id, no: u64)
         ensures { self.new ≡ with_guess self.old id.number (small no) }
     {
         self.nodes[place_of(id)] = u8::try_from(no).ok();

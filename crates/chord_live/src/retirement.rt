@@ -23,8 +23,8 @@ impl<J: Naming, S: EntryStore> Ring<J, S> {
         self.retire_below(rt, &mut *board, 0, no as usize)
     }
 
-    /// Notes the links of the node at a place, if it is a member.
-    fn note_links(&self, board: &mut Vec<Option<Links>>, at: usize, place: &Place<J, S>) {
+    /// Puts the links of the node at a place on the board, if it is a member.
+    fn post_links(&self, board: &mut Vec<Option<Links>>, at: usize, place: &Place<J, S>) {
         let links = match place {
             Place::Here(locked) if self.is_live(at as u64) => Some(*locked.links()),
             _ => None,
@@ -49,7 +49,7 @@ impl<J: Naming, S: EntryStore> Ring<J, S> {
             return self.retire_here(rt, board, slot, no);
         }
         let guard = slot.place.lock(rt);
-        self.note_links(board, at, &*guard);
+        self.post_links(board, at, &*guard);
         self.retire_below(rt, board, at + 1, no)
     }
 
@@ -62,7 +62,7 @@ impl<J: Naming, S: EntryStore> Ring<J, S> {
         no: usize,
     ) -> Result<(), RetireFault> {
         let mut guard = slot.place.lock(rt);
-        self.note_links(board, no, &*guard);
+        self.post_links(board, no, &*guard);
         let Place::Here(locked) = &mut *guard else {
             return Err(RetireFault::NotLeaving);
         };
@@ -90,7 +90,7 @@ impl<J: Naming, S: EntryStore> Ring<J, S> {
             return Ok(locked.retire(&self.table)?);
         };
         let guard = slot.place.lock(rt);
-        self.note_links(board, at, &*guard);
+        self.post_links(board, at, &*guard);
         self.retire_above(rt, board, locked, no, at + 1)
     }
 }

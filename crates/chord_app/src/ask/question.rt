@@ -97,7 +97,7 @@ impl Question {
         Ok(passing)
     }
 
-    /// Notes an answer. Says whether it is to be asked again, which it is so many times at most.
+    /// Keeps an answer. Says whether it is to be asked again, which it is so many times at most.
     pub fn take(&mut self, answer: Answer, tries: u32) -> bool {
         let outcome = match answer {
             Answer::Reply { reply, .. } => Outcome::Reply(reply),

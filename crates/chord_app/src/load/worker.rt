@@ -84,8 +84,8 @@ impl<'a, R: Clock> Worker<'a, R> {
         }
     }
 
-    /// Notes that a request is sent now.
-    fn note_sent(&mut self) -> Result<(), Finish> {
+    /// Counts a request and keeps the time at which it is sent.
+    fn keep_start(&mut self) -> Result<(), Finish> {
         self.made = self.made.saturating_add(1);
         let time = now(self.rt)?;
         self.sent.push_back(time)?;
@@ -98,7 +98,7 @@ impl<'a, R: Clock> Worker<'a, R> {
         if request.check().is_err() {
             return Err(Finish::BadCommandLine);
         }
-        self.note_sent()?;
+        self.keep_start()?;
         let mut writer = &self.link.stream;
         match self.link.client.send(&mut writer, request) {
             Ok(_) => Ok(Going::On),
@@ -109,7 +109,7 @@ impl<'a, R: Clock> Worker<'a, R> {
 
     /// Sends a request again that got a fault.
     fn again(&mut self, number: u64) -> Result<Going, Finish> {
-        self.note_sent()?;
+        self.keep_start()?;
         let mut writer = &self.link.stream;
         match self.link.client.again(&mut writer, number) {
             Ok(()) => Ok(Going::On),
@@ -131,8 +131,8 @@ impl<'a, R: Clock> Worker<'a, R> {
         Ok(Going::On)
     }
 
-    /// Notes how long the first request in flight took.
-    fn note_time(&mut self) -> Result<(), Finish> {
+    /// Records how long the first request in flight took.
+    fn keep_time(&mut self) -> Result<(), Finish> {
         if let Some(sent) = self.sent.pop_front() {
             let took = now(self.rt)?.duration_since(sent).as_micros();
             let microseconds = u64::try_from(took).unwrap_or(u64::MAX);
@@ -146,7 +146,7 @@ impl<'a, R: Clock> Worker<'a, R> {
         let mut reader = &self.link.stream;
         match self.link.client.receive(&mut reader, READS) {
             Ok((_, Answer::Reply { .. })) => {
-                self.note_time()?;
+                self.keep_time()?;
                 Ok(Going::On)
             }
             Ok((number, Answer::Fault { code, .. })) => {

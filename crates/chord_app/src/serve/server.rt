@@ -35,7 +35,7 @@ fn serve_client<J: Naming, S: EntryStore, R: Wait + Clock, L: Log>(
         Ok(idle) => Ended::Served(service.serve_by(idle, via, &stream, TURNS).0),
         Err(none) => none,
     };
-    service.note(number, &ended);
+    service.log_end(number, &ended);
     ended
 }
 
@@ -65,7 +65,7 @@ fn accept<
             Err(_) => Err(Ended::NotAccepted),
         };
         if let Err(ended) = &client {
-            service.note(number, ended);
+            service.log_end(number, ended);
         }
         clients.push(client)?;
     }

@@ -88,8 +88,8 @@ impl<'r, J: Naming, S: EntryStore, R: Wait + Clock, L: Log> Service<'r, J, S, R,
         (served, asker.into_caller())
     }
 
-    /// Notes how a connection ended.
-    pub fn note(&self, number: u64, ended: &Ended) {
+    /// Logs how a connection ended.
+    pub fn log_end(&self, number: u64, ended: &Ended) {
         info!(self.notes; target: "chord", "connection {number} {ended}");
     }
 }

@@ -43,7 +43,7 @@ impl<
 > Hall<'r, J, S, R, L, W> {
     /// Writes and notes how a connection ended. Where it cannot be written, the server stops.
     fn tell(&self, number: u64, ended: &Ended) {
-        self.service.note(number, ended);
+        self.service.log_end(number, ended);
         if !self.lines.tell(self.service.rt, number, ended) && !self.stop.is_stopped() {
             self.stop.stop(self.service.rt);
         }

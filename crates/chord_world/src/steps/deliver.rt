@@ -85,7 +85,7 @@ fn post(sent: &mut Vec<Sent>, caller: u64, number: u64, answered: Answered) -> O
 }
 
 /// Adds the call that was executed, if one was.
-fn note(history: &mut Vec<Done>, done: Option<Done>)
+fn add_done(history: &mut Vec<Done>, done: Option<Done>)
     requires { vec_len history.old < vec_capacity history.old }
     ensures { history.new.items ≡ with_one history.old.items done }
 {
@@ -126,7 +126,7 @@ impl<S: EntryStore> World<S> {
         let Ok((answered, done)) = answer_at(&mut self.nodes, to as usize, ask) else {
             return Err(Refusal::Memory);
         };
-        note(&mut self.history, done);
+        add_done(&mut self.history, done);
         Ok(post(&mut self.sent, caller, number, answered))
     }
 

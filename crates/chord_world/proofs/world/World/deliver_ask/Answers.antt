@@ -94,8 +94,8 @@ invariant_of-self-2 g c =
     let done : Answers c.in-Some.to c.in-Ask.ask view.world.nodes c.in-Ok.answered c.in-Ok.done c.answer_at.new.nodes.items = c.in-Ok.ensures in
     let asked = asked_of c.args.place c.in-Some.to c.in-Ask.ask view c.in-Ok.answered c.in-Ok.done c.answer_at.new.nodes.items sent target done in
     let is = answered_is c.args.place c.in-Some.to c.in-Ask.ask view c.in-Ok.answered c.in-Ok.done c.answer_at.new.nodes.items (messages_of c.post.new.sent.items) (messages_of c.reserve.new.self.items)
-    c.note.new.history.items c.reserve-2.new.self.items (targets_of c.post.new.sent.items) (targets_of c.reserve.new.self.items) c.self.invariant done
-    c.post.ensures.sent (ap messages_of c.reserve.ensures.items) c.note.ensures c.reserve-2.ensures.items c.post.ensures.targets (ap targets_of c.reserve.ensures.items) in
+    c.add_done.new.history.items c.reserve-2.new.self.items (targets_of c.post.new.sent.items) (targets_of c.reserve.new.self.items) c.self.invariant done
+    c.post.ensures.sent (ap messages_of c.reserve.ensures.items) c.add_done.ensures c.reserve-2.ensures.items c.post.ensures.targets (ap targets_of c.reserve.ensures.items) in
     (answer_after c.args.place c.in-Some.to c.in-Ask.ask view c.args.self.now c.in-Ok.answered done.node done.after _ c.self.view_is c.self.invariant asked
     (flag_old c.in-Some.to view c.args.self.now _ _ c.self.view_is c.deref.ensures.value c.is_out.ensures c.if-is_out.false) is).world
 
@@ -109,8 +109,8 @@ returns g c =
     let done : Answers c.in-Some.to c.in-Ask.ask view.world.nodes c.in-Ok.answered c.in-Ok.done c.answer_at.new.nodes.items = c.in-Ok.ensures in
     let asked = asked_of c.args.place c.in-Some.to c.in-Ask.ask view c.in-Ok.answered c.in-Ok.done c.answer_at.new.nodes.items sent target done in
     let is = answered_is c.args.place c.in-Some.to c.in-Ask.ask view c.in-Ok.answered c.in-Ok.done c.answer_at.new.nodes.items (messages_of c.post.new.sent.items) (messages_of c.reserve.new.self.items)
-    c.note.new.history.items c.reserve-2.new.self.items (targets_of c.post.new.sent.items) (targets_of c.reserve.new.self.items) c.self.invariant done
-    c.post.ensures.sent (ap messages_of c.reserve.ensures.items) c.note.ensures c.reserve-2.ensures.items c.post.ensures.targets (ap targets_of c.reserve.ensures.items) in
+    c.add_done.new.history.items c.reserve-2.new.self.items (targets_of c.post.new.sent.items) (targets_of c.reserve.new.self.items) c.self.invariant done
+    c.post.ensures.sent (ap messages_of c.reserve.ensures.items) c.add_done.ensures c.reserve-2.ensures.items c.post.ensures.targets (ap targets_of c.reserve.ensures.items) in
     let after = answer_after c.args.place c.in-Some.to c.in-Ask.ask view c.args.self.now c.in-Ok.answered done.node done.after _ c.self.view_is c.self.invariant asked
     (flag_old c.in-Some.to view c.args.self.now _ _ c.self.view_is c.deref.ensures.value c.is_out.ensures c.if-is_out.false) is in record {
       answer = delivers_after c.args.place c.args.self.now _ _ c.post.result _ is (c.post.ensures.outcome ∙ ap (λ (xs : List Message). outcome_of c.in-Ok.answered (length xs)) (ap messages_of c.reserve.ensures.items))
