@@ -55,6 +55,12 @@ pub fn insert(alloc: Global, key: &[u8], value: &[u8]) -> Result<Request, AllocE
     })
 }
 
+/// What the node answers to the call, where there is memory for it.
+pub fn answered<S: EntryStore>(node: &mut Node<S>, call: &Ask) -> Option<Answered> {
+    let (answered, _) = node.on_ask(call).ok()?;
+    Some(answered)
+}
+
 /// What the node answers to the insert of this value under this key, as this call of caller 0.
 pub fn inserted<S: EntryStore>(
     alloc: Global,
@@ -67,8 +73,7 @@ pub fn inserted<S: EntryStore>(
     requires near { number ≤ 16 }
 {
     let request = insert(alloc, key, value).ok()?;
-    let (answered, _) = node.on_ask(&ask(number, 0, request)).ok()?;
-    Some(answered)
+    answered(node, &ask(number, 0, request))
 }
 
 /// Node 0, at A, which holds the whole circle.
@@ -92,12 +97,17 @@ pub fn newborn(alloc: Global, limit: u64) -> Node<CappedStore> {
     Node::newborn(alloc, Links::alone(me, 3), CappedStore::new(alloc, limit))
 }
 
+/// The part of (A, C], with x under `abc`, that node 0, which holds the whole circle, gives to node 1.
+pub fn give_away(alloc: Global, node: &mut Node<CappedStore>) -> Option<Part> {
+    inserted(alloc, node, 1, b"abc", b"x")?;
+    node.cut_at(0, Id::new(C)).ok()?;
+    node.give(0, 1).ok()
+}
+
 /// Node 0 at A with room for so many pairs, after it gave (A, C], with x under `abc`, to node 1; and the part of it.
 pub fn given_away(alloc: Global, limit: u64) -> Option<(Node<CappedStore>, Part)> {
     let mut node = found(alloc, CappedStore::new(alloc, limit))?;
-    inserted(alloc, &mut node, 1, b"abc", b"x")?;
-    node.cut_at(0, Id::new(C)).ok()?;
-    let part = node.give(0, 1).ok()?;
+    let part = give_away(alloc, &mut node)?;
     Some((node, part))
 }
 
@@ -132,6 +142,16 @@ pub fn handed<S: EntryStore>(node: &mut Node<S>, part: &Part) -> Result<Option<G
 /// What the node answers to a part, where there is memory for it.
 pub fn given<S: EntryStore>(node: &mut Node<S>, part: &Part) -> Option<Given> {
     handed(node, part).ok()?
+}
+
+/// What the node answers to the only part of a handover of an empty segment.
+pub fn given_empty(
+    alloc: Global,
+    node: &mut Node<CappedStore>,
+    ticket: Ticket,
+    span: Span,
+) -> Option<Given> {
+    given(node, &empty_part(alloc, ticket, span))
 }
 
 /// Whether an item that the node gave left the outbox.

@@ -1,8 +1,9 @@
 //! Calls.
 ghost use Rattle.std.specs.Prelude.{◌<◌, ◌≤◌};
 
-use super::{A, C, ask, found, insert, inserted, newborn};
+use super::{A, C, answered, ask, found, insert, inserted, newborn};
 use crate::{Answered, Node, Phase};
+use chord_caller::Ask;
 use chord_ident::Id;
 use chord_links::{Links, Peer, SuccList};
 use chord_map::{Bytes, Reply, Request, Values};
@@ -35,21 +36,29 @@ fn is_dropped(answered: &Answered) -> bool {
     matches!(answered, Answered::Dropped)
 }
 
+/// Whether the insert of x under `abc`, as call 1, is told Added.
+fn adds_x(alloc: Global, node: &mut Node<CappedStore>) -> Option<bool> {
+    let told = inserted(alloc, node, 1, b"abc", b"x")?;
+    Some(is_told(&told, 1, &Reply::Added))
+}
+
+/// Whether that call is dropped.
+fn drops_x(alloc: Global, node: &mut Node<CappedStore>) -> Option<bool> {
+    let dropped = inserted(alloc, node, 1, b"abc", b"x")?;
+    Some(is_dropped(&dropped))
+}
+
 /// Whether the first call is told Added, and when it comes again.
-fn acts_once(alloc: Global) -> Option<(bool, bool)> {
+fn acts_once(alloc: Global) -> Option<(Option<bool>, Option<bool>)> {
     let mut node = found(alloc, CappedStore::new(alloc, 1))?;
-    let first = inserted(alloc, &mut node, 1, b"abc", b"x")?;
-    let again = inserted(alloc, &mut node, 1, b"abc", b"x")?;
-    Some((
-        is_told(&first, 1, &Reply::Added),
-        is_told(&again, 1, &Reply::Added),
-    ))
+    let first = adds_x(alloc, &mut node);
+    Some((first, adds_x(alloc, &mut node)))
 }
 
 /// A call acts once however often it comes.
 #[test]
 fn a_call_acts_once(rt: HostRuntime) {
-    assert_eq!(rt; acts_once(rt.alloc()), Some((true, true)));
+    assert_eq!(rt; acts_once(rt.alloc()), Some((Some(true), Some(true))));
 }
 
 /// Whether it is the third call, which was told Present.
@@ -60,32 +69,44 @@ fn is_third(done: &Option<Done>) -> bool {
     }
 }
 
-/// At a node with room for one pair, which has it: whether another pair is refused, and whether the same one is told
-/// Present and noted so.
-fn fills_up(alloc: Global) -> Option<(bool, bool, bool)> {
-    let mut node = found(alloc, CappedStore::new(alloc, 1))?;
-    inserted(alloc, &mut node, 1, b"abc", b"x")?;
-    let full = inserted(alloc, &mut node, 2, b"abc", b"y")?;
+/// Whether the insert of y under `abc`, as call 2, is refused.
+fn refuses_y(alloc: Global, node: &mut Node<CappedStore>) -> Option<bool> {
+    let full = inserted(alloc, node, 2, b"abc", b"y")?;
+    Some(is_full(&full))
+}
+
+/// Whether this call, the third, is told Present and noted so.
+fn is_present(node: &mut Node<CappedStore>, call: &Ask) -> Option<(bool, bool)> {
+    let (present, done) = node.on_ask(call).ok()?;
+    Some((is_told(&present, 3, &Reply::Present), is_third(&done)))
+}
+
+/// Whether the insert of x under `abc`, as call 3, is told Present and noted so.
+fn has_x(alloc: Global, node: &mut Node<CappedStore>) -> Option<(bool, bool)> {
     let request = insert(alloc, b"abc", b"x").ok()?;
-    let (present, done) = node.on_ask(&ask(3, 0, request)).ok()?;
-    Some((
-        is_full(&full),
-        is_told(&present, 3, &Reply::Present),
-        is_third(&done),
-    ))
+    is_present(node, &ask(3, 0, request))
+}
+
+/// At a node with room for one pair: whether it is added, whether another pair is refused, and whether the same one is
+/// told Present and noted so.
+fn fills_up(alloc: Global) -> Option<(Option<bool>, Option<bool>, Option<(bool, bool)>)> {
+    let mut node = found(alloc, CappedStore::new(alloc, 1))?;
+    let added = adds_x(alloc, &mut node);
+    let full = refuses_y(alloc, &mut node);
+    Some((added, full, has_x(alloc, &mut node)))
 }
 
 /// A full store refuses what it would add.
 #[test]
 fn a_full_store_adds_nothing(rt: HostRuntime) {
-    assert_eq!(rt; fills_up(rt.alloc()), Some((true, true, true)));
+    let full = (Some(true), Some(true), Some((true, true)));
+    assert_eq!(rt; fills_up(rt.alloc()), Some(full));
 }
 
 /// What a node answers to the retrieve of `abc` as call 2, at a floor of 1.
 fn retrieved(alloc: Global, node: &mut Node<CappedStore>) -> Option<Answered> {
     let key = Bytes::from_slice(alloc, b"abc").ok()?;
-    let (answered, _) = node.on_ask(&ask(2, 1, Request::Retrieve { key })).ok()?;
-    Some(answered)
+    answered(node, &ask(2, 1, Request::Retrieve { key }))
 }
 
 /// The set of x alone.
@@ -95,38 +116,39 @@ fn only_x(alloc: Global) -> Option<Reply> {
     Some(Reply::Values(values))
 }
 
-/// Whether an insert is told Added, a retrieve the value, and the first call, which is seen then, nothing.
-fn tells_values(alloc: Global) -> Option<(bool, bool, bool)> {
-    let mut node = found(alloc, CappedStore::new(alloc, 1))?;
-    let first = inserted(alloc, &mut node, 1, b"abc", b"x")?;
-    let told = retrieved(alloc, &mut node)?;
-    let seen = inserted(alloc, &mut node, 1, b"abc", b"x")?;
+/// Whether that retrieve is told x alone.
+fn tells_x(alloc: Global, node: &mut Node<CappedStore>) -> Option<bool> {
+    let told = retrieved(alloc, node)?;
     let values = only_x(alloc)?;
-    Some((
-        is_told(&first, 1, &Reply::Added),
-        is_told(&told, 2, &values),
-        is_dropped(&seen),
-    ))
+    Some(is_told(&told, 2, &values))
+}
+
+/// Whether an insert is told Added, a retrieve the value, and the first call, which is seen then, nothing.
+fn tells_values(alloc: Global) -> Option<(Option<bool>, Option<bool>, Option<bool>)> {
+    let mut node = found(alloc, CappedStore::new(alloc, 1))?;
+    let first = adds_x(alloc, &mut node);
+    let told = tells_x(alloc, &mut node);
+    Some((first, told, drops_x(alloc, &mut node)))
 }
 
 /// A retrieve is told the values, and a call at or below its caller's floor is dropped.
 #[test]
 fn values_are_told_and_seen_calls_dropped(rt: HostRuntime) {
-    assert_eq!(rt; tells_values(rt.alloc()), Some((true, true, true)));
+    let told = (Some(true), Some(true), Some(true));
+    assert_eq!(rt; tells_values(rt.alloc()), Some(told));
 }
 
 /// The phase and the number of a newborn node, and whether it drops a call.
-fn drops(alloc: Global) -> Option<(Phase, u64, bool)> {
+fn drops(alloc: Global) -> (Phase, u64, Option<bool>) {
     let mut node = newborn(alloc, 1);
     let (phase, number) = (node.phase(), node.number());
-    let dropped = inserted(alloc, &mut node, 1, b"abc", b"x")?;
-    Some((phase, number, is_dropped(&dropped)))
+    (phase, number, drops_x(alloc, &mut node))
 }
 
 /// A node that holds nothing and knows no other drops a call.
 #[test]
 fn a_newborn_node_drops_a_call(rt: HostRuntime) {
-    assert_eq!(rt; drops(rt.alloc()), Some((Phase::Staying, 1, true)));
+    assert_eq!(rt; drops(rt.alloc()), (Phase::Staying, 1, Some(true)));
 }
 
 /// Node 1, which holds nothing, with node 0 in its list.
@@ -144,21 +166,37 @@ fn is_passed(answered: &Answered) -> bool {
     matches!(answered, Answered::Forward(0, passed) if passed.hops == 254)
 }
 
-/// The first of the list, whether a call goes on to it, and whether one with no hop is dropped.
-fn passes_on(alloc: Global) -> Option<(Peer, bool, bool)> {
-    let mut node = neighbour(alloc);
-    let first = node.links().first();
-    let passed = inserted(alloc, &mut node, 1, b"abc", b"x")?;
+/// Whether the insert of x under `abc` goes on.
+fn passes_x(alloc: Global, node: &mut Node<CappedStore>) -> Option<bool> {
+    let passed = inserted(alloc, node, 1, b"abc", b"x")?;
+    Some(is_passed(&passed))
+}
+
+/// Whether this call is dropped.
+fn is_call_dropped(node: &mut Node<CappedStore>, call: &Ask) -> Option<bool> {
+    let dropped = answered(node, call)?;
+    Some(is_dropped(&dropped))
+}
+
+/// Whether the insert of x under `abc` is dropped where its hops are spent.
+fn drops_spent(alloc: Global, node: &mut Node<CappedStore>) -> Option<bool> {
     let mut spent = ask(1, 0, insert(alloc, b"abc", b"x").ok()?);
     spent.hops = 0;
-    let (dropped, _) = node.on_ask(&spent).ok()?;
-    Some((first, is_passed(&passed), is_dropped(&dropped)))
+    is_call_dropped(node, &spent)
+}
+
+/// The first of the list, whether a call goes on to it, and whether one with no hop is dropped.
+fn passes_on(alloc: Global) -> (Peer, Option<bool>, Option<bool>) {
+    let mut node = neighbour(alloc);
+    let first = node.links().first();
+    let passed = passes_x(alloc, &mut node);
+    (first, passed, drops_spent(alloc, &mut node))
 }
 
 /// With another node in its list it passes a call on to it with one hop less, and drops it where its hops are spent.
 #[test]
 fn a_call_is_passed_on(rt: HostRuntime) {
-    assert_eq!(rt; passes_on(rt.alloc()), Some((OTHER, true, true)));
+    assert_eq!(rt; passes_on(rt.alloc()), (OTHER, Some(true), Some(true)));
 }
 
 /// What the node answers to the insert of this value under `abc`, as this call of caller 0, which is handed over.
@@ -171,35 +209,54 @@ fn taken(alloc: Global, node: &mut Node<CappedStore>, number: u64, value: &[u8])
     node.take_ask(id, call).ok()
 }
 
+/// Whether x, as call 1 that is handed over, is told Added.
+fn takes_x(alloc: Global, node: &mut Node<CappedStore>) -> Option<bool> {
+    let told = taken(alloc, node, 1, b"x")?;
+    Some(is_told(&told, 1, &Reply::Added))
+}
+
+/// Whether y, as call 2 that is handed over, is refused.
+fn takes_no_y(alloc: Global, node: &mut Node<CappedStore>) -> Option<bool> {
+    let full = taken(alloc, node, 2, b"y")?;
+    Some(is_full(&full))
+}
+
 /// At a node with room for one pair: whether a call that is handed over is told Added, and when it comes again, and
 /// whether one that would add a second pair is refused.
-fn takes_calls(alloc: Global) -> Option<(bool, bool, bool)> {
+fn takes_calls(alloc: Global) -> Option<(Option<bool>, Option<bool>, Option<bool>)> {
     let mut node = found(alloc, CappedStore::new(alloc, 1))?;
-    let first = taken(alloc, &mut node, 1, b"x")?;
-    let again = taken(alloc, &mut node, 1, b"x")?;
-    let full = taken(alloc, &mut node, 2, b"y")?;
-    Some((
-        is_told(&first, 1, &Reply::Added),
-        is_told(&again, 1, &Reply::Added),
-        is_full(&full),
-    ))
+    let first = takes_x(alloc, &mut node);
+    let again = takes_x(alloc, &mut node);
+    Some((first, again, takes_no_y(alloc, &mut node)))
 }
 
 /// A call that is handed over is answered as any other.
 #[test]
 fn a_call_is_taken(rt: HostRuntime) {
-    assert_eq!(rt; takes_calls(rt.alloc()), Some((true, true, true)));
+    let taken = (Some(true), Some(true), Some(true));
+    assert_eq!(rt; takes_calls(rt.alloc()), Some(taken));
+}
+
+/// Whether a call that is handed over goes on with one hop less.
+fn passes_taken(alloc: Global, node: &mut Node<CappedStore>) -> Option<bool> {
+    let passed = taken(alloc, node, 1, b"x")?;
+    Some(is_passed(&passed))
+}
+
+/// Whether it is dropped.
+fn drops_taken(alloc: Global, node: &mut Node<CappedStore>) -> Option<bool> {
+    let dropped = taken(alloc, node, 1, b"x")?;
+    Some(is_dropped(&dropped))
 }
 
 /// Whether a call that is handed over goes on with one hop less, and is dropped where no other node is known.
-fn takes_calls_astray(alloc: Global) -> Option<(bool, bool)> {
-    let passed = taken(alloc, &mut neighbour(alloc), 1, b"x")?;
-    let dropped = taken(alloc, &mut newborn(alloc, 1), 1, b"x")?;
-    Some((is_passed(&passed), is_dropped(&dropped)))
+fn takes_calls_astray(alloc: Global) -> (Option<bool>, Option<bool>) {
+    let passed = passes_taken(alloc, &mut neighbour(alloc));
+    (passed, drops_taken(alloc, &mut newborn(alloc, 1)))
 }
 
 /// A call that is handed over goes on where the node does not hold its key.
 #[test]
 fn a_taken_call_goes_on(rt: HostRuntime) {
-    assert_eq!(rt; takes_calls_astray(rt.alloc()), Some((true, true)));
+    assert_eq!(rt; takes_calls_astray(rt.alloc()), (Some(true), Some(true)));
 }

@@ -45,12 +45,22 @@ fn answered(node: &mut Node<CappedStore>, call: &Ask) -> Result<Answered, AllocE
     }
 }
 
+/// Whether the node tells Added to this call.
+fn tells_added(node: &mut Node<CappedStore>, call: &Ask) -> Option<bool> {
+    let answered = answered(node, call).ok()?;
+    Some(matches!(&answered, Answered::Told(told) if told.reply == Reply::Added))
+}
+
+/// Whether the node tells Added to the call that puts x under `abc`.
+fn adds_x(alloc: Global, node: &mut Node<CappedStore>) -> Option<bool> {
+    let call = insert_x(alloc).ok()?;
+    tells_added(node, &call)
+}
+
 /// Whether a call is told Added.
 fn executes(alloc: Global) -> Option<bool> {
     let mut node = founder(alloc)?;
-    let call = insert_x(alloc).ok()?;
-    let answered = answered(&mut node, &call).ok()?;
-    Some(matches!(&answered, Answered::Told(told) if told.reply == Reply::Added))
+    adds_x(alloc, &mut node)
 }
 
 #[test]
@@ -100,16 +110,24 @@ fn give(node: &mut Node<CappedStore>) -> Result<Part, GiveFault> {
     }
 }
 
+/// The number of a part that was given.
+fn given_number(node: &mut Node<CappedStore>) -> Option<u64> {
+    Some(give(node).ok()?.number)
+}
+
 /// The number of a part that was given, and the item that is kept.
-fn gives(alloc: Global) -> Option<(u64, Option<(u64, u64, Span)>)> {
+fn gives(alloc: Global) -> Option<(Option<u64>, Option<(u64, u64, Span)>)> {
     let mut node = founder(alloc)?;
-    let part = give(&mut node).ok()?;
-    Some((part.number, node.kept(0)))
+    let number = given_number(&mut node);
+    Some((number, node.kept(0)))
 }
 
 #[test]
 fn a_refused_give_keeps_the_segment(rt: HostRuntime) {
-    assert_eq!(rt; gives(rt.alloc()), Some((1, Some((1, 1, span(A, A))))));
+    assert_eq!(rt;
+        gives(rt.alloc()),
+        Some((Some(1), Some((1, 1, span(A, A)))))
+    );
 }
 
 /// The part that was given to node 1, asked for again where there was no memory.
@@ -120,11 +138,16 @@ fn resent(node: &Node<CappedStore>) -> Result<Part, ResendFault> {
     }
 }
 
+/// Whether the part goes again with the same pairs.
+fn goes_again(node: &Node<CappedStore>, first: &Part) -> Option<bool> {
+    let again = resent(node).ok()?;
+    Some(again.pairs.as_slice() == first.pairs.as_slice())
+}
+
 /// Whether a part that goes again has the same pairs.
 fn resends(alloc: Global) -> Option<bool> {
     let (node, first) = giver(alloc)?;
-    let again = resent(&node).ok()?;
-    Some(again.pairs.as_slice() == first.pairs.as_slice())
+    goes_again(&node, &first)
 }
 
 #[test]
@@ -142,29 +165,30 @@ fn taken(node: &mut Node<CappedStore>, part: &Part) -> Option<Given> {
 }
 
 /// What node 1 answers to a handover, and what it holds.
-fn holds(alloc: Global) -> Option<(Given, Option<Span>)> {
+fn holds(alloc: Global) -> Option<(Option<Given>, Option<Span>)> {
     let (_, part) = giver(alloc)?;
     let mut next = newborn(alloc, 1);
-    let given = taken(&mut next, &part)?;
+    let given = taken(&mut next, &part);
     Some((given, next.span(0)))
 }
 
 #[test]
 fn a_refused_handover_is_not_held(rt: HostRuntime) {
-    assert_eq!(rt; holds(rt.alloc()), Some((Given::Got, Some(span(A, C)))));
+    let got = (Some(Given::Got), Some(span(A, C)));
+    assert_eq!(rt; holds(rt.alloc()), Some(got));
 }
 
 /// What node 1 answers to a part of two, and how many segments it holds.
-fn notes(alloc: Global) -> Option<(Given, usize)> {
+fn notes(alloc: Global) -> (Option<Given>, usize) {
     let part = first_part(alloc, ticket(0, 1, 1), span(A, C), 2);
     let mut node = newborn(alloc, 1);
-    let given = taken(&mut node, &part)?;
-    Some((given, node.held_count()))
+    let given = taken(&mut node, &part);
+    (given, node.held_count())
 }
 
 #[test]
 fn a_refused_part_is_not_noted(rt: HostRuntime) {
-    assert_eq!(rt; notes(rt.alloc()), Some((Given::Part, 0)));
+    assert_eq!(rt; notes(rt.alloc()), (Some(Given::Part), 0));
 }
 
 /// Whether the node keeps what it gave to node 1, and holds the rest.
@@ -182,13 +206,13 @@ fn returned(node: &mut Node<CappedStore>) -> Option<Back> {
 }
 
 /// What comes of it, and how many items are kept.
-fn takes_back(alloc: Global) -> Option<(Back, usize)> {
+fn takes_back(alloc: Global) -> Option<(Option<Back>, usize)> {
     let (mut node, _) = giver(alloc)?;
-    let back = returned(&mut node)?;
+    let back = returned(&mut node);
     Some((back, node.kept_count()))
 }
 
 #[test]
 fn a_refused_return_keeps_the_item(rt: HostRuntime) {
-    assert_eq!(rt; takes_back(rt.alloc()), Some((Back::Held, 0)));
+    assert_eq!(rt; takes_back(rt.alloc()), Some((Some(Back::Held), 0)));
 }

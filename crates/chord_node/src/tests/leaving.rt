@@ -1,9 +1,8 @@
 //! Nodes that leave.
 
-use super::{A, B, C, empty_part, found, freed, given, inserted, newborn, span, ticket};
+use super::{A, B, C, found, freed, given_empty, inserted, newborn, span, ticket};
 use crate::{Given, Node, NotStaying, Phase, RetireFault};
-use chord_ident::Span;
-use chord_store::{CappedStore, EntryStore, NotedStore};
+use chord_store::{CappedStore, NotedStore};
 use std::alloc::{AllocError, Global};
 use std::sync::{Arc, OnceLock};
 
@@ -32,16 +31,17 @@ fn leaves_once(rt: HostRuntime) {
     assert_eq!(rt; leaves(rt.alloc()), Some(once));
 }
 
-/// How a node that leaves retires while it holds the circle.
-fn retires_early(alloc: Global) -> Option<Result<(), RetireFault>> {
+/// How a node begins to leave, and how it retires while it holds the circle.
+fn retires_early(alloc: Global) -> Option<(Result<(), NotStaying>, Result<(), RetireFault>)> {
     let mut node = found(alloc, CappedStore::new(alloc, 1))?;
-    node.begin_leave().ok()?;
-    Some(node.retire())
+    let leaving = node.begin_leave();
+    Some((leaving, node.retire()))
 }
 
 #[test]
 fn holds_nothing_when_it_retires(rt: HostRuntime) {
-    assert_eq!(rt; retires_early(rt.alloc()), Some(Err(RetireFault::NotEmpty)));
+    let early = (Ok(()), Err(RetireFault::NotEmpty));
+    assert_eq!(rt; retires_early(rt.alloc()), Some(early));
 }
 
 #[test]
@@ -51,12 +51,18 @@ fn says_that_it_does_not_stay(rt: HostRuntime) -> Result<(), AllocError> {
     Ok(())
 }
 
-/// Node 0 with this store, after x came under `abc`, all was given to node 1, and it began to leave.
-fn left<S: EntryStore>(alloc: Global, store: S) -> Option<Node<S>> {
-    let mut node = found(alloc, store)?;
-    inserted(alloc, &mut node, 1, b"abc", b"x")?;
+/// Puts x under `abc`, begins to leave and gives all to node 1.
+fn leave(alloc: Global, node: &mut Node<NotedStore>) -> Option<()> {
+    inserted(alloc, node, 1, b"abc", b"x")?;
     node.begin_leave().ok()?;
     node.give(0, 1).ok()?;
+    Some(())
+}
+
+/// Node 0 with a store that notes here, after x came under `abc`, all was given to node 1, and it began to leave.
+fn left(alloc: Global, note: &Arc<OnceLock<u64>>) -> Option<Node<NotedStore>> {
+    let mut node = found(alloc, NotedStore::new(alloc, note.clone().ok()?))?;
+    leave(alloc, &mut node)?;
     Some(node)
 }
 
@@ -74,7 +80,7 @@ type Retirement = (Option<u64>, Result<(), RetireFault>, Option<u64>);
 
 fn retires(alloc: Global) -> Option<(Handover, Retirement)> {
     let note = Arc::new(alloc, OnceLock::new()).ok()?;
-    let mut node = left(alloc, NotedStore::new(alloc, note.clone().ok()?))?;
+    let mut node = left(alloc, &note)?;
     let handover = hands_over(&mut node);
     let before = note.get().copied();
     let retired = node.retire();
@@ -89,38 +95,39 @@ fn a_store_is_dropped_at_retirement(rt: HostRuntime) {
     assert_eq!(rt; retires(rt.alloc()), Some((handover, retirement)));
 }
 
-/// Node 1, gone after it took a handover of node 0 and gave it on.
-fn gone(alloc: Global) -> Option<Node<CappedStore>> {
-    let mut node = newborn(alloc, 1);
-    answer(alloc, &mut node, 1, span(A, B))?;
+/// Takes a handover of node 0 and gives it on to node 2, which has it then: whether that leaves the outbox.
+fn give_on(alloc: Global, node: &mut Node<CappedStore>) -> Option<bool> {
+    given_empty(alloc, node, ticket(0, 1, 1), span(A, B))?;
     node.give(0, 2).ok()?;
-    freed(&mut node, ticket(1, 2, 1));
+    freed(node, ticket(1, 2, 1))
+}
+
+/// The phase of a node that begins to leave and retires.
+fn phase_when_left(node: &mut Node<CappedStore>) -> Option<Phase> {
     node.begin_leave().ok()?;
     node.retire().ok()?;
-    Some(node)
+    Some(node.phase())
 }
 
-/// What node 1 answers to a handover of this number and span from node 0.
-fn answer(alloc: Global, node: &mut Node<CappedStore>, number: u64, span: Span) -> Option<Given> {
-    given(node, &empty_part(alloc, ticket(0, 1, number), span))
-}
+/// What a node answers to three handovers.
+type Answers = (Option<Given>, Option<Given>, Option<Given>);
 
-/// The phase of a gone node, and what it answers to three handovers.
-fn answers(alloc: Global) -> Option<(Phase, Given, Given, Given)> {
-    let mut node = gone(alloc)?;
-    let phase = node.phase();
-    let taken = answer(alloc, &mut node, 1, span(A, B))?;
-    let next = answer(alloc, &mut node, 2, span(B, C))?;
-    let later = answer(alloc, &mut node, 3, span(B, C))?;
-    Some((phase, taken, next, later))
+/// Whether node 1 gave on what it took, its phase when it left, and what it answers to three handovers then.
+fn answers(alloc: Global) -> (Option<bool>, Option<Phase>, Answers) {
+    let mut node = newborn(alloc, 1);
+    let given = give_on(alloc, &mut node);
+    let phase = phase_when_left(&mut node);
+    let taken = given_empty(alloc, &mut node, ticket(0, 1, 1), span(A, B));
+    let next = given_empty(alloc, &mut node, ticket(0, 1, 2), span(B, C));
+    let later = given_empty(alloc, &mut node, ticket(0, 1, 3), span(B, C));
+    (given, phase, (taken, next, later))
 }
 
 /// A gone node has what it took, and declines the rest.
 #[test]
 fn a_gone_node_answers_parts(rt: HostRuntime) {
-    let declined = Given::Declined;
-    assert_eq!(rt;
-        answers(rt.alloc()),
-        Some((Phase::Gone, Given::Got, declined, declined))
-    );
+    let declined = Some(Given::Declined);
+    let answered = (Some(Given::Got), declined, declined);
+    let gone = (Some(true), Some(Phase::Gone), answered);
+    assert_eq!(rt; answers(rt.alloc()), gone);
 }

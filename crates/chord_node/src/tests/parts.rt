@@ -2,7 +2,7 @@
 
 ghost use Rattle.std.specs.Prelude.{◌<◌, ◌≤◌};
 
-use super::{A, B, C, empty_part, first_part, found, given, given_away, newborn, span, ticket};
+use super::{A, B, C, first_part, found, give_away, given, given_empty, newborn, span, ticket};
 use crate::{Given, Node};
 use chord_handover::{Part, Ticket};
 use chord_ident::Span;
@@ -14,56 +14,70 @@ fn taken(node: &Node<CappedStore>) -> (u64, usize) {
     (node.last_taken(0), node.held_count())
 }
 
-/// What node 1, with room for so many pairs, answers to a part with one pair that comes twice, what it took, and what
-/// it holds then.
-fn twice(alloc: Global, limit: u64) -> Option<(Given, Given, (u64, usize), Option<Span>)> {
-    let (_, part) = given_away(alloc, 1)?;
-    let mut next = newborn(alloc, limit);
-    let first = given(&mut next, &part)?;
-    let again = given(&mut next, &part)?;
-    Some((first, again, taken(&next), next.span(0)))
+/// The part with one pair that node 0 gives to node 1.
+fn one_pair(alloc: Global) -> Option<Part> {
+    let mut node = found(alloc, CappedStore::new(alloc, 1))?;
+    give_away(alloc, &mut node)
+}
+
+/// What a node answers to two parts, each where there is memory for it.
+type Answers = (Option<Given>, Option<Given>);
+
+/// What a node answers to two parts, what it took, and what it holds then.
+type Taking = (Answers, (u64, usize), Option<Span>);
+
+/// The same of a part that comes twice.
+fn take_twice(node: &mut Node<CappedStore>, part: &Part) -> Taking {
+    let first = given(node, part);
+    let again = given(node, part);
+    ((first, again), taken(node), node.span(0))
+}
+
+/// The same of node 1, with room for so many pairs, and a part with one pair.
+fn twice(alloc: Global, limit: u64) -> Option<Taking> {
+    let part = one_pair(alloc)?;
+    Some(take_twice(&mut newborn(alloc, limit), &part))
 }
 
 #[test]
 fn takes_what_is_given(rt: HostRuntime) {
-    let got = (Given::Got, Given::Got, (1, 1), Some(span(A, C)));
-    assert_eq!(rt; twice(rt.alloc(), 1), Some(got));
+    let got = (Some(Given::Got), Some(Given::Got));
+    let held = Some(span(A, C));
+    assert_eq!(rt; twice(rt.alloc(), 1), Some((got, (1, 1), held)));
 }
 
 /// A store with too little room takes nothing, however often the part comes.
 #[test]
 fn a_full_store_takes_no_handover(rt: HostRuntime) {
-    let full = (Given::Full, Given::Full, (0, 0), None);
-    assert_eq!(rt; twice(rt.alloc(), 0), Some(full));
+    let full = (Some(Given::Full), Some(Given::Full));
+    assert_eq!(rt; twice(rt.alloc(), 0), Some((full, (0, 0), None)));
 }
 
 /// What a node answers to a second handover, to the first, and to the second again, and which was the last.
-fn in_order(alloc: Global) -> Option<(Given, Given, Given, u64)> {
+fn in_order(alloc: Global) -> (Option<Given>, Answers, u64) {
     let mut node = newborn(alloc, 1);
-    let second = empty_part(alloc, ticket(0, 1, 2), span(B, C));
-    let early = given(&mut node, &second)?;
-    let first = given(&mut node, &empty_part(alloc, ticket(0, 1, 1), span(A, B)))?;
-    let again = given(&mut node, &second)?;
-    Some((early, first, again, node.last_taken(0)))
+    let early = given_empty(alloc, &mut node, ticket(0, 1, 2), span(B, C));
+    let first = given_empty(alloc, &mut node, ticket(0, 1, 1), span(A, B));
+    let again = given_empty(alloc, &mut node, ticket(0, 1, 2), span(B, C));
+    (early, (first, again), node.last_taken(0))
 }
 
 #[test]
 fn handovers_come_in_order(rt: HostRuntime) {
-    let order = (Given::Early, Given::Got, Given::Got, 2);
-    assert_eq!(rt; in_order(rt.alloc()), Some(order));
+    let got = (Some(Given::Got), Some(Given::Got));
+    assert_eq!(rt; in_order(rt.alloc()), (Some(Given::Early), got, 2));
 }
 
 /// What node 0 answers to a handover of what it holds, which it took last, and how many segments it holds then.
-fn meets(alloc: Global) -> Option<(Given, u64, usize)> {
+fn meets(alloc: Global) -> Option<(Option<Given>, u64, usize)> {
     let mut node = found(alloc, CappedStore::new(alloc, 1))?;
-    let part = empty_part(alloc, ticket(1, 0, 1), span(A, B));
-    let given = given(&mut node, &part)?;
+    let given = given_empty(alloc, &mut node, ticket(1, 0, 1), span(A, B));
     Some((given, node.last_taken(1), node.held_count()))
 }
 
 #[test]
 fn a_handover_meets_nothing_held(rt: HostRuntime) {
-    assert_eq!(rt; meets(rt.alloc()), Some((Given::Clash, 0, 1)));
+    assert_eq!(rt; meets(rt.alloc()), Some((Some(Given::Clash), 0, 1)));
 }
 
 /// A later part of so many, which has no pairs.
@@ -82,28 +96,33 @@ fn later_part(alloc: Global, ticket: Ticket, part: u64, of: u64) -> Part
     }
 }
 
-/// What a node answers to a part in its handover 1 that is alone.
-fn alone(alloc: Global, node: &mut Node<CappedStore>) -> Option<Given> {
-    given(node, &empty_part(alloc, ticket(0, 1, 1), span(A, B)))
+/// What a node answers to the first part of two.
+fn given_first(alloc: Global, node: &mut Node<CappedStore>) -> Option<Given> {
+    given(node, &first_part(alloc, ticket(0, 1, 1), span(A, B), 2))
 }
 
-/// What node 1 answers to the first part of two and to three others, and what it took and holds then.
-fn unfit(alloc: Global) -> Option<(Given, Given, Given, Given, (u64, usize))> {
+/// What a node answers to the second part of so many.
+fn given_second(alloc: Global, node: &mut Node<CappedStore>, of: u64) -> Option<Given>
+    requires { 2 ≤ of }
+{
+    given(node, &later_part(alloc, ticket(0, 1, 1), 2, of))
+}
+
+/// What node 1 answers to the first part of two and to three others, the last of which is alone, and what it took and
+/// holds then.
+fn unfit(alloc: Global) -> (Answers, Answers, (u64, usize)) {
     let mut node = newborn(alloc, 1);
-    let first = first_part(alloc, ticket(0, 1, 1), span(A, B), 2);
-    let first = given(&mut node, &first)?;
-    let other_count = given(&mut node, &later_part(alloc, ticket(0, 1, 1), 2, 3))?;
-    let no_pairs = given(&mut node, &later_part(alloc, ticket(0, 1, 1), 2, 2))?;
-    let alone = alone(alloc, &mut node)?;
-    Some((first, other_count, no_pairs, alone, taken(&node)))
+    let first = given_first(alloc, &mut node);
+    let other_count = given_second(alloc, &mut node, 3);
+    let no_pairs = given_second(alloc, &mut node, 2);
+    let alone = given_empty(alloc, &mut node, ticket(0, 1, 1), span(A, B));
+    ((first, other_count), (no_pairs, alone), taken(&node))
 }
 
 /// Parts that make no handover together are not taken, and what was noted stays.
 #[test]
 fn parts_that_do_not_fit(rt: HostRuntime) {
-    let clash = Given::Clash;
-    assert_eq!(rt;
-        unfit(rt.alloc()),
-        Some((Given::Part, clash, clash, clash, (0, 0)))
-    );
+    let clash = Some(Given::Clash);
+    let first = (Some(Given::Part), clash);
+    assert_eq!(rt; unfit(rt.alloc()), (first, (clash, clash), (0, 0)));
 }
