@@ -6,7 +6,7 @@ use crate::finish::Finish;
 use crate::plan::Plan;
 use crate::plan::ask::PlanAsk;
 use crate::running::{start_nodes, tick_in_turn};
-use chord_live::{AskFault, Blank, NewFault, Ring, Settings};
+use chord_live::{AskFault, Blank, Caller, NewFault, Ring, Settings};
 use chord_map::Reply;
 use chord_store::EntryStore;
 use chord_table::Naming;
@@ -29,6 +29,42 @@ enum Answer {
 /// What one caller was answered, by number.
 type Answers = Result<Vec<Answer>, Finish>;
 
+/// A caller asks a request of the plan.
+fn ask_once<J: Naming, S: EntryStore, R: Wait + Clock>(
+    rt: &R,
+    caller: &mut Caller<'_, J, S>,
+    ask: &PlanAsk,
+) -> Result<Answer, Finish> {
+    let request = ask.request.try_copy()?;
+    match caller.ask(rt, ask.via as u64, request) {
+        Ok(reply) => Ok(Answer::Reply(reply)),
+        Err(AskFault::Memory) => Err(Finish::OutOfMemory),
+        Err(AskFault::Full) => Ok(Answer::Full),
+        Err(_) => Ok(Answer::NoAnswer),
+    }
+}
+
+/// The caller of this number asks what the plan has for it.
+fn ask_each<J: Naming, S: EntryStore, R: Wait + Clock>(
+    rt: &R,
+    caller: &mut Caller<'_, J, S>,
+    number: usize,
+    asks: &[PlanAsk],
+    answers: &mut Vec<Answer>,
+) -> Result<(), Finish> {
+    for ask in asks {
+        if ask.caller == number {
+            let answer = ask_once(rt, caller, ask)?;
+            let is_reply = matches!(&answer, Answer::Reply(_));
+            answers.push(answer)?;
+            if !is_reply {
+                break;
+            }
+        }
+    }
+    Ok(())
+}
+
 /// One caller asks what the plan has for it, one request after another, and no more where it has no reply.
 fn ask_in_turn<J: Naming, S: EntryStore, R: Wait + Clock>(
     rt: &R,
@@ -41,25 +77,7 @@ fn ask_in_turn<J: Naming, S: EntryStore, R: Wait + Clock>(
     let Ok(mut caller) = ring.open_caller(rt, 1) else {
         return Ok(answers);
     };
-    for ask in asks {
-        if ask.caller != number {
-            continue;
-        }
-        let request = ask.request.try_copy()?;
-        match caller.ask(rt, ask.via as u64, request) {
-            Ok(reply) => answers.push(Answer::Reply(reply))?,
-            Err(AskFault::Memory) => return Err(Finish::OutOfMemory),
-            Err(fault) => {
-                let last = if fault == AskFault::Full {
-                    Answer::Full
-                } else {
-                    Answer::NoAnswer
-                };
-                answers.push(last)?;
-                return Ok(answers);
-            }
-        }
-    }
+    ask_each(rt, &mut caller, number, asks, &mut answers)?;
     Ok(answers)
 }
 

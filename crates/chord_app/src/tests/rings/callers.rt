@@ -70,12 +70,22 @@ fn use_the_ring<J: Naming, S: EntryStore, R: Wait + Clock>(
     ring: &Ring<J, S>,
 ) -> Option<[bool; 5]> {
     let mut zero = opened(rt, ring, 4)?;
+    use_with(rt, alloc, ring, &mut zero)
+}
+
+/// The same with the first of them.
+fn use_with<J: Naming, S: EntryStore, R: Wait + Clock>(
+    rt: &R,
+    alloc: Global,
+    ring: &Ring<J, S>,
+    zero: &mut Caller<'_, J, S>,
+) -> Option<[bool; 5]> {
     let mut one = opened(rt, ring, 4)?;
-    let filled = fill(rt, alloc, &mut zero, &mut one);
-    let made = make_room(rt, alloc, &mut zero, &mut one);
+    let filled = fill(rt, alloc, zero, &mut one);
+    let made = make_room(rt, alloc, zero, &mut one);
     let collected = collect_turned(rt, alloc, ring) == Some(true);
-    let told = tell(&mut zero, &mut one) == Ok(true);
-    let crashed = crash(rt, alloc, ring, &mut zero);
+    let told = tell(zero, &mut one) == Ok(true);
+    let crashed = crash(rt, alloc, ring, zero);
     Some([filled, made, collected, told, crashed])
 }
 

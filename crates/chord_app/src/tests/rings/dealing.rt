@@ -41,14 +41,19 @@ fn founder(alloc: Global, limit: u64) -> Option<Node<CappedStore>> {
     Node::found(alloc, ZERO, 3, CappedStore::new(alloc, limit)).ok()
 }
 
-/// What a node alone does at a tick, at the next one, and once it leaves.
+/// What the node does at a tick, at the next one, and once it leaves.
+fn tidied(node: &mut Node<CappedStore>) -> Option<(Tidied, Tidied, Tidied)> {
+    let first = tidy(node, Id::new(C)).ok()?;
+    let second = tidy(node, Id::new(C)).ok()?;
+    node.begin_leave().ok()?;
+    let third = tidy(node, Id::new(C)).ok()?;
+    Some((first, second, third))
+}
+
+/// What a node alone does so.
 fn tidies(alloc: Global) -> Option<(Tidied, Tidied, Tidied)> {
     let mut node = founder(alloc, 4)?;
-    let first = tidy(&mut node, Id::new(C)).ok()?;
-    let second = tidy(&mut node, Id::new(C)).ok()?;
-    node.begin_leave().ok()?;
-    let third = tidy(&mut node, Id::new(C)).ok()?;
-    Some((first, second, third))
+    tidied(&mut node)
 }
 
 #[test]
@@ -88,12 +93,17 @@ fn is_full(dealt: &Option<(Target, Message)>) -> bool {
     }
 }
 
-/// Whether a node with room for one pair answers the first call with Added and the second with Full.
+/// Whether the node answers the first call with Added and the second with Full.
+fn answered(alloc: Global, node: &mut Node<CappedStore>) -> Option<(bool, bool)> {
+    let told = is_added(&dealt(alloc, node, 1, b"abc").ok()?);
+    let full = is_full(&dealt(alloc, node, 2, b"b").ok()?);
+    Some((told, full))
+}
+
+/// The same of a node with room for one pair.
 fn answers(alloc: Global) -> Option<(bool, bool)> {
     let mut node = founder(alloc, 1)?;
-    let told = is_added(&dealt(alloc, &mut node, 1, b"abc").ok()?);
-    let full = is_full(&dealt(alloc, &mut node, 2, b"b").ok()?);
-    Some((told, full))
+    answered(alloc, &mut node)
 }
 
 #[test]
@@ -101,10 +111,16 @@ fn a_call_is_answered_to_its_caller(rt: HostRuntime) {
     assert_eq!(rt; answers(rt.alloc()), Some((true, true)));
 }
 
-/// Whether a node that holds nothing and knows no other sends nothing for a call.
+/// Whether the node sends nothing for a call.
+fn sends_nothing(alloc: Global, node: &mut Node<CappedStore>) -> Option<bool> {
+    let sent = dealt(alloc, node, 1, b"abc").ok()?;
+    Some(sent.is_none())
+}
+
+/// The same of a node that holds nothing and knows no other.
 fn drops(alloc: Global) -> Option<bool> {
     let mut node = Node::newborn(alloc, Links::alone(ONE, 3), CappedStore::new(alloc, 4));
-    Some(dealt(alloc, &mut node, 1, b"abc").ok()?.is_none())
+    sends_nothing(alloc, &mut node)
 }
 
 #[test]

@@ -127,10 +127,20 @@ fn use_the_ring<J: Naming, S: EntryStore, R: Wait + Clock>(
     ring: &Ring<J, S>,
 ) -> Option<bool> {
     let mut zero = opened(rt, ring, 4)?;
+    use_with(rt, alloc, ring, &mut zero)
+}
+
+/// The same with the first caller.
+fn use_with<J: Naming, S: EntryStore, R: Wait + Clock>(
+    rt: &R,
+    alloc: Global,
+    ring: &Ring<J, S>,
+    zero: &mut Caller<'_, J, S>,
+) -> Option<bool> {
     let mut one = opened(rt, ring, 4)?;
-    let added = adds(rt, alloc, &mut zero) == Some(true);
+    let added = adds(rt, alloc, zero) == Some(true);
     let seen = sees(rt, alloc, &mut one) == Some(true);
-    Some(added && seen && told(&mut zero, &mut one))
+    Some(added && seen && told(zero, &mut one))
 }
 
 /// Whether a caller is answered Added.
