@@ -1,5 +1,5 @@
 -- A session that asks again through a caller is answered by replies of its requests' kinds.
-use Rattle.std.proofs.Common.{◌≡◌, ◌⊎◌, ⊎_elim, ℕ, zero, suc, Bool, true, not, ◌&&◌, eqb, List, Option, Some, None, map, slice_get, refl, sym, ap, ◌∙◌, subst, option_map, inl, inr, ◌+◌, [], ◌∷◌, drop, arith}
+use Rattle.std.proofs.Common.{◌≡◌, ◌⊎◌, ⊎_elim, ℕ, zero, suc, Bool, true, not, ◌&&◌, eqb, List, Option, Some, None, map, slice_get, refl, sym, ap, ◌∙◌, subst, option_map, ◌+◌, [], ◌∷◌, drop, arith}
 use Rattle.std.proofs.lemmas.Bool.{cond-true, cond-false}
 use Rattle.std.proofs.lemmas.Option.{none-some, slice_get-map}
 use Rattle.chord_app.specs.Asked.{asked_by, asked_since}

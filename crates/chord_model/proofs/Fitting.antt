@@ -1,5 +1,5 @@
 -- What comes next at a node, or comes back to it, fits there.
-use Rattle.std.proofs.Common.{◌≡◌, ◌<◌, eqb, false, ⊎_elim, Some, Ok, List, [], ◌∷◌, refl, sym, ◌∙◌, ap, subst, arith, Contains}
+use Rattle.std.proofs.Common.{◌≡◌, ◌<◌, eqb, false, ⊎_elim, Some, List, [], ◌∷◌, refl, sym, ◌∙◌, ap, subst, arith, Contains}
 use Rattle.std.proofs.lemmas.Bool.{and_parts}
 use Rattle.std.proofs.lemmas.Option.{same_Some}
 use Rattle.chord_handover.proofs.OutboxLemmas.{item_at_is}
@@ -11,12 +11,12 @@ use Rattle.chord_handover.specs.Parcelled.{Parcelled, IsParcelled, handed}
 use Rattle.chord_model.proofs.HolderTie.{every_has}
 use Rattle.chord_map.proofs.Lists.{Has, has_cases, has_filter, all_each, has_last, has_contained}
 use Rattle.chord_model.proofs.Channels.{taken_in, gone_in, gone_by, item_in}
-use Rattle.chord_model.proofs.Clash.{taken_clear, back_clear}
+use Rattle.chord_model.proofs.Clash.{taken_clear}
 use Rattle.chord_model.proofs.Events.{sender_of}
 use Rattle.chord_model.proofs.Kept.{sound_reached, gone_test}
 use Rattle.chord_model.proofs.NodeLemmas.{node_number}
 use Rattle.chord_model.proofs.Stocked.{no_clash, parcel, parcelled_at, stocks_reached}
-use Rattle.chord_model.specs.declared.message.Message.TheVariants.{Part as PartMessage, Declined as DeclinedMessage}
+use Rattle.chord_model.specs.declared.message.Message.TheVariants.{Part as PartMessage}
 use Rattle.chord_model.specs.Node.{Node}
 use Rattle.chord_model.specs.Headline.{IsNextFor}
 use Rattle.chord_model.specs.World.{World, Reached, node_at, taken_by}

@@ -1,5 +1,5 @@
 -- It is enough that some run exists: what the headline says of the history has one proof at most.
-use Rattle.std.proofs.Common.{◌≡◌, ◌≢◌, ℕ, ◌+◌, ◌<◌, ◌^◌, Some, Ok, List, [], ◌∷◌}
+use Rattle.std.proofs.Common.{◌≡◌, ◌≢◌, ℕ, ◌+◌, ◌<◌, ◌^◌, Some, List, [], ◌∷◌}
 use Rattle.std.specs.Prelude.{Contains}
 use Rattle.std.specs.List.{AllByRecursion-prop}
 use Rattle.std.specs.List.Sorted.{IsStrictlySortedBy-prop}

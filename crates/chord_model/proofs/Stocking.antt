@@ -1,8 +1,8 @@
 -- What edits of the held segments and of the entries keep of a node's stock.
-use Rattle.std.proofs.Common.{◌≡◌, ℕ, ◌+◌, ◌^◌, ◌<◌, ◌≤◌, Bool, true, false, not, cond, nat_le, ◌||◌, inl, inr, Option, None, Some, List, [], ◌∷◌, ◌++◌, map, length, refl, sym, ◌∙◌, ap, subst, arith, bytes_eq}
+use Rattle.std.proofs.Common.{◌≡◌, ℕ, ◌+◌, ◌^◌, ◌<◌, ◌≤◌, Bool, true, false, not, cond, nat_le, ◌||◌, inl, inr, Some, List, [], ◌∷◌, ◌++◌, map, length, refl, sym, ◌∙◌, ap, subst, arith, bytes_eq}
 use Rattle.std.proofs.lemmas.Bool.{true≢false}
 use Rattle.std.proofs.lemmas.Bool.Decides.{nat_tests}
-use Rattle.std.specs.Prelude.{filter, slice_get, remove, Result, Ok, Err}
+use Rattle.std.specs.Prelude.{filter, slice_get, remove}
 use Rattle.std.specs.declared.cmp.Ordering.TheVariants.{Less, Equal, Greater}
 use Rattle.chord_handover.proofs.Counting.{count}
 use Rattle.chord_handover.specs.Parcelled.{Parcelled, IsParcelled}
@@ -20,13 +20,10 @@ use Rattle.chord_map.specs.declared.reply.Reply.TheVariants.{Added, Present, Set
 use Rattle.chord_map.specs.declared.request.Request.{Request}
 use Rattle.chord_map.specs.declared.request.Request.TheVariants.{Insert, Retrieve, Remove}
 use Rattle.chord_map.specs.Map.{pair_cmp, by_order, same_pair, has_pair, values_at, insert_pair, remove_pair, put_all, key_of, reply_to, pairs_by, pairs_after}
-use Rattle.chord_model.proofs.Events.{count-append_at}
 use Rattle.chord_model.proofs.Placed.{InHeld, Each-pairs_after, entries_more, entries_less}
 use Rattle.chord_model.proofs.Totals.{has}
-use Rattle.chord_model.specs.Node.{Node, segment_with, done_of}
 use Rattle.chord_model.specs.Stock.{holds, IsHeld, IsClear, IsStocked}
-use Rattle.chord_map.specs.declared.done.Done.{Done}
-use Rattle.chord_segment.specs.Segment.{Segment, id_of}
+use Rattle.chord_segment.specs.Segment.{Segment}
 use Rattle.chord_store.proofs.Inside.{rises_inside, rises_outside}
 use Rattle.chord_store.specs.Inside.{pairs_inside, pairs_outside}
 

@@ -1,38 +1,18 @@
 -- What a node holds after a call is stocked as before.
-use Rattle.std.proofs.Common.{◌≡◌, ℕ, ◌+◌, ◌^◌, ◌<◌, ◌≤◌, Bool, true, false, not, cond, nat_le, ◌||◌, inl, inr, Option, None, Some, List, [], ◌∷◌, ◌++◌, map, length, refl, sym, ◌∙◌, ap, subst, arith, bytes_eq}
-use Rattle.std.proofs.lemmas.Bool.{true≢false}
-use Rattle.std.proofs.lemmas.Bool.Decides.{nat_tests}
-use Rattle.std.specs.Prelude.{filter, slice_get, remove, Result, Ok, Err}
+use Rattle.std.proofs.Common.{◌≡◌, ℕ, Bool, true, false, not, cond, ◌||◌, Option, None, Some, List, [], ◌∷◌, refl, sym, ap, subst}
+use Rattle.std.specs.Prelude.{Result, Ok, Err}
 use Rattle.std.specs.declared.alloc.AllocError.{AllocError}
-use Rattle.std.specs.declared.cmp.Ordering.TheVariants.{Less, Equal, Greater}
 use Rattle.chord_handover.proofs.Counting.{count}
-use Rattle.chord_handover.specs.Parcelled.{Parcelled, IsParcelled}
-use Rattle.chord_ident.proofs.Digest.{key_id-below}
-use Rattle.chord_ident.proofs.Spans.{one_if}
-use Rattle.chord_ident.specs.declared.span.Span.{Span}
-use Rattle.chord_ident.specs.Circle.{in_span, key_id}
-use Rattle.chord_map.proofs.Each.{Each, Each-map}
-use Rattle.chord_map.proofs.Lists.{Has, by_test, not_both, has_filter, all_each, each_all}
-use Rattle.chord_map.proofs.MapLemmas.{bytes_same, rises_by, rises_put}
-use Rattle.chord_map.proofs.Ordered.{rises_from_rising, rising_from_rises}
-use Rattle.chord_map.specs.declared.pair.Pair.{Pair}
-use Rattle.chord_map.specs.declared.reply.Reply.{Reply}
-use Rattle.chord_map.specs.declared.reply.Reply.TheVariants.{Added, Present, SetFull, Values, Removed, Absent}
-use Rattle.chord_map.specs.declared.request.Request.{Request}
-use Rattle.chord_map.specs.declared.request.Request.TheVariants.{Insert, Retrieve, Remove}
-use Rattle.chord_map.specs.Map.{pair_cmp, by_order, same_pair, has_pair, values_at, insert_pair, remove_pair, put_all, key_of, reply_to, pairs_by, pairs_after}
+use Rattle.chord_ident.specs.Circle.{in_span}
+use Rattle.chord_map.specs.Map.{reply_to}
 use Rattle.chord_caller.specs.declared.ask.Ask.{Ask}
 use Rattle.chord_model.proofs.Events.{count-append_at}
-use Rattle.chord_model.proofs.Placed.{InHeld, Each-pairs_after, entries_more, entries_less}
-use Rattle.chord_model.proofs.Totals.{has}
 use Rattle.chord_node.specs.declared.asks.answered.Answered.{Answered}
 use Rattle.chord_node.specs.Asked.{done_in, ask_done, after_done, AskNotes}
 use Rattle.chord_model.specs.Node.{Node, segment_with, done_of}
-use Rattle.chord_model.specs.Stock.{holds, IsHeld, IsClear, IsStocked}
+use Rattle.chord_model.specs.Stock.{holds, IsStocked}
 use Rattle.chord_map.specs.declared.done.Done.{Done}
 use Rattle.chord_segment.specs.Segment.{Segment, id_of}
-use Rattle.chord_store.proofs.Inside.{rises_inside, rises_outside}
-use Rattle.chord_store.specs.Inside.{pairs_inside, pairs_outside}
 use Rattle.chord_model.proofs.Stocking.{stocked_after, holds_same}
 
 held_if : (ask : Ask) (old : Node) (o : Option Segment) (done : Done) → done_in o ask old ≡ Some done → (segment : Segment) × (o ≡ Some segment)

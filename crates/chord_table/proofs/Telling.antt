@@ -1,10 +1,10 @@
 -- What a look tells, with the theorem over worlds.
-use Rattle.std.proofs.Common.{◌≡◌, ◌≢◌, ℕ, ◌^◌, ◌<◌, [], subst}
+use Rattle.std.proofs.Common.{◌≡◌, subst}
 use Rattle.std.specs.Prelude.{Contains}
 use Rattle.std.proofs.lemmas.List.Elements.{All-contains}
 use Rattle.chord_model.specs.declared.message.Message.TheVariants.{Note as NoteMessage}
 use Rattle.chord_model.specs.Headline.{Headline}
-use Rattle.chord_model.specs.World.{World, Reached, HasOneHolder}
+use Rattle.chord_model.specs.World.{World, Reached}
 use Rattle.chord_table.specs.Actors.{IsThere}
 use Rattle.chord_table.specs.Seen.{Actor, OfNode, OfCaller}
 use Rattle.chord_table.specs.Shown.{IsShown, NodeShown, CallerShown}

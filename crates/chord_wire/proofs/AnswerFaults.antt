@@ -1,5 +1,5 @@
 -- Reading answers gives exactly the fault of the table.
-use Rattle.std.proofs.Common.{◌≡◌, ◌≢◌, ℕ, zero, suc, ◌^◌, ◌<◌, ◌||◌, Bool, true, false, cond, eqb, ltb, List, [], ◌∷◌, ◌++◌, length, Option, Some, None, Result, Ok, Err, refl, sym, ap, subst, ◌∙◌, arith, ◌⊎◌, inl, inr}
+use Rattle.std.proofs.Common.{◌≡◌, ◌≢◌, ℕ, zero, suc, ◌^◌, ◌<◌, ◌||◌, Bool, true, false, cond, eqb, ltb, List, [], ◌∷◌, ◌++◌, length, Option, Some, None, Ok, Err, refl, sym, ap, subst, ◌∙◌, arith, ◌⊎◌, inl, inr}
 use Rattle.std.specs.Int.{w32, w64, to_be_bytes}
 use Rattle.std.proofs.lemmas.Bool.{true≢false, eqb-true, eqb-false, ne_eqb, eq-eqb, cases_Bool}
 use Rattle.std.proofs.lemmas.List.{nil_from_length}
@@ -8,19 +8,18 @@ use Rattle.chord_map.specs.declared.reply.Reply.TheVariants.{Values}
 use Rattle.chord_wire.specs.declared.answer.Answer.{Answer}
 use Rattle.chord_wire.specs.declared.answer.Answer.TheVariants as answer
 use Rattle.chord_wire.specs.declared.fault.WireFault.{WireFault}
-use Rattle.chord_wire.specs.declared.fault.FaultCode.{FaultCode}
 use Rattle.chord_wire.specs.declared.fault.FaultCode.TheVariants.{BadLength, BadVersion, BadOperation, BadValue, Trailing}
 use Rattle.chord_wire.specs.Fault.{fault, code_of}
 use Rattle.chord_wire.specs.Spelling.{IsBytes}
 use Rattle.chord_wire.specs.Replies.{kind_of, number_of, fields_of, IsAnswer}
 use Rattle.chord_wire.specs.Reading.{◌>>=◌, number_at, value_at, body_at}
-use Rattle.chord_wire.specs.ReadingReplies.{or_fault, status_of, status_at, code_at, is_above, rising_at, values_from, answer_at, ended, answer_fields, answer_in, answer_of_body, next_answer}
+use Rattle.chord_wire.specs.ReadingReplies.{or_fault, status_of, status_at, code_at, is_above, rising_at, values_from, answer_at, answer_fields, answer_in, answer_of_body, next_answer}
 use Rattle.chord_wire.specs.FaultTable.{AnswerHead, IsKind, BeginsWithAnswer, AnswerFaultOf}
 use Rattle.chord_wire.specs.FaultTable.AnswerFaultOf.{Bad_length, Bad_version, Bad_operation, Bad_value, Trails}
 use Rattle.chord_wire.proofs.Steps.{wide64, number_again}
 use Rattle.chord_wire.proofs.RequestLaws.{BodyFound, body_takes}
 use Rattle.chord_wire.proofs.AnswerLaws.{answer_takes, status_again, fault_again, known_kind, is_answer}
-use Rattle.chord_wire.proofs.FaultLaws.{Fails, fails_ok, fails_err, fails_if, fails_then, fails_so, number_fails, value_fails, failed, Broke, broke, body_of, fields_fit, body_there, head_in, no_body, ok_then, err_not, err_is, length_fault}
+use Rattle.chord_wire.proofs.FaultLaws.{Fails, fails_ok, fails_err, fails_if, fails_then, fails_so, number_fails, value_fails, broke, body_of, fields_fit, body_there, head_in, no_body, ok_then, err_not, err_is, length_fault}
 use Rattle.chord_wire.proofs.FaultLaws.Broke.{First, Then}
 
 -- ---- what stands behind the number fails as a value

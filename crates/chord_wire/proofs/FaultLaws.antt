@@ -1,20 +1,19 @@
 -- Reading gives exactly the fault of the table.
 use Rattle.std.proofs.Common.{◌≡◌, ◌≢◌, ℕ, ◌+◌, ◌-◌, ◌^◌, ◌<◌, ◌≤◌, ◌&&◌, ◌||◌, not, Bool, true, false, cond, eqb, ltb, leb, List, [], ◌∷◌, ◌++◌, length, take, drop, Option, Some, None, Result, Ok, Err, refl, sym, ap, subst, ◌∙◌, append_assoc, arith, ◌⊎◌, inl, inr}
 use Rattle.std.specs.Int.{Width, w16, w32, w64, byte_len, from_be_bytes, to_be_bytes}
-use Rattle.std.proofs.lemmas.Bool.{true≢false, ltb-true, ltb-false, eqb-true, eqb-false, lt-ltb, le-ltb, ne_eqb, eq-eqb, not-false, or_cases, or_parts, or_from, or_left, or_right, and_parts, and_from, cond-true, cond-false, cases_Bool, cases_eq}
-use Rattle.std.proofs.lemmas.List.{nil_from_length, take-append-drop, length-append, take_at, drop_at}
+use Rattle.std.proofs.lemmas.Bool.{true≢false, ltb-true, eqb-true, eqb-false, lt-ltb, le-ltb, ne_eqb, eq-eqb, or_cases, or_left, or_right, and_parts, and_from, cond-true, cond-false, cases_Bool}
+use Rattle.std.proofs.lemmas.List.{nil_from_length, length-append, take_at}
 use Rattle.chord_map.specs.declared.request.Request.{Request}
 use Rattle.chord_map.specs.declared.request.Request.TheVariants.{Insert, Retrieve, Remove}
-use Rattle.chord_map.specs.Checked.{IsKey, IsRequest}
 use Rattle.chord_wire.specs.declared.request.WireRequest.{WireRequest}
 use Rattle.chord_wire.specs.declared.fault.WireFault.{WireFault}
 use Rattle.chord_wire.specs.declared.fault.FaultCode.TheVariants.{BadLength, BadVersion, BadOperation, BadFloor, BadKey, BadValue, Trailing}
 use Rattle.chord_wire.specs.Fault.{fault}
-use Rattle.chord_wire.specs.Spelling.{IsBytes, operation, operands, key_field, value_field, floor_field, frame, HasFloor}
+use Rattle.chord_wire.specs.Spelling.{IsBytes, operation, operands, key_field, floor_field, frame}
 use Rattle.chord_wire.specs.Reading.{◌>>=◌, number_at, bytes_at, floor_at, key_at, value_at, operands_at, fields_at, request_in, body_of_length, body_at, request_of_body, next_request}
-use Rattle.chord_wire.specs.FaultTable.{Head, RequestHead, IsVersion, IsKnown, BeginsWithFloor, BeginsWithKey, BeginsWithValue, Floored, FaultOf}
+use Rattle.chord_wire.specs.FaultTable.{Head, RequestHead, IsVersion, IsKnown, BeginsWithKey, BeginsWithValue, Floored, FaultOf}
 use Rattle.chord_wire.specs.FaultTable.FaultOf.{Bad_length, Bad_version, Bad_operation, Bad_floor, Bad_key, Bad_value, Trails}
-use Rattle.chord_wire.proofs.Steps.{IsBytes-rest, IsBytes-front, IsBytes-back, Takes, wide32, wide64, number_takes, number_again}
+use Rattle.chord_wire.proofs.Steps.{IsBytes-rest, IsBytes-front, IsBytes-back, wide32, wide64, number_takes, number_again}
 use Rattle.chord_wire.proofs.FieldLaws.{floor_takes, floor_again, key_takes, key_again, value_takes, value_again, operands_take, operands_again}
 use Rattle.chord_wire.proofs.RequestLaws.{BodyFound, body_takes, body_again}
 
