@@ -36,7 +36,7 @@ use Rattle.chord_world.specs.Delivered.Delivers.{To_node, To_caller, Full_to_cal
 use Rattle.chord_world.specs.Delivered.IsFor.{Ask_for}
 use Rattle.chord_world.specs.declared.outcome.Outcome.{Outcome}
 use Rattle.chord_world.specs.declared.outcome.Outcome.TheVariants as did
-use Rattle.chord_world.specs.Delivering.{Answers, AnswersAt, Hears, IsOwed, message_by}
+use Rattle.chord_world.specs.Delivering.{Answers, AnswersAt, CallAnswered, Hears, IsOwed, IsReceiver, message_by}
 use Rattle.chord_world.proofs.Placing.{node_at_place, put_node_place, node_number, caller_at_place, put_caller_place, caller_number, call_at, aimed_pushed, aimed_at}
 use Rattle.chord_world.proofs.Acting.{After, SendsCall, ring_stays, acts_at}
 use Rattle.chord_world.proofs.Posting.{got, got_of, set_same, slice_get_there}
@@ -324,3 +324,54 @@ ask_takes place to ask view old same kept sent target within running =
 pub told_to : (place : ℕ) (told : Told) (view : WorldState) (heard : Heard) (callers : List Caller) → slice_get view.world.sent place ≡ Some (ToldMessage told)
     → (did : Hears told.caller told view.world.callers heard callers) → ToldTo place told view heard did.core did.after
 told_to place told view heard callers sent did = record { sent = sent; here = did.here; hears = did.hears }
+
+-- ---- a call, from its receiver's answer
+
+pub is_receiver : (place to : ℕ) (view old : WorldState) → view ≡ old → slice_get view.targets place ≡ Some (Some to) → to < length view.world.nodes → is_crashed to old ≡ false → IsReceiver place to old
+is_receiver place to view old same target there running = record {
+  target = ap (λ (w : WorldState). slice_get w.targets place) (sym same) ∙ target;
+  there = subst (λ (w : WorldState). to < length w.world.nodes) same there;
+  running = running;
+}
+
+pub receiver_there : (place to : ℕ) (view old : WorldState) → view ≡ old → IsReceiver place to old → to < length view.world.nodes
+receiver_there place to view old same receiver = subst (λ (w : WorldState). to < length w.world.nodes) (sym same) receiver.there
+
+receiver_target : (place to : ℕ) (view old : WorldState) → view ≡ old → IsReceiver place to old → slice_get view.targets place ≡ Some (Some to)
+receiver_target place to view old same receiver = ap (λ (w : WorldState). slice_get w.targets place) same ∙ receiver.target
+
+call_asked : (place to : ℕ) (view old : WorldState) (outcome : Outcome) (nodes : List Node) (sent : List Message) (targets : List (Option ℕ)) (history : List Done) → view ≡ old → IsReceiver place to old
+    → (did : CallAnswered place to view.world.nodes view.world.sent view.targets view.world.history outcome nodes sent targets history)
+    → Asked place to did.ask view did.answered did.answers.node did.answers.after
+call_asked place to view old outcome nodes sent targets history same receiver did =
+    asked_of place to did.ask view did.answered did.did nodes did.call (receiver_target place to view old same receiver) did.answers
+
+call_is : (place to : ℕ) (view : WorldState) (outcome : Outcome) (nodes : List Node) (sent : List Message) (targets : List (Option ℕ)) (history : List Done) → IsWorld view
+    → (did : CallAnswered place to view.world.nodes view.world.sent view.targets view.world.history outcome nodes sent targets history)
+    → after_answer nodes sent history targets view ≡ with_answer did.ask did.answers.node did.answers.after did.answered view
+call_is place to view outcome nodes sent targets history kept did =
+    answered_is place to did.ask view did.answered did.did nodes sent view.world.sent history view.world.history targets view.targets kept did.answers did.messages_are refl did.noted refl did.targets_are refl
+
+pub call_after : (place to : ℕ) (view old : WorldState) (outcome : Outcome) (nodes : List Node) (sent : List Message) (targets : List (Option ℕ)) (history : List Done) → view ≡ old → IsWorld view → IsReceiver place to old
+    → CallAnswered place to view.world.nodes view.world.sent view.targets view.world.history outcome nodes sent targets history → After old (after_answer nodes sent history targets view)
+call_after place to view old outcome nodes sent targets history same kept receiver did =
+    answer_after place to did.ask view old did.answered did.answers.node did.answers.after _ same kept (call_asked place to view old outcome nodes sent targets history same receiver did) receiver.running
+    (call_is place to view outcome nodes sent targets history kept did)
+
+pub call_delivers : (place to : ℕ) (view old : WorldState) (outcome : Outcome) (nodes : List Node) (sent : List Message) (targets : List (Option ℕ)) (history : List Done) → view ≡ old → IsWorld view → IsReceiver place to old
+    → CallAnswered place to view.world.nodes view.world.sent view.targets view.world.history outcome nodes sent targets history → Delivers place old outcome (after_answer nodes sent history targets view)
+call_delivers place to view old outcome nodes sent targets history same kept receiver did =
+    delivers_after place old _ _ outcome _ (call_is place to view outcome nodes sent targets history kept did) did.outcome_is
+    (answer_delivers place to did.ask view old did.answered did.answers.node did.answers.after same kept (call_asked place to view old outcome nodes sent targets history same receiver did) receiver.running)
+
+-- out of memory for it
+pub call_same : (view : WorldState) (nodes : List Node) (sent : List Message) (targets : List (Option ℕ)) (history : List Done)
+    → (nodes ≡ view.world.nodes) × (sent ≡ view.world.sent) × (targets ≡ view.targets) × (history ≡ view.world.history) → after_answer nodes sent history targets view ≡ view
+call_same view nodes sent targets history (n, s, t, h) = same_fields view nodes sent history targets n s h t
+
+pub call_stays : (place to : ℕ) (ask : Ask) (view old new : WorldState) → view ≡ old → IsWorld view → IsReceiver place to old → slice_get old.world.sent place ≡ Some (AskMessage ask) → new ≡ view
+    → TakesMemory place old × (new ≡ old)
+call_stays place to ask view old new same kept receiver sent stayed =
+    stays view old new place same
+    (ask_takes place to ask view old same kept (sent_here view old place (AskMessage ask) same sent) (receiver_target place to view old same receiver) (receiver_there place to view old same receiver) receiver.running)
+    stayed

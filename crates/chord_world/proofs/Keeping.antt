@@ -85,6 +85,11 @@ with_more nodes crashed view = record view { world = record view.world { nodes =
 abbrev pub with_callers : List Caller → WorldState → WorldState
 with_callers callers view = record view { world = record view.world { callers = callers } }
 
+-- a list with no length is empty
+pub none_in : {A : Type 0} (xs : List A) → length xs ≡ 0 → xs ≡ []
+none_in [] e = refl
+none_in (x ∷ xs) e = absurd (omega arith)
+
 -- where there was no memory
 pub no_room : (view old : WorldState) (nodes : List Node) (flags : List Bool) → view ≡ old → nodes ≡ view.world.nodes → flags ≡ view.crashed → with_more nodes flags view ≡ old
 no_room view old nodes flags same n f = (λ i. with_more (n i) (f i) view) ∙ same
@@ -117,6 +122,10 @@ limit_first f (y ∷ xs) x some e = ap (λ z. Some (f z)) (sym e)
 pub map_some : {S : Type 0} (f : S → ℕ) (xs : List S) → 0 < length xs → map f xs ≢ []
 map_some f [] some e = omega arith
 map_some f (x ∷ xs) some e = cc
+
+pub some_first : {S : Type 0} (f : S → ℕ) (xs : List S) → map f xs ≢ [] → 0 < length xs
+some_first f [] some = absurd (some refl)
+some_first f (x ∷ xs) some = omega arith
 
 pub founded_answer : (id : Id) (limits : List ℕ) (limit : ℕ) (view old : WorldState) (nodes : List Node) (flags : List Bool) → view ≡ old → view.world.nodes ≡ []
     → slice_get limits 0 ≡ Some limit → nodes ≡ founder (alone (record { no = 0; id = id }) view.r) limit ∷ [] → flags ≡ false ∷ []

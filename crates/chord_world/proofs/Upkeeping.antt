@@ -1,15 +1,14 @@
 -- Joins, crashes and the ring's upkeep keep the world and its ring.
-use Rattle.std.proofs.Common.{◌≡◌, ◌≢◌, ℕ, ◌+◌, ◌<◌, Bool, true, false, None, Some, List, [], ◌∷◌, ◌++◌, length, map, set, refl, sym, ◌∙◌, ap, subst, arith}
-use Rattle.std.specs.Prelude.{slice_get, ◌^◌}
+use Rattle.std.proofs.Common.{◌≡◌, ◌≢◌, ℕ, ◌+◌, ◌<◌, Bool, true, false, None, Some, Result, Ok, Err, List, [], ◌∷◌, ◌++◌, length, map, set, refl, sym, ◌∙◌, ap, subst, arith}
+use Rattle.std.specs.Prelude.{slice_get, IsErrAnd}
 use Rattle.std.specs.List.{Contains}
 use Rattle.std.proofs.lemmas.Bool.{true≢false}
 use Rattle.std.proofs.lemmas.List.{length-set, length_push}
 use Rattle.std.proofs.lemmas.Option.{slice_get_past, slice_get_within, same_Some}
 use Rattle.chord_ident.specs.declared.id.Id.{Id}
-use Rattle.chord_ident.specs.Circle.{IsBetween}
-use Rattle.chord_links.specs.NodeLinks.{NodeLinks, first_entry}
+use Rattle.chord_links.specs.NodeLinks.{NodeLinks}
 use Rattle.chord_ring.specs.declared.ring_step.RingStep.{RingStep}
-use Rattle.chord_ring.specs.Ring.{links_of, KeepsPrincipals, CanDepart}
+use Rattle.chord_ring.specs.Ring.{KeepsPrincipals, CanDepart}
 use Rattle.chord_ring.specs.Sound.{IsSound}
 use Rattle.chord_ring.specs.Steps.{Ring, Step, Joins, joined, with_links, without}
 use Rattle.chord_ring.specs.Refusals.{AreOwn}
@@ -23,7 +22,9 @@ use Rattle.chord_model.specs.World.{WorldStep, node_at, put_node}
 use Rattle.chord_model.specs.World.WorldStep.{Joins as JoinsWorld}
 use Rattle.chord_world.specs.Members.{is_gone, members_of, id_of_node, ids_of, ring_with}
 use Rattle.chord_world.specs.State.{WorldState, NodesFrom, IsWorld, ring_of, is_crashed, KeepsRing}
-use Rattle.chord_world.specs.Joining.{with_newborn, JoinsBehind}
+use Rattle.chord_world.specs.declared.outcome.Outcome.{Outcome}
+use Rattle.chord_world.specs.declared.refusal.Refusal.{Refusal}
+use Rattle.chord_world.specs.Joining.{with_newborn, CanJoin, JoinIs, JoinsBehind, MayJoin, RefusesJoin}
 use Rattle.chord_world.specs.Upkeep.{Moves, FitAt, RelinksAt, with_crash}
 use Rattle.chord_world.proofs.Placing.{node_at_place, calls_of_more}
 use Rattle.chord_world.proofs.RingLemmas.{get_pushed, flag_within, flag_pushed, flag_set, ids_are, ids_length, ids_pushed, members_pushed, members_crash, member_node, ring_relinked, ring_departed}
@@ -185,13 +186,6 @@ pub record AfterJoin (id : Id) (behind limit : ℕ) (old : WorldState) (number :
   pub after : After old new
   pub joins : JoinsBehind id behind limit old number new
 
--- what is known of a node that may join
-pub record MayJoin (id : Id) (behind : ℕ) (pred : NodeLinks) (old : WorldState) : Type 0 where
-  pub is_its : links_of (ring_of old).members behind ≡ Some pred
-  pub is_id : id.number < 2 ^ 128
-  pub is_unused : ¬ (Contains (ring_of old).ids id.number)
-  pub is_between : IsBetween pred.me.id.number id.number (first_entry pred).id.number
-
 abbrev link : Id → ℕ → NodeLinks → NodeLinks
 link id number pred = joined (record { no = number; id = id }) pred
 
@@ -272,3 +266,24 @@ joins_at id behind limit number pred links view old nodes crashed same kept may 
     (subst (λ n. AfterJoin id behind limit view n (with_more nodes crashed view)) (sym numbered)
     (subst (AfterJoin id behind limit view (length view.world.nodes)) (λ i. with_more (sym nodes_are i) (sym flagged i) view)
     (joined_here id behind limit pred view kept (subst (MayJoin id behind pred) (sym same) may))))
+
+pub can_join : (id : Id) (behind : ℕ) (limits : List ℕ) (number : ℕ) (pred links : NodeLinks) (view old : WorldState) → view ≡ old → MayJoin id behind pred old → number ≡ length view.world.nodes
+    → links ≡ joined (record { no = number; id = id }) pred → limits ≢ [] → CanJoin id behind limits old links
+can_join id behind limits number pred links view old same may numbered is stocked = record {
+  pred = pred;
+  may = may;
+  links_are = is ∙ ap (λ n. link id n pred) (numbered ∙ ap (λ (w : WorldState). length w.world.nodes) same);
+  stocked = stocked;
+}
+
+pub can_join_at : (id : Id) (behind limit : ℕ) (limits : List ℕ) (number : ℕ) (links : NodeLinks) (view old : WorldState) (nodes : List Node) (crashed : List Bool) → view ≡ old → IsWorld view
+    → CanJoin id behind limits old links → number ≡ length view.world.nodes → nodes ≡ view.world.nodes ++ newborn links limit ∷ [] → crashed ≡ view.crashed ++ false ∷ []
+    → AfterJoin id behind limit old number (with_more nodes crashed view)
+can_join_at id behind limit limits number links view old nodes crashed same kept can numbered pushed flagged =
+    joins_at id behind limit number can.pred links view old nodes crashed same kept can.may numbered
+    (can.links_are ∙ ap (λ n. link id n can.pred) (ap (λ (w : WorldState). length w.world.nodes) (sym same) ∙ sym numbered)) pushed flagged
+
+pub join_refused : (id : Id) (behind : ℕ) (limits : List ℕ) (old : WorldState) (refusal : Refusal) (result : Result Outcome Refusal) → RefusesJoin id behind limits old refusal → IsErrAnd result (λ e. e ≡ refusal)
+    → JoinIs id behind limits old result old
+join_refused id behind limits old refusal (Ok outcome) refuses is = absurd is
+join_refused id behind limits old refusal (Err e) refuses is = (subst (RefusesJoin id behind limits old) (sym is) refuses, refl)

@@ -1,5 +1,5 @@
 -- How a message comes to be taken in.
-use Rattle.std.specs.Prelude.{◌≡◌, ℕ, true, Option, Some, None, Result, Ok, Err, List, slice_get, slice_set}
+use Rattle.std.specs.Prelude.{◌≡◌, ℕ, ◌<◌, true, false, Option, Some, None, Result, Ok, Err, List, length, slice_get, slice_set}
 use Rattle.std.specs.declared.alloc.AllocError.{AllocError}
 use Rattle.chord_map.specs.declared.done.Done.{Done}
 use Rattle.chord_caller.specs.declared.ask.Ask.{Ask}
@@ -13,6 +13,11 @@ use Rattle.chord_model.specs.declared.message.Message.{Message}
 use Rattle.chord_model.specs.declared.message.Message.TheVariants.{Ask as AskMessage, Told as ToldMessage, Full as FullMessage}
 use Rattle.chord_model.specs.Node.{Node}
 use Rattle.chord_node.specs.Asked.{AskNotes}
+use Rattle.chord_model.specs.World.{with_one}
+use Rattle.chord_world.specs.declared.outcome.Outcome.{Outcome}
+use Rattle.chord_world.specs.declared.refusal.Refusal.{Refusal}
+use Rattle.chord_world.specs.State.{WorldState, is_crashed}
+use Rattle.chord_world.specs.Delivered.{RefusesDeliver, outcome_of, target_of}
 
 -- the node at the place answered the call, and is another then
 pub record Answers (place : ℕ) (ask : Ask) (old : List Node) (answered : Answered) (did : Option Done) (new : List Node) : Type 0 where
@@ -50,3 +55,33 @@ message_by caller number (answer.Told told) = Some (ToldMessage told)
 message_by caller number (answer.Forward to passed) = Some (AskMessage passed)
 message_by caller number answer.Full = Some (FullMessage caller number)
 message_by caller number answer.Dropped = None
+
+-- the call at the place is for the node of this number, which is there and has not crashed
+pub record IsReceiver (place to : ℕ) (state : WorldState) : Type 0 where
+  pub target : slice_get state.targets place ≡ Some (Some to)
+  pub there : to < length state.world.nodes
+  pub running : is_crashed to state ≡ false
+
+-- it is, or the refusal is due
+abbrev pub ReceiverIs : ℕ → WorldState → Result ℕ Refusal → Type 0
+ReceiverIs place state (Ok to) = IsReceiver place to state
+ReceiverIs place state (Err refusal) = RefusesDeliver place state refusal
+
+-- the node of this number answered the call at the place: the nodes, the messages, their targets and the history, before
+-- and after
+pub record CallAnswered (place to : ℕ) (nodes : List Node) (sent : List Message) (targets : List (Option ℕ)) (history : List Done) (outcome : Outcome) (nodes' : List Node) (sent' : List Message) (targets' : List (Option ℕ)) (history' : List Done) : Type 0 where
+  pub ask : Ask
+  pub answered : Answered
+  pub did : Option Done
+  pub call : slice_get sent place ≡ Some (AskMessage ask)
+  pub answers : Answers to ask nodes answered did nodes'
+  pub messages_are : sent' ≡ with_one sent (message_by ask.caller ask.number answered)
+  pub targets_are : targets' ≡ with_one targets (target_of answered)
+  pub noted : history' ≡ with_one history did
+  pub outcome_is : outcome ≡ outcome_of answered (length sent)
+
+-- it did, or was out of memory, and nothing changed
+abbrev pub AnswersCall : ℕ → ℕ → List Node → List Message → List (Option ℕ) → List Done → Result Outcome AllocError → List Node → List Message → List (Option ℕ) → List Done → Type 0
+AnswersCall place to nodes sent targets history (Ok outcome) nodes' sent' targets' history' = CallAnswered place to nodes sent targets history outcome nodes' sent' targets' history'
+AnswersCall place to nodes sent targets history (Err refused) nodes' sent' targets' history' =
+    (nodes' ≡ nodes) × (sent' ≡ sent) × (targets' ≡ targets) × (history' ≡ history)

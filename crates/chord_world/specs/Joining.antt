@@ -1,10 +1,11 @@
 -- What a World answers where a node joins.
-use Rattle.std.specs.Prelude.{◌≡◌, ◌≢◌, ℕ, false, Some, Result, List, [], ◌∷◌, ◌++◌, length, slice_get, IsTrue}
+use Rattle.std.specs.Prelude.{◌≡◌, ◌≢◌, ℕ, ◌<◌, ◌^◌, false, Some, Result, Ok, Err, List, [], ◌∷◌, ◌++◌, length, slice_get, IsTrue}
 use Rattle.std.specs.List.{Contains}
 use Rattle.chord_ident.specs.declared.id.Id.{Id}
-use Rattle.chord_links.specs.NodeLinks.{NodeLinks}
-use Rattle.chord_ring.specs.Ring.{is_member}
-use Rattle.chord_ring.specs.Steps.{Joins}
+use Rattle.chord_ident.specs.Circle.{IsBetween}
+use Rattle.chord_links.specs.NodeLinks.{NodeLinks, first_entry}
+use Rattle.chord_ring.specs.Ring.{is_member, links_of}
+use Rattle.chord_ring.specs.Steps.{Joins, joined}
 use Rattle.chord_ring.specs.Refusals.{JoinRefused}
 use Rattle.chord_ring.specs.declared.ring_fault.RingFault.TheVariants as fault
 use Rattle.chord_model.specs.Node.{newborn}
@@ -44,3 +45,22 @@ RefusesJoin id behind limits old refusal = ⊥
 
 abbrev pub JoinIs : Id → ℕ → List ℕ → WorldState → Result Outcome Refusal → WorldState → Type 0
 JoinIs id behind limits = DoneOrRefused (DoesJoin id behind limits) (RefusesJoin id behind limits)
+
+-- what is known of a node that may join
+pub record MayJoin (id : Id) (behind : ℕ) (pred : NodeLinks) (old : WorldState) : Type 0 where
+  pub is_its : links_of (ring_of old).members behind ≡ Some pred
+  pub is_id : id.number < 2 ^ 128
+  pub is_unused : ¬ (Contains (ring_of old).ids id.number)
+  pub is_between : IsBetween pred.me.id.number id.number (first_entry pred).id.number
+
+-- these are the links of the next node, which may join, and there is a store for it
+pub record CanJoin (id : Id) (behind : ℕ) (limits : List ℕ) (old : WorldState) (links : NodeLinks) : Type 0 where
+  pub pred : NodeLinks
+  pub may : MayJoin id behind pred old
+  pub links_are : links ≡ joined (record { no = length old.world.nodes; id = id }) pred
+  pub stocked : limits ≢ []
+
+-- they are, or the refusal is due
+abbrev pub LinksToJoin : Id → ℕ → List ℕ → WorldState → Result NodeLinks Refusal → Type 0
+LinksToJoin id behind limits old (Ok links) = CanJoin id behind limits old links
+LinksToJoin id behind limits old (Err refusal) = RefusesJoin id behind limits old refusal

@@ -8,7 +8,7 @@ ghost use Rattle.chord_model.specs.World.{with_one};
 ghost use Rattle.chord_world.specs.State.{messages_of, targets_of, KeepsRing};
 ghost use Rattle.chord_world.specs.Steps.{Advances};
 ghost use Rattle.chord_world.specs.Delivered.{DeliverIs, outcome_of, outcome_heard, target_of};
-ghost use Rattle.chord_world.specs.Delivering.{AnswersAt, HearsAt, IsOwed, message_by};
+ghost use Rattle.chord_world.specs.Delivering.{AnswersAt, AnswersCall, HearsAt, IsOwed, ReceiverIs, message_by};
 
 use crate::members::is_out;
 use crate::outcome::Outcome;
@@ -94,14 +94,36 @@ fn add_done(history: &mut Vec<Done>, done: Option<Done>)
     }
 }
 
+/// The call at the place is answered by the node of this number. What it executes is noted, and what the answer sends
+/// goes out.
+fn answer_call<S: EntryStore>(
+    nodes: &mut Vec<Node<S>>,
+    sent: &mut Vec<Sent>,
+    history: &mut Vec<Done>,
+    place: usize,
+    to: usize,
+) -> Result<Outcome, AllocError>
+    requires ask { (ask : AskOf) × (slice_get (messages_of sent.old.items) place ≡ Some (AskMessage ask)) }
+    requires to { to < length nodes.old.items }
+    ensures { AnswersCall place to nodes.old.items (messages_of sent.old.items) (targets_of sent.old.items) history.old.items result nodes.new.items (messages_of sent.new.items) (targets_of sent.new.items) history.new.items }
+{
+    sent.reserve(1)?;
+    history.reserve(1)?;
+    let Message::Ask(ask) = &sent[place].message else {
+        unreachable!()
+    };
+    let caller = ask.caller;
+    let number = ask.number;
+    let did = answer_at(nodes, to, ask)?;
+    add_done(history, did.1);
+    Ok(post(sent, caller, number, did.0))
+}
+
 impl<S: EntryStore> World<S> {
-    /// A call is taken in by the node that it is for.
-    fn deliver_ask(&mut self, place: usize) -> Result<Outcome, Refusal>
-        requires ask { (ask : AskOf) × (slice_get self.old.world.sent place ≡ Some (AskMessage ask)) }
-        requires created { self.old.world.nodes ≢ [] }
-        ensures answer { DeliverIs place self.old result self.new }
-        ensures step { Advances self.old result self.new }
-        ensures ring { KeepsRing self.old self.new }
+    /// The node that the call at the place is for, where it is there and has not crashed.
+    fn receiver(&self, place: usize) -> Result<u64, Refusal>
+        requires { (ask : AskOf) × (slice_get self.now.world.sent place ≡ Some (AskMessage ask)) }
+        ensures { ReceiverIs place self.now result }
     {
         let Some(to) = self.sent[place].to else {
             unreachable!()
@@ -112,22 +134,23 @@ impl<S: EntryStore> World<S> {
         if is_out(&self.crashed, to) {
             return Err(Refusal::Step(StepFault::Crashed));
         }
-        if self.sent.reserve(1).is_err() {
+        Ok(to)
+    }
+
+    /// A call is taken in by the node that it is for.
+    fn deliver_ask(&mut self, place: usize) -> Result<Outcome, Refusal>
+        requires ask { (ask : AskOf) × (slice_get self.old.world.sent place ≡ Some (AskMessage ask)) }
+        requires created { self.old.world.nodes ≢ [] }
+        ensures answer { DeliverIs place self.old result self.new }
+        ensures step { Advances self.old result self.new }
+        ensures ring { KeepsRing self.old self.new }
+    {
+        let to = self.receiver(place)?;
+        let (nodes, sent, history) = (&mut self.nodes, &mut self.sent, &mut self.history);
+        let Ok(outcome) = answer_call(nodes, sent, history, place, to as usize) else {
             return Err(Refusal::Memory);
-        }
-        if self.history.reserve(1).is_err() {
-            return Err(Refusal::Memory);
-        }
-        let Message::Ask(ask) = &self.sent[place].message else {
-            unreachable!()
         };
-        let caller = ask.caller;
-        let number = ask.number;
-        let Ok((answered, done)) = answer_at(&mut self.nodes, to as usize, ask) else {
-            return Err(Refusal::Memory);
-        };
-        add_done(&mut self.history, done);
-        Ok(post(&mut self.sent, caller, number, answered))
+        Ok(outcome)
     }
 
     /// A reply is taken in by its caller.

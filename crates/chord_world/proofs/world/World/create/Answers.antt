@@ -1,15 +1,16 @@
-use Rattle.std.proofs.Common.{◌≡◌, ◌<◌, [], arith, rules, length, map, refl, sym, ap, ◌∙◌}
-use Rattle.std.proofs.lemmas.Grind.{common_steps}
+use Rattle.std.proofs.Common.{◌<◌, arith, rules, length, map, refl, sym, ap, ◌∙◌}
 use Rattle.chord_world.specs.View.{state_of}
 use Rattle.chord_world.specs.State.{WorldState}
-use Rattle.chord_world.proofs.Keeping.{founded_items, founded_flags, founded_at, founded_answer, founded_step, founded_keeps, limit_first, map_some, no_room}
+use Rattle.chord_world.proofs.Handing.{is_zero}
+use Rattle.chord_world.proofs.Posting.{not_zero}
+use Rattle.chord_world.proofs.Keeping.{none_in, founded_items, founded_flags, founded_at, founded_answer, founded_step, founded_keeps, limit_first, map_some, no_room}
 use Rattle.chord_world.proofs.Acting.{keeps_same}
 use Rattle.chord_world.proofs.world.World.create.Goals as goal
 
 pub invariant_of-self-in-Ok : goal.invariant_of-self-in-Ok
 invariant_of-self-in-Ok g c =
     let view : WorldState = state_of c.self.inside in
-    let none : view.world.nodes ≡ [] = grind (arith, common_steps) in
+    let none = none_in view.world.nodes (let zero = is_zero _ c.if-not-is_empty.ensures in omega arith) in
     let nodes = founded_items c.args.id _ view _ _ c.in-Ok.node none c.add_node.ensures.nodes c.room_for_node.ensures.nodes c.in-Ok.ensures.ok in
     let flags = founded_flags view _ _ c.self.invariant none c.add_node.ensures.crashed c.room_for_node.ensures.crashed in
     founded_at c.args.id _ view _ _ (search rules) none c.self.invariant nodes flags
@@ -17,10 +18,10 @@ invariant_of-self-in-Ok g c =
 pub returns-in-Ok : goal.returns-in-Ok
 returns-in-Ok g c =
     let view : WorldState = state_of c.self.inside in
-    let none : view.world.nodes ≡ [] = grind (arith, common_steps) in
+    let none = none_in view.world.nodes (let zero = is_zero _ c.if-not-is_empty.ensures in omega arith) in
     let nodes = founded_items c.args.id _ view _ _ c.in-Ok.node none c.add_node.ensures.nodes c.room_for_node.ensures.nodes c.in-Ok.ensures.ok in
     let flags = founded_flags view _ _ c.self.invariant none c.add_node.ensures.crashed c.room_for_node.ensures.crashed in
-    let some : 0 < length c.args.stores.now.items = search rules in record {
+    let some : 0 < length c.args.stores.now.items = (let many = not_zero _ c.if-is_empty.ensures in omega arith) in record {
       answer = founded_answer c.args.id _ _ view _ _ _ c.self.view_is none (limit_first g.S.EntryStore.limit c.args.stores.now.items c.remove-store.result some c.remove-store.ensures.value) nodes flags;
       step = founded_step c.args.id _ view _ _ c.add_node.new.crashed.items c.self.view_is (search rules) none nodes;
       ring = founded_keeps view _ _ _ c.self.view_is c.self.invariant none;
@@ -31,8 +32,8 @@ pub returns-then-is_err : goal.returns-then-is_err
 returns-then-is_err g c =
     let view : WorldState = state_of c.self.inside in
     let same = no_room view c.args.self.now _ _ c.self.view_is c.room_for_node.ensures.nodes c.room_for_node.ensures.crashed in
-    let none : view.world.nodes ≡ [] = grind (arith, common_steps) in
-    let some : 0 < length c.args.stores.now.items = search rules in record {
+    let none = none_in view.world.nodes (let zero = is_zero _ c.if-not-is_empty.ensures in omega arith) in
+    let some : 0 < length c.args.stores.now.items = (let many = not_zero _ c.if-is_empty.ensures in omega arith) in record {
       answer = ((ap (λ (w : WorldState). w.world.nodes) (sym c.self.view_is) ∙ none, map_some g.S.EntryStore.limit c.args.stores.now.items some), same);
       step = same;
       ring = keeps_same _ c.args.self.now _ c.self.view_is c.room_for_node.ensures.nodes c.room_for_node.ensures.crashed;
@@ -43,8 +44,8 @@ pub returns-in-Err : goal.returns-in-Err
 returns-in-Err g c =
     let view : WorldState = state_of c.self.inside in
     let same = no_room view c.args.self.now _ _ c.self.view_is c.room_for_node.ensures.nodes c.room_for_node.ensures.crashed in
-    let none : view.world.nodes ≡ [] = grind (arith, common_steps) in
-    let some : 0 < length c.args.stores.now.items = search rules in record {
+    let none = none_in view.world.nodes (let zero = is_zero _ c.if-not-is_empty.ensures in omega arith) in
+    let some : 0 < length c.args.stores.now.items = (let many = not_zero _ c.if-is_empty.ensures in omega arith) in record {
       answer = ((ap (λ (w : WorldState). w.world.nodes) (sym c.self.view_is) ∙ none, map_some g.S.EntryStore.limit c.args.stores.now.items some), same);
       step = same;
       ring = keeps_same _ c.args.self.now _ c.self.view_is c.room_for_node.ensures.nodes c.room_for_node.ensures.crashed;
@@ -53,6 +54,7 @@ returns-in-Err g c =
 
 pub returns-then-is_empty-clause-answer : goal.returns-then-is_empty-clause-answer
 returns-then-is_empty-clause-answer g c =
-    let none : c.self.inside.nodes.items ≡ [] = grind (arith, common_steps) in
-    let empty : c.args.stores.now.items ≡ [] = grind (arith, common_steps) in
+    let view : WorldState = state_of c.self.inside in
+    let none = none_in view.world.nodes (let zero = is_zero _ c.if-not-is_empty.ensures in omega arith) in
+    let empty = none_in c.args.stores.now.items (let zero = is_zero _ c.if-is_empty.ensures in omega arith) in
     ((ap (λ (w : WorldState). w.world.nodes) (sym c.self.view_is) ∙ none, ap (map g.S.EntryStore.limit) empty), refl)

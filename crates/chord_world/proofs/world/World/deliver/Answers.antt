@@ -5,6 +5,9 @@ use Rattle.chord_world.specs.View.{state_of}
 use Rattle.chord_world.specs.State.{WorldState}
 use Rattle.chord_model.specs.declared.message.Message.TheVariants.{Part as PartMessage, Got as GotMessage, Declined as DeclinedMessage, Note as NoteMessage}
 use Rattle.chord_world.proofs.Answering.{read, sent_there, full_delivers, full_step}
+use Rattle.chord_world.proofs.Acting.{keeps_all}
+use Rattle.chord_world.proofs.Posting.{created, not_zero}
+use Rattle.chord_world.proofs.Handing.{is_zero, uncreated}
 use Rattle.chord_world.proofs.world.World.deliver.Goals as goal
 
 pub deliver_ask-requires-clause-ask : goal.deliver_ask-requires-clause-ask
@@ -65,3 +68,40 @@ returns-in-Full-clause-step g c =
     let view : WorldState = state_of c.self.inside in
     full_step c.args.message _ _ view c.args.self.now c.self.view_is c.self.invariant
     (read c.self.inside.sent.items c.self.inside.sent.items c.args.message c.index.result.now _ refl (omega arith) c.index.ensures c.in-Full.is)
+
+pub deliver_ask-requires-clause-created : goal.deliver_ask-requires-clause-created
+deliver_ask-requires-clause-created g c = created _ c.args.self.now c.self.view_is (let some = not_zero _ c.if-is_empty.ensures in omega arith)
+
+pub deliver_told-requires-clause-created : goal.deliver_told-requires-clause-created
+deliver_told-requires-clause-created g c = created _ c.args.self.now c.self.view_is (let some = not_zero _ c.if-is_empty.ensures in omega arith)
+
+pub deliver_part-requires-clause-created : goal.deliver_part-requires-clause-created
+deliver_part-requires-clause-created g c = created _ c.args.self.now c.self.view_is (let some = not_zero _ c.if-is_empty.ensures in omega arith)
+
+pub deliver_got-requires-clause-created : goal.deliver_got-requires-clause-created
+deliver_got-requires-clause-created g c = created _ c.args.self.now c.self.view_is (let some = not_zero _ c.if-is_empty.ensures in omega arith)
+
+pub deliver_declined-requires-clause-created : goal.deliver_declined-requires-clause-created
+deliver_declined-requires-clause-created g c = created _ c.args.self.now c.self.view_is (let some = not_zero _ c.if-is_empty.ensures in omega arith)
+
+pub returns-then-is_empty : goal.returns-then-is_empty
+returns-then-is_empty g c = record {
+  answer = (uncreated _ c.args.self.now c.self.view_is (let none = is_zero _ c.if-is_empty.ensures in omega arith), refl);
+  step = refl;
+  ring = keeps_all c.args.self.now;
+}
+
+pub returns-then-message-len-clause-step : goal.returns-then-message-len-clause-step
+returns-then-message-len-clause-step g c = refl
+
+pub returns-then-message-len-clause-ring : goal.returns-then-message-len-clause-ring
+returns-then-message-len-clause-ring g c = keeps_all c.args.self.now
+
+pub returns-in-Note-clause-step : goal.returns-in-Note-clause-step
+returns-in-Note-clause-step g c = refl
+
+pub returns-in-Note-clause-ring : goal.returns-in-Note-clause-ring
+returns-in-Note-clause-ring g c = keeps_all c.args.self.now
+
+pub returns-in-Full-clause-ring : goal.returns-in-Full-clause-ring
+returns-in-Full-clause-ring g c = keeps_all c.args.self.now

@@ -1,4 +1,4 @@
-use Rattle.std.proofs.Common.{◌≡◌, Some, List, length, refl, ap}
+use Rattle.std.proofs.Common.{◌≡◌, Some, List, length, refl, ap, ◌∙◌}
 use Rattle.std.specs.Prelude.{slice_get}
 use Rattle.chord_model.specs.declared.message.Message.TheVariants.{Told as ToldMessage}
 use Rattle.chord_world.specs.View.{state_of}
@@ -9,6 +9,7 @@ use Rattle.chord_world.specs.Delivered.TakesMemory.{Told_takes}
 use Rattle.chord_caller.specs.Caller.{Caller}
 use Rattle.chord_world.proofs.Answering.{place_within, read, sent_here, stays, told_owed, told_to, told_step, told_is_world, told_delivers, heard_is, world_after, step_after, delivers_after}
 use Rattle.chord_world.proofs.Acting.{keeps_same}
+use Rattle.chord_world.proofs.Keeping.{with_callers}
 use Rattle.chord_world.proofs.world.World.deliver_told.Goals as goal
 
 pub hear_at-requires-clause-place : goal.hear_at-requires-clause-place
@@ -55,3 +56,14 @@ returns-in_default-hear_at-clause-answer g c =
     let within = place_within c.self.inside.sent.items c.self.inside.sent.items c.args.place _ refl (sent_here view c.args.self.now c.args.place _ c.self.view_is c.requires.told.1) in
     let sent : slice_get view.world.sent c.args.place ≡ Some (ToldMessage c.in-Told.told) = read c.self.inside.sent.items c.self.inside.sent.items c.args.place c.index.result.now _ refl within c.index.ensures c.in-Told.is in
     stays view c.args.self.now _ c.args.place c.self.view_is (Told_takes c.in-Told.told sent) (ap (λ (cs : List Caller). record view { world = record view.world { callers = cs } }) c.in_default-hear_at.ensures)
+
+pub returns-in_default-hear_at-clause-ring : goal.returns-in_default-hear_at-clause-ring
+returns-in_default-hear_at-clause-ring g c = keeps_same (state_of c.self.inside) c.args.self.now _ c.self.view_is refl refl
+
+pub invariant_of-self : goal.invariant_of-self
+invariant_of-self g c =
+    let view : WorldState = state_of c.self.inside in
+    world_after view _ view (ap (λ cs. with_callers cs view) c.in_default-hear_at.ensures) c.self.invariant
+
+pub returns-in_default-hear_at-clause-step : goal.returns-in_default-hear_at-clause-step
+returns-in_default-hear_at-clause-step g c = ap (λ cs. with_callers cs (state_of c.self.inside)) c.in_default-hear_at.ensures ∙ c.self.view_is

@@ -4,7 +4,7 @@ use Rattle.chord_node.specs.Moves.{SendSteps, GiveIs}
 use Rattle.chord_world.specs.Handing.{DoesAt}
 use Rattle.chord_world.specs.View.{state_of}
 use Rattle.chord_world.specs.State.{WorldState, IsWorld, messages_of, targets_of}
-use Rattle.chord_world.proofs.Acting.{keeps_same}
+use Rattle.chord_world.proofs.Acting.{keeps_same, keeps_all}
 use Rattle.chord_world.proofs.Handing.{acts_within, nodes_stay, advances_not, after_giving, giving_is, gives, sends_part, give_missing, give_not, give_refused, give_kept, give_stays, give_refused_at}
 use Rattle.chord_world.proofs.Posting.{got}
 use Rattle.chord_world.proofs.world.World.give.Goals as goal
@@ -89,3 +89,29 @@ returns g c =
       step = after.step;
       ring = after.ring;
     }
+
+pub returns-in_err-is_there-clause-step : goal.returns-in_err-is_there-clause-step
+returns-in_err-is_there-clause-step g c = advances_not c.args.self.now c.args.self.now _ c.from_residual.result c.from_residual.ensures.1 refl
+
+pub returns-in_err-is_there-clause-ring : goal.returns-in_err-is_there-clause-ring
+returns-in_err-is_there-clause-ring g c = keeps_all c.args.self.now
+
+pub returns-in_err-can_act-clause-step : goal.returns-in_err-can_act-clause-step
+returns-in_err-can_act-clause-step g c = advances_not c.args.self.now c.args.self.now _ c.from_residual-in_err-can_act.result c.from_residual-in_err-can_act.ensures.1 refl
+
+pub returns-in_err-can_act-clause-ring : goal.returns-in_err-can_act-clause-ring
+returns-in_err-can_act-clause-ring g c = keeps_all c.args.self.now
+
+pub returns-in_err-may_give-clause-step : goal.returns-in_err-may_give-clause-step
+returns-in_err-may_give-clause-step g c = advances_not c.args.self.now c.args.self.now _ c.from_residual-in_err-may_give.result c.from_residual-in_err-may_give.ensures.1 refl
+
+pub returns-in_err-may_give-clause-ring : goal.returns-in_err-may_give-clause-ring
+returns-in_err-may_give-clause-ring g c = keeps_all c.args.self.now
+
+pub returns-in_err-reserve-clause-step : goal.returns-in_err-reserve-clause-step
+returns-in_err-reserve-clause-step g c =
+    advances_not c.args.self.now _ _ c.from_residual-in_err-reserve.result c.from_residual-in_err-reserve.ensures.1
+    ((λ i. after_giving (state_of c.self.inside).world.nodes (messages_of (c.reserve.ensures.items i)) (targets_of (c.reserve.ensures.items i)) (state_of c.self.inside)) ∙ c.self.view_is)
+
+pub returns-in_err-reserve-clause-ring : goal.returns-in_err-reserve-clause-ring
+returns-in_err-reserve-clause-ring g c = keeps_same (state_of c.self.inside) c.args.self.now _ c.self.view_is refl refl

@@ -23,3 +23,6 @@ returns-clause-ring g c = keeps_same _ c.args.self.now _ c.self.view_is refl ref
 
 pub push_reserved-requires : goal.push_reserved-requires
 push_reserved-requires g c = let room = of_ok c.reserve.result (sym c.is_err.ensures.value ∙ c.if-is_err.false) c.reserve.ensures.ok in omega arith
+
+pub returns-then-is_err-clause-ring : goal.returns-then-is_err-clause-ring
+returns-then-is_err-clause-ring g c = keeps_same (state_of c.self.inside) c.args.self.now _ c.self.view_is refl refl

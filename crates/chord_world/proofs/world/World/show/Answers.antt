@@ -7,7 +7,8 @@ use Rattle.chord_model.specs.declared.message.Message.TheVariants.{Note as NoteM
 use Rattle.chord_world.proofs.Answering.{world_after, step_after}
 use Rattle.chord_world.proofs.Posting.{got, caller_stands}
 use Rattle.chord_world.proofs.Speaking.{caller_in, note_call, show_sends, sent_now, sent_step, sent_is_world}
-use Rattle.chord_world.proofs.Acting.{keeps_same}
+use Rattle.chord_world.proofs.Acting.{keeps_same, keeps_all}
+use Rattle.chord_world.proofs.Handing.{advances_not}
 use Rattle.chord_world.proofs.world.World.show.Goals as goal
 
 pub index-requires : goal.index-requires
@@ -35,3 +36,9 @@ returns g c =
           (sent_step c.args.caller None c.index.result.now (NoteLetter c.in_ok-note.note) view c.self.invariant here c.in_ok-note.ensures.step);
       ring = keeps_same _ c.args.self.now _ c.self.view_is refl refl;
     }
+
+pub returns-in_err-is_caller-clause-step : goal.returns-in_err-is_caller-clause-step
+returns-in_err-is_caller-clause-step g c = advances_not c.args.self.now c.args.self.now _ c.from_residual.result c.from_residual.ensures.1 refl
+
+pub returns-in_err-is_caller-clause-ring : goal.returns-in_err-is_caller-clause-ring
+returns-in_err-is_caller-clause-ring g c = keeps_all c.args.self.now

@@ -3,7 +3,8 @@ use Rattle.std.proofs.lemmas.Option.{slice_get_within}
 use Rattle.chord_world.specs.View.{state_of}
 use Rattle.chord_world.specs.State.{WorldState, messages_of, targets_of}
 use Rattle.chord_world.proofs.Posting.{can_submit, node_there, posted_is, posted_is_world, posted_sends, posted_step}
-use Rattle.chord_world.proofs.Acting.{keeps_same}
+use Rattle.chord_world.proofs.Acting.{keeps_same, keeps_all}
+use Rattle.chord_world.proofs.Handing.{advances_not}
 use Rattle.chord_world.proofs.world.World.submit.Goals as goal
 
 pub submit_at-requires-clause-place : goal.submit_at-requires-clause-place
@@ -36,3 +37,15 @@ returns g c =
       step = posted_step c.args.caller c.args.via c.args.request.now view c.args.self.now c.submit_at.new.callers.items c.in-Ok.ask _ c.self.view_is c.self.invariant node c.in-Ok.ensures is;
       ring = keeps_same _ c.args.self.now _ c.self.view_is refl refl;
     }
+
+pub returns-in_err-may_submit-clause-step : goal.returns-in_err-may_submit-clause-step
+returns-in_err-may_submit-clause-step g c = advances_not c.args.self.now c.args.self.now _ c.from_residual.result c.from_residual.ensures.1 refl
+
+pub returns-in_err-may_submit-clause-ring : goal.returns-in_err-may_submit-clause-ring
+returns-in_err-may_submit-clause-ring g c = keeps_all c.args.self.now
+
+pub returns-then-is_err-clause-ring : goal.returns-then-is_err-clause-ring
+returns-then-is_err-clause-ring g c = keeps_same (state_of c.self.inside) c.args.self.now _ c.self.view_is refl refl
+
+pub returns-in_default-clause-ring : goal.returns-in_default-clause-ring
+returns-in_default-clause-ring g c = keeps_same (state_of c.self.inside) c.args.self.now _ c.self.view_is refl refl
