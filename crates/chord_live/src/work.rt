@@ -9,6 +9,8 @@ use crate::ring::Ring;
 use crate::target::Target;
 use chord_store::EntryStore;
 use chord_table::{Naming, Parcel};
+use crossbeam_channel::Sender;
+use std::alloc::Global;
 use std::sync::Wait;
 use std::time::{Clock, Duration};
 
@@ -38,19 +40,18 @@ impl<J: Naming, S: EntryStore> Ring<J, S> {
         }
     }
 
+    /// Where a parcel for the target goes, if there is such a node or caller.
+    fn inbox_of(&self, target: Target) -> Option<&Sender<Parcel<J>, Global>> {
+        match target {
+            Target::Node(no) => Some(&self.slots.get(no as usize)?.inbox),
+            Target::Caller(no) => Some(&self.inboxes.get(no as usize)?.inbox),
+        }
+    }
+
     /// Puts a parcel into an inbox; it is lost where there is none.
     pub(crate) fn post(&self, rt: &impl Wait, target: Target, parcel: Parcel<J>) {
-        match target {
-            Target::Node(no) => {
-                if let Some(slot) = self.slots.get(no as usize) {
-                    let _ = slot.inbox.send(rt, parcel).is_ok();
-                }
-            }
-            Target::Caller(no) => {
-                if let Some(inbox) = self.inboxes.get(no as usize) {
-                    let _ = inbox.inbox.send(rt, parcel).is_ok();
-                }
-            }
+        if let Some(inbox) = self.inbox_of(target) {
+            let _ = inbox.send(rt, parcel).is_ok();
         }
     }
 

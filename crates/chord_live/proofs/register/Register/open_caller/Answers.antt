@@ -1,4 +1,4 @@
-use Rattle.std.proofs.Common.{◌≡◌, ◌<◌, ◌+◌, length, All, subst, sym}
+use Rattle.std.proofs.Common.{◌<◌, ◌+◌, ◌∙◌, length, All, subst, sym, ap}
 use Rattle.chord_live.proofs.Counting.{open_may, next_above}
 use Rattle.chord_table.specs.Views.{Register}
 use Rattle.chord_live.proofs.register.Register.open_caller.Goals as goal
@@ -10,10 +10,11 @@ admit_caller-seat-requires-clause-may g c =
 pub invariant_of-self : goal.invariant_of-self
 invariant_of-self g c =
     let i = c.self.invariant in
-    let admitted = c.admit_caller-seat.ensures.admitted in (
+    let nodes = ap (λ (r : Register). r.nodes) c.admit_caller-seat.ensures.admitted in
+    let callers = ap (λ (r : Register). r.callers) c.admit_caller-seat.ensures.admitted in (
       i.0,
       i.1,
-      subst (λ (r : Register). length r.nodes ≡ c.self.inside.nodes) (sym admitted) i.2,
-      subst (λ (r : Register). All (λ no. no < c.self.inside.nodes) r.nodes) (sym admitted) i.3,
-      subst (λ (r : Register). All (λ no. no < c.self.inside.callers + 1) r.callers) (sym admitted) (next_above c.self.inside.registrar.callers c.self.inside.callers i.4),
+      ap length nodes ∙ i.2,
+      subst (All (λ no. no < c.self.inside.nodes)) (sym nodes) i.3,
+      subst (All (λ no. no < c.self.inside.callers + 1)) (sym callers) (next_above c.self.inside.registrar.callers c.self.inside.callers i.4),
     )
