@@ -1,6 +1,6 @@
 //! What a caller may be told.
-ghost use Rattle.std.specs.Prelude.{◌≡◌, ◌↔◌, IsTrue, IfOk};
-ghost use Rattle.chord_map.specs.Map.{fits};
+ghost use Rattle.std.specs.Prelude.{◌≡◌, ◌↔◌, IsTrue, IfOk, OnErr};
+ghost use Rattle.chord_map.specs.Map.{IsValues, fits};
 
 use crate::request::Request;
 use crate::values::Values;
@@ -17,9 +17,10 @@ pub enum Reply {
 }
 
 impl Reply {
-    /// An equal copy.
+    /// An equal copy. Only that of values takes memory.
     pub fn try_copy(&self) -> Result<Reply, AllocError>
-        ensures { IfOk result (λ copy. copy ≡ self.now) }
+        ensures copy { IfOk result (λ copy. copy ≡ self.now) }
+        ensures memory { OnErr result (IsValues self.now) }
     {
         match self {
             Reply::Added => Ok(Reply::Added),

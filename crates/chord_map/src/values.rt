@@ -2,13 +2,14 @@
 ghost use Rattle.std.specs.Prelude.{◌≡◌, ◌≤◌, ◌<◌, ◌++◌, ◌∷◌, [], IfOk, OnOk, OnErr, length, insert, remove, slice_get};
 
 use crate::bytes::Bytes;
+use smallvec::SmallVec;
 use std::alloc::{AllocError, Global};
 use std::marker::Model;
 
-/// The values under a key.
+/// The values under a key. A single one stands in the value itself, more of them are allocated.
 #[derive(Debug, Drop)]
 pub struct Values {
-    items: Vec<Bytes>,
+    items: SmallVec<Bytes, 1>,
 }
 
 impl Model for Values {
@@ -24,27 +25,14 @@ impl Values {
         ensures { result ≡ [] }
     {
         Values {
-            items: Vec::new(alloc),
+            items: SmallVec::new(alloc),
         }
-    }
-
-    pub fn from_vec(items: Vec<Bytes>) -> Values
-        ensures { result ≡ items.items }
-    {
-        Values { items }
-    }
-
-    pub fn into_vec(self) -> Vec<Bytes>
-        ensures { result.items ≡ self }
-    {
-        let Values { items } = self;
-        items
     }
 
     pub fn as_slice(&self) -> &[Bytes]
         ensures { result.now ≡ self.now }
     {
-        &self.items
+        self.items.as_slice()
     }
 
     /// Adds a value at the end.
@@ -79,8 +67,8 @@ impl Values {
     pub fn try_copy(&self) -> Result<Values, AllocError>
         ensures { IfOk result (λ copy. copy ≡ self.now) }
     {
-        let mut items = Vec::with_capacity(*self.items.allocator(), self.items.len())?;
-        for bytes in self.items.iter() {
+        let mut items = SmallVec::with_capacity(*self.items.allocator(), self.items.len())?;
+        for bytes in self.items.as_slice() {
             items.push(bytes.try_copy()?)?;
         }
         Ok(Values { items })
@@ -100,7 +88,7 @@ impl PartialEq for Values {
         ensures test { result ≡ same_values self.now other.now }
         ensures same { IsTrue result ↔ (self.now ≡ other.now) }
     {
-        self.items.as_slice() == other.items.as_slice()
+        self.as_slice() == other.as_slice()
     }
 }
 

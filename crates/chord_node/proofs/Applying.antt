@@ -15,7 +15,8 @@ use Rattle.chord_map.specs.declared.request.Request.{Request}
 use Rattle.chord_map.specs.Map.{insert_pair, by_order, pair_cmp}
 use Rattle.chord_map.proofs.MapLemmas.{is_same}
 use Rattle.chord_map.proofs.Replies.{after_reply}
-use Rattle.chord_node.specs.Asked.{adds, is_full_for, IsValues, Applied}
+use Rattle.chord_map.specs.Map.{IsValues}
+use Rattle.chord_node.specs.Asked.{adds, is_full_for, Applied}
 
 has_room : (did : Inserted) (pairs : List Pair) (limit : ℕ) → (did ≡ Added → length pairs < limit)
     → cond (adds (reply_for did)) (leb limit (length pairs)) false ≡ false

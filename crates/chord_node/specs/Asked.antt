@@ -34,11 +34,6 @@ Applied request old limit (Ok reply) new = (reply ≡ reply_to request old) × (
 Applied request old limit (Err fault.Full) new = (is_full_for request old limit ≡ true) × (new ≡ old)
 Applied request old limit (Err fault.Memory) new = (is_full_for request old limit ≡ false) × (new ≡ old)
 
--- the reply tells values, as that of a Retrieve does
-abbrev pub IsValues : Reply → Type 0
-IsValues (reply.Values values) = Unit {0}
-IsValues other = ⊥
-
 -- the answer to a call that the segment knows so, over a store that holds these pairs
 abbrev pub past_answer : Past → Ask → List Pair → ℕ → Answered
 past_answer Seen ask pairs limit = answer.Dropped

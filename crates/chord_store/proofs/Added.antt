@@ -17,11 +17,11 @@ use Rattle.chord_store.specs.declared.outcome.Inserted.{Inserted}
 use Rattle.chord_store.specs.declared.outcome.Inserted.TheVariants.{Added, Present, SetFull}
 use Rattle.chord_store.specs.declared.value_set.ValueSet.{ValueSet}
 use Rattle.chord_store.specs.Store.{AddIs, insertion}
-use Rattle.chord_store.specs.Tree.{vec_cmp, has_bytes, pairs_of_sets, set_has}
+use Rattle.chord_store.specs.Tree.{key_cmp, has_bytes, pairs_of_sets, set_has}
 use Rattle.chord_store.specs.ValueSet.{has_value, SetInsertIs}
 use Rattle.chord_store.proofs.Sets.{Sets, has-tree, tree-join, tree-stay, values-tree}
 
-module _ (m n : Sets) (m_rises : IsStrictlySortedBy vec_cmp (keys_of m.entries)) (n_rises : IsStrictlySortedBy vec_cmp (keys_of n.entries)) (key value : List ℕ) (set : ValueSet) where
+module _ (m n : Sets) (m_rises : IsStrictlySortedBy key_cmp (keys_of m.entries)) (n_rises : IsStrictlySortedBy key_cmp (keys_of n.entries)) (key value : List ℕ) (set : ValueSet) where
   has_of : (old : ValueSet) → lookup (has_bytes key) m.entries ≡ Some old → has_pair (pair_of key value) (pairs_of_sets m.entries) ≡ has_value value old.values
   has_of old held = has-tree m.entries m_rises (pair_of key value) ∙ ap (set_has value) held
 
@@ -29,7 +29,7 @@ module _ (m n : Sets) (m_rises : IsStrictlySortedBy vec_cmp (keys_of m.entries))
   count_of old held = ap (λ (vs : List (List ℕ)). length vs) (values-tree m.entries m_rises key (Some old) held)
 
   -- what the set answers is what the map replies
-  pub set_answers : (old : ValueSet) → lookup (has_bytes key) m.entries ≡ Some old → tree.WritesThrough vec_cmp (λ k. slice_cmp nat_cmp key k.items) m set n
+  pub set_answers : (old : ValueSet) → lookup (has_bytes key) m.entries ≡ Some old → tree.WritesThrough key_cmp (λ k. slice_cmp nat_cmp key k) m set n
       → {E : Type 0} (r : Result Inserted E) → SetInsertIs value old.values r set.values → AddIs (pair_of key value) (pairs_of_sets m.entries) r (pairs_of_sets n.entries)
   set_answers old held written (Ok Added) a =
       let due = due_added key value (pairs_of_sets m.entries) (has_of old held ∙ a.0) (rw (count_of old held) a.1) in
@@ -44,7 +44,7 @@ module _ (m n : Sets) (m_rises : IsStrictlySortedBy vec_cmp (keys_of m.entries))
       (due_added key value (pairs_of_sets m.entries) (has_of old held ∙ a.0) (rw (count_of old held) a.1), tree-stay m n m_rises n_rises key value set old a.2 held written)
 
 -- with no set under its key an insert is due to add
-pub none_adds : (m : Sets) → IsStrictlySortedBy vec_cmp (keys_of m.entries) → (key value : List ℕ) → lookup (has_bytes key) m.entries ≡ None → reply_to (Insert key value) (pairs_of_sets m.entries) ≡ reply.Added
+pub none_adds : (m : Sets) → IsStrictlySortedBy key_cmp (keys_of m.entries) → (key value : List ℕ) → lookup (has_bytes key) m.entries ≡ None → reply_to (Insert key value) (pairs_of_sets m.entries) ≡ reply.Added
 none_adds m rises key value absent =
     let count : length (values_at key (pairs_of_sets m.entries)) ≡ 0 = ap (λ (vs : List (List ℕ)). length vs) (values-tree m.entries rises key None absent) in
     due_added key value (pairs_of_sets m.entries) (has-tree m.entries rises (pair_of key value) ∙ ap (set_has value) absent) (omega arith)

@@ -15,13 +15,13 @@ use Rattle.chord_map.proofs.Lists.{Has, by_test, has_filter, has_filter_back}
 use Rattle.chord_map.proofs.MapLemmas.{RisingPairs, bytes_same, bytes_itself, has_filtered, has_of}
 use Rattle.chord_map.proofs.Placed.{same_pairs}
 use Rattle.chord_store.specs.Inside.{pairs_inside, pairs_outside}
-use Rattle.chord_store.specs.Tree.{has_bytes, has_key, pairs_of_sets, set_has, vec_cmp}
+use Rattle.chord_store.specs.Tree.{has_bytes, has_key, pairs_of_sets, set_has, key_cmp}
 use Rattle.chord_store.proofs.Inside.{rises_outside}
 use Rattle.chord_store.proofs.Puts.{lies_in}
 use Rattle.chord_store.proofs.Sets.{Sets, alike, has-tree, map_after, same_bytes}
 
 -- one set less
-pub key_dropped : (m n : Sets) → IsStrictlySortedBy vec_cmp (keys_of m.entries) → IsStrictlySortedBy vec_cmp (keys_of n.entries) → (key : List ℕ) → tree.UpdatesBy vec_cmp (λ k. slice_cmp nat_cmp key k.items) m n None
+pub key_dropped : (m n : Sets) → IsStrictlySortedBy key_cmp (keys_of m.entries) → IsStrictlySortedBy key_cmp (keys_of n.entries) → (key : List ℕ) → tree.UpdatesBy key_cmp (λ k. slice_cmp nat_cmp key k) m n None
     → (q : Pair) → has_pair q (pairs_of_sets n.entries) ≡ (not (bytes_eq key q.key) && has_pair q (pairs_of_sets m.entries))
 key_dropped m n m_rises n_rises key updates q =
     let under = lookup (has_bytes q.key) m.entries in

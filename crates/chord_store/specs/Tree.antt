@@ -1,8 +1,6 @@
 -- What a tree of sets has.
 use Rattle.std.specs.Prelude.{ℕ, Bool, false, List, [], ◌∷◌, ◌++◌, map, Option, None, Some, bytes_eq}
 use Rattle.std.specs.List.{list_any}
-use Rattle.std.specs.declared.vec.Vec.{Vec}
-use Rattle.std.specs.declared.alloc.Global.{Global}
 use Rattle.std.specs.declared.cmp.Ordering.{Ordering}
 use Rattle.std.specs.BTreeMap.{is_at}
 use Rattle.std.specs.Ordering.{nat_cmp}
@@ -11,26 +9,26 @@ use Rattle.chord_map.specs.declared.pair.Pair.{Pair}
 use Rattle.chord_store.specs.declared.value_set.ValueSet.{ValueSet}
 use Rattle.chord_store.specs.ValueSet.{has_value}
 
--- a key of the tree
-abbrev pub ByteVec : Type 0
-ByteVec = Vec ℕ Global
+-- a key of the tree: its bytes
+abbrev pub Key : Type 0
+Key = List ℕ
 
 -- how keys compare
-abbrev pub vec_cmp : ByteVec → ByteVec → Ordering
-vec_cmp x y = slice_cmp nat_cmp x.items y.items
+abbrev pub key_cmp : Key → Key → Ordering
+key_cmp = slice_cmp nat_cmp
 
 -- whether a key has these bytes
-abbrev pub has_bytes : List ℕ → ByteVec → Bool
-has_bytes bytes x = is_at (λ (y : ByteVec). slice_cmp nat_cmp bytes y.items) x
+abbrev pub has_bytes : List ℕ → Key → Bool
+has_bytes bytes x = is_at (λ (y : Key). slice_cmp nat_cmp bytes y) x
 
 -- the pairs of one key
 abbrev pub pairs_under : List ℕ → List (List ℕ) → List Pair
 pairs_under key values = map (λ (value : List ℕ). record { key = key; value = value }) values
 
 -- the pairs of all keys, one key after another
-abbrev pub pairs_of_sets : List (ByteVec × ValueSet) → List Pair
+abbrev pub pairs_of_sets : List (Key × ValueSet) → List Pair
 pairs_of_sets [] = []
-pairs_of_sets (e ∷ rest) = pairs_under e.0.items e.1.values ++ pairs_of_sets rest
+pairs_of_sets (e ∷ rest) = pairs_under e.0 e.1.values ++ pairs_of_sets rest
 
 -- whether the set, if there is one, has the value
 abbrev pub set_has : List ℕ → Option ValueSet → Bool

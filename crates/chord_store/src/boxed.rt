@@ -2,7 +2,7 @@
 use crate::outcome::{Inserted, StoreFault};
 use crate::store::EntryStore;
 use chord_ident::Span;
-use chord_map::{Pair, Values};
+use chord_map::{Bytes, Pair, Values};
 use std::alloc::{AllocError, Global};
 
 impl EntryStore for Box<dyn EntryStore + Send> {
@@ -10,11 +10,11 @@ impl EntryStore for Box<dyn EntryStore + Send> {
 
     ghost limit = { λ b. (EntryStore-box b).limit b.value };
 
-    fn insert(&mut self, key: &[u8], value: &[u8]) -> Result<Inserted, StoreFault> {
+    fn insert(&mut self, key: &Bytes, value: &[u8]) -> Result<Inserted, StoreFault> {
         (**self).insert(key, value)
     }
 
-    fn remove(&mut self, key: &[u8], value: &[u8]) -> bool {
+    fn remove(&mut self, key: &Bytes, value: &[u8]) -> bool {
         (**self).remove(key, value)
     }
 
@@ -30,7 +30,7 @@ impl EntryStore for Box<dyn EntryStore + Send> {
         (**self).count()
     }
 
-    fn values(&self, alloc: Global, key: &[u8]) -> Result<Values, AllocError> {
+    fn values(&self, alloc: Global, key: &Bytes) -> Result<Values, AllocError> {
         (**self).values(alloc, key)
     }
 

@@ -6,7 +6,7 @@ use crate::lists::{copy_span, insert_within, put_all_within, take_out, values_un
 use crate::outcome::{Inserted, StoreFault};
 use crate::store::EntryStore;
 use chord_ident::Span;
-use chord_map::{Pair, PairList, Values};
+use chord_map::{Bytes, Pair, PairList, Values};
 use std::alloc::{AllocError, Global};
 use std::marker::Model;
 
@@ -46,12 +46,12 @@ impl EntryStore for CappedStore {
 
     ghost limit = { λ store. store.limit };
 
-    fn insert(&mut self, key: &[u8], value: &[u8]) -> Result<Inserted, StoreFault> {
-        insert_within(&mut self.pairs, self.limit, key, value)
+    fn insert(&mut self, key: &Bytes, value: &[u8]) -> Result<Inserted, StoreFault> {
+        insert_within(&mut self.pairs, self.limit, key.as_slice(), value)
     }
 
-    fn remove(&mut self, key: &[u8], value: &[u8]) -> bool {
-        self.pairs.remove(key, value)
+    fn remove(&mut self, key: &Bytes, value: &[u8]) -> bool {
+        self.pairs.remove(key.as_slice(), value)
     }
 
     fn take_out(&mut self, span: &Span) {
@@ -66,8 +66,8 @@ impl EntryStore for CappedStore {
         self.pairs.as_slice().len() as u64
     }
 
-    fn values(&self, alloc: Global, key: &[u8]) -> Result<Values, AllocError> {
-        values_under(alloc, self.pairs.as_slice(), key)
+    fn values(&self, alloc: Global, key: &Bytes) -> Result<Values, AllocError> {
+        values_under(alloc, self.pairs.as_slice(), key.as_slice())
     }
 
     fn copy_span(&self, alloc: Global, span: &Span) -> Result<Vec<Pair>, AllocError> {

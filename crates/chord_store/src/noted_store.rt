@@ -6,7 +6,7 @@ use crate::capped_store::CappedStore;
 use crate::outcome::{Inserted, StoreFault};
 use crate::store::EntryStore;
 use chord_ident::Span;
-use chord_map::{Pair, Values};
+use chord_map::{Bytes, Pair, Values};
 use std::alloc::{AllocError, Global};
 use std::marker::Model;
 use std::sync::{Arc, OnceLock};
@@ -52,11 +52,11 @@ impl EntryStore for NotedStore {
 
     ghost limit = { λ _. 2 ^ 64 - 1 };
 
-    fn insert(&mut self, key: &[u8], value: &[u8]) -> Result<Inserted, StoreFault> {
+    fn insert(&mut self, key: &Bytes, value: &[u8]) -> Result<Inserted, StoreFault> {
         self.list.insert(key, value)
     }
 
-    fn remove(&mut self, key: &[u8], value: &[u8]) -> bool {
+    fn remove(&mut self, key: &Bytes, value: &[u8]) -> bool {
         self.list.remove(key, value)
     }
 
@@ -72,7 +72,7 @@ impl EntryStore for NotedStore {
         self.list.count()
     }
 
-    fn values(&self, alloc: Global, key: &[u8]) -> Result<Values, AllocError> {
+    fn values(&self, alloc: Global, key: &Bytes) -> Result<Values, AllocError> {
         self.list.values(alloc, key)
     }
 

@@ -8,7 +8,7 @@ ghost use Rattle.chord_store.specs.Store.{HasFew, InsertIs, PutAllIs};
 
 use crate::outcome::{Inserted, StoreFault};
 use chord_ident::Span;
-use chord_map::{Pair, Values};
+use chord_map::{Bytes, Pair, Values};
 use std::alloc::{AllocError, Global};
 
 /// A map of sets of at most 1,000 values, as the rising list of its pairs, with a limit on how many they are.
@@ -19,12 +19,12 @@ pub trait EntryStore: Drop {
 
     /// Adds the value to the set under the key. A value that is there and a set that is full are
     /// seen before the limit, and being out of memory last.
-    fn insert(&mut self, key: &[u8], value: &[u8]) -> Result<Inserted, StoreFault>
+    fn insert(&mut self, key: &Bytes, value: &[u8]) -> Result<Inserted, StoreFault>
         ensures answer { InsertIs (record { key = key.now; value = value.now }) (content self.old) (limit self.old) result (content self.new) }
         ensures limit { limit self.new ≡ limit self.old };
 
     /// Takes the value out of the set under the key, and says whether it was there.
-    fn remove(&mut self, key: &[u8], value: &[u8]) -> bool
+    fn remove(&mut self, key: &Bytes, value: &[u8]) -> bool
         ensures was_there { result ≡ has_pair (record { key = key.now; value = value.now }) (content self.old) }
         ensures change { content self.new ≡ remove_pair (record { key = key.now; value = value.now }) (content self.old) }
         ensures limit { limit self.new ≡ limit self.old };
@@ -48,7 +48,7 @@ pub trait EntryStore: Drop {
         ensures few { HasFew (content self.now) };
 
     /// The values under the key, in byte order.
-    fn values(&self, alloc: Global, key: &[u8]) -> Result<Values, AllocError>
+    fn values(&self, alloc: Global, key: &Bytes) -> Result<Values, AllocError>
         ensures { IfOk result (λ values. values ≡ values_at key.now (content self.now)) };
 
     /// Copies of the pairs whose keys lie in the span, by key bytes and then by value bytes.

@@ -3,7 +3,7 @@ ghost use Rattle.std.specs.Prelude.{◌≡◌, [], OnErr};
 
 use crate::{CappedStore, EntryStore, Inserted, ListStore, NotedStore, StoreFault, TreeStore};
 use chord_ident::{Id, Span};
-use chord_map::{Pair, PairList};
+use chord_map::{Bytes, Pair, PairList};
 use std::alloc::Global;
 use std::process::Abort;
 use std::sync::{Arc, OnceLock};
@@ -11,11 +11,19 @@ use std::test::Fail;
 
 mod growths;
 
+// A key of so few bytes that it takes no memory.
+fn key(alloc: Global, bytes: &[u8]) -> Bytes {
+    match Bytes::from_slice(alloc, bytes) {
+        Ok(key) => key,
+        Err(_) => Bytes::from_vec(Vec::new(alloc)),
+    }
+}
+
 // Inserts the pair and compares the answer.
 fn insert<S: EntryStore>(
     rt: &impl Abort,
     store: &mut S,
-    key: &[u8],
+    key: &Bytes,
     value: &[u8],
     expected: Result<Inserted, StoreFault>,
 ) {
@@ -24,9 +32,10 @@ fn insert<S: EntryStore>(
 
 // Puts a set of 1,000 values under `a`.
 fn fill<S: EntryStore>(rt: &impl Abort, alloc: Global, store: &mut S) -> Result<(), Fail> {
+    let a = key(alloc, b"a");
     for n in 0..1000u32 {
         let value = format!(in alloc; "{n:04}")?;
-        insert(rt, store, b"a", value.as_bytes(), Ok(Inserted::Added));
+        insert(rt, store, &a, value.as_bytes(), Ok(Inserted::Added));
     }
     Ok(())
 }
@@ -34,14 +43,15 @@ fn fill<S: EntryStore>(rt: &impl Abort, alloc: Global, store: &mut S) -> Result<
 // A set of 1,000 values takes no more, and takes one again after one was removed.
 fn fill_a_set<S: EntryStore>(rt: &impl Abort, alloc: Global, store: &mut S) -> Result<(), Fail> {
     fill(rt, alloc, store)?;
-    insert(rt, store, b"a", b"1000", Ok(Inserted::SetFull));
-    insert(rt, store, b"a", b"0999", Ok(Inserted::Present));
+    let a = key(alloc, b"a");
+    insert(rt, store, &a, b"1000", Ok(Inserted::SetFull));
+    insert(rt, store, &a, b"0999", Ok(Inserted::Present));
     for is_there in [true, false] {
-        assert_eq!(rt; store.remove(b"a", b"0000"), is_there);
+        assert_eq!(rt; store.remove(&a, b"0000"), is_there);
     }
-    insert(rt, store, b"a", b"1000", Ok(Inserted::Added));
+    insert(rt, store, &a, b"1000", Ok(Inserted::Added));
     assert_eq!(rt; store.count(), 1000);
-    let values = store.values(alloc, b"a")?;
+    let values = store.values(alloc, &a)?;
     assert_eq!(rt; values.as_slice().len(), 1000);
     assert_eq!(rt; values.as_slice()[0].as_slice(), b"0001".as_slice());
     assert_eq!(rt; values.as_slice()[999].as_slice(), b"1000".as_slice());
@@ -54,14 +64,14 @@ fn half() -> Span {
 }
 
 // Puts in three pairs of the half and one beside it.
-fn put_four<S: EntryStore>(rt: &impl Abort, store: &mut S) {
-    for (key, value) in [
+fn put_four<S: EntryStore>(rt: &impl Abort, alloc: Global, store: &mut S) {
+    for (bytes, value) in [
         (b"b".as_slice(), b"x"),
         (b"abc", b"x"),
         (b"a", b"y"),
         (b"a", b"x"),
     ] {
-        insert(rt, store, key, value, Ok(Inserted::Added));
+        insert(rt, store, &key(alloc, bytes), value, Ok(Inserted::Added));
     }
 }
 
@@ -69,8 +79,8 @@ fn put_four<S: EntryStore>(rt: &impl Abort, store: &mut S) {
 fn has_one<S: EntryStore>(rt: &impl Abort, alloc: Global, store: &S) -> Result<(), Fail> {
     assert_eq!(rt; store.count(), 1);
     assert_eq!(rt; store.copy_span(alloc, &half())?.len(), 0);
-    assert_eq!(rt; store.values(alloc, b"a")?.as_slice().len(), 0);
-    assert_eq!(rt; store.values(alloc, b"b")?.as_slice().len(), 1);
+    assert_eq!(rt; store.values(alloc, &key(alloc, b"a"))?.as_slice().len(), 0);
+    assert_eq!(rt; store.values(alloc, &key(alloc, b"b"))?.as_slice().len(), 1);
     Ok(())
 }
 
@@ -80,7 +90,7 @@ fn is_of(pair: &Pair, key: &[u8], value: &[u8]) -> bool {
 
 // What lies in the half is copied in order, and leaves the store.
 fn move_a_span<S: EntryStore>(rt: &impl Abort, alloc: Global, store: &mut S) -> Result<(), Fail> {
-    put_four(rt, store);
+    put_four(rt, alloc, store);
     let pairs = store.copy_span(alloc, &half())?;
     assert_eq!(rt; pairs.len(), 3);
     assert!(rt; is_of(&pairs[0], b"a", b"x"));
@@ -96,7 +106,7 @@ fn drop_what_was_copied<S: EntryStore>(
     alloc: Global,
     store: &mut S,
 ) -> Result<(), Fail> {
-    put_four(rt, store);
+    put_four(rt, alloc, store);
     let half = half();
     let copies = store.copy_span(alloc, &half)?;
     assert_eq!(rt; copies.len(), 3);
@@ -178,7 +188,7 @@ fn puts_all_pairs(rt: HostRuntime) -> Result<(), Fail> {
     assert_eq!(rt; list.count(), 2);
     let mut tree = TreeStore::new(alloc);
     assert_eq!(rt; put_two(alloc, &mut tree)?, Ok(()));
-    assert_eq!(rt; tree.values(alloc, b"a")?.as_slice().len(), 1);
+    assert_eq!(rt; tree.values(alloc, &key(alloc, b"a"))?.as_slice().len(), 1);
     Ok(())
 }
 
@@ -197,11 +207,12 @@ fn puts_all_pairs_or_none(rt: HostRuntime) -> Result<(), Fail> {
 #[test]
 fn a_full_store_takes_what_it_has(rt: HostRuntime) {
     let mut store = CappedStore::new(rt.alloc(), 1);
-    insert(&rt, &mut store, b"a", b"x", Ok(Inserted::Added));
-    insert(&rt, &mut store, b"a", b"y", Err(StoreFault::Full));
-    insert(&rt, &mut store, b"a", b"x", Ok(Inserted::Present));
-    assert!(rt; store.remove(b"a", b"x"));
-    insert(&rt, &mut store, b"a", b"y", Ok(Inserted::Added));
+    let a = key(rt.alloc(), b"a");
+    insert(&rt, &mut store, &a, b"x", Ok(Inserted::Added));
+    insert(&rt, &mut store, &a, b"y", Err(StoreFault::Full));
+    insert(&rt, &mut store, &a, b"x", Ok(Inserted::Present));
+    assert!(rt; store.remove(&a, b"x"));
+    insert(&rt, &mut store, &a, b"y", Ok(Inserted::Added));
 }
 
 #[test]
@@ -220,7 +231,13 @@ fn a_dropped_store_notes_its_count(rt: HostRuntime) -> Result<(), Fail> {
         NotedStore::new(alloc, note.clone()?),
     )?;
     for value in [b"x", b"y", b"z"] {
-        insert(&rt, &mut store, b"a", value, Ok(Inserted::Added));
+        insert(
+            &rt,
+            &mut store,
+            &key(alloc, b"a"),
+            value,
+            Ok(Inserted::Added),
+        );
     }
     assert_eq!(rt; note.get().copied(), None);
     drop(store);
@@ -235,7 +252,13 @@ fn the_first_dropped_store_notes_its_count(rt: HostRuntime) -> Result<(), Fail> 
     drop(NotedStore::new(alloc, note.clone()?));
     assert_eq!(rt; note.get().copied(), Some(0));
     let mut store = NotedStore::new(alloc, note.clone()?);
-    insert(&rt, &mut store, b"a", b"x", Ok(Inserted::Added));
+    insert(
+        &rt,
+        &mut store,
+        &key(alloc, b"a"),
+        b"x",
+        Ok(Inserted::Added),
+    );
     drop(store);
     assert_eq!(rt; note.get().copied(), Some(0));
     Ok(())

@@ -8,7 +8,7 @@ ghost use Rattle.chord_map.specs.Map.{has_pair, insert_pair, remove_pair, values
 ghost use Rattle.chord_map.specs.Pairs.{IsRising};
 ghost use Rattle.chord_store.specs.Inside.{pairs_inside, pairs_outside};
 ghost use Rattle.chord_store.specs.Store.{AddIs, HasFew};
-ghost use Rattle.chord_store.specs.Tree.{has_bytes, has_key, pairs_of_sets, pairs_under, set_values, vec_cmp};
+ghost use Rattle.chord_store.specs.Tree.{has_bytes, has_key, pairs_of_sets, pairs_under, set_values, key_cmp};
 
 use crate::outcome::Inserted;
 use crate::value_set::ValueSet;
@@ -22,7 +22,7 @@ use std::marker::Model;
 #[derive(Drop)]
 pub struct Tree {
     alloc: Global,
-    sets: BTreeMap<Vec<u8>, ValueSet>,
+    sets: BTreeMap<Bytes, ValueSet>,
     count: u64,
 }
 
@@ -31,13 +31,13 @@ impl Model for Tree {
     ghost use Rattle.std.specs.BTreeMap.{keys};
     ghost use Rattle.std.specs.List.Sorted.{IsStrictlySortedBy};
     ghost use Rattle.chord_map.specs.declared.pair.Pair.{Pair};
-    ghost use Rattle.chord_store.specs.Tree.{pairs_of_sets, vec_cmp};
+    ghost use Rattle.chord_store.specs.Tree.{pairs_of_sets, key_cmp};
 
     ghost Value = { List Pair };
 
     ghost view = { λ tree. pairs_of_sets tree.sets.entries };
 
-    ghost invariant = { λ tree. IsStrictlySortedBy vec_cmp (keys tree.sets) × (tree.count ≡ length (pairs_of_sets tree.sets.entries)) };
+    ghost invariant = { λ tree. IsStrictlySortedBy key_cmp (keys tree.sets) × (tree.count ≡ length (pairs_of_sets tree.sets.entries)) };
 }
 
 impl Tree {
@@ -59,7 +59,7 @@ impl Tree {
         self.count
     }
 
-    pub fn contains(&self, key: &[u8], value: &[u8]) -> bool
+    pub fn contains(&self, key: &Bytes, value: &[u8]) -> bool
         ensures test { result ≡ has_pair (record { key = key.now; value = value.now }) self.now }
         ensures rising { IsRising self.now }
     {
@@ -70,7 +70,7 @@ impl Tree {
     }
 
     /// How many values stand under the key.
-    pub fn count_under(&self, key: &[u8]) -> usize
+    pub fn count_under(&self, key: &Bytes) -> usize
         ensures { result ≡ length (values_at key.now self.now) }
     {
         match self.sets.get(key) {
@@ -80,7 +80,7 @@ impl Tree {
     }
 
     /// Copies of the values under the key, in byte order.
-    pub fn values(&self, alloc: Global, key: &[u8]) -> Result<Values, AllocError>
+    pub fn values(&self, alloc: Global, key: &Bytes) -> Result<Values, AllocError>
         ensures { IfOk result (λ values. values ≡ values_at key.now self.now) }
     {
         match self.sets.get(key) {
@@ -90,7 +90,7 @@ impl Tree {
     }
 
     /// Adds the pair, unless it is there or its set is full. It looks the key up once, and a new key twice.
-    pub fn insert(&mut self, key: &[u8], value: &[u8]) -> Result<Inserted, AllocError>
+    pub fn insert(&mut self, key: &Bytes, value: &[u8]) -> Result<Inserted, AllocError>
         requires { length self.old < 2 ^ 64 - 1 }
         ensures answer { AddIs (record { key = key.now; value = value.now }) self.old result self.new }
         ensures rising { IsRising self.old }
@@ -112,12 +112,12 @@ impl Tree {
         ensures ok { OnOk result (self.new ≡ insert_pair pair.now self.old) }
         ensures err { OnErr result (self.new ≡ self.old) }
     {
-        self.insert(pair.key.as_slice(), pair.value.as_slice())?;
+        self.insert(&pair.key, pair.value.as_slice())?;
         Ok(())
     }
 
     /// Takes the pair out, and says whether it was there.
-    pub fn remove(&mut self, key: &[u8], value: &[u8]) -> bool
+    pub fn remove(&mut self, key: &Bytes, value: &[u8]) -> bool
         ensures was_there { result ≡ has_pair (record { key = key.now; value = value.now }) self.old }
         ensures change { self.new ≡ remove_pair (record { key = key.now; value = value.now }) self.old }
     {
@@ -156,30 +156,29 @@ impl Tree {
 
 // Adds the value to the set under the key, unless it is there or the set is full.
 fn add(
-    sets: &mut BTreeMap<Vec<u8>, ValueSet>,
+    sets: &mut BTreeMap<Bytes, ValueSet>,
     alloc: Global,
-    key: &[u8],
+    key: &Bytes,
     value: &[u8],
 ) -> Result<Inserted, AllocError>
-    requires { IsStrictlySortedBy vec_cmp (keys sets.old) }
-    ensures ordered { IsStrictlySortedBy vec_cmp (keys sets.new) }
+    requires { IsStrictlySortedBy key_cmp (keys sets.old) }
+    ensures ordered { IsStrictlySortedBy key_cmp (keys sets.new) }
     ensures answer { AddIs (record { key = key.now; value = value.now }) (pairs_of_sets sets.old.entries) result (pairs_of_sets sets.new.entries) }
 {
     match sets.get_mut(key) {
         Some(set) => set.insert(alloc, value),
         None => {
             let set = ValueSet::one(alloc, value)?;
-            let key = Vec::from_slice(alloc, key)?;
-            sets.insert(key, set)?;
+            sets.insert(key.try_copy()?, set)?;
             Ok(Inserted::Added)
         }
     }
 }
 
 // Takes the value out of the set under the key. A set whose only value it is goes with it.
-fn drop_value(sets: &mut BTreeMap<Vec<u8>, ValueSet>, key: &[u8], value: &[u8]) -> bool
-    requires { IsStrictlySortedBy vec_cmp (keys sets.old) }
-    ensures ordered { IsStrictlySortedBy vec_cmp (keys sets.new) }
+fn drop_value(sets: &mut BTreeMap<Bytes, ValueSet>, key: &Bytes, value: &[u8]) -> bool
+    requires { IsStrictlySortedBy key_cmp (keys sets.old) }
+    ensures ordered { IsStrictlySortedBy key_cmp (keys sets.new) }
     ensures was_there { result ≡ has_pair (record { key = key.now; value = value.now }) (pairs_of_sets sets.old.entries) }
     ensures change { pairs_of_sets sets.new.entries ≡ remove_pair (record { key = key.now; value = value.now }) (pairs_of_sets sets.old.entries) }
 {
@@ -191,7 +190,7 @@ fn drop_value(sets: &mut BTreeMap<Vec<u8>, ValueSet>, key: &[u8], value: &[u8]) 
 }
 
 // Whether the set under the key has this value alone.
-fn is_only(sets: &BTreeMap<Vec<u8>, ValueSet>, key: &[u8], value: &[u8]) -> bool
+fn is_only(sets: &BTreeMap<Bytes, ValueSet>, key: &Bytes, value: &[u8]) -> bool
     ensures { IsTrue result ↔ (set_values (lookup (has_bytes key.now) sets.now.entries) ≡ value.now ∷ []) }
 {
     match sets.get(key) {
@@ -201,10 +200,10 @@ fn is_only(sets: &BTreeMap<Vec<u8>, ValueSet>, key: &[u8], value: &[u8]) -> bool
 }
 
 // Takes the value out of the set under the key, where it is not the only one.
-fn drop_among(sets: &mut BTreeMap<Vec<u8>, ValueSet>, key: &[u8], value: &[u8]) -> bool
-    requires ordered { IsStrictlySortedBy vec_cmp (keys sets.old) }
+fn drop_among(sets: &mut BTreeMap<Bytes, ValueSet>, key: &Bytes, value: &[u8]) -> bool
+    requires ordered { IsStrictlySortedBy key_cmp (keys sets.old) }
     requires others { set_values (lookup (has_bytes key.now) sets.old.entries) ≢ value.now ∷ [] }
-    ensures ordered { IsStrictlySortedBy vec_cmp (keys sets.new) }
+    ensures ordered { IsStrictlySortedBy key_cmp (keys sets.new) }
     ensures was_there { result ≡ has_pair (record { key = key.now; value = value.now }) (pairs_of_sets sets.old.entries) }
     ensures change { pairs_of_sets sets.new.entries ≡ remove_pair (record { key = key.now; value = value.now }) (pairs_of_sets sets.old.entries) }
 {
@@ -215,26 +214,26 @@ fn drop_among(sets: &mut BTreeMap<Vec<u8>, ValueSet>, key: &[u8], value: &[u8]) 
 }
 
 // Drops the sets whose keys lie in the span.
-fn drop_span(sets: &mut BTreeMap<Vec<u8>, ValueSet>, span: &Span)
-    ensures ordered { IsStrictlySortedBy vec_cmp (keys sets.new) }
+fn drop_span(sets: &mut BTreeMap<Bytes, ValueSet>, span: &Span)
+    ensures ordered { IsStrictlySortedBy key_cmp (keys sets.new) }
     ensures change { pairs_of_sets sets.new.entries ≡ pairs_outside span.now (pairs_of_sets sets.old.entries) }
 {
     sets.retain(|key, _| !span.contains(Id::of_bytes(key.as_slice())));
 }
 
 // Drops the sets under the keys of the pairs.
-fn drop_keys(sets: &mut BTreeMap<Vec<u8>, ValueSet>, pairs: &[Pair])
-    requires { IsStrictlySortedBy vec_cmp (keys sets.old) }
-    ensures ordered { IsStrictlySortedBy vec_cmp (keys sets.new) }
+fn drop_keys(sets: &mut BTreeMap<Bytes, ValueSet>, pairs: &[Pair])
+    requires { IsStrictlySortedBy key_cmp (keys sets.old) }
+    ensures ordered { IsStrictlySortedBy key_cmp (keys sets.new) }
     ensures change { (q : PairOf) → has_pair q (pairs_of_sets sets.new.entries) ≡ (not (has_key q.key pairs.now) && has_pair q (pairs_of_sets sets.old.entries)) }
 {
     for pair in pairs {
-        sets.remove(pair.key.as_slice());
+        sets.remove(&pair.key);
     }
 }
 
 // How many values all sets have.
-fn count_values(sets: &BTreeMap<Vec<u8>, ValueSet>) -> u64
+fn count_values(sets: &BTreeMap<Bytes, ValueSet>) -> u64
     requires { length (pairs_of_sets sets.now.entries) < 2 ^ 64 }
     ensures { result ≡ length (pairs_of_sets sets.now.entries) }
 {
@@ -248,14 +247,14 @@ fn count_values(sets: &BTreeMap<Vec<u8>, ValueSet>) -> u64
 // Copies of the pairs of the sets whose keys lie in the span.
 fn copy_sets(
     alloc: Global,
-    sets: &BTreeMap<Vec<u8>, ValueSet>,
+    sets: &BTreeMap<Bytes, ValueSet>,
     span: &Span,
 ) -> Result<Vec<Pair>, AllocError>
     ensures { IfOk result (λ pairs. pairs.items ≡ pairs_inside span.now (pairs_of_sets sets.now.entries)) }
 {
     let mut copies = Vec::new(alloc);
     for (key, set) in sets.iter() {
-        copy_set(alloc, &mut copies, span, key.as_slice(), set)?;
+        copy_set(alloc, &mut copies, span, key, set)?;
     }
     Ok(copies)
 }
@@ -265,16 +264,16 @@ fn copy_set(
     alloc: Global,
     copies: &mut Vec<Pair>,
     span: &Span,
-    key: &[u8],
+    key: &Bytes,
     set: &ValueSet,
 ) -> Result<(), AllocError>
     ensures { OnOk result (copies.new.items ≡ copies.old.items ++ pairs_inside span.now (pairs_under key.now set.now.values)) }
 {
-    if !span.contains(Id::of_bytes(key)) {
+    if !span.contains(Id::of_bytes(key.as_slice())) {
         return Ok(());
     }
     for value in set.values.as_slice() {
-        let key = Bytes::from_slice(alloc, key)?;
+        let key = key.try_copy()?;
         let value = value.try_copy()?;
         copies.push(Pair { key, value })?;
     }

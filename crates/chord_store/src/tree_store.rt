@@ -9,7 +9,7 @@ use crate::store::EntryStore;
 use crate::tree::Tree;
 use chord_ident::Span;
 use chord_map::limits::SET_VALUES;
-use chord_map::{Pair, Values};
+use chord_map::{Bytes, Pair, Values};
 use std::alloc::{AllocError, Global};
 use std::marker::Model;
 
@@ -44,11 +44,11 @@ impl EntryStore for TreeStore {
 
     ghost limit = { λ _. 2 ^ 64 - 1 };
 
-    fn insert(&mut self, key: &[u8], value: &[u8]) -> Result<Inserted, StoreFault> {
+    fn insert(&mut self, key: &Bytes, value: &[u8]) -> Result<Inserted, StoreFault> {
         insert_new(&mut self.tree, key, value)
     }
 
-    fn remove(&mut self, key: &[u8], value: &[u8]) -> bool {
+    fn remove(&mut self, key: &Bytes, value: &[u8]) -> bool {
         self.tree.remove(key, value)
     }
 
@@ -64,7 +64,7 @@ impl EntryStore for TreeStore {
         self.tree.len()
     }
 
-    fn values(&self, alloc: Global, key: &[u8]) -> Result<Values, AllocError> {
+    fn values(&self, alloc: Global, key: &Bytes) -> Result<Values, AllocError> {
         self.tree.values(alloc, key)
     }
 
@@ -78,7 +78,7 @@ impl EntryStore for TreeStore {
 }
 
 // Puts the value under the key, where it is new and the set has room.
-fn insert_new(tree: &mut Tree, key: &[u8], value: &[u8]) -> Result<Inserted, StoreFault>
+fn insert_new(tree: &mut Tree, key: &Bytes, value: &[u8]) -> Result<Inserted, StoreFault>
     ensures { InsertIs (record { key = key.now; value = value.now }) tree.old (2 ^ 64 - 1) result tree.new }
 {
     if tree.len() == LIMIT {
@@ -91,7 +91,7 @@ fn insert_new(tree: &mut Tree, key: &[u8], value: &[u8]) -> Result<Inserted, Sto
 }
 
 // What an insert answers where the tree has as many pairs as it may.
-fn insert_into_full(tree: &Tree, key: &[u8], value: &[u8]) -> Result<Inserted, StoreFault>
+fn insert_into_full(tree: &Tree, key: &Bytes, value: &[u8]) -> Result<Inserted, StoreFault>
     requires { length tree.now ≡ 2 ^ 64 - 1 }
     ensures { InsertIs (record { key = key.now; value = value.now }) tree.now (2 ^ 64 - 1) result tree.now }
 {

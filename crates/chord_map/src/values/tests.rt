@@ -22,11 +22,11 @@ fn found_of_three(alloc: Global) -> Option<Found> {
     let between = Bytes::from_slice(alloc, b"y").ok()?;
     values.insert(1, between).ok()?;
     let count = values.as_slice().len();
-    let copy = Values::from_vec(values.try_copy().ok()?.into_vec());
+    let copy = values.try_copy().ok()?;
     let copy_was_equal = copy == values;
     let middle = values.remove(1);
     let copy_is_equal = copy == values;
-    let rest = values.into_vec();
+    let rest = values.as_slice();
     let ends_in_z = match rest.get(1) {
         Some(last) => last.as_slice() == b"z".as_slice(),
         None => false,
@@ -35,7 +35,7 @@ fn found_of_three(alloc: Global) -> Option<Found> {
         count,
         copy_was_equal,
         copy_is_equal,
-        removed_y: middle.into_vec().as_slice() == b"y".as_slice(),
+        removed_y: middle.as_slice() == b"y".as_slice(),
         left: rest.len(),
         ends_in_z,
     })

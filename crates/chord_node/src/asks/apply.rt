@@ -1,6 +1,6 @@
 //! A request applied to a store.
 ghost use Rattle.std.specs.Prelude.{◌≡◌, IfOk, OnErr, Ok, if◌then◌else◌};
-ghost use Rattle.chord_node.specs.Asked.{Applied, IsValues, is_full_for};
+ghost use Rattle.chord_node.specs.Asked.{Applied, is_full_for};
 ghost use Rattle.chord_store.specs.Store.{reply_for};
 
 use chord_map::{Bytes, Reply, Request};
@@ -33,7 +33,7 @@ fn apply_insert<S: EntryStore>(
     ensures applied { Applied (Request.Insert key.now value.now) (S.content store.old) (S.limit store.old) result (S.content store.new) }
     ensures limit { S.limit store.new ≡ S.limit store.old }
 {
-    match store.insert(key.as_slice(), value.as_slice()) {
+    match store.insert(key, value.as_slice()) {
         Ok(did) => Ok(reply_to_insert(did)),
         Err(fault) => Err(fault),
     }
@@ -42,7 +42,7 @@ fn apply_insert<S: EntryStore>(
 fn apply_retrieve<S: EntryStore>(alloc: Global, store: &S, key: &Bytes) -> Result<Reply, StoreFault>
     ensures { Applied (Request.Retrieve key.now) (S.content store.now) (S.limit store.now) result (S.content store.now) }
 {
-    let Ok(values) = store.values(alloc, key.as_slice()) else {
+    let Ok(values) = store.values(alloc, key) else {
         return Err(StoreFault::Memory);
     };
     Ok(Reply::Values(values))
@@ -52,7 +52,7 @@ fn apply_remove<S: EntryStore>(store: &mut S, key: &Bytes, value: &Bytes) -> Rep
     ensures applied { Applied (Request.Remove key.now value.now) (S.content store.old) (S.limit store.old) (Ok result) (S.content store.new) }
     ensures limit { S.limit store.new ≡ S.limit store.old }
 {
-    let found = store.remove(key.as_slice(), value.as_slice());
+    let found = store.remove(key, value.as_slice());
     reply_to_remove(found)
 }
 
@@ -72,30 +72,15 @@ pub(crate) fn apply<S: EntryStore>(
     }
 }
 
-/// The reply once more. Only one that tells values takes memory.
-pub(crate) fn another(reply: &Reply) -> Result<Reply, AllocError>
-    ensures ok { IfOk result (λ copy. copy ≡ reply.now) }
-    ensures memory { OnErr result (IsValues reply.now) }
-{
-    match reply {
-        Reply::Values(values) => Ok(Reply::Values(values.try_copy()?)),
-        Reply::Added => Ok(Reply::Added),
-        Reply::Present => Ok(Reply::Present),
-        Reply::SetFull => Ok(Reply::SetFull),
-        Reply::Removed => Ok(Reply::Removed),
-        Reply::Absent => Ok(Reply::Absent),
-    }
-}
-
 /// Whether the store has no room for the pair. A pair that it takes in is taken out again.
 fn is_full_for_pair<S: EntryStore>(store: &mut S, key: &Bytes, value: &Bytes) -> bool
     ensures answer { result ≡ is_full_for (Request.Insert key.now value.now) (S.content store.old) (S.limit store.old) }
     ensures same { S.content store.new ≡ S.content store.old }
     ensures limit { S.limit store.new ≡ S.limit store.old }
 {
-    match store.insert(key.as_slice(), value.as_slice()) {
+    match store.insert(key, value.as_slice()) {
         Ok(Inserted::Added) => {
-            store.remove(key.as_slice(), value.as_slice());
+            store.remove(key, value.as_slice());
             false
         }
         Ok(Inserted::Present) => false,

@@ -3,10 +3,11 @@ ghost use Rattle.std.specs.Prelude.{◌≡◌, Some, true, is_some, IfOk, IfSome
 ghost use Rattle.chord_ident.specs.Circle.{in_span};
 ghost use Rattle.chord_segment.specs.Segment.{id_of, past_at};
 ghost use Rattle.chord_segment.specs.Segment.Past.{New};
-ghost use Rattle.chord_node.specs.Asked.{AnswersIn, IsValues, done_with};
+ghost use Rattle.chord_map.specs.Map.{IsValues};
+ghost use Rattle.chord_node.specs.Asked.{AnswersIn, done_with};
 
 use crate::asks::answered::Answered;
-use crate::asks::apply::{another, apply, is_full};
+use crate::asks::apply::{apply, is_full};
 use chord_caller::{Ask, Told};
 use chord_map::{Reply, Request};
 use chord_segment::{Done, Past, Segment};
@@ -36,11 +37,11 @@ fn copies_of(
     ensures note { IfOk result (λ both. both.1 ≡ done_with ask.now noted reply.now) }
     ensures memory { OnErr result (IsValues reply.now) }
 {
-    let kept = another(reply)?;
+    let kept = reply.try_copy()?;
     let Some(request) = noted else {
         return Ok((kept, None));
     };
-    let reply = another(reply)?;
+    let reply = reply.try_copy()?;
     let done = Done {
         caller: ask.caller,
         number: ask.number,

@@ -5,14 +5,17 @@ ghost use Rattle.std.specs.Prelude.{◌≡◌, []};
 use super::put_list;
 use crate::{CappedStore, EntryStore, Inserted, ListStore, NotedStore, StoreFault, TreeStore};
 use chord_ident::{Id, Span};
-use chord_map::{Pair, PairList, Values};
+use chord_map::{Bytes, Pair, PairList, Values};
 use std::alloc::{AllocError, Global};
 use std::process::Abort;
 use std::sync::{Arc, OnceLock};
 use std::test::Fail;
 
-// The n-th pair is the value [n] under the key [n / 3], so pairs are in the order of their numbers.
+// The n-th pair is a value of n alone under a key of n / 3 alone, so pairs are in the order of their numbers.
 const COUNT: u8 = 36;
+
+// So many bytes take memory.
+const LONG: usize = 17;
 
 // The pairs with even numbers below the one and with odd numbers below the other.
 #[derive(Clone, Copy)]
@@ -36,8 +39,16 @@ fn all_pairs<S: EntryStore>(alloc: Global, store: &S) -> Result<Vec<Pair>, Alloc
     }
 }
 
+// The key or value of this byte alone, asked for again where there was no memory.
+fn long(alloc: Global, n: u8) -> Result<Bytes, AllocError> {
+    match Bytes::from_slice(alloc, &[n; LONG]) {
+        Ok(bytes) => Ok(bytes),
+        Err(_) => Bytes::from_slice(alloc, &[n; LONG]),
+    }
+}
+
 fn is_byte(bytes: &[u8], n: u8) -> bool {
-    bytes == [n].as_slice()
+    bytes == [n; LONG].as_slice()
 }
 
 fn is_pair(pair: &Pair, n: u8) -> bool {
@@ -60,33 +71,47 @@ fn has_these<S: EntryStore>(alloc: Global, store: &S, there: There) -> bool {
 }
 
 // Puts in a pair, and once more where there was no memory and the store has what it had.
-fn put<S: EntryStore>(rt: &impl Abort, alloc: Global, store: &mut S, n: u8, there: There) {
-    if let Err(fault) = store.insert(&[n / 3], &[n]) {
+fn put<S: EntryStore>(
+    rt: &impl Abort,
+    alloc: Global,
+    store: &mut S,
+    n: u8,
+    there: There,
+) -> Result<(), AllocError> {
+    let key = long(alloc, n / 3)?;
+    if let Err(fault) = store.insert(&key, &[n; LONG]) {
         assert_eq!(rt; fault, StoreFault::Memory, "at {n}");
         assert!(rt; has_these(alloc, store, there), "at {n}");
-        let again = store.insert(&[n / 3], &[n]);
+        let again = store.insert(&key, &[n; LONG]);
         assert_eq!(rt; again, Ok(Inserted::Added), "at {n}");
     }
+    Ok(())
 }
 
 // Puts in the pairs with even numbers, and then those with odd ones.
-fn put_all_in_turn<S: EntryStore>(rt: &impl Abort, alloc: Global, store: &mut S) {
+fn put_all_in_turn<S: EntryStore>(
+    rt: &impl Abort,
+    alloc: Global,
+    store: &mut S,
+) -> Result<(), AllocError> {
     for i in 0..COUNT {
         if i < COUNT / 2 {
             let n = 2 * i;
-            put(rt, alloc, store, n, There { even: n, odd: 0 });
+            put(rt, alloc, store, n, There { even: n, odd: 0 })?;
         } else {
             let n = 2 * (i - COUNT / 2) + 1;
-            put(rt, alloc, store, n, There { odd: n, ..ALL });
+            put(rt, alloc, store, n, There { odd: n, ..ALL })?;
         }
     }
+    Ok(())
 }
 
-// The values under the key [5], asked for again where there was no memory.
+// The values under the fifth key, asked for again where there was no memory.
 fn values<S: EntryStore>(alloc: Global, store: &S) -> Result<Values, AllocError> {
-    match store.values(alloc, &[5]) {
+    let key = long(alloc, 5)?;
+    match store.values(alloc, &key) {
         Ok(values) => Ok(values),
-        Err(_) => store.values(alloc, &[5]),
+        Err(_) => store.values(alloc, &key),
     }
 }
 
@@ -110,8 +135,8 @@ fn has_values<S: EntryStore>(alloc: Global, store: &S) -> bool {
 fn pair_list(alloc: Global) -> Result<PairList, AllocError> {
     let mut list = PairList::new(alloc);
     for n in 0..COUNT {
-        if list.insert(&[n / 3], &[n]).is_err() {
-            list.insert(&[n / 3], &[n])?;
+        if list.insert(&[n / 3; LONG], &[n; LONG]).is_err() {
+            list.insert(&[n / 3; LONG], &[n; LONG])?;
         }
     }
     Ok(list)
@@ -141,7 +166,7 @@ fn refuses_growths<S: EntryStore>(rt: &impl Abort, alloc: Global, store: &mut S)
     assert!(rt; has_these(alloc, store, ALL));
     let id = Id::new(7);
     store.take_out(&Span::new(id, id));
-    put_all_in_turn(rt, alloc, store);
+    put_all_in_turn(rt, alloc, store)?;
     assert!(rt; has_these(alloc, store, ALL));
     assert!(rt; has_values(alloc, store));
     Ok(())

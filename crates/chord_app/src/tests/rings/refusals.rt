@@ -8,7 +8,7 @@ use chord_live::{
     AskFault, BeginFault, Blank, Caller, CollectFault, CreateFault, JoinFault, LeaveFault,
     NewFault, NoSuchNode, Open, OpenFault, RetireFault, RetryFault, Ring, Settings, TickFault,
 };
-use chord_map::{Request, RequestFault};
+use chord_map::{Bytes, Request, RequestFault};
 use chord_store::{CappedStore, EntryStore, Inserted};
 use chord_table::Naming;
 use std::alloc::{AllocError, Global};
@@ -59,15 +59,22 @@ fn settings_at_their_limits_are_good(rt: HostRuntime) {
 }
 
 /// Whether the store is one with room for a single pair, and empty.
-fn has_room_for_one(mut store: CappedStore) -> bool {
-    let first = store.insert(b"a".as_slice(), b"x".as_slice());
-    first == Ok(Inserted::Added) && store.insert(b"a".as_slice(), b"y".as_slice()).is_err()
+fn has_room_for_one(alloc: Global, mut store: CappedStore) -> bool {
+    let Ok(key) = Bytes::from_slice(alloc, b"a") else {
+        return false;
+    };
+    let first = store.insert(&key, b"x".as_slice());
+    first == Ok(Inserted::Added) && store.insert(&key, b"y".as_slice()).is_err()
 }
 
 /// Whether there is no node, for this reason, and its store came back.
-fn is_refused<F: PartialEq + Copy>(entered: Result<Peer, (F, CappedStore)>, why: F) -> bool {
+fn is_refused<F: PartialEq + Copy>(
+    alloc: Global,
+    entered: Result<Peer, (F, CappedStore)>,
+    why: F,
+) -> bool {
     match entered {
-        Err((fault, store)) => fault == why && has_room_for_one(store),
+        Err((fault, store)) => fault == why && has_room_for_one(alloc, store),
         Ok(_) => false,
     }
 }
@@ -121,7 +128,7 @@ fn is_created_once<J: Naming, R: Wait + Clock>(
     let first = ring.create(rt, Id::new(A), CappedStore::new(alloc, 1));
     let first = is_node(first, 0, A);
     let again = ring.create(rt, Id::new(A), CappedStore::new(alloc, 1));
-    is_refused(again, CreateFault::AlreadyCreated) && first
+    is_refused(alloc, again, CreateFault::AlreadyCreated) && first
 }
 
 /// Whether no node joins by this one, for this reason.
@@ -133,7 +140,7 @@ fn joins_not<J: Naming, R: Wait + Clock>(
     why: JoinFault,
 ) -> bool {
     let joined = ring.join(rt, Id::new(id), via, CappedStore::new(alloc, 1));
-    is_refused(joined, why)
+    is_refused(alloc, joined, why)
 }
 
 /// A second node joins by the first, under an identifier of its own; there is no place for a third.
@@ -177,7 +184,7 @@ fn is_stopped<J: Naming, R: Wait + Clock>(
 ) -> bool {
     let joined = joins_not(rt, alloc, ring, (B, 0), JoinFault::Stopped);
     let created = ring.create(rt, Id::new(B), CappedStore::new(alloc, 1));
-    let created = is_refused(created, CreateFault::Stopped);
+    let created = is_refused(alloc, created, CreateFault::Stopped);
     let ticked = ring.tick(rt, 0) == Err(TickFault::Stopped);
     let opened = matches!(open_fault(rt, ring), Some(OpenFault::Stopped));
     joined && created && ticked && opened

@@ -6,7 +6,7 @@ use Rattle.chord_map.specs.declared.request.Request.TheVariants.{Insert}
 use Rattle.chord_map.specs.declared.reply.Reply.TheVariants.{Added}
 use Rattle.chord_map.proofs.MapLemmas.{pair_of}
 use Rattle.chord_map.proofs.Replies.{after_reply}
-use Rattle.chord_store.specs.Tree.{ByteVec, vec_cmp, pairs_of_sets}
+use Rattle.chord_store.specs.Tree.{Key, key_cmp, pairs_of_sets}
 use Rattle.chord_store.proofs.Added.{none_adds, refused_add, set_answers}
 use Rattle.chord_store.proofs.Sets.{Sets, tree-open}
 use Rattle.chord_store.proofs.tree.add.Goals as goal
@@ -22,9 +22,9 @@ returns-in_err-set-in-None-clause-answer c =
     refused_add (pair_of c.args.key.now c.args.value.now) _ _ _ c.from_residual.result c.from_residual.ensures.1
     (none_adds c.args.sets.now c.requires c.args.key.now c.args.value.now (sym c.get_mut.ensures.value ∙ ap option_copied_mut c.in-None.is)) (ap (λ (m : Sets). pairs_of_sets m.entries) c.get_mut.follows.holds-at-none)
 
-pub returns-in_err-key-in-None-clause-answer : goal.returns-in_err-key-in-None-clause-answer
-returns-in_err-key-in-None-clause-answer c =
-    refused_add (pair_of c.args.key.now c.args.value.now) _ _ _ c.from_residual-in_err-key-in-None.result c.from_residual-in_err-key-in-None.ensures.1
+pub returns-in_err-try_copy-in-None-clause-answer : goal.returns-in_err-try_copy-in-None-clause-answer
+returns-in_err-try_copy-in-None-clause-answer c =
+    refused_add (pair_of c.args.key.now c.args.value.now) _ _ _ c.from_residual-in_err-try_copy-in-None.result c.from_residual-in_err-try_copy-in-None.ensures.1
     (none_adds c.args.sets.now c.requires c.args.key.now c.args.value.now (sym c.get_mut.ensures.value ∙ ap option_copied_mut c.in-None.is)) (ap (λ (m : Sets). pairs_of_sets m.entries) c.get_mut.follows.holds-at-none)
 
 pub returns-in_err-insert-in-None-clause-answer : goal.returns-in_err-insert-in-None-clause-answer
@@ -35,11 +35,11 @@ returns-in_err-insert-in-None-clause-answer c =
 
 pub returns-in_ok-insert-in-None-clause-answer : goal.returns-in_ok-insert-in-None-clause-answer
 returns-in_ok-insert-in-None-clause-answer c =
-    let updates = subst (λ (m : Sets). UpdatesBy vec_cmp (λ (k : ByteVec). slice_cmp nat_cmp c.in_ok-key-in-None.key.items k.items) m c.insert-in-None.new.self (Some c.in_ok-set-in-None.set)) c.get_mut.follows.holds-at-none c.in_ok-insert-in-None.ensures.updates in
+    let updates = subst (λ (m : Sets). UpdatesBy key_cmp (λ (k : Key). slice_cmp nat_cmp c.in_ok-try_copy-in-None.field-0 k) m c.insert-in-None.new.self (Some c.in_ok-set-in-None.set)) c.get_mut.follows.holds-at-none c.in_ok-insert-in-None.ensures.updates in
     let absent = sym c.get_mut.ensures.value ∙ ap option_copied_mut c.in-None.is in
     let due = none_adds c.args.sets.now c.requires c.args.key.now c.args.value.now absent in (
       due,
-      tree-open c.args.sets.now c.insert-in-None.new.self c.requires c.in_ok-insert-in-None.ensures.ordered c.args.key.now c.args.value.now c.in_ok-set-in-None.set c.in_ok-key-in-None.key
-          c.in_ok-key-in-None.ensures.items c.in_ok-set-in-None.ensures absent updates
+      tree-open c.args.sets.now c.insert-in-None.new.self c.requires c.in_ok-insert-in-None.ensures.ordered c.args.key.now c.args.value.now c.in_ok-set-in-None.set c.in_ok-try_copy-in-None.field-0
+          c.in_ok-try_copy-in-None.ensures.copy c.in_ok-set-in-None.ensures absent updates
           ∙ sym (after_reply (Insert c.args.key.now c.args.value.now) Added (pairs_of_sets c.args.sets.now.entries) due),
     )

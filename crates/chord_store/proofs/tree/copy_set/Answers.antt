@@ -7,13 +7,13 @@ use Rattle.chord_store.proofs.tree.copy_set.Goals as goal
 
 pub returns-then-not-contains : goal.returns-then-not-contains
 returns-then-not-contains c =
-    let test : false ≡ in_span c.args.span.now (key_id c.args.key.now) = sym c.if-not-contains.true ∙ c.contains.ensures.test ∙ ap (in_span c.args.span.now) c.of_bytes.ensures in
+    let test : false ≡ in_span c.args.span.now (key_id c.args.key.now) = sym c.if-not-contains.true ∙ c.contains.ensures.test ∙ ap (in_span c.args.span.now) (c.of_bytes.ensures ∙ ap key_id c.as_slice.ensures) in
     sym (append-nil c.args.copies.now.items)
     ∙ ap (λ ps. c.args.copies.now.items ++ ps) (sym (inside-under c.args.span.now c.args.key.now c.args.set.now.values false test))
 
 pub returns : goal.returns
 returns c =
-    let test : true ≡ in_span c.args.span.now (key_id c.args.key.now) = sym c.if-not-contains.false ∙ c.contains.ensures.test ∙ ap (in_span c.args.span.now) c.of_bytes.ensures in
+    let test : true ≡ in_span c.args.span.now (key_id c.args.key.now) = sym c.if-not-contains.false ∙ c.contains.ensures.test ∙ ap (in_span c.args.span.now) (c.of_bytes.ensures ∙ ap key_id c.as_slice.ensures) in
     let all = take_all c.loop-value.value-index c.as_slice-value-items.result.now c.loop-value-test.false ∙ c.as_slice-value-items.ensures in
     c.loop-value.invariant
     ∙ ap (λ (vs : List (List ℕ)). c.args.copies.now.items ++ pairs_under c.args.key.now vs) all

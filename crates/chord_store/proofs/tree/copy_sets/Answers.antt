@@ -1,16 +1,16 @@
-use Rattle.std.proofs.Common.{◌∙◌, ◌++◌, sym, ap, List, ℕ}
+use Rattle.std.proofs.Common.{◌∙◌, ◌++◌, sym, ap, List}
 use Rattle.std.proofs.lemmas.List.{append-nil}
 use Rattle.chord_store.specs.declared.value_set.ValueSet.{ValueSet}
 use Rattle.chord_store.specs.Inside.{pairs_inside}
-use Rattle.chord_store.specs.Tree.{ByteVec, pairs_of_sets, pairs_under}
+use Rattle.chord_store.specs.Tree.{Key, pairs_of_sets}
 use Rattle.chord_store.proofs.Sets.{inside_first}
 use Rattle.chord_store.proofs.tree.copy_sets.Goals as goal
 
 pub loop-key-preserved : goal.loop-key-preserved
 loop-key-preserved c =
-    let e : ByteVec × ValueSet = (c.in-Some.key.now, c.in-Some.set.now) in
+    let e : Key × ValueSet = (c.in-Some.key.now, c.in-Some.set.now) in
     let copies = c.loop-key.copies.items in
-    let made = c.in_ok-copy_set.ensures ∙ ap (λ (k : List ℕ). copies ++ pairs_inside c.args.span.now (pairs_under k c.in-Some.set.now.values)) c.as_slice.ensures.value in
+    let made = c.in_ok-copy_set.ensures in
     inside_first c.args.span.now c.loop-key.key-iterator c.next.new.self e copies c.copy_set.new.copies.items _ c.in-Some.ensures.steps made c.loop-key.invariant
 
 pub returns : goal.returns
@@ -18,5 +18,5 @@ unfolding pairs_inside
 returns c =
     let copies = c.loop-key.copies.items in
     sym (append-nil copies)
-    ∙ ap (λ (es : List (ByteVec × ValueSet)). copies ++ pairs_inside c.args.span.now (pairs_of_sets es)) (sym c.in-None.ensures.steps.0)
+    ∙ ap (λ (es : List (Key × ValueSet)). copies ++ pairs_inside c.args.span.now (pairs_of_sets es)) (sym c.in-None.ensures.steps.0)
     ∙ c.loop-key.invariant

@@ -1,6 +1,6 @@
 use Rattle.std.proofs.Common.{ap, List, length, arith}
 use Rattle.chord_store.specs.declared.value_set.ValueSet.{ValueSet}
-use Rattle.chord_store.specs.Tree.{ByteVec, pairs_of_sets}
+use Rattle.chord_store.specs.Tree.{Key, pairs_of_sets}
 use Rattle.chord_store.proofs.Sets.{length_first}
 use Rattle.chord_store.proofs.tree.count_values.Goals as goal
 
@@ -12,5 +12,5 @@ loop-set-preserved c = omega (arith, c.loop-set.invariant, length_first _ _ _ c.
 
 pub returns : goal.returns
 returns c =
-    let none = ap (λ (es : List (ByteVec × ValueSet)). length (pairs_of_sets es)) c.in-None.ensures.steps.0 in
+    let none = ap (λ (es : List (Key × ValueSet)). length (pairs_of_sets es)) c.in-None.ensures.steps.0 in
     omega (arith, c.loop-set.invariant, none)

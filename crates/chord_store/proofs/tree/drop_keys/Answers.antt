@@ -9,11 +9,11 @@ pub loop-pair-preserved : goal.loop-pair-preserved
 loop-pair-preserved c =
     let before = c.loop-pair.sets in
     let pair = c.pair-item.result in
-    let key = c.as_slice.ensures ∙ ap (λ (p : Pair). p.key) c.pair-item.is in
+    let key = ap (λ (p : Pair). p.key) c.pair-item.is in
     record {
       ordered = c.remove.ensures.ordered;
       left = λ q. more_dropped q c.args.pairs.now c.loop-pair.pair-index pair _ (has_pair q (pairs_of_sets before.entries)) _ c.loop-pair-test.true
-          (key_dropped before c.remove.new.self c.loop-pair.invariant.ordered c.remove.ensures.ordered c.as_slice.result.now c.remove.ensures.updates q
+          (key_dropped before c.remove.new.self c.loop-pair.invariant.ordered c.remove.ensures.ordered _ c.remove.ensures.updates q
           ∙ ap (λ (k : List ℕ). not (bytes_eq k q.key) && has_pair q (pairs_of_sets before.entries)) key)
           (c.loop-pair.invariant.left q);
     }

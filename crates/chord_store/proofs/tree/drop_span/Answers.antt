@@ -4,7 +4,7 @@ use Rattle.chord_ident.specs.declared.span.Span.{Span}
 use Rattle.chord_ident.specs.Circle.{in_span, key_id}
 use Rattle.chord_store.specs.declared.value_set.ValueSet.{ValueSet}
 use Rattle.chord_store.specs.Inside.{pairs_outside}
-use Rattle.chord_store.specs.Tree.{ByteVec, pairs_of_sets}
+use Rattle.chord_store.specs.Tree.{Key, pairs_of_sets}
 use Rattle.chord_store.proofs.Sets.{sets-filter}
 use Rattle.chord_store.proofs.tree.drop_span.Goals as goal
 
@@ -12,5 +12,5 @@ pub returns-clause-change : goal.returns-clause-change
 unfolding pairs_outside
 returns-clause-change c =
     let outside_of = λ (key : List ℕ). not (in_span c.args.span.now (key_id key)) in
-    let left = filter_from_retain_pairs _ (λ (f : record { 0 : Bor Span }). f.0.now ≡ c.args.span.now) (λ (e : ByteVec × ValueSet). outside_of e.0.items) (λ g k v b w h same told. (search rules, search rules, search rules)) _ _ _ refl c.retain.ensures.filtered in
+    let left = filter_from_retain_pairs _ (λ (f : record { 0 : Bor Span }). f.0.now ≡ c.args.span.now) (λ (e : Key × ValueSet). outside_of e.0) (λ g k v b w h same told. (search rules, search rules, search rules)) _ _ _ refl c.retain.ensures.filtered in
     ap pairs_of_sets left ∙ sets-filter outside_of c.args.sets.now.entries

@@ -10,5 +10,5 @@ returns-then-told-number-clause-heard g c =
 
 pub returns-in-Ok-Fresh-clause-heard : goal.returns-in-Ok-Fresh-clause-heard
 returns-in-Ok-Fresh-clause-heard g c =
-    took_fresh c.args.number c.args.told c.in-Ok.reply c.args.self.now.caller c.take_told-2.new.self.caller c.if-told-number.false c.in-Ok.ensures
+    took_fresh c.args.number c.args.told c.in-Ok.reply c.args.self.now.caller c.take_told-2.new.self.caller c.if-told-number.false c.in-Ok.ensures.copy
     (subst (λ (h : TakenAs). TakeIs c.args.told c.args.self.now.caller (Ok h) c.take_told-2.new.self.caller) c.in-Ok-Fresh.field-0-is c.in-Ok-Fresh.ensures.answer)

@@ -16,7 +16,7 @@ pub invariant_of-self-in-Err : goal.invariant_of-self-in-Err
 invariant_of-self-in-Err c =
     let e : Pair = record { key = c.args.key.now; value = c.args.value.now } in
     let pair : Pair = record { key = c.in_ok-key-in-Err.key; value = c.in_ok-value-in-Err.value } in
-    let is : pair ≡ e = λ i. record { key = c.in_ok-key-in-Err.ensures i; value = c.in_ok-value-in-Err.ensures i } in
+    let is : pair ≡ e = λ i. record { key = c.in_ok-key-in-Err.ensures.copy i; value = c.in_ok-value-in-Err.ensures.copy i } in
     subst IsRising
     (sym (put c.self.inside.pairs.items _ c.as_slice.result.now e pair c.in-Err.place c.as_slice.ensures.value c.in-Err.ensures.absent is c.in_ok-insert-in-Err.ensures.items))
     (rising-insert e c.self.inside.pairs.items c.self.invariant)
@@ -31,6 +31,6 @@ pub returns-in_ok-insert-in-Err-clause-ok : goal.returns-in_ok-insert-in-Err-cla
 returns-in_ok-insert-in-Err-clause-ok c =
     let e : Pair = record { key = c.args.key.now; value = c.args.value.now } in
     let pair : Pair = record { key = c.in_ok-key-in-Err.key; value = c.in_ok-value-in-Err.value } in
-    let is : pair ≡ e = λ i. record { key = c.in_ok-key-in-Err.ensures i; value = c.in_ok-value-in-Err.ensures i } in
+    let is : pair ≡ e = λ i. record { key = c.in_ok-key-in-Err.ensures.copy i; value = c.in_ok-value-in-Err.ensures.copy i } in
     put c.self.inside.pairs.items _ c.as_slice.result.now e pair c.in-Err.place c.as_slice.ensures.value c.in-Err.ensures.absent is c.in_ok-insert-in-Err.ensures.items
     ∙ ap (insert_pair e) c.self.view_is

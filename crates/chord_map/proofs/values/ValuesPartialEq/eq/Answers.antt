@@ -5,4 +5,4 @@ use Rattle.chord_map.proofs.values.ValuesPartialEq.eq.Goals as goal
 pub returns-clause-same : goal.returns-clause-same
 returns-clause-same c =
     tells_values c.eq.result c.args.self.now c.args.other.now
-    (c.eq.ensures ∙ (λ i. same_values ((c.as_slice.ensures.value ∙ c.self.view_is) i) ((c.as_slice-2.ensures.value ∙ c.other.view_is) i)))
+    (c.eq.ensures ∙ (λ i. same_values (c.as_slice.ensures i) (c.as_slice-2.ensures i)))

@@ -6,5 +6,5 @@ use Rattle.chord_store.proofs.capped_store.CappedStoreEntryStore.remove.Goals as
 
 pub invariant_of-self : goal.invariant_of-self
 invariant_of-self c =
-    let pair : Pair = record { key = c.args.key.now; value = c.args.value.now } in
+    let pair : Pair = record { key = c.as_slice.result.now; value = c.args.value.now } in
     subst HasFew (sym c.remove.ensures.change) (few-remove pair c.self.inside.pairs c.self.invariant)

@@ -19,7 +19,7 @@ invariant_of-self c =
     let e = c.args.value.now in
     let place = c.in-Err.field-0 in
     let gap = subst (λ (vs : List (List ℕ)). IsGapFor (slice_cmp nat_cmp) vs e place) c.as_slice.ensures c.in-Err.ensures.absent in
-    let risen = subst (λ (v : List ℕ). IsStrictlySortedBy (slice_cmp nat_cmp) (insert_at xs place v)) (sym c.in_ok-value-in-Err-2.ensures) (rising_at_gap xs e place gap c.args.self.now.rises) in
+    let risen = subst (λ (v : List ℕ). IsStrictlySortedBy (slice_cmp nat_cmp) (insert_at xs place v)) (sym c.in_ok-value-in-Err-2.ensures.copy) (rising_at_gap xs e place gap c.args.self.now.rises) in
     let counted = one_more c.insert.result xs c.insert.new.self (insert_at xs place c.in_ok-value-in-Err-2.value) c.insert.ensures.ok c.insert.ensures.err (length-insert xs place c.in_ok-value-in-Err-2.value gap.in_range) c.args.self.now.some (omega arith) in
     record {
       rises = either c.insert.result xs c.insert.new.self (insert_at xs place c.in_ok-value-in-Err-2.value) c.insert.ensures.ok c.insert.ensures.err risen c.args.self.now.rises;
@@ -52,5 +52,5 @@ returns-in_ok-insert-in-Err-2 c =
     let gap = subst (λ (vs : List (List ℕ)). IsGapFor (slice_cmp nat_cmp) vs e c.in-Err.field-0) c.as_slice.ensures c.in-Err.ensures.absent in (
       has_not_in_gap xs e c.in-Err.field-0 gap,
       omega arith,
-      gains_at_gap xs c.insert.new.self e c.in-Err.field-0 (c.in_ok-insert-in-Err-2.ensures.ok ∙ ap (λ (v : List ℕ). insert_at xs c.in-Err.field-0 v) c.in_ok-value-in-Err-2.ensures),
+      gains_at_gap xs c.insert.new.self e c.in-Err.field-0 (c.in_ok-insert-in-Err-2.ensures.ok ∙ ap (λ (v : List ℕ). insert_at xs c.in-Err.field-0 v) c.in_ok-value-in-Err-2.ensures.copy),
     )

@@ -16,7 +16,7 @@ returns-then-not-is_above c =
 
 pub loop-preserved : goal.loop-preserved
 loop-preserved c =
-    rw (c.in_ok-push.ensures.ok, c.in_ok-from_slice.ensures) (goes_on c.loop.values c.args.number c.args.count c.loop.counter (option_copied c.loop.before) c.loop.rest.now c.in_ok-value.value.now c.in_ok-value.after.now (rising_at c.args.number None c.args.count c.args.bytes.now) c.loop-test.true c.in_ok-value.ensures (sym c.if-not-is_above.ensures) c.loop.invariant)
+    rw (c.in_ok-push.ensures.ok, c.in_ok-from_slice.ensures.copy) (goes_on c.loop.values c.args.number c.args.count c.loop.counter (option_copied c.loop.before) c.loop.rest.now c.in_ok-value.value.now c.in_ok-value.after.now (rising_at c.args.number None c.args.count c.args.bytes.now) c.loop-test.true c.in_ok-value.ensures (sym c.if-not-is_above.ensures) c.loop.invariant)
 
 pub returns : goal.returns
 returns c = is_done c.loop.values c.args.number c.args.count c.loop.counter (option_copied c.loop.before) c.loop.rest.now (rising_at c.args.number None c.args.count c.args.bytes.now) c.loop-test.false c.loop.invariant
