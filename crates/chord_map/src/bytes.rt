@@ -5,22 +5,30 @@ ghost use Rattle.std.specs.Ordering.{nat_cmp};
 ghost use Rattle.std.specs.Cmp.{partial_equiv_from_equiv};
 ghost use Rattle.std.specs.Cmp.Lexicographic.{slice_cmp, nat_list_eq_equiv, nat_list_cmp_total, texts_po, texts_ties};
 
-use smallvec::SmallVec;
+use crate::short::{LIMIT, Short};
 use std::alloc::{AllocError, Global};
 use std::cmp::Ordering;
-use std::default::MadeWith;
 use std::marker::Model;
 
 /// A key or a value. Up to 16 bytes stand in the value itself, more of them are allocated.
 #[derive(Debug, Drop)]
 pub struct Bytes {
-    items: SmallVec<u8, 16>,
+    storage: Storage,
+}
+
+#[derive(Debug, Drop)]
+enum Storage {
+    Inline(Short),
+    Heap(Vec<u8>),
 }
 
 impl Model for Bytes {
+    ghost use Rattle.std.specs.Prelude.{ℕ, List};
+    ghost use Rattle.chord_map.specs.Storage.{bytes_of};
+
     ghost Value = { List ℕ };
 
-    ghost view = { λ bytes. bytes.items.items };
+    ghost view = { λ bytes. bytes_of bytes.storage };
 }
 
 impl Bytes {
@@ -29,7 +37,7 @@ impl Bytes {
         ensures { result ≡ items.items }
     {
         Bytes {
-            items: SmallVec::from_vec(items),
+            storage: Storage::Heap(items),
         }
     }
 
@@ -38,14 +46,21 @@ impl Bytes {
         ensures copy { IfOk result (λ copy. copy ≡ bytes.now) }
         ensures short { length bytes.now ≤ 16 → IsOk result }
     {
-        let items = SmallVec::from_slice(alloc, bytes)?;
-        Ok(Bytes { items })
+        let storage = if bytes.len() <= LIMIT {
+            Storage::Inline(Short::from_slice(bytes))
+        } else {
+            Storage::Heap(bytes.to_vec(alloc)?)
+        };
+        Ok(Bytes { storage })
     }
 
     pub fn as_slice(&self) -> &[u8]
         ensures { result.now ≡ self.now }
     {
-        self.items.as_slice()
+        match &self.storage {
+            Storage::Inline(short) => short.as_slice(),
+            Storage::Heap(bytes) => bytes.as_slice(),
+        }
     }
 
     /// An equal copy.
@@ -53,17 +68,11 @@ impl Bytes {
         ensures copy { IfOk result (λ copy. copy ≡ self.now) }
         ensures short { length self.now ≤ 16 → IsOk result }
     {
-        Bytes::from_slice(*self.items.allocator(), self.items.as_slice())
-    }
-}
-
-/// No bytes, which take no memory.
-impl MadeWith<Global> for Bytes {
-    ghost is_made_with = { λ bytes. bytes ≡ [] };
-
-    fn made_with(alloc: Global) -> Bytes {
-        Bytes {
-            items: SmallVec::new(alloc),
+        match &self.storage {
+            Storage::Inline(short) => Ok(Bytes {
+                storage: Storage::Inline(short.copied()),
+            }),
+            Storage::Heap(bytes) => Bytes::from_slice(*bytes.allocator(), bytes.as_slice()),
         }
     }
 }

@@ -17,6 +17,7 @@ mod reply;
 mod request;
 #[cfg(test)]
 mod samples;
+mod short;
 mod values;
 
 pub use bytes::Bytes;

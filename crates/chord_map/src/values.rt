@@ -2,22 +2,42 @@
 ghost use Rattle.std.specs.Prelude.{◌≡◌, ◌≤◌, ◌<◌, ◌++◌, ◌∷◌, [], IfOk, OnOk, OnErr, length, insert, remove, slice_get};
 
 use crate::bytes::Bytes;
-use smallvec::SmallVec;
 use std::alloc::{AllocError, Global};
 use std::marker::Model;
+use std::{mem, slice};
 
 /// The values under a key. A single one stands in the value itself, more of them are allocated.
 #[derive(Debug, Drop)]
 pub struct Values {
-    items: SmallVec<Bytes, 1>,
+    items: Items,
+    alloc: Global,
+}
+
+#[derive(Debug, Drop)]
+enum Items {
+    Empty,
+    One(Bytes),
+    Many(Vec<Bytes>),
 }
 
 impl Model for Values {
     ghost use Rattle.std.specs.Prelude.{ℕ, List};
+    ghost use Rattle.chord_map.specs.Items.{values_of};
 
     ghost Value = { List (List ℕ) };
 
-    ghost view = { λ values. values.items.items };
+    ghost view = { λ values. values_of values.items };
+}
+
+// A vector of equal copies.
+fn copies(alloc: Global, values: &[Bytes]) -> Result<Vec<Bytes>, AllocError>
+    ensures { IfOk result (λ copies. copies.items ≡ values.now) }
+{
+    let mut copies = Vec::with_capacity(alloc, values.len())?;
+    for value in values {
+        copies.push(value.try_copy()?)?;
+    }
+    Ok(copies)
 }
 
 impl Values {
@@ -25,14 +45,19 @@ impl Values {
         ensures { result ≡ [] }
     {
         Values {
-            items: SmallVec::new(alloc),
+            items: Items::Empty,
+            alloc,
         }
     }
 
     pub fn as_slice(&self) -> &[Bytes]
         ensures { result.now ≡ self.now }
     {
-        self.items.as_slice()
+        match &self.items {
+            Items::Empty => &[],
+            Items::One(value) => slice::from_ref(value),
+            Items::Many(values) => values.as_slice(),
+        }
     }
 
     /// Adds a value at the end.
@@ -40,8 +65,8 @@ impl Values {
         ensures ok { OnOk result (self.new ≡ self.old ++ value ∷ []) }
         ensures err { OnErr result (self.new ≡ self.old) }
     {
-        self.items.push(value)?;
-        Ok(())
+        let end = self.as_slice().len();
+        self.insert(end, value)
     }
 
     /// Puts a value at the place, before those from there on.
@@ -50,7 +75,25 @@ impl Values {
         ensures ok { OnOk result (self.new ≡ insert self.old place value) }
         ensures err { OnErr result (self.new ≡ self.old) }
     {
-        self.items.insert(place, value)?;
+        match mem::replace(&mut self.items, Items::Empty) {
+            Items::Empty => self.items = Items::One(value),
+            Items::One(only) => match Vec::with_capacity(self.alloc, 2) {
+                Ok(mut values) => {
+                    values.push(only)?;
+                    values.insert(place, value)?;
+                    self.items = Items::Many(values);
+                }
+                Err(fault) => {
+                    self.items = Items::One(only);
+                    return Err(fault);
+                }
+            },
+            Items::Many(mut values) => {
+                let inserted = values.insert(place, value);
+                self.items = Items::Many(values);
+                inserted?;
+            }
+        }
         Ok(())
     }
 
@@ -60,18 +103,30 @@ impl Values {
         ensures value { slice_get self.old place ≡ Some result }
         ensures rest { self.new ≡ remove self.old place }
     {
-        self.items.remove(place)
+        match mem::replace(&mut self.items, Items::Empty) {
+            Items::Empty => unreachable!(),
+            Items::One(only) => only,
+            Items::Many(mut values) => {
+                let taken = values.remove(place);
+                self.items = Items::Many(values);
+                taken
+            }
+        }
     }
 
     /// An equal copy.
     pub fn try_copy(&self) -> Result<Values, AllocError>
         ensures { IfOk result (λ copy. copy ≡ self.now) }
     {
-        let mut items = SmallVec::with_capacity(*self.items.allocator(), self.items.len())?;
-        for bytes in self.items.as_slice() {
-            items.push(bytes.try_copy()?)?;
-        }
-        Ok(Values { items })
+        let items = match &self.items {
+            Items::Empty => Items::Empty,
+            Items::One(value) => Items::One(value.try_copy()?),
+            Items::Many(values) => Items::Many(copies(self.alloc, values.as_slice())?),
+        };
+        Ok(Values {
+            items,
+            alloc: self.alloc,
+        })
     }
 }
 

@@ -140,30 +140,35 @@ fn names_its_key_and_value(rt: HostRuntime) {
     );
 }
 
+/// Whether the reply fits the request.
+fn fits(reply: &Reply, request: Result<Request, AllocError>) -> Option<bool> {
+    Some(reply.fits(&request.ok()?))
+}
+
 /// Whether the reply fits an insert, a retrieve and a remove.
-fn fitting(alloc: Global, reply: &Reply) -> Option<(bool, bool, bool)> {
-    let added = Request::insert(alloc, b"a", b"x").ok()?;
-    let found = Request::retrieve(alloc, b"a").ok()?;
-    let gone = Request::remove(alloc, b"a", b"x").ok()?;
-    Some((reply.fits(&added), reply.fits(&found), reply.fits(&gone)))
+fn fitting(alloc: Global, reply: Reply) -> Option<(bool, bool, bool)> {
+    Some((
+        fits(&reply, Request::insert(alloc, b"a", b"x"))?,
+        fits(&reply, Request::retrieve(alloc, b"a"))?,
+        fits(&reply, Request::remove(alloc, b"a", b"x"))?,
+    ))
 }
 
 /// The same of the reply with the value x.
 fn fitting_values(alloc: Global) -> Option<(bool, bool, bool)> {
-    let values = one_value(alloc, b"x").ok()?;
-    fitting(alloc, &values)
+    fitting(alloc, one_value(alloc, b"x").ok()?)
 }
 
 #[test]
 fn knows_the_replies_of_its_kind(rt: HostRuntime) {
     let alloc = rt.alloc();
     let of_insert = Some((true, false, false));
-    assert_eq!(rt; fitting(alloc, &Reply::Added), of_insert);
-    assert_eq!(rt; fitting(alloc, &Reply::Present), of_insert);
-    assert_eq!(rt; fitting(alloc, &Reply::SetFull), of_insert);
+    assert_eq!(rt; fitting(alloc, Reply::Added), of_insert);
+    assert_eq!(rt; fitting(alloc, Reply::Present), of_insert);
+    assert_eq!(rt; fitting(alloc, Reply::SetFull), of_insert);
     let of_remove = Some((false, false, true));
-    assert_eq!(rt; fitting(alloc, &Reply::Removed), of_remove);
-    assert_eq!(rt; fitting(alloc, &Reply::Absent), of_remove);
+    assert_eq!(rt; fitting(alloc, Reply::Removed), of_remove);
+    assert_eq!(rt; fitting(alloc, Reply::Absent), of_remove);
     assert_eq!(rt; fitting_values(alloc), Some((false, true, false)));
 }
 

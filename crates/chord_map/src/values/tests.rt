@@ -3,55 +3,98 @@ use crate::Bytes;
 use std::alloc::{AllocError, Global};
 use std::test::Fail;
 
-// What was found of the values x, y and z, of which y was put between the others and then removed.
-#[derive(Clone, Copy, Debug, PartialEq, Eq)]
-struct Found {
-    count: usize,
-    copy_was_equal: bool,
-    copy_is_equal: bool,
-    removed_y: bool,
-    left: usize,
-    ends_in_z: bool,
+// A value for each letter, in the order given.
+fn values_of(alloc: Global, letters: &[u8]) -> Result<Values, AllocError> {
+    let mut values = Values::new(alloc);
+    for letter in letters {
+        values.push(Bytes::from_slice(alloc, &[*letter])?)?;
+    }
+    Ok(values)
 }
 
-fn found_of_three(alloc: Global) -> Option<Found> {
-    let mut values = Values::new(alloc);
-    values.push(Bytes::from_slice(alloc, b"x").ok()?).ok()?;
-    let last = [122].to_vec(alloc).ok()?;
-    values.push(Bytes::from_vec(last)).ok()?;
-    let between = Bytes::from_slice(alloc, b"y").ok()?;
-    values.insert(1, between).ok()?;
-    let count = values.as_slice().len();
-    let copy = values.try_copy().ok()?;
-    let copy_was_equal = copy == values;
-    let middle = values.remove(1);
-    let copy_is_equal = copy == values;
-    let rest = values.as_slice();
-    let ends_in_z = match rest.get(1) {
-        Some(last) => last.as_slice() == b"z".as_slice(),
-        None => false,
-    };
-    Some(Found {
-        count,
-        copy_was_equal,
-        copy_is_equal,
-        removed_y: middle.as_slice() == b"y".as_slice(),
-        left: rest.len(),
-        ends_in_z,
-    })
+// Whether there is a value for each letter, in the order given.
+fn are_of(values: &Values, letters: &[u8]) -> bool {
+    let mut rest = values.as_slice().iter();
+    for letter in letters {
+        if !rest
+            .next()
+            .is_some_and(|value| value.as_slice() == [*letter].as_slice())
+        {
+            return false;
+        }
+    }
+    rest.next().is_none()
 }
 
 #[test]
-fn holds_values_in_the_order_given(rt: HostRuntime) {
-    let expected = Found {
-        count: 3,
-        copy_was_equal: true,
-        copy_is_equal: false,
-        removed_y: true,
-        left: 2,
-        ends_in_z: true,
-    };
-    assert_eq!(rt; found_of_three(rt.alloc()), Some(expected));
+fn holds_values_in_the_order_given(rt: HostRuntime) -> Result<(), Fail> {
+    let alloc = rt.alloc();
+    assert!(rt; are_of(&values_of(alloc, b"")?, b""));
+    assert!(rt; are_of(&values_of(alloc, b"x")?, b"x"));
+    assert!(rt; are_of(&values_of(alloc, b"xyz")?, b"xyz"));
+    Ok(())
+}
+
+// Puts the letter at the place, where there is one.
+fn put(values: &mut Values, place: usize, alloc: Global, letter: u8) -> Result<(), AllocError> {
+    if place > values.as_slice().len() {
+        return Ok(());
+    }
+    values.insert(place, Bytes::from_slice(alloc, &[letter])?)
+}
+
+#[test]
+fn a_value_goes_between_two(rt: HostRuntime) -> Result<(), Fail> {
+    let alloc = rt.alloc();
+    let mut values = values_of(alloc, b"xz")?;
+    put(&mut values, 1, alloc, b'y')?;
+    assert!(rt; are_of(&values, b"xyz"));
+    Ok(())
+}
+
+#[test]
+fn a_value_goes_before_the_only_one(rt: HostRuntime) -> Result<(), Fail> {
+    let alloc = rt.alloc();
+    let mut values = values_of(alloc, b"z")?;
+    put(&mut values, 0, alloc, b'y')?;
+    assert!(rt; are_of(&values, b"yz"));
+    Ok(())
+}
+
+// Takes the value at the place out, which is that of the letter.
+fn takes(values: &mut Values, place: usize, letter: u8) -> bool {
+    place < values.as_slice().len() && values.remove(place).as_slice() == [letter].as_slice()
+}
+
+#[test]
+fn a_value_is_taken_out(rt: HostRuntime) -> Result<(), Fail> {
+    let mut values = values_of(rt.alloc(), b"xyz")?;
+    assert!(rt; takes(&mut values, 1, b'y'));
+    assert!(rt; are_of(&values, b"xz"));
+    Ok(())
+}
+
+#[test]
+fn the_only_value_comes_out(rt: HostRuntime) -> Result<(), Fail> {
+    let mut values = values_of(rt.alloc(), b"x")?;
+    assert!(rt; takes(&mut values, 0, b'x'));
+    assert!(rt; are_of(&values, b""));
+    Ok(())
+}
+
+// Whether a copy is equal to the values, and to those of the other letters.
+fn copy_equals(alloc: Global, letters: &[u8], others: &[u8]) -> Option<(bool, bool)> {
+    let values = values_of(alloc, letters).ok()?;
+    let copy = values.try_copy().ok()?;
+    Some((copy == values, copy == values_of(alloc, others).ok()?))
+}
+
+#[test]
+fn a_copy_is_equal(rt: HostRuntime) {
+    let alloc = rt.alloc();
+    for letters in [b"".as_slice(), b"x", b"xyz"] {
+        assert_eq!(rt; copy_equals(alloc, letters, b"xz"), Some((true, false)));
+    }
 }
 
 // Whether a copy of some bytes is equal to them.
@@ -65,47 +108,41 @@ fn copies_bytes(rt: HostRuntime) {
     assert_eq!(rt; bytes_are_copied(rt.alloc()), Some(true));
 }
 
-// The value [n], asked for again where there was no memory.
-fn value(alloc: Global, n: u8) -> Result<Bytes, AllocError> {
-    match Bytes::from_slice(alloc, &[n]) {
+// The value of the letter, asked for again where there was no memory.
+fn value(alloc: Global, letter: u8) -> Result<Bytes, AllocError> {
+    match Bytes::from_slice(alloc, &[letter]) {
         Ok(bytes) => Ok(bytes),
-        Err(_) => Bytes::from_slice(alloc, &[n]),
+        Err(_) => Bytes::from_slice(alloc, &[letter]),
     }
-}
-
-// Whether the values are [first], [first + 1] and so on, below `end`.
-fn are(values: &Values, first: u8, end: u8) -> bool {
-    let mut rest = values.as_slice().iter();
-    for n in first..end {
-        if !rest
-            .next()
-            .is_some_and(|value| value.as_slice() == [n].as_slice())
-        {
-            return false;
-        }
-    }
-    rest.next().is_none()
 }
 
 // With ample memory no growth is refused.
 #[test]
-fn a_refused_growth_leaves_the_values(rt: HostRuntime) -> Result<(), Fail> {
+fn a_refused_push_leaves_the_values(rt: HostRuntime) -> Result<(), Fail> {
+    let letters = b"abcdefghijkl";
     let alloc = rt.alloc();
-    let mut pushed = Values::new(alloc);
-    for n in 0..12 {
-        if pushed.push(value(alloc, n)?).is_err() {
-            assert!(rt; are(&pushed, 0, n), "at {n}");
-            pushed.push(value(alloc, n)?)?;
+    let mut values = Values::new(alloc);
+    for n in 0..letters.len() {
+        if values.push(value(alloc, letters[n])?).is_err() {
+            assert!(rt; are_of(&values, &letters[..n]), "at {n}");
+            values.push(value(alloc, letters[n])?)?;
         }
     }
-    assert!(rt; are(&pushed, 0, 12));
-    let mut inserted = Values::new(alloc);
-    for n in (0..12u8).rev() {
-        if inserted.insert(0, value(alloc, n)?).is_err() {
-            assert!(rt; are(&inserted, n + 1, 12), "at {n}");
-            inserted.insert(0, value(alloc, n)?)?;
+    assert!(rt; are_of(&values, letters));
+    Ok(())
+}
+
+#[test]
+fn a_refused_insert_leaves_the_values(rt: HostRuntime) -> Result<(), Fail> {
+    let letters = b"abcdefghijkl";
+    let alloc = rt.alloc();
+    let mut values = Values::new(alloc);
+    for n in (0..letters.len()).rev() {
+        if values.insert(0, value(alloc, letters[n])?).is_err() {
+            assert!(rt; are_of(&values, &letters[n + 1..]), "at {n}");
+            values.insert(0, value(alloc, letters[n])?)?;
         }
     }
-    assert!(rt; are(&inserted, 0, 12));
+    assert!(rt; are_of(&values, letters));
     Ok(())
 }
