@@ -149,6 +149,11 @@ pub fn makes(taken: &Taken, part: &Part) -> Result<&'static str, AllocError> {
     })
 }
 
+/// The word, also where memory was refused.
+fn said(word: Result<&'static str, AllocError>) -> &'static str {
+    word.unwrap_or("out of memory")
+}
+
 /// Notes a part of the next handover.
 pub fn note(taken: &mut Taken, part: &Part) -> Result<(), AllocError> {
     if taken.judge(part.from, part.number) == Verdict::Next {
@@ -179,10 +184,10 @@ fn two_parts_make_it_whole(rt: HostRuntime) -> Result<(), Fail> {
     let (first, second) = two_parts(rt.alloc())?;
     let mut taken = Taken::new(rt.alloc());
     for part in [&second, &second] {
-        assert_eq!(rt; take_in(&mut taken, part)?, "more");
+        assert_eq!(rt; said(take_in(&mut taken, part)), "more");
     }
     for part in [&first, &second] {
-        assert_eq!(rt; take_in(&mut taken, part)?, "whole");
+        assert_eq!(rt; said(take_in(&mut taken, part)), "whole");
     }
     Ok(())
 }
@@ -199,52 +204,49 @@ fn a_part_of_a_handover_that_was_taken_is_not_next(rt: HostRuntime) -> Result<()
     Ok(())
 }
 
-/// The whole that it makes with what is noted, if it makes one.
-fn gathered(taken: &Taken, part: &Part) -> Result<Option<Parcelled>, AllocError> {
+/// Whether it makes the whole circle with these pairs.
+fn makes_whole(taken: &Taken, part: &Part, pairs: &[Pair]) -> bool {
     if taken.judge(part.from, part.number) != Verdict::Next {
-        return Ok(None);
+        return false;
     }
-    Ok(match taken.whole_with(part)? {
-        Gather::Whole(whole) => Some(whole),
-        _ => None,
-    })
+    let circle = Span::new(Id::new(A), Id::new(A));
+    match taken.whole_with(part) {
+        Ok(Gather::Whole(whole)) => whole.segment().span() == circle && whole.pairs() == pairs,
+        _ => false,
+    }
 }
 
 #[test]
 fn what_is_whole_has_all_pairs(rt: HostRuntime) -> Result<(), Fail> {
+    let all = pairs(rt.alloc(), 65)?;
     let (first, second) = two_parts(rt.alloc())?;
     let mut taken = Taken::new(rt.alloc());
-    take_in(&mut taken, &second)?;
-    let whole = gathered(&taken, &first)?.ok_or("not whole")?;
-    assert_eq!(rt; whole.segment().span(), Span::new(Id::new(A), Id::new(A)));
-    assert!(rt; whole.pairs() == pairs(rt.alloc(), 65)?.as_slice());
+    assert_eq!(rt; said(take_in(&mut taken, &second)), "more");
+    assert!(rt; makes_whole(&taken, &first, &all));
     Ok(())
 }
 
 /// What part i of so many, with so many pairs, makes with what is noted.
-fn makes_with(
-    taken: &Taken,
-    alloc: Global,
-    i: u64,
-    of: u64,
-    count: u8,
-) -> Result<&'static str, AllocError>
+fn makes_with(taken: &Taken, alloc: Global, i: u64, of: u64, count: u8) -> &'static str
     requires low { 1 ≤ i }
     requires high { i ≤ of }
 {
-    makes(taken, &part_of(alloc, i, of, pairs(alloc, count)?))
+    match pairs(alloc, count) {
+        Ok(pairs) => said(makes(taken, &part_of(alloc, i, of, pairs))),
+        Err(_) => "out of memory",
+    }
 }
 
 #[test]
 fn parts_that_do_not_fit(rt: HostRuntime) -> Result<(), Fail> {
     let alloc = rt.alloc();
-    let mut taken = Taken::new(alloc);
     let first = part(alloc, 1, pairs(alloc, 64)?);
-    assert_eq!(rt; take_in(&mut taken, &first)?, "more");
-    assert_eq!(rt; makes_with(&taken, alloc, 2, 3, 1)?, "unfit");
-    assert_eq!(rt; makes_with(&taken, alloc, 2, 2, 1)?, "unfit");
-    assert_eq!(rt; makes_with(&taken, alloc, 2, 2, 0)?, "unfit");
-    assert_eq!(rt; makes_with(&taken, alloc, 1, 1, 0)?, "unfit");
+    let mut taken = Taken::new(alloc);
+    assert_eq!(rt; said(take_in(&mut taken, &first)), "more");
+    assert_eq!(rt; makes_with(&taken, alloc, 2, 3, 1), "unfit");
+    assert_eq!(rt; makes_with(&taken, alloc, 2, 2, 1), "unfit");
+    assert_eq!(rt; makes_with(&taken, alloc, 2, 2, 0), "unfit");
+    assert_eq!(rt; makes_with(&taken, alloc, 1, 1, 0), "unfit");
     Ok(())
 }
 
@@ -282,21 +284,36 @@ fn last_part(alloc: Global, count: u64) -> Result<Part, AllocError>
 
 #[test]
 fn a_set_of_a_parcel_has_at_most_a_thousand_values(rt: HostRuntime) -> Result<(), Fail> {
+    let all = pairs_from(rt.alloc(), 0, 1000)?;
+    let fits = last_part(rt.alloc(), 40)?;
+    let is_more = last_part(rt.alloc(), 41)?;
     let taken = all_but_the_last(rt.alloc())?;
-    let whole = gathered(&taken, &last_part(rt.alloc(), 40)?)?.ok_or("not whole")?;
-    assert!(rt; whole.pairs() == pairs_from(rt.alloc(), 0, 1000)?.as_slice());
-    assert_eq!(rt; makes(&taken, &last_part(rt.alloc(), 41)?)?, "unfit");
+    assert!(rt; makes_whole(&taken, &fits, &all));
+    assert_eq!(rt; said(makes(&taken, &is_more)), "unfit");
     Ok(())
+}
+
+fn equals_its_copy(part: &Part) -> Option<bool> {
+    Some(part.equals(&part.try_copy().ok()?))
+}
+
+/// Whether it equals part i of so many, with so many pairs.
+fn equals_part(part: &Part, alloc: Global, i: u64, of: u64, count: u8) -> Option<bool>
+    requires low { 1 ≤ i }
+    requires high { i ≤ of }
+{
+    Some(part.equals(&part_of(alloc, i, of, pairs(alloc, count).ok()?)))
 }
 
 #[test]
 fn parts_are_compared(rt: HostRuntime) -> Result<(), Fail> {
     let alloc = rt.alloc();
     let first = part(alloc, 1, pairs(alloc, 64)?);
-    assert!(rt; first.equals(&first.try_copy()?));
-    assert!(rt; !first.equals(&part(alloc, 1, pairs(alloc, 63)?)));
-    assert!(rt; !first.equals(&part(alloc, 2, pairs(alloc, 64)?)));
-    assert!(rt; !first.equals(&part_of(alloc, 1, 3, pairs(alloc, 64)?)));
+    assert_eq!(rt; equals_its_copy(&first), Some(true));
+    assert_eq!(rt; equals_part(&first, alloc, 1, 2, 64), Some(true));
+    assert_eq!(rt; equals_part(&first, alloc, 1, 2, 63), Some(false));
+    assert_eq!(rt; equals_part(&first, alloc, 2, 2, 64), Some(false));
+    assert_eq!(rt; equals_part(&first, alloc, 1, 3, 64), Some(false));
     Ok(())
 }
 

@@ -75,12 +75,18 @@ fn put_four<S: EntryStore>(rt: &impl Abort, alloc: Global, store: &mut S) {
     }
 }
 
+// How many values stand under the key.
+fn values_under<S: EntryStore>(alloc: Global, store: &S, bytes: &[u8]) -> Option<usize> {
+    let key = key(alloc, bytes);
+    Some(store.values(alloc, &key).ok()?.as_slice().len())
+}
+
 // Of the four the one beside the half is there.
 fn has_one<S: EntryStore>(rt: &impl Abort, alloc: Global, store: &S) -> Result<(), Fail> {
     assert_eq!(rt; store.count(), 1);
     assert_eq!(rt; store.copy_span(alloc, &half())?.len(), 0);
-    assert_eq!(rt; store.values(alloc, &key(alloc, b"a"))?.as_slice().len(), 0);
-    assert_eq!(rt; store.values(alloc, &key(alloc, b"b"))?.as_slice().len(), 1);
+    assert_eq!(rt; values_under(alloc, store, b"a"), Some(0));
+    assert_eq!(rt; values_under(alloc, store, b"b"), Some(1));
     Ok(())
 }
 
@@ -170,37 +176,35 @@ fn each_kind_drops_what_was_copied(rt: HostRuntime) -> Result<(), Fail> {
     drop_what_was_copied(&rt, alloc, &mut store)
 }
 
-// Two pairs under two keys go in, or none does.
-fn put_two<S: EntryStore>(alloc: Global, store: &mut S) -> Result<Result<(), StoreFault>, Fail>
-    requires { S.content store.old ≡ [] }
+// Puts the pairs into an empty store, and counts what is there then.
+fn put_into<S: EntryStore>(store: S, list: &PairList) -> (Result<(), StoreFault>, u64)
+    requires { S.content store ≡ [] }
 {
-    let mut pairs = PairList::new(alloc);
-    pairs.insert(b"a", b"x")?;
-    pairs.insert(b"b", b"x")?;
-    Ok(put_list(store, &pairs))
+    let mut store = store;
+    let put = put_list(&mut store, list);
+    (put, store.count())
 }
 
 #[test]
 fn puts_all_pairs(rt: HostRuntime) -> Result<(), Fail> {
     let alloc = rt.alloc();
-    let mut list = ListStore::new(alloc);
-    assert_eq!(rt; put_two(alloc, &mut list)?, Ok(()));
-    assert_eq!(rt; list.count(), 2);
-    let mut tree = TreeStore::new(alloc);
-    assert_eq!(rt; put_two(alloc, &mut tree)?, Ok(()));
-    assert_eq!(rt; tree.values(alloc, &key(alloc, b"a"))?.as_slice().len(), 1);
+    let mut pairs = PairList::new(alloc);
+    pairs.insert(b"a", b"x")?;
+    pairs.insert(b"b", b"x")?;
+    assert_eq!(rt; put_into(ListStore::new(alloc), &pairs), (Ok(()), 2));
+    assert_eq!(rt; put_into(TreeStore::new(alloc), &pairs), (Ok(()), 2));
     Ok(())
 }
 
 #[test]
 fn puts_all_pairs_or_none(rt: HostRuntime) -> Result<(), Fail> {
     let alloc = rt.alloc();
-    let mut capped = CappedStore::new(alloc, 1);
-    assert_eq!(rt; put_two(alloc, &mut capped)?, Err(StoreFault::Full));
-    assert_eq!(rt; capped.count(), 0);
-    let mut capped = CappedStore::new(alloc, 2);
-    assert_eq!(rt; put_two(alloc, &mut capped)?, Ok(()));
-    assert_eq!(rt; capped.count(), 2);
+    let mut pairs = PairList::new(alloc);
+    pairs.insert(b"a", b"x")?;
+    pairs.insert(b"b", b"x")?;
+    let full = Err(StoreFault::Full);
+    assert_eq!(rt; put_into(CappedStore::new(alloc, 1), &pairs), (full, 0));
+    assert_eq!(rt; put_into(CappedStore::new(alloc, 2), &pairs), (Ok(()), 2));
     Ok(())
 }
 

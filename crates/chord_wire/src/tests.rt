@@ -122,21 +122,22 @@ fn fault_in(answer: &Answer) -> Option<(u64, FaultCode)> {
     }
 }
 
-/// Whether a request is written as these frames in versions 1 and 2.
-fn is_written(alloc: Global) -> Option<(bool, bool)> {
+/// Whether the insert is written as this frame in this version.
+fn is_written(alloc: Global, version: u8, frame: &[u8]) -> Option<bool> {
     let request = insert(alloc, b"a", b"x").ok()?;
     request.check().ok()?;
-    let first = write_request(alloc, 1, &request).ok()?;
-    let second = write_request_2(alloc, 1, 0, &request).ok()?;
-    Some((
-        first.as_slice() == INSERT.as_slice(),
-        second.as_slice() == INSERT_2.as_slice(),
-    ))
+    let written = if version == 1 {
+        write_request(alloc, 1, &request)
+    } else {
+        write_request_2(alloc, 1, 0, &request)
+    };
+    Some(written.ok()?.as_slice() == frame)
 }
 
 #[test]
 fn writes_requests(rt: HostRuntime) {
-    assert_eq!(rt; is_written(rt.alloc()), Some((true, true)));
+    assert_eq!(rt; is_written(rt.alloc(), 1, &INSERT), Some(true));
+    assert_eq!(rt; is_written(rt.alloc(), 2, &INSERT_2), Some(true));
 }
 
 /// Whether these replies are written as these frames.
@@ -206,14 +207,18 @@ fn reads_whole_requests(rt: HostRuntime) {
     assert_eq!(rt; reads_insert(rt.alloc(), &INSERT_2, 2), Some(true));
 }
 
+/// Whether the next request is the insert in this version.
+fn next_is_insert(alloc: Global, frames: &mut Frames, version: u8) -> Option<bool> {
+    is_insert(alloc, &frames.next().ok()??, version).ok()
+}
+
 /// Whether these bytes, fed one at a time, are the insert in this version, and how many are left then.
 fn reads_pieces(alloc: Global, bytes: &[u8], version: u8) -> Option<(bool, usize)> {
     let mut frames = Frames::new(alloc);
-    if !keeps_pieces(&mut frames, bytes).ok()? {
+    if !matches!(keeps_pieces(&mut frames, bytes), Ok(true)) {
         return None;
     }
-    let pieced = frames.next().ok()??;
-    let is_insert = is_insert(alloc, &pieced, version).ok()?;
+    let is_insert = next_is_insert(alloc, &mut frames, version) == Some(true);
     Some((is_insert, frames.left()))
 }
 
@@ -236,26 +241,27 @@ fn reads_answers_in_any_pieces(rt: HostRuntime) {
     assert_eq!(rt; first_in_pieces(rt.alloc()), Some((60, true, 45)));
 }
 
-/// Whether the next answer is reply 2 with these values, and how many bytes are left then.
-fn next_values(alloc: Global, answers: &mut Answers, all: &[&[u8]]) -> Option<(bool, usize)> {
-    let answer = answers.next().ok()??;
-    let wanted = values(alloc, all).ok()?;
-    Some((is_reply(&answer, 2, &wanted), answers.left()))
-}
-
-/// The same of the second answer and the third, and whether none is left.
-fn values_in_pieces(alloc: Global) -> Option<((bool, usize), (bool, usize), bool)> {
-    let mut answers = answers_in_pieces(alloc).ok()?;
-    let _first = answers.next().ok()??;
-    let second = next_values(alloc, &mut answers, &[b"x"])?;
-    let third = next_values(alloc, &mut answers, &[b"x", b"y"])?;
-    Some((second, third, answers.next().ok()?.is_none()))
+/// Whether the next answer is the reply with this number.
+fn gives(answers: &mut Answers, number: u64, reply: Result<Reply, AllocError>) -> Option<bool> {
+    Some(is_reply(&answers.next().ok()??, number, &reply.ok()?))
 }
 
 #[test]
 fn reads_values_in_any_pieces(rt: HostRuntime) {
-    let wanted = ((true, 24), (true, 0), true);
-    assert_eq!(rt; values_in_pieces(rt.alloc()), Some(wanted));
+    let alloc = rt.alloc();
+    let mut answers = match answers_in_pieces(alloc) {
+        Ok(answers) => answers,
+        Err(_) => Answers::new(alloc),
+    };
+    assert_eq!(rt; gives(&mut answers, 1, Ok(Reply::Added)), Some(true));
+    assert_eq!(rt; gives(&mut answers, 2, values(alloc, &[b"x"])), Some(true));
+    assert_eq!(rt; answers.left(), 24);
+    assert_eq!(rt;
+        gives(&mut answers, 2, values(alloc, &[b"x", b"y"])),
+        Some(true)
+    );
+    assert_eq!(rt; answers.left(), 0);
+    assert!(rt; matches!(answers.next(), Ok(None)));
 }
 
 /// The fault of these bytes.

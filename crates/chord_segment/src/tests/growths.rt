@@ -2,7 +2,7 @@
 //! run with each growth refused in turn too.
 
 use super::{A, B, added, cut_at_b, keeps, one, span};
-use crate::{CutFault, Done, JoinFault, Past, Segment};
+use crate::{CutFault, Done, JoinFault, Past, Segment, Unjoined};
 use chord_ident::Id;
 use std::alloc::{AllocError, Global};
 use std::test::Fail;
@@ -77,25 +77,23 @@ fn cut(segment: Segment) -> Result<(Segment, Segment), Fail> {
     }
 }
 
+/// Whether these were refused for memory and handed back.
+fn are_back(unjoined: &Unjoined, first: &Segment, second: &Segment) -> bool {
+    unjoined.fault == JoinFault::Memory
+        && unjoined.first.equals(first)
+        && unjoined.second.equals(second)
+}
+
 /// Joins, at the second try where the first was refused for memory and handed both back.
-fn joined(first: Segment, second: Segment) -> Result<Segment, Fail> {
-    let (front, rear) = (copied(&first)?, copied(&second)?);
-    let unjoined = match first.join(second) {
-        Ok(whole) => return Ok(whole),
-        Err(unjoined) => unjoined,
-    };
-    if unjoined.fault != JoinFault::Memory
-        || !unjoined.first.equals(&front)
-        || !unjoined.second.equals(&rear)
-    {
-        return Err(Fail::from("not handed back"));
+fn joined(first: Segment, second: Segment) -> Option<Segment> {
+    let (front, rear) = (copied(&first).ok()?, copied(&second).ok()?);
+    match first.join(second) {
+        Ok(whole) => Some(whole),
+        Err(unjoined) if are_back(&unjoined, &front, &rear) => {
+            unjoined.first.join(unjoined.second).ok()
+        }
+        Err(_) => None,
     }
-    let whole = unjoined
-        .first
-        .join(unjoined.second)
-        .ok()
-        .ok_or("not joined")?;
-    Ok(whole)
 }
 
 #[test]
@@ -103,7 +101,7 @@ fn a_refused_cut_or_join_hands_all_back(rt: HostRuntime) -> Result<(), Fail> {
     let segment = kept_one(rt.alloc())?;
     let before = copied(&segment)?;
     let (first, second) = cut(segment)?;
-    let whole = joined(first, second)?;
+    let whole = joined(first, second).ok_or("not joined")?;
     assert!(rt; whole.equals(&before));
     Ok(())
 }
