@@ -25,39 +25,51 @@ pub fn port_option<'a>(alloc: Global) -> Arg<'a> {
         .help("The server's port on 127.0.0.1, 1 to 65535")
 }
 
-/// The command `ask` and what it takes.
-pub fn ask_command<'a>(alloc: Global) -> Result<Command<'a>, AllocError> {
-    let window = Arg::new(alloc, "window")
+fn window_option<'a>(alloc: Global) -> Arg<'a> {
+    Arg::new(alloc, "window")
         .long("window")
         .value_name("W")
         .default_value("1")
         .value_parser(value_parser!(u64).range(1..=16))
-        .help("How many requests are sent before their answers are read, 1 to 16");
-    let protocol = Arg::new(alloc, "protocol")
+        .help("How many requests are sent before their answers are read, 1 to 16")
+}
+
+fn protocol_option<'a>(alloc: Global) -> Arg<'a> {
+    Arg::new(alloc, "protocol")
         .long("protocol")
         .value_name("VERSION")
         .default_value("2")
         .value_parser(value_parser!(u8).range(1..=2))
-        .help("The version of the protocol, 1 or 2. In version 1 the window is 1");
-    let tries = Arg::new(alloc, "tries")
+        .help("The version of the protocol, 1 or 2. In version 1 the window is 1")
+}
+
+fn tries_option<'a>(alloc: Global) -> Arg<'a> {
+    Arg::new(alloc, "tries")
         .long("tries")
         .value_name("T")
         .default_value("3")
         .value_parser(value_parser!(u32).range(1..=1000))
-        .help("How often a request is sent at most, 1 to 1000");
-    let words = Arg::new(alloc, "request")
+        .help("How often a request is sent at most, 1 to 1000")
+}
+
+fn words_argument<'a>(alloc: Global) -> Arg<'a> {
+    Arg::new(alloc, "request")
         .value_name("REQUEST")
         .num_args(0..)
         .trailing_var_arg(true)
-        .help("One request. Without it they are read from standard input, one a line");
+        .help("One request. Without it they are read from standard input, one a line")
+}
+
+/// The command `ask` and what it takes.
+pub fn ask_command<'a>(alloc: Global) -> Result<Command<'a>, AllocError> {
     Command::new(alloc, "ask")
         .about("Asks a server, and writes one line for each request")
         .after_help(EXAMPLES)
         .arg(port_option(alloc))?
-        .arg(window)?
-        .arg(protocol)?
-        .arg(tries)?
-        .arg(words)
+        .arg(window_option(alloc))?
+        .arg(protocol_option(alloc))?
+        .arg(tries_option(alloc))?
+        .arg(words_argument(alloc))
 }
 
 /// A fault of the command line of `ask`.

@@ -12,65 +12,80 @@ use std::sync::Wait;
 use std::thread::Threads;
 use std::time::Clock;
 
-/// The command `load` and what it takes.
-pub fn load_command<'a>(alloc: Global) -> Result<Command<'a>, AllocError> {
-    let connections = Arg::new(alloc, "connections")
+fn connections_option<'a>(alloc: Global) -> Arg<'a> {
+    Arg::new(alloc, "connections")
         .long("connections")
         .value_name("C")
         .default_value("1")
         .value_parser(value_parser!(u64).range(1..=64))
-        .help("How many connections ask at once, 1 to 64");
-    let in_flight = Arg::new(alloc, "in-flight")
+        .help("How many connections ask at once, 1 to 64")
+}
+
+fn in_flight_option<'a>(alloc: Global) -> Arg<'a> {
+    Arg::new(alloc, "in-flight")
         .long("in-flight")
         .value_name("W")
         .default_value("1")
         .value_parser(value_parser!(u64).range(1..=16))
-        .help("How many requests are in flight on each, 1 to 16");
-    let keys = Arg::new(alloc, "keys")
+        .help("How many requests are in flight on each, 1 to 16")
+}
+
+fn keys_option<'a>(alloc: Global) -> Arg<'a> {
+    Arg::new(alloc, "keys")
         .long("keys")
         .value_name("K")
         .default_value("1000")
         .value_parser(value_parser!(u64).range(1..=1_000_000))
-        .help("How many keys are named in turn, 1 to 1000000");
-    let command = Command::new(alloc, "load")
-        .about("Asks a server many requests, and writes how long they took")
-        .arg(port_option(alloc))?
-        .arg(connections)?
-        .arg(in_flight)?
-        .arg(keys)?;
-    with_bounds(alloc, command)
+        .help("How many keys are named in turn, 1 to 1000000")
 }
 
-/// The rest of what `load` takes.
-fn with_bounds<'a>(alloc: Global, command: Command<'a>) -> Result<Command<'a>, AllocError> {
-    let value_size = Arg::new(alloc, "value-size")
+fn value_size_option<'a>(alloc: Global) -> Arg<'a> {
+    Arg::new(alloc, "value-size")
         .long("value-size")
         .value_name("BYTES")
         .default_value("16")
         .value_parser(value_parser!(usize).range(0..=4096))
-        .help("How many bytes each value has that is inserted, 0 to 4096");
-    let kind = Arg::new(alloc, "kind")
+        .help("How many bytes each value has that is inserted, 0 to 4096")
+}
+
+fn kind_option<'a>(alloc: Global) -> Arg<'a> {
+    Arg::new(alloc, "kind")
         .long("kind")
         .value_name("KIND")
         .default_value("retrieve")
         .value_parser(["insert", "retrieve"].as_slice())
-        .help("What each request does");
-    let seconds = Arg::new(alloc, "seconds")
+        .help("What each request does")
+}
+
+fn seconds_option<'a>(alloc: Global) -> Arg<'a> {
+    Arg::new(alloc, "seconds")
         .long("seconds")
         .value_name("S")
         .default_value("10")
         .value_parser(value_parser!(u64).range(1..=3600))
-        .help("How long requests are begun, 1 to 3600");
-    let requests = Arg::new(alloc, "requests")
+        .help("How long requests are begun, 1 to 3600")
+}
+
+fn requests_option<'a>(alloc: Global) -> Arg<'a> {
+    Arg::new(alloc, "requests")
         .long("requests")
         .value_name("N")
         .value_parser(value_parser!(u64).range(1..=1_000_000_000))
-        .help("How many requests are sent in all, in place of seconds, 1 to 1000000000");
-    command
-        .arg(value_size)?
-        .arg(kind)?
-        .arg(seconds)?
-        .arg(requests)
+        .help("How many requests are sent in all, in place of seconds, 1 to 1000000000")
+}
+
+/// The command `load` and what it takes.
+pub fn load_command<'a>(alloc: Global) -> Result<Command<'a>, AllocError> {
+    Command::new(alloc, "load")
+        .about("Asks a server many requests, and writes how long they took")
+        .arg(port_option(alloc))?
+        .arg(connections_option(alloc))?
+        .arg(in_flight_option(alloc))?
+        .arg(keys_option(alloc))?
+        .arg(value_size_option(alloc))?
+        .arg(kind_option(alloc))?
+        .arg(seconds_option(alloc))?
+        .arg(requests_option(alloc))
 }
 
 /// The load that the command line says.
