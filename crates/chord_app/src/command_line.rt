@@ -1,7 +1,6 @@
 //! The command line of `chord`.
 
-use crate::ask::command::ask_command;
-use crate::load::command::load_command;
+use chord_client::{ask_command, load_command};
 use clap::error::ErrorKind;
 use clap::{Arg, ArgAction, ArgGroup, Command};
 use std::alloc::{AllocError, Global};

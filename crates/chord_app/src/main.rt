@@ -1,37 +1,21 @@
 //! The program `chord`: a Chord key store on the console and over loopback.
 //!
-//! `world` is a world of nodes and callers, which does a step a line ([`console`]); `run` a running ring that does what a
-//! plan says ([`plan`], [`run`]); `serve` a running ring that answers clients ([`serve`]); `ask` and `load` are such clients
-//! ([`ask`], [`load`]). [`command_line`] reads the arguments, and [`finish`] says with what status the program ends.
+//! `world` is a world of nodes and callers, which does a step a line ([`world`]); `run` a running ring that does what a
+//! plan says ([`run`]); `serve` a running ring that answers clients ([`serve`], [`stay`]); `ask` and `load` are such
+//! clients ([`start_ask`], [`start_load`]). [`command_line`] reads the arguments, and [`Finish`] says with what status the
+//! program ends.
 #![tactic(auto)]
 
-mod ask;
 mod command_line;
-mod console;
-mod finish;
-mod load;
-mod plan;
-mod run;
-mod running;
-mod serve;
-mod stores;
 
-use ask::command::start_ask;
+use chord_client::{start_ask, start_load, told};
+use chord_command::Finish;
+use chord_console::{empty_ones, world};
+use chord_host::{Front, listen, run, serve, stay};
+use chord_plan::{Plan, PlanFault, StoreKind, read_plan};
 use chord_store::{CappedStore, EntryStore, ListStore, NotedStore, TreeStore};
 use clap::ArgMatches;
-use clap::error::ErrorKind;
 use command_line::{DEFAULT_STORES, commands, names_stores, no_number, no_stores, small_number};
-use console::session::world;
-use finish::Finish;
-use load::command::start_load;
-use plan::Plan;
-use plan::fault::PlanFault;
-use plan::file::read_plan;
-use plan::node::StoreKind;
-use run::run;
-use serve::front::{Front, listen};
-use serve::server::serve;
-use serve::stay::stay;
 use std::alloc::Global;
 use std::net::{Net, TcpListener, TcpStream};
 use std::process::ExitCode;
@@ -39,20 +23,6 @@ use std::sync::{Arc, OnceLock, Wait};
 use std::thread::Threads;
 use std::time::Clock;
 use std::{env, io};
-use stores::empty_ones;
-
-/// The text of a command line fault goes to standard error, and help to standard output.
-fn told<R: Print + Eprint>(rt: &R, error: &clap::Error) -> Result<Finish, Finish> {
-    if error.kind() == ErrorKind::OutOfMemory {
-        return Err(Finish::OutOfMemory);
-    }
-    error.print(rt)?;
-    if error.use_stderr() {
-        Ok(Finish::BadCommandLine)
-    } else {
-        Ok(Finish::Done)
-    }
-}
 
 /// Does `world`.
 fn start_world(rt: &HostRuntime, alloc: Global, word: &str) -> Result<Finish, Finish> {

@@ -20,6 +20,3 @@ pub use refusal::{Refusal, StepFault};
 pub use running::{Answer, run};
 pub use step::Step;
 pub use world::World;
-
-#[cfg(test)]
-mod tests;

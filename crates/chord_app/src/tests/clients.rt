@@ -1,11 +1,10 @@
 //! Clients of a server, over loopback.
 
-use crate::finish::Finish;
-use crate::plan::Plan;
-use crate::serve::front::Front;
-use crate::serve::server::serve;
-use crate::tests::plans::changed;
+use crate::tests::changed;
+use chord_command::Finish;
+use chord_host::{Front, serve};
 use chord_map::{Bytes, Reply, Request, Values};
+use chord_plan::Plan;
 use chord_store::EntryStore;
 use chord_wire::{FaultCode, is_writable, write_fault, write_reply, write_request};
 use log::sink::Discard;

@@ -1,7 +1,6 @@
-//! The command line of `serve`, and the statuses that commands end with.
+//! The command line of `serve`.
 
 use crate::command_line::{commands, no_number, small_number};
-use crate::finish::{Fault, Finish};
 use std::alloc::{AllocError, Global};
 
 /// The words of a command line.
@@ -145,35 +144,4 @@ const SERVE_HELP: &str = concat!(
 fn help_of_serve(rt: HostRuntime) {
     let printed = prints(rt.alloc(), "chord serve --help", SERVE_HELP);
     assert_eq!(rt; printed, Some((true, 0)));
-}
-
-#[test]
-fn statuses(rt: HostRuntime) {
-    for (finish, status) in [
-        (Finish::Done, 0),
-        (Finish::BadPlan, 1),
-        (Finish::BadCommandLine, 2),
-        (Finish::OutOfMemory, 3),
-    ] {
-        assert_eq!(rt; finish.status(), status);
-    }
-}
-
-/// The status of a fault, and whether it has this text.
-fn tells(alloc: Global, fault: Fault, wanted: &str) -> Option<(u8, bool)> {
-    let text = fault.to_string(alloc).ok()?;
-    Some((Finish::Fault(fault).status(), text.as_str() == wanted))
-}
-
-#[test]
-fn texts_of_faults(rt: HostRuntime) {
-    for (fault, wanted) in [
-        (Fault::Line(7), "fault line 7"),
-        (Fault::Read, "fault read"),
-        (Fault::Write, "fault write"),
-        (Fault::Listen, "fault listen"),
-        (Fault::Node(1), "fault plan\nnode 1: the ring refuses it"),
-    ] {
-        assert_eq!(rt; tells(rt.alloc(), fault, wanted), Some((1, true)));
-    }
 }

@@ -1,10 +1,9 @@
 //! The command `run`.
 
-use crate::finish::{Fault, Finish};
-use crate::run::run;
 use crate::tests::clients::plan_of;
-use crate::tests::plans::{TWO_NODES, changed};
-use crate::tests::two_stores;
+use crate::tests::{TWO_NODES, changed, two_stores};
+use chord_command::{Fault, Finish};
+use chord_host::run;
 use std::alloc::Global;
 use std::sync::Wait;
 use std::thread::Threads;

@@ -1,16 +1,14 @@
 //! The command `serve` over loopback, for so many connections.
 
-use crate::finish::{Fault, Finish};
-use crate::plan::Plan;
-use crate::serve::front::{Front, listen};
-use crate::serve::server::serve;
 use crate::tests::clients::{
     ask, ask_insert, ask_remove, expect, expect_end, fault_frame, insert, leave, lines, plan_of,
     plan_with, reply_frame, request_frame, retrieve,
 };
-use crate::tests::plans::changed;
-use crate::tests::two_stores;
+use crate::tests::{changed, two_stores};
+use chord_command::{Fault, Finish};
+use chord_host::{Front, listen, serve};
 use chord_map::{Bytes, Reply, Values};
+use chord_plan::Plan;
 use chord_wire::FaultCode;
 use log::Log;
 use log::sink::{Discard, Locked};

@@ -1,12 +1,11 @@
 //! A server that stays while a growth is refused: one connection ends at most, and the others are answered. With ample
 //! memory nothing is refused; the toolchain's failing allocations refuse one.
 
-use crate::finish::Finish;
-use crate::plan::Plan;
-use crate::serve::front::Front;
-use crate::serve::stay::stay;
 use crate::tests::clients::plan_with;
 use crate::tests::two_stores;
+use chord_command::Finish;
+use chord_host::{Front, stay};
+use chord_plan::Plan;
 use log::sink::Discard;
 use std::alloc::Global;
 use std::io::{self, PipeReader, PipeWriter, Read, Write};

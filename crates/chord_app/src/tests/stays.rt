@@ -1,14 +1,13 @@
 //! The command `serve --stay` over loopback.
 
-use crate::finish::{Fault, Finish};
-use crate::plan::Plan;
-use crate::serve::front::Front;
-use crate::serve::stay::stay;
 use crate::tests::clients::{
     ask_in_vain, ask_insert, ask_remove, ask_retrieve, expect_end, insert, leave, lines, plan_with,
 };
 use crate::tests::two_stores;
+use chord_command::{Fault, Finish};
+use chord_host::{Front, stay};
 use chord_map::Reply;
+use chord_plan::Plan;
 use chord_wire::FaultCode;
 use log::Log;
 use log::sink::{Discard, Locked};

@@ -1,5 +1,0 @@
-use Rattle.chord_app.proofs.serve.server.serve.Given as goal
-
--- the ring that was just made
-abbrev pub ghosts-serve_named : goal.ghosts-serve_named
-ghosts-serve_named g a = record { name = a.blank }

@@ -1,6 +1,0 @@
-pub mod Asked
-pub mod Ends
-pub mod Plan
-pub mod Questions
-pub mod Recorded
-pub mod Histogram

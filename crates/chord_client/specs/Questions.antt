@@ -1,0 +1,25 @@
+-- Requests that may act, and how often they are sent. Source: our own.
+use Rattle.std.specs.Prelude.{◌≡◌, ℕ, Bool, true, false, not, ◌&&◌, ◌||◌, ◌==◌, nat_le, if◌then◌else◌, Option, Some, None}
+use Rattle.chord_map.specs.declared.request.Request.{Request}
+use Rattle.chord_map.specs.declared.request.Request.TheVariants.{Insert, Retrieve, Remove}
+use Rattle.chord_client.specs.declared.ask.outcome.Outcome.{Outcome}
+use Rattle.chord_client.specs.declared.ask.outcome.Outcome.TheVariants.{Lost}
+
+-- inserts and removes
+abbrev pub may_change : Request → Bool
+may_change (Insert key value) = true
+may_change (Retrieve key) = false
+may_change (Remove key value) = true
+
+-- What may change something, has no outcome and no number on the connection that stands, was never sent.
+abbrev pub IsSentOnce : Request → Option ℕ → ℕ → Option Outcome → Type 0
+IsSentOnce request number times outcome = may_change request ≡ true → outcome ≡ None → number ≡ None → times ≡ 0
+
+-- a request with no answer is not sent over a new connection where it was sent often enough, or may have changed something
+abbrev pub is_lost : Request → ℕ → ℕ → Bool
+is_lost request times tries = nat_le tries times || (not (times == 0) && may_change request)
+
+-- the outcome once the connection ended
+abbrev pub outcome_after_loss : Request → ℕ → ℕ → Option Outcome → Option Outcome
+outcome_after_loss request times tries None = if is_lost request times tries then Some Lost else None
+outcome_after_loss request times tries (Some outcome) = Some outcome

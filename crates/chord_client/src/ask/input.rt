@@ -1,0 +1,223 @@
+//! Requests on the input, one a line.
+ghost use Rattle.chord_map.specs.Checked.{IsRequest};
+
+use crate::ask::group::ask_group;
+use crate::ask::line::read_line;
+use crate::ask::link::{Link, Manner};
+use crate::ask::question::Question;
+use chord_command::{Fault, Finish, LineFault};
+use chord_map::Request;
+use std::alloc::Global;
+use std::io::{self, Read, Write};
+use std::net::{Net, TcpStream};
+
+/// How many reads are made of the input at most.
+const READS: u32 = 1_048_576;
+
+/// The most bytes of a line. The longest request has some fewer.
+const LINE_BYTES: usize = 16_384;
+
+/// A connection, the requests that wait to be sent, and the line that is not whole yet.
+#[derive(Drop)]
+struct Session {
+    alloc: Global,
+    manner: Manner,
+    link: Option<Link>,
+    questions: Vec<Question>,
+    line: Vec<u8>,
+    /// How many lines were whole.
+    lines: u64,
+    /// How many requests got no reply.
+    unanswered: u64,
+}
+
+/// Writes a line for each request that has an outcome. Gives how many of them are no replies.
+fn write_outcomes<W: Write>(questions: &[Question], writer: &mut W) -> io::Result<u64> {
+    let mut unanswered: u64 = 0;
+    for question in questions {
+        if let Some(outcome) = question.outcome() {
+            writeln!(writer, "{outcome}")?;
+            if !outcome.is_reply() {
+                unanswered = unanswered.saturating_add(1);
+            }
+        }
+    }
+    writer.flush()?;
+    Ok(unanswered)
+}
+
+impl Session {
+    /// With a connection to the server.
+    fn open<R: Net<Stream = TcpStream>>(
+        rt: &R,
+        alloc: Global,
+        manner: Manner,
+    ) -> Result<Session, Finish> {
+        let link = Link::open(rt, alloc, manner)?;
+        Ok(Session {
+            alloc,
+            manner,
+            link: Some(link),
+            questions: Vec::new(alloc),
+            line: Vec::new(alloc),
+            lines: 0,
+            unanswered: 0,
+        })
+    }
+
+    /// Asks one request alone.
+    fn ask<R: Net<Stream = TcpStream>, W: Write>(
+        &mut self,
+        rt: &R,
+        request: Request,
+        writer: &mut W,
+    ) -> Result<Finish, Finish>
+        requires { IsRequest request }
+    {
+        self.questions.push(Question::new(request))?;
+        self.settle(rt, writer)?;
+        Ok(self.end())
+    }
+
+    /// Asks what waits, and writes what came of it. Where no server is found, what waits is lost.
+    fn settle<R: Net<Stream = TcpStream>, W: Write>(
+        &mut self,
+        rt: &R,
+        writer: &mut W,
+    ) -> Result<(), Finish> {
+        let asked = ask_group(
+            rt,
+            self.alloc,
+            self.manner,
+            &mut self.link,
+            &mut self.questions,
+        );
+        if asked.is_err() {
+            for question in self.questions.iter_mut() {
+                question.give_up();
+            }
+        }
+        let unanswered = write_outcomes(&self.questions, writer)?;
+        self.unanswered = self.unanswered.saturating_add(unanswered);
+        self.questions.clear();
+        asked
+    }
+
+    /// What was read before a line outside the grammar is asked, and then the line is a fault.
+    fn refuse<R: Net<Stream = TcpStream>, W: Write>(
+        &mut self,
+        rt: &R,
+        writer: &mut W,
+    ) -> Result<(), Finish> {
+        self.settle(rt, writer)?;
+        Err(Finish::Fault(Fault::Line(self.lines)))
+    }
+
+    /// Takes in the line that is whole, and asks when as many requests wait as may be in flight.
+    fn finish_line<R: Net<Stream = TcpStream>, W: Write>(
+        &mut self,
+        rt: &R,
+        writer: &mut W,
+    ) -> Result<(), Finish> {
+        self.lines = self.lines.saturating_add(1);
+        match read_line(self.alloc, &self.line) {
+            Ok(request) => self.questions.push(Question::new(request))?,
+            Err(LineFault::Grammar) => return self.refuse(rt, writer),
+            Err(LineFault::OutOfMemory) => return Err(Finish::OutOfMemory),
+        }
+        self.line.clear();
+        if self.questions.len() as u64 >= self.manner.window {
+            self.settle(rt, writer)?;
+        }
+        Ok(())
+    }
+
+    /// Takes in bytes of the input, and asks each request whose line is whole.
+    fn take_in<R: Net<Stream = TcpStream>, W: Write>(
+        &mut self,
+        rt: &R,
+        bytes: &[u8],
+        writer: &mut W,
+    ) -> Result<(), Finish> {
+        for byte in bytes {
+            if *byte == b'\n' {
+                self.finish_line(rt, writer)?;
+            } else if self.line.len() < LINE_BYTES {
+                self.line.push(*byte)?;
+            } else {
+                self.lines = self.lines.saturating_add(1);
+                return self.refuse(rt, writer);
+            }
+        }
+        self.settle(rt, writer)
+    }
+
+    /// Asks all requests of the input.
+    fn ask_all<R: Net<Stream = TcpStream>, I: Read, W: Write>(
+        &mut self,
+        rt: &R,
+        reader: &mut I,
+        writer: &mut W,
+    ) -> Result<Finish, Finish> {
+        self.run(rt, reader, writer)?;
+        Ok(self.end())
+    }
+
+    /// Takes in the input to its end, in pieces of at most 4,096 bytes.
+    fn run<R: Net<Stream = TcpStream>, I: Read, W: Write>(
+        &mut self,
+        rt: &R,
+        reader: &mut I,
+        writer: &mut W,
+    ) -> Result<(), Finish> {
+        let mut piece = [0u8; 4096];
+        for _ in 0..READS {
+            match reader.read(&mut piece) {
+                Ok(0) => {
+                    if !self.line.is_empty() {
+                        self.finish_line(rt, writer)?;
+                    }
+                    return self.settle(rt, writer);
+                }
+                Ok(count) => self.take_in(rt, &piece[..count], writer)?,
+                Err(_) => return Err(Finish::Fault(Fault::Read)),
+            }
+        }
+        Err(Finish::Fault(Fault::Read))
+    }
+
+    /// How a session ends that met no other fault.
+    fn end(&self) -> Finish {
+        if self.unanswered == 0 {
+            Finish::Done
+        } else {
+            Finish::Fault(Fault::Unanswered(self.unanswered))
+        }
+    }
+}
+
+/// Asks the requests on the input, one a line, and writes a line for each.
+pub fn ask_lines<R: Net<Stream = TcpStream>, I: Read, W: Write>(
+    rt: &R,
+    alloc: Global,
+    manner: Manner,
+    reader: &mut I,
+    writer: &mut W,
+) -> Result<Finish, Finish> {
+    let mut session = Session::open(rt, alloc, manner)?;
+    session.ask_all(rt, reader, writer)
+}
+
+/// Asks one request, and writes its line.
+pub fn ask_one<R: Net<Stream = TcpStream>, W: Write>(
+    rt: &R,
+    alloc: Global,
+    manner: Manner,
+    request: Request,
+    writer: &mut W,
+) -> Result<Finish, Finish>
+    requires { IsRequest request }
+{
+    let mut session = Session::open(rt, alloc, manner)?;
+    session.ask(rt, request, writer)
+}

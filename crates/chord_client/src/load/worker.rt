@@ -1,0 +1,213 @@
+//! One connection of a load.
+
+use crate::ask::link::{Link, Manner};
+use crate::load::bounds::{Kind, Load, Until};
+use crate::load::report::Report;
+use chord_command::{Fault, Finish};
+use chord_map::{Bytes, Request};
+use chord_serve::{AgainFault, CallFault, ReceiveFault, SendFault};
+use chord_wire::{Answer, FaultCode};
+use std::alloc::{AllocError, Global};
+use std::collections::VecDeque;
+use std::net::{Net, TcpStream};
+use std::sync::atomic::{AtomicU64, Ordering};
+use std::time::{Clock, Instant};
+
+/// How many reads are made for an answer at most: as many as its frame may have bytes.
+const READS: u64 = 4_194_304;
+
+/// Whether a connection goes on.
+#[derive(Clone, Copy, Debug, PartialEq, Eq)]
+enum Going {
+    On,
+    /// It is of no more use.
+    Broken,
+}
+
+/// A connection, with what it sent and what it found.
+#[derive(Drop)]
+struct Worker<'a, R: Clock> {
+    rt: &'a R,
+    alloc: Global,
+    load: Load,
+    connection: u64,
+    link: Link,
+    start: Instant,
+    /// How many requests were sent.
+    made: u64,
+    /// When those in flight were sent, in the order of their answers.
+    sent: VecDeque<Instant>,
+    report: Report,
+}
+
+/// The time now.
+fn now<R: Clock>(rt: &R) -> Result<Instant, Finish> {
+    match Instant::now(rt) {
+        Ok(time) => Ok(time),
+        Err(_) => Err(Finish::Fault(Fault::Clock)),
+    }
+}
+
+/// A key of the load, by its number.
+fn key_of(alloc: Global, number: u64) -> Result<Bytes, AllocError> {
+    let text = format!(in alloc; "key {number}")?;
+    Bytes::from_slice(alloc, text.as_bytes())
+}
+
+impl<'a, R: Clock> Worker<'a, R> {
+    /// Whether one more request is to be sent.
+    fn is_due(&self) -> Result<bool, Finish> {
+        match self.load.until {
+            Until::Requests(_) => Ok(self.made < self.load.share(self.connection)),
+            Until::Seconds(seconds) => {
+                Ok(now(self.rt)?.duration_since(self.start).as_secs() < seconds)
+            }
+        }
+    }
+
+    /// The next request. Connections name keys in turn, each beginning at another one.
+    fn next_request(&self) -> Result<Request, AllocError> {
+        let place = self
+            .made
+            .wrapping_mul(self.load.connections)
+            .wrapping_add(self.connection);
+        let key = key_of(self.alloc, place % self.load.keys.max(1))?;
+        match self.load.kind {
+            Kind::Retrieve => Ok(Request::Retrieve { key }),
+            Kind::Insert => {
+                let value = vec![in self.alloc; b'v'; self.load.value_size]?;
+                Ok(Request::Insert {
+                    key,
+                    value: Bytes::from_vec(value),
+                })
+            }
+        }
+    }
+
+    /// Counts a request and keeps the time at which it is sent.
+    fn keep_start(&mut self) -> Result<(), Finish> {
+        self.made = self.made.saturating_add(1);
+        let time = now(self.rt)?;
+        self.sent.push_back(time)?;
+        Ok(())
+    }
+
+    /// Sends a new request.
+    fn send(&mut self) -> Result<Going, Finish> {
+        let request = self.next_request()?;
+        if request.check().is_err() {
+            return Err(Finish::BadCommandLine);
+        }
+        self.keep_start()?;
+        let mut writer = &self.link.stream;
+        match self.link.client.send(&mut writer, request) {
+            Ok(_) => Ok(Going::On),
+            Err(SendFault::Memory) => Err(Finish::OutOfMemory),
+            Err(_) => Ok(Going::Broken),
+        }
+    }
+
+    /// Sends a request again that got a fault.
+    fn again(&mut self, number: u64) -> Result<Going, Finish> {
+        self.keep_start()?;
+        let mut writer = &self.link.stream;
+        match self.link.client.again(&mut writer, number) {
+            Ok(()) => Ok(Going::On),
+            Err(AgainFault::Memory) => Err(Finish::OutOfMemory),
+            Err(_) => Ok(Going::Broken),
+        }
+    }
+
+    /// Sends new requests while there is room for them and they are due.
+    fn fill(&mut self) -> Result<Going, Finish> {
+        for _ in 0..self.load.in_flight {
+            if self.link.client.is_full() || !self.is_due()? {
+                break;
+            }
+            if self.send()? == Going::Broken {
+                return Ok(Going::Broken);
+            }
+        }
+        Ok(Going::On)
+    }
+
+    /// Records how long the first request in flight took.
+    fn keep_time(&mut self) -> Result<(), Finish> {
+        if let Some(sent) = self.sent.pop_front() {
+            let took = now(self.rt)?.duration_since(sent).as_micros();
+            let microseconds = u64::try_from(took).unwrap_or(u64::MAX);
+            self.report.times.record(microseconds, 1);
+        }
+        Ok(())
+    }
+
+    /// Receives an answer. A request that got a fault is sent again in place of a new one.
+    fn receive(&mut self) -> Result<Going, Finish> {
+        let mut reader = &self.link.stream;
+        match self.link.client.receive(&mut reader, READS) {
+            Ok((_, Answer::Reply { .. })) => {
+                self.keep_time()?;
+                Ok(Going::On)
+            }
+            Ok((number, Answer::Fault { code, .. })) => {
+                self.report.faults = self.report.faults.saturating_add(1);
+                self.sent.pop_front();
+                let may_pass = matches!(code, FaultCode::Full | FaultCode::NoAnswer);
+                if may_pass && self.is_due()? {
+                    return self.again(number);
+                }
+                Ok(if may_pass { Going::On } else { Going::Broken })
+            }
+            Err(ReceiveFault::Call(CallFault::Memory)) => Err(Finish::OutOfMemory),
+            Err(_) => Ok(Going::Broken),
+        }
+    }
+
+    /// Sends and receives until no more is due and nothing is in flight, or the connection breaks.
+    fn run(&mut self, answered: &AtomicU64) -> Result<(), Finish> {
+        for _ in 0..u64::MAX {
+            if self.fill()? == Going::Broken {
+                break;
+            }
+            if self.link.client.in_flight() == 0 {
+                return Ok(());
+            }
+            if self.receive()? == Going::Broken {
+                break;
+            }
+            answered.fetch_add(1, Ordering::SeqCst);
+        }
+        let lost = self.sent.len() as u64;
+        self.report.faults = self.report.faults.saturating_add(lost);
+        Ok(())
+    }
+}
+
+/// What one connection of the load came to. What was in flight when it broke counts as faults.
+pub fn work<R: Net<Stream = TcpStream> + Clock>(
+    rt: &R,
+    alloc: Global,
+    load: Load,
+    connection: u64,
+    answered: &AtomicU64,
+) -> Result<Report, Finish> {
+    let manner = Manner {
+        port: load.port,
+        version: 2,
+        window: load.in_flight,
+        tries: 1,
+    };
+    let mut worker = Worker {
+        rt,
+        alloc,
+        load,
+        connection,
+        link: Link::open(rt, alloc, manner)?,
+        start: now(rt)?,
+        made: 0,
+        sent: VecDeque::new(alloc),
+        report: Report::new(alloc)?,
+    };
+    worker.run(answered)?;
+    Ok(worker.report)
+}

@@ -1,0 +1,150 @@
+//! Ends of commands, words of lines, and replies on them.
+
+use crate::{Fault, Finish, Hex, LineFault, Shown, Words};
+use chord_ident::Id;
+use chord_map::{Bytes, Reply, Values};
+use std::alloc::Global;
+
+#[test]
+fn statuses(rt: HostRuntime) {
+    for (finish, status) in [
+        (Finish::Done, 0),
+        (Finish::Fault(Fault::Read), 1),
+        (Finish::BadPlan, 1),
+        (Finish::BadCommandLine, 2),
+        (Finish::OutOfMemory, 3),
+    ] {
+        assert_eq!(rt; finish.status(), status);
+    }
+}
+
+/// The status of a fault, and whether it has this text.
+fn tells(alloc: Global, fault: Fault, wanted: &str) -> Option<(u8, bool)> {
+    let text = fault.to_string(alloc).ok()?;
+    Some((Finish::Fault(fault).status(), text.as_str() == wanted))
+}
+
+#[test]
+fn texts_of_faults(rt: HostRuntime) {
+    for (fault, wanted) in [
+        (Fault::Line(7), "fault line 7"),
+        (Fault::Read, "fault read"),
+        (Fault::Write, "fault write"),
+        (Fault::Listen, "fault listen"),
+        (Fault::Node(1), "fault plan\nnode 1: the ring refuses it"),
+        (Fault::Connect, "fault connect"),
+        (Fault::Unanswered(3), "fault unanswered 3"),
+        (Fault::Clock, "fault clock"),
+    ] {
+        assert_eq!(rt; tells(rt.alloc(), fault, wanted), Some((1, true)));
+    }
+}
+
+/// The words of a line one after another, and whether there is one more.
+#[test]
+fn words_of_a_line(rt: HostRuntime) {
+    let mut words = Words::new("insert  7");
+    let all = [words.word(), words.word(), words.word()];
+    assert_eq!(rt; all, [Ok("insert"), Ok(""), Ok("7")]);
+    assert_eq!(rt; (words.has_more(), words.end()), (false, Ok(())));
+    assert_eq!(rt; words.word(), Err(LineFault::Grammar));
+    let more = Words::new("a");
+    assert_eq!(rt;
+        (more.has_more(), more.end()),
+        (true, Err(LineFault::Grammar))
+    );
+}
+
+#[test]
+fn numbers(rt: HostRuntime) {
+    for (line, number) in [
+        ("0", Ok(0)),
+        ("70", Ok(70)),
+        ("18446744073709551615", Ok(u64::MAX)),
+        ("18446744073709551616", Err(LineFault::Grammar)),
+        ("07", Err(LineFault::Grammar)),
+        ("+7", Err(LineFault::Grammar)),
+        ("", Err(LineFault::Grammar)),
+    ] {
+        assert_eq!(rt; Words::new(line).number(), number, "{line}");
+    }
+}
+
+#[test]
+fn identifiers(rt: HostRuntime) {
+    let id = Id::new(0xc000_0000_0000_0000_0000_0000_0000_00ab);
+    for (line, read) in [
+        ("C00000000000000000000000000000ab", Ok(id)),
+        ("c00000000000000000000000000000a", Err(LineFault::Grammar)),
+        ("c00000000000000000000000000000ag", Err(LineFault::Grammar)),
+    ] {
+        assert_eq!(rt; Words::new(line).id(), read, "{line}");
+    }
+}
+
+/// Whether these are the bytes of a line.
+fn are_bytes(alloc: Global, line: &str, wanted: &[u8]) -> Option<bool> {
+    let bytes = Words::new(line).bytes(alloc).ok()?;
+    Some(bytes.as_slice() == wanted)
+}
+
+#[test]
+fn bytes_of_digits(rt: HostRuntime) {
+    for (line, wanted) in [
+        ("0aFF", Some([10, 255].as_slice())),
+        ("-", Some([].as_slice())),
+        ("", None),
+        ("0", None),
+        ("0g", None),
+        ("--", None),
+    ] {
+        let same = are_bytes(rt.alloc(), line, wanted.unwrap_or(&[]));
+        assert_eq!(rt; same, wanted.map(|_| true), "{line}");
+    }
+}
+
+/// Whether the values one after another stand so on a line.
+fn are_shown(alloc: Global, all: &[&[u8]], wanted: &str) -> Option<bool> {
+    let mut values = Values::new(alloc);
+    for value in all {
+        values.push(Bytes::from_slice(alloc, value).ok()?).ok()?;
+    }
+    is_shown(alloc, &Reply::Values(values), wanted)
+}
+
+/// Whether a reply stands so on a line.
+fn is_shown(alloc: Global, reply: &Reply, wanted: &str) -> Option<bool> {
+    let text = Shown(reply).to_string(alloc).ok()?;
+    Some(text.as_str() == wanted)
+}
+
+#[test]
+fn replies_on_a_line(rt: HostRuntime) {
+    for (reply, wanted) in [
+        (Reply::Added, "added"),
+        (Reply::Present, "present"),
+        (Reply::SetFull, "setfull"),
+        (Reply::Removed, "removed"),
+        (Reply::Absent, "absent"),
+    ] {
+        assert_eq!(rt; is_shown(rt.alloc(), &reply, wanted), Some(true));
+    }
+    assert_eq!(rt; are_shown(rt.alloc(), &[], "values 0"), Some(true));
+    let values = [[0x0a, 0xff].as_slice(), b""];
+    assert_eq!(rt;
+        are_shown(rt.alloc(), &values, "values 2 0aff -"),
+        Some(true)
+    );
+}
+
+/// Whether bytes are these digits.
+fn are_digits(alloc: Global, bytes: &[u8], wanted: &str) -> Option<bool> {
+    let text = Hex(bytes).to_string(alloc).ok()?;
+    Some(text.as_str() == wanted)
+}
+
+#[test]
+fn digits_of_bytes(rt: HostRuntime) {
+    assert_eq!(rt; are_digits(rt.alloc(), &[0, 0xab], "00ab"), Some(true));
+    assert_eq!(rt; are_digits(rt.alloc(), &[], "-"), Some(true));
+}

@@ -1,0 +1,245 @@
+//! A console session over a world.
+ghost use Rattle.std.specs.Prelude.{◌≡◌, []};
+ghost use Rattle.std.specs.List.{All};
+
+use crate::line::Line;
+use crate::refusal::name_of;
+use chord_command::{Fault, Finish, LineFault, Shown};
+use chord_node::Holder;
+use chord_store::EntryStore;
+use chord_world::{Outcome, Refusal, Step, World};
+use std::alloc::Global;
+use std::io::{self, BufWriter, Read, Write};
+
+/// How many successors a node of the console may list.
+const SUCCESSORS: usize = 3;
+
+/// How many reads a session makes at most.
+const READS: u32 = 1_048_576;
+
+/// A world with the line that is not whole yet, and how many lines were.
+#[derive(Drop)]
+struct Session<S: EntryStore> {
+    alloc: Global,
+    world: World<S>,
+    line: Vec<u8>,
+    lines: u64,
+}
+
+/// Writes what came of a step.
+fn write_outcome<S: EntryStore, W: Write>(
+    world: &World<S>,
+    outcome: Outcome,
+    writer: &mut W,
+) -> io::Result<()> {
+    match outcome {
+        Outcome::Node(number) => writeln!(writer, "node {number}"),
+        Outcome::Caller(number) => writeln!(writer, "caller {number}"),
+        Outcome::Message(number) => writeln!(writer, "message {number}"),
+        Outcome::Told(number) => writeln!(writer, "told {number}"),
+        Outcome::Forwarded(number) => writeln!(writer, "forward {number}"),
+        Outcome::Dropped => writeln!(writer, "dropped"),
+        Outcome::Full(number) => writeln!(writer, "full {number}"),
+        Outcome::Known => writeln!(writer, "known"),
+        Outcome::HeardFull => writeln!(writer, "full"),
+        Outcome::Got(number) => writeln!(writer, "got {number}"),
+        Outcome::Declined(number) => writeln!(writer, "declined {number}"),
+        Outcome::Early => writeln!(writer, "early"),
+        Outcome::NoRoom => writeln!(writer, "full"),
+        Outcome::Noted => writeln!(writer, "part"),
+        Outcome::Freed => writeln!(writer, "freed"),
+        Outcome::Unknown => writeln!(writer, "unknown"),
+        Outcome::Held => writeln!(writer, "held"),
+        Outcome::Met => writeln!(writer, "met"),
+        Outcome::Candidate(Some(number)) => writeln!(writer, "candidate {number}"),
+        Outcome::Candidate(None) => writeln!(writer, "none"),
+        Outcome::Done => writeln!(writer, "ok"),
+        Outcome::Fresh(caller) => match world.mine(caller).and_then(|mine| mine.last()) {
+            Some(done) => {
+                let reply = Shown(&done.reply);
+                writeln!(writer, "fresh {reply}")
+            }
+            None => writeln!(writer, "fresh"),
+        },
+    }
+}
+
+/// Writes who holds an identifier.
+fn write_holder<W: Write>(holder: Option<Holder>, writer: &mut W) -> io::Result<()> {
+    match holder {
+        Some(Holder::Node(number)) => writeln!(writer, "node {number}"),
+        Some(Holder::UnderWay { from, to, number }) => {
+            writeln!(writer, "underway {from} {to} {number}")
+        }
+        None => writeln!(writer, "none"),
+    }
+}
+
+/// The first entry of a node, 0 where there is no such node.
+fn head_of<S: EntryStore>(world: &World<S>, node: u64) -> u64 {
+    match world.links(node) {
+        Some(links) => links.first().no,
+        None => 0,
+    }
+}
+
+/// Writes the numbers of the nodes that a node lists.
+fn write_list<S: EntryStore, W: Write>(
+    world: &World<S>,
+    node: u64,
+    writer: &mut W,
+) -> io::Result<()> {
+    let Some(links) = world.links(node) else {
+        return writeln!(writer, "none");
+    };
+    write!(writer, "list")?;
+    for entry in links.list().entries() {
+        let number = entry.no;
+        write!(writer, " {number}")?;
+    }
+    writeln!(writer)
+}
+
+/// Writes a refusal, but for being out of memory, which ends the session.
+fn write_refusal<W: Write>(refusal: Refusal, writer: &mut W) -> Result<(), Finish> {
+    if refusal == Refusal::Memory {
+        return Err(Finish::OutOfMemory);
+    }
+    let number = refusal.number();
+    let name = name_of(refusal);
+    written(writeln!(writer, "refused {number} {name}"))
+}
+
+/// A failed write as the end of the session.
+fn written(wrote: io::Result<()>) -> Result<(), Finish> {
+    match wrote {
+        Ok(()) => Ok(()),
+        Err(_) => Err(Finish::Fault(Fault::Write)),
+    }
+}
+
+/// The text of a line.
+fn read_line(alloc: Global, line: &[u8]) -> Result<Line, LineFault> {
+    match str::from_utf8(line) {
+        Ok(text) => Line::read(alloc, text),
+        Err(_) => Err(LineFault::Grammar),
+    }
+}
+
+impl<S: EntryStore> Session<S> {
+    /// Does the line that is whole, and begins the next.
+    fn finish_line<W: Write>(&mut self, stores: &mut Vec<S>, writer: &mut W) -> Result<(), Finish>
+        requires { All (λ s. S.content s ≡ []) stores.old.items }
+        ensures { All (λ s. S.content s ≡ []) stores.new.items }
+    {
+        self.lines = self.lines.saturating_add(1);
+        let line = match read_line(self.alloc, &self.line) {
+            Ok(line) => line,
+            Err(LineFault::Grammar) => return Err(Finish::Fault(Fault::Line(self.lines))),
+            Err(LineFault::OutOfMemory) => return Err(Finish::OutOfMemory),
+        };
+        self.line.clear();
+        match line {
+            Line::History => {
+                let count = self.world.history().len();
+                written(writeln!(writer, "history {count}"))
+            }
+            Line::Holder(id) => written(write_holder(self.world.holder(id), writer)),
+            Line::List(node) => written(write_list(&self.world, node, writer)),
+            Line::Stabilise(node) => {
+                let head = head_of(&self.world, node);
+                self.do_step(stores, &Step::Stabilise { node, head }, writer)
+            }
+            Line::Step(step) => self.do_step(stores, &step, writer),
+        }
+    }
+
+    /// Does a step, and writes what came of it.
+    fn do_step<W: Write>(
+        &mut self,
+        stores: &mut Vec<S>,
+        step: &Step,
+        writer: &mut W,
+    ) -> Result<(), Finish>
+        requires { All (λ s. S.content s ≡ []) stores.old.items }
+        ensures { All (λ s. S.content s ≡ []) stores.new.items }
+    {
+        match self.world.step(stores, step) {
+            Ok(outcome) => written(write_outcome(&self.world, outcome, writer)),
+            Err(refusal) => write_refusal(refusal, writer),
+        }
+    }
+
+    /// Takes in bytes of the input, and does each line that is whole.
+    fn take_in<W: Write>(
+        &mut self,
+        stores: &mut Vec<S>,
+        bytes: &[u8],
+        writer: &mut W,
+    ) -> Result<(), Finish>
+        requires { All (λ s. S.content s ≡ []) stores.old.items }
+        ensures { All (λ s. S.content s ≡ []) stores.new.items }
+    {
+        for byte in bytes {
+            if *byte == b'\n' {
+                self.finish_line(stores, writer)?;
+            } else if self.line.push(*byte).is_err() {
+                return Err(Finish::OutOfMemory);
+            }
+        }
+        written(writer.flush())
+    }
+}
+
+/// Reads lines to the end of the input, in pieces of at most 4,096 bytes, and does each when it is whole.
+fn serve<S: EntryStore, R: Read, W: Write>(
+    session: &mut Session<S>,
+    stores: &mut Vec<S>,
+    reader: &mut R,
+    writer: &mut W,
+) -> Result<(), Finish>
+    requires { All (λ s. S.content s ≡ []) stores.old.items }
+    ensures { All (λ s. S.content s ≡ []) stores.new.items }
+{
+    let mut piece = [0u8; 4096];
+    for _ in 0..READS {
+        match reader.read(&mut piece) {
+            Ok(0) => {
+                if !session.line.is_empty() {
+                    session.finish_line(stores, writer)?;
+                }
+                return written(writer.flush());
+            }
+            Ok(count) => session.take_in(stores, &piece[..count], writer)?,
+            Err(_) => return Err(Finish::Fault(Fault::Read)),
+        }
+    }
+    Err(Finish::Fault(Fault::Read))
+}
+
+/// Does the command `world`: steps of a world on the input, one line out for each line in. The nodes take their
+/// stores from the list, the first one first.
+pub fn world<S: EntryStore, R: Read, W: Write + Drop>(
+    alloc: Global,
+    mut stores: Vec<S>,
+    reader: &mut R,
+    writer: W,
+) -> Finish
+    requires { All (λ s. S.content s ≡ []) stores.items }
+{
+    let mut session = Session {
+        alloc,
+        world: World::new(alloc, SUCCESSORS),
+        line: Vec::new(alloc),
+        lines: 0,
+    };
+    let Ok(mut writer) = BufWriter::new(alloc, writer) else {
+        return Finish::OutOfMemory;
+    };
+    let ended = serve(&mut session, &mut stores, reader, &mut writer);
+    let flushed = written(writer.flush());
+    match ended.and(flushed) {
+        Ok(()) => Finish::Done,
+        Err(finish) => finish,
+    }
+}

@@ -1,0 +1,14 @@
+//! Running rings of a plan's nodes: the command `run`, which does what the plan asks, and the command `serve`, whose
+//! clients ask over loopback.
+//!
+//! [`run`] and [`serve`] end by themselves; [`stay`] serves until its input ends. Each takes a store for each node.
+#![tactic(auto)]
+
+mod plan_run;
+mod running;
+mod serving;
+
+pub use plan_run::run;
+pub use serving::front::{Front, listen};
+pub use serving::server::serve;
+pub use serving::stay::stay;

@@ -1,0 +1,212 @@
+//! The command `run`: a ring of a plan's nodes, and what its callers ask.
+ghost use Rattle.std.specs.Prelude.{◌≡◌};
+
+use crate::running::{start_nodes, tick_in_turn};
+use chord_command::{Finish, Shown};
+use chord_live::{AskFault, Blank, Caller, NewFault, Ring, Settings};
+use chord_map::Reply;
+use chord_plan::{Plan, PlanAsk};
+use chord_store::EntryStore;
+use chord_table::Naming;
+use std::alloc::Global;
+use std::io::{self, BufWriter, Write};
+use std::marker::Brand;
+use std::sync::Wait;
+use std::thread;
+use std::thread::{Scope, Threads};
+use std::time::Clock;
+
+/// What came of an ask.
+#[derive(Debug, Drop)]
+enum Answer {
+    Reply(Reply),
+    Full,
+    NoAnswer,
+}
+
+/// What one caller was answered, by number.
+type Answers = Result<Vec<Answer>, Finish>;
+
+/// A caller asks a request of the plan.
+fn ask_once<J: Naming, S: EntryStore, R: Wait + Clock>(
+    rt: &R,
+    caller: &mut Caller<'_, J, S>,
+    ask: &PlanAsk,
+) -> Result<Answer, Finish> {
+    let request = ask.request.try_copy()?;
+    match caller.ask(rt, ask.via as u64, request) {
+        Ok(reply) => Ok(Answer::Reply(reply)),
+        Err(AskFault::Memory) => Err(Finish::OutOfMemory),
+        Err(AskFault::Full) => Ok(Answer::Full),
+        Err(_) => Ok(Answer::NoAnswer),
+    }
+}
+
+/// The caller of this number asks what the plan has for it.
+fn ask_each<J: Naming, S: EntryStore, R: Wait + Clock>(
+    rt: &R,
+    caller: &mut Caller<'_, J, S>,
+    number: usize,
+    asks: &[PlanAsk],
+    answers: &mut Vec<Answer>,
+) -> Result<(), Finish> {
+    for ask in asks {
+        if ask.caller == number {
+            let answer = ask_once(rt, caller, ask)?;
+            let is_reply = matches!(&answer, Answer::Reply(_));
+            answers.push(answer)?;
+            if !is_reply {
+                break;
+            }
+        }
+    }
+    Ok(())
+}
+
+/// One caller asks what the plan has for it, one request after another, and no more where it has no reply.
+fn ask_in_turn<J: Naming, S: EntryStore, R: Wait + Clock>(
+    rt: &R,
+    alloc: Global,
+    ring: &Ring<J, S>,
+    number: usize,
+    asks: &[PlanAsk],
+) -> Answers {
+    let mut answers = Vec::new(alloc);
+    let Ok(mut caller) = ring.open_caller(rt, 1) else {
+        return Ok(answers);
+    };
+    ask_each(rt, &mut caller, number, asks, &mut answers)?;
+    Ok(answers)
+}
+
+/// All callers ask at once, each on a thread of its own, while another thread ticks the nodes.
+fn ask_at_once<
+    's,
+    E: 's,
+    J: Naming + Send + Sync + 's,
+    S: EntryStore + Send + 's,
+    R: Threads + Wait + Clock + Sync + 's,
+>(
+    rt: &'s R,
+    alloc: Global,
+    ring: &'s Ring<J, S>,
+    scope: &'s Scope<'s, E>,
+    plan: &'s Plan,
+) -> Result<Vec<Vec<Answer>>, Finish> {
+    let nodes = plan.nodes.len() as u64;
+    if scope.spawn(move || tick_in_turn(rt, ring, nodes)).is_err() {
+        return Err(Finish::OutOfMemory);
+    }
+    let asks = plan.asks.as_slice();
+    let mut callers = Vec::new(alloc);
+    for number in 0..plan.settings.callers {
+        match scope.spawn(move || ask_in_turn(rt, alloc, ring, number, asks)) {
+            Ok(caller) => callers.push(caller)?,
+            Err(_) => return Err(Finish::OutOfMemory),
+        }
+    }
+    let mut all = Vec::new(alloc);
+    for caller in callers {
+        all.push(caller.join(rt)?)?;
+    }
+    Ok(all)
+}
+
+/// Writes a line for each ask that was made, by caller and number.
+fn write_answers<W: Write>(all: &[Vec<Answer>], writer: &mut W) -> io::Result<()> {
+    for (caller, answers) in all.iter().enumerate() {
+        for (place, answer) in answers.iter().enumerate() {
+            let number = place.saturating_add(1);
+            match answer {
+                Answer::Reply(reply) => {
+                    let reply = Shown(reply);
+                    writeln!(writer, "{caller} {number} {reply}")?
+                }
+                Answer::Full => writeln!(writer, "{caller} {number} full")?,
+                Answer::NoAnswer => writeln!(writer, "{caller} {number} noanswer")?,
+            }
+        }
+    }
+    Ok(())
+}
+
+/// Starts the nodes, and stops the ring when all callers are done. The first handle starts the threads.
+fn run_ring<'x, J: Naming + Send + Sync, S: EntryStore + Send, R: Threads + Wait + Clock + Sync>(
+    starter: &R,
+    rt: &'x R,
+    alloc: Global,
+    ring: &'x Ring<J, S>,
+    plan: &'x Plan,
+    stores: Vec<S>,
+) -> Result<Vec<Vec<Answer>>, Finish> {
+    thread::scope(thread::scope_env(), starter, |scope| {
+        let all = match start_nodes(rt, ring, scope, plan.nodes.as_slice(), stores) {
+            Ok(()) => ask_at_once(rt, alloc, ring, scope, plan),
+            Err(finish) => Err(finish),
+        };
+        ring.stop();
+        all
+    })
+}
+
+/// Runs a ring under its name.
+fn run_named<J: Naming + Send + Sync, S: EntryStore + Send, R: Threads + Wait + Clock + Sync>(
+    rt: &R,
+    alloc: Global,
+    plan: &Plan,
+    stores: Vec<S>,
+    blank: Blank,
+) -> Result<Vec<Vec<Answer>>, Finish>
+    requires { blank ≡ J.name }
+{
+    let ring = blank.open::<J, S>()?;
+    run_ring(rt, rt, alloc, &ring, plan, stores)
+}
+
+/// A ring of the plan's size that has no name yet.
+pub fn blank_of(alloc: Global, plan: &Plan) -> Result<Blank, Finish> {
+    let numbers = &plan.settings;
+    let settings = Settings {
+        slots: numbers.slots,
+        callers: numbers.callers,
+        successors: numbers.successors,
+        tries: numbers.tries,
+        wait_ms: numbers.wait_ms,
+    };
+    match Blank::new(alloc, settings) {
+        Ok(blank) => Ok(blank),
+        Err(NewFault::BadSettings) => Err(Finish::BadPlan),
+        Err(NewFault::Memory) => Err(Finish::OutOfMemory),
+    }
+}
+
+/// Runs a ring of the plan's nodes over these stores, one for each, until all its callers are done, and writes what
+/// they were answered.
+fn run_and_write<S: EntryStore + Send, R: Threads + Wait + Clock + Sync, W: Write + Drop>(
+    rt: &R,
+    alloc: Global,
+    plan: &Plan,
+    stores: Vec<S>,
+    writer: W,
+) -> Result<(), Finish> {
+    let blank = blank_of(alloc, plan)?;
+    let all = run_named::<Brand, S, R>(rt, alloc, plan, stores, blank)?;
+    let mut lines = BufWriter::new(alloc, writer)?;
+    write_answers(all.as_slice(), &mut lines)?;
+    lines.flush()?;
+    Ok(())
+}
+
+/// The command `run`.
+pub fn run<S: EntryStore + Send, R: Threads + Wait + Clock + Sync, W: Write + Drop>(
+    rt: &R,
+    alloc: Global,
+    plan: &Plan,
+    stores: Vec<S>,
+    writer: W,
+) -> Finish {
+    match run_and_write(rt, alloc, plan, stores, writer) {
+        Ok(()) => Finish::Done,
+        Err(finish) => finish,
+    }
+}

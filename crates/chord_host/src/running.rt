@@ -1,0 +1,94 @@
+//! The nodes of a plan in a running ring.
+
+use chord_command::{Fault, Finish};
+use chord_live::{CreateFault, JoinFault, Open, Ring, TickFault};
+use chord_plan::PlanNode;
+use chord_store::EntryStore;
+use chord_table::Naming;
+use std::sync::Wait;
+use std::thread;
+use std::thread::{Scope, Threads};
+use std::time::{Clock, Duration};
+
+/// So many rounds of upkeep come after each node that enters.
+const ROUNDS: u64 = 8;
+
+/// A node of the plan enters the ring, by node 0. A node that the ring refuses is a fault of the plan.
+fn enter<J: Naming, S: EntryStore>(
+    rt: &impl Wait,
+    ring: &Ring<J, S>,
+    number: usize,
+    node: &PlanNode,
+    store: S,
+) -> Result<(), Finish> {
+    if store.count() != 0 {
+        return Err(Finish::Fault(Fault::Node(number)));
+    }
+    if number == 0 {
+        return match ring.create(rt, node.id, store) {
+            Ok(_) => Ok(()),
+            Err((CreateFault::Memory, _)) => Err(Finish::OutOfMemory),
+            Err(_) => Err(Finish::Fault(Fault::Node(number))),
+        };
+    }
+    match ring.join(rt, node.id, 0, store) {
+        Ok(_) => Ok(()),
+        Err((JoinFault::Memory, _)) => Err(Finish::OutOfMemory),
+        Err(_) => Err(Finish::Fault(Fault::Node(number))),
+    }
+}
+
+/// One round of upkeep of the first so many nodes, by number. What is out of memory is left for a later round. Says
+/// whether the ring still runs.
+fn tick_round<J: Naming, S: EntryStore>(rt: &impl Wait, ring: &Ring<J, S>, nodes: u64) -> bool {
+    for number in 0..nodes {
+        if ring.tick(rt, number) == Err(TickFault::Stopped) {
+            return false;
+        }
+    }
+    true
+}
+
+/// Ticks the nodes in turn, with a pause of a millisecond after each round, until the ring is stopped.
+pub fn tick_in_turn<J: Naming, S: EntryStore, R: Wait + Clock>(
+    rt: &R,
+    ring: &Ring<J, S>,
+    nodes: u64,
+) {
+    for _ in rt.forever() {
+        if !tick_round(rt, ring, nodes) {
+            return;
+        }
+        thread::sleep(rt, Duration::from_millis(1));
+    }
+}
+
+/// The nodes enter in their order, each with a worker from its start and eight rounds of upkeep after it.
+pub fn start_nodes<
+    's,
+    E: 's,
+    J: Naming + Send + Sync + 's,
+    S: EntryStore + Send + 's,
+    R: Threads + Wait + Clock + Sync + 's,
+>(
+    rt: &'s R,
+    ring: &'s Ring<J, S>,
+    workers: &'s Scope<'s, E>,
+    nodes: &[PlanNode],
+    stores: Vec<S>,
+) -> Result<(), Finish> {
+    for (number, (node, store)) in nodes.iter().zip(stores).enumerate() {
+        enter(rt, ring, number, node, store)?;
+        let no = number as u64;
+        if workers
+            .spawn(move || ring.work(rt, no, &Open).is_ok())
+            .is_err()
+        {
+            return Err(Finish::OutOfMemory);
+        }
+        for _ in 0..ROUNDS {
+            tick_round(rt, ring, no.saturating_add(1));
+        }
+    }
+    Ok(())
+}

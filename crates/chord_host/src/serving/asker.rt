@@ -1,0 +1,100 @@
+//! A caller of a ring, as the asker of a session.
+ghost use Rattle.std.specs.Prelude.{◌≡◌, ◌⊎◌, ◌≤◌, [], length};
+ghost use Rattle.chord_host.specs.Asked.{asked_since};
+ghost use Rattle.chord_serve.specs.Question.{IsAnswer, IsHeard};
+ghost use Rattle.chord_serve.specs.declared.asker.Asked.TheVariants as Asked;
+
+use crate::serving::idle::IdleCaller;
+use chord_live::{AskFault, Client, RetryFault};
+use chord_map::{Reply, Request};
+use chord_serve::{Asked, Asker};
+use chord_store::EntryStore;
+use chord_table::Naming;
+use chord_wire::is_writable;
+use std::sync::Wait;
+use std::time::Clock;
+
+/// Asks at one node, by a caller that keeps no reply, and no request after its reply: what was asked is known to the
+/// proof alone. The session's numbers are the caller's behind those of its earlier sessions.
+#[derive(Drop)]
+pub struct RingAsker<'a, J: Naming, S: EntryStore, R: Wait + Clock> {
+    rt: &'a R,
+    caller: Client<'a, J, S>,
+    via: u64,
+    /// So many requests had the caller submitted when the session began.
+    before: u64,
+    ghost begun: { before ≤ length caller.caller.submitted },
+}
+
+impl<'a, J: Naming, S: EntryStore, R: Wait + Clock> RingAsker<'a, J, S, R> {
+    /// Asks at the node `via`. The session begins with no request.
+    pub fn new(rt: &'a R, idle: IdleCaller<'a, J, S>, via: u64) -> RingAsker<'a, J, S, R>
+        ensures caller { result.caller ≡ idle.entry.caller }
+        ensures fresh { asked_since result.before result.caller ≡ [] }
+    {
+        let caller = idle.into_caller();
+        let before = caller.floor();
+        RingAsker {
+            rt,
+            caller,
+            via,
+            before,
+        }
+    }
+
+    /// The caller, whose numbers go on in its next session.
+    pub fn into_caller(self) -> Client<'a, J, S>
+        ensures { result ≡ self.entry.caller }
+    {
+        self.caller
+    }
+}
+
+/// The reply as an answer, where it has a frame, as each reply of a store has.
+fn told(reply: Reply) -> Asked
+    ensures fits { IsAnswer result }
+    ensures told { (result ≡ Asked.Reply reply) ⊎ (result ≡ Asked.NoAnswer) }
+{
+    if is_writable(&reply) {
+        Asked::Reply(reply)
+    } else {
+        Asked::NoAnswer
+    }
+}
+
+impl<'a, J: Naming, S: EntryStore, R: Wait + Clock> Asker for RingAsker<'a, J, S, R> {
+    ghost answers = { λ a question answer b. IsHeard question answer (asked_since a.before a.caller) (asked_since b.before b.caller) };
+
+    ghost asked = { λ a. asked_since a.before a.caller };
+
+    /// A request that the caller refuses outright ends the session as out of memory does. None should be within the
+    /// session's window, but no contract says so.
+    fn ask(&mut self, request: &Request) -> Asked {
+        let Ok(copy) = request.try_copy() else {
+            return Asked::Memory;
+        };
+        match self.caller.call(self.rt, self.via, copy) {
+            Ok(reply) if reply.fits(request) => told(reply),
+            Ok(_) | Err(AskFault::NoAnswer) => Asked::NoAnswer,
+            Err(AskFault::Full) => Asked::Full,
+            Err(_) => Asked::Memory,
+        }
+    }
+
+    /// The request again. Numbers count behind those of earlier sessions.
+    fn retry(&mut self, number: u64) -> Asked {
+        let Some(submitted) = self.before.checked_add(number) else {
+            return Asked::NoAnswer;
+        };
+        match self.caller.retry(self.rt, self.via, submitted) {
+            Ok(reply) => told(reply),
+            Err(RetryFault::Full) => Asked::Full,
+            Err(RetryFault::Memory) => Asked::Memory,
+            Err(_) => Asked::NoAnswer,
+        }
+    }
+
+    ghost notes = { λ a b question answer heard. heard.notes };
+
+    ghost kind = { λ a b question answer heard. heard.kind };
+}

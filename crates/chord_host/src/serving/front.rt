@@ -1,0 +1,26 @@
+//! What a server is started with.
+ghost use Rattle.std.specs.Prelude.{◌≡◌, IfErr};
+
+use chord_command::{Fault, Finish};
+use chord_plan::Plan;
+use std::alloc::Global;
+use std::net::{Ipv4Addr, Net, TcpListener};
+
+/// A plan, where clients come, and where it is noted how their connections end.
+#[derive_where(Clone, Copy)]
+pub struct Front<'a, L> {
+    pub alloc: Global,
+    pub plan: &'a Plan,
+    pub listener: &'a TcpListener,
+    pub notes: &'a L,
+}
+
+/// Listens at a port of 127.0.0.1, where it can be had.
+pub fn listen<R: Net>(rt: &R, port: u16) -> Result<R::Listener, Finish>
+    ensures { IfErr result (λ finish. finish ≡ Finish.Fault Fault.Listen) }
+{
+    match TcpListener::bind(rt, (Ipv4Addr::LOCALHOST, port)) {
+        Ok(listener) => Ok(listener),
+        Err(_) => Err(Finish::Fault(Fault::Listen)),
+    }
+}

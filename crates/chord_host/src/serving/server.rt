@@ -1,0 +1,168 @@
+//! A server of so many connections.
+ghost use Rattle.std.specs.Prelude.{◌≡◌};
+
+use crate::plan_run::blank_of;
+use crate::serving::ended::Ended;
+use crate::serving::front::Front;
+use crate::serving::idle::IdleCaller;
+use crate::serving::lines::{write_address, write_end};
+use crate::serving::service::{Service, node_of};
+use chord_command::Finish;
+use chord_live::Blank;
+use chord_serve::Served;
+use chord_store::EntryStore;
+use chord_table::Naming;
+use log::Log;
+use std::io::{self, Write};
+use std::marker::Brand;
+use std::net::{TcpListener, TcpStream};
+use std::sync::Wait;
+use std::thread;
+use std::thread::{Scope, Threads};
+use std::time::Clock;
+
+/// How many reads a connection makes at most.
+const TURNS: u64 = 65_536;
+
+/// Serves a connection by a caller of its own. How it ended is noted before it is closed.
+fn serve_client<J: Naming, S: EntryStore, R: Wait + Clock, L: Log>(
+    service: &Service<'_, J, S, R, L>,
+    number: u64,
+    stream: TcpStream,
+) -> Ended {
+    let via = node_of(number, service.nodes);
+    let ended = match IdleCaller::open(service.rt, service.ring) {
+        Ok(idle) => Ended::Served(service.serve_by(idle, via, &stream, TURNS).0),
+        Err(none) => none,
+    };
+    service.log_end(number, &ended);
+    ended
+}
+
+/// Accepts so many connections, each on a thread and at a node of its own, and says how each ended.
+fn accept<
+    's,
+    E: 's,
+    J: Naming + Send + Sync + 's,
+    S: EntryStore + Send + 's,
+    R: Threads + Wait + Clock + Sync + 's,
+    L: Log + Sync + 's,
+>(
+    service: &'s Service<'s, J, S, R, L>,
+    scope: &'s Scope<'s, E>,
+    listener: &TcpListener,
+    connections: usize,
+) -> Result<Vec<Ended>, Finish> {
+    let mut clients = Vec::with_capacity(service.alloc, connections)?;
+    let mut ends = Vec::with_capacity(service.alloc, connections)?;
+    for (number, accepted) in listener.incoming().take(connections).enumerate() {
+        let number = number as u64;
+        let client = match accepted {
+            Ok(stream) => match scope.spawn(move || serve_client(service, number, stream)) {
+                Ok(client) => Ok(client),
+                Err(_) => Err(Ended::Served(Served::Memory)),
+            },
+            Err(_) => Err(Ended::NotAccepted),
+        };
+        if let Err(ended) = &client {
+            service.log_end(number, ended);
+        }
+        clients.push(client)?;
+    }
+    for client in clients {
+        ends.push(match client {
+            Ok(client) => client.join(service.rt),
+            Err(ended) => ended,
+        })?;
+    }
+    Ok(ends)
+}
+
+/// Starts the nodes, writes where clients are served, and serves so many connections.
+fn start_and_accept<
+    's,
+    E: 's,
+    J: Naming + Send + Sync + 's,
+    S: EntryStore + Send + 's,
+    R: Threads + Wait + Clock + Sync + 's,
+    L: Log + Sync + 's,
+    W: Write,
+>(
+    service: &'s Service<'s, J, S, R, L>,
+    front: &'s Front<'s, L>,
+    scope: &'s Scope<'s, E>,
+    stores: Vec<S>,
+    connections: usize,
+    writer: &mut W,
+) -> Result<Vec<Ended>, Finish> {
+    service.start(scope, front.plan.nodes.as_slice(), stores)?;
+    write_address(front.listener, writer)?;
+    accept(service, scope, front.listener, connections)
+}
+
+/// Serves so many connections, and stops the ring then. The handle starts the threads.
+fn serve_ring<
+    'x,
+    J: Naming + Send + Sync,
+    S: EntryStore + Send,
+    R: Threads + Wait + Clock + Sync,
+    L: Log + Sync,
+    W: Write,
+>(
+    starter: &R,
+    service: &'x Service<'x, J, S, R, L>,
+    front: &'x Front<'x, L>,
+    stores: Vec<S>,
+    connections: usize,
+    writer: &mut W,
+) -> Result<Vec<Ended>, Finish> {
+    thread::scope(thread::scope_env(), starter, |scope| {
+        let ends = start_and_accept(service, front, scope, stores, connections, writer);
+        service.ring.stop();
+        ends
+    })
+}
+
+/// Serves with a ring under its name.
+fn serve_named<
+    J: Naming + Send + Sync,
+    S: EntryStore + Send,
+    R: Threads + Wait + Clock + Sync,
+    L: Log + Sync,
+    W: Write,
+>(
+    rt: &R,
+    front: &Front<'_, L>,
+    stores: Vec<S>,
+    connections: usize,
+    writer: &mut W,
+    blank: Blank,
+) -> Result<Vec<Ended>, Finish>
+    requires { blank ≡ J.name }
+{
+    let ring = blank.open::<J, S>()?;
+    let service = Service::new(rt, &ring, front);
+    serve_ring(rt, &service, front, stores, connections, writer)
+}
+
+/// Writes how each connection ended, by number.
+fn write_ends<W: Write>(ends: &[Ended], writer: &mut W) -> io::Result<()> {
+    for (number, ended) in ends.iter().enumerate() {
+        write_end(number as u64, ended, writer)?;
+    }
+    Ok(())
+}
+
+/// The command `serve --connections`: the nodes of a plan over these stores, one for each, and so many connections.
+pub fn serve<S: EntryStore + Send, R: Threads + Wait + Clock + Sync, L: Log + Sync, W: Write>(
+    rt: &R,
+    front: &Front<'_, L>,
+    stores: Vec<S>,
+    connections: usize,
+    writer: &mut W,
+) -> Result<(), Finish> {
+    let blank = blank_of(front.alloc, front.plan)?;
+    let ends = serve_named::<Brand, S, R, L, W>(rt, front, stores, connections, writer, blank)?;
+    write_ends(ends.as_slice(), writer)?;
+    Ok(())
+}

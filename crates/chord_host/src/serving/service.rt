@@ -1,0 +1,95 @@
+//! A running ring, as the connections of a server share it.
+ghost use Rattle.std.specs.Prelude.{◌≡◌, ◌%◌};
+
+use crate::running::{start_nodes, tick_in_turn};
+use crate::serving::asker::RingAsker;
+use crate::serving::ended::Ended;
+use crate::serving::front::Front;
+use crate::serving::idle::IdleCaller;
+use chord_command::Finish;
+use chord_live::{Client, Ring};
+use chord_plan::PlanNode;
+use chord_serve::{Served, serve};
+use chord_store::EntryStore;
+use chord_table::Naming;
+use log::{Log, info};
+use std::alloc::Global;
+use std::net::TcpStream;
+use std::sync::Wait;
+use std::thread::{Scope, Threads};
+use std::time::Clock;
+
+/// A ring, how many nodes it has, and where it is noted how connections end.
+#[derive_where(Clone, Copy)]
+pub struct Service<'r, J: Naming, S: EntryStore, R, L> {
+    pub rt: &'r R,
+    pub alloc: Global,
+    pub ring: &'r Ring<J, S>,
+    pub nodes: u64,
+    pub notes: &'r L,
+}
+
+/// The node that a connection asks at.
+pub fn node_of(number: u64, nodes: u64) -> u64
+    ensures { result ≡ number % nodes }
+{
+    if nodes == 0 { number } else { number % nodes }
+}
+
+impl<'r, J: Naming, S: EntryStore, R: Wait + Clock, L: Log> Service<'r, J, S, R, L> {
+    /// The ring under the plan of a front.
+    pub fn new(
+        rt: &'r R,
+        ring: &'r Ring<J, S>,
+        front: &'r Front<'r, L>,
+    ) -> Service<'r, J, S, R, L> {
+        Service {
+            rt,
+            alloc: front.alloc,
+            ring,
+            nodes: front.plan.nodes.len() as u64,
+            notes: front.notes,
+        }
+    }
+
+    /// Starts the nodes of a plan, and their upkeep.
+    pub fn start<'s, E: 's>(
+        &'s self,
+        scope: &'s Scope<'s, E>,
+        nodes: &[PlanNode],
+        stores: Vec<S>,
+    ) -> Result<(), Finish>
+    where
+        J: Send + Sync + 's,
+        S: Send + 's,
+        R: Threads + Sync + 's,
+    {
+        let (rt, ring, count) = (self.rt, self.ring, self.nodes);
+        start_nodes(rt, ring, scope, nodes, stores)?;
+        match scope.spawn(move || tick_in_turn(rt, ring, count)) {
+            Ok(_) => Ok(()),
+            Err(_) => Err(Finish::OutOfMemory),
+        }
+    }
+
+    /// Serves a client by this caller, with so many reads at most. The caller comes back.
+    pub fn serve_by(
+        &self,
+        idle: IdleCaller<'r, J, S>,
+        via: u64,
+        stream: &TcpStream,
+        turns: u64,
+    ) -> (Served, Client<'r, J, S>) {
+        let _ = stream.set_nodelay(true).is_ok();
+        let mut asker = RingAsker::new(self.rt, idle, via);
+        let mut reader = stream;
+        let mut writer = stream;
+        let served = serve(self.alloc, &mut reader, &mut writer, &mut asker, turns);
+        (served, asker.into_caller())
+    }
+
+    /// Logs how a connection ended.
+    pub fn log_end(&self, number: u64, ended: &Ended) {
+        info!(self.notes; target: "chord", "connection {number} {ended}");
+    }
+}

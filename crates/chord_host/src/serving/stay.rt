@@ -1,0 +1,236 @@
+//! A server that stays.
+ghost use Rattle.std.specs.Prelude.{◌≡◌};
+
+use crate::plan_run::blank_of;
+use crate::serving::clients::Clients;
+use crate::serving::ended::Ended;
+use crate::serving::front::Front;
+use crate::serving::lines::Lines;
+use crate::serving::pool::Pool;
+use crate::serving::service::{Service, node_of};
+use crate::serving::stop::Stop;
+use chord_command::Finish;
+use chord_live::Blank;
+use chord_serve::Served;
+use chord_store::EntryStore;
+use chord_table::Naming;
+use log::Log;
+use std::io::{Read, Write};
+use std::marker::Brand;
+use std::net::{Net, TcpListener, TcpStream};
+use std::sync::{Arc, Wait};
+use std::thread;
+use std::thread::{Scope, Threads};
+use std::time::{Clock, Duration};
+
+/// What the connections of a server that stays share.
+#[derive(Drop)]
+struct Hall<'r, J: Naming, S: EntryStore, R, L, W> {
+    service: &'r Service<'r, J, S, R, L>,
+    pool: Pool<'r, J, S>,
+    clients: Clients,
+    lines: Lines<W>,
+    stop: &'r Stop,
+}
+
+impl<
+    'r,
+    J: Naming,
+    S: EntryStore,
+    R: Wait + Clock + Net<Listener = TcpListener, Stream = TcpStream>,
+    L: Log,
+    W: Write,
+> Hall<'r, J, S, R, L, W> {
+    /// Writes and notes how a connection ended. Where it cannot be written, the server stops.
+    fn tell(&self, number: u64, ended: &Ended) {
+        self.service.log_end(number, ended);
+        if !self.lines.tell(self.service.rt, number, ended) && !self.stop.is_stopped() {
+            self.stop.stop(self.service.rt);
+        }
+    }
+
+    /// Serves a client by a caller of the pool.
+    fn serve_client(&self, number: u64, stream: &TcpStream) -> Ended {
+        let service = self.service;
+        let via = node_of(number, service.nodes);
+        let idle = match self.pool.take(service.rt, via) {
+            Ok(idle) => idle,
+            Err(none) => return none,
+        };
+        let (served, caller) = service.serve_by(idle, via, stream, u64::MAX);
+        self.pool.give_back(service.rt, caller);
+        Ended::Served(served)
+    }
+
+    /// A connection from its beginning to its end. How it ended is told before it is closed.
+    fn run_client(&self, number: u64, stream: Arc<TcpStream>) {
+        let ended = self.serve_client(number, &stream);
+        self.tell(number, &ended);
+        self.clients.forget(self.service.rt, number);
+        drop(stream);
+    }
+
+    /// Starts the thread of a connection. Where there is no memory for it the connection ends so.
+    fn start_client<'s, E: 's>(&'s self, scope: &'s Scope<'s, E>, number: u64, stream: TcpStream)
+    where
+        J: Send + Sync + 's,
+        S: Send + 's,
+        R: Threads + Sync + 's,
+        L: Sync + 's,
+        W: Send + 's,
+    {
+        let started = match Arc::new(self.service.alloc, stream) {
+            Ok(stream) => {
+                self.clients.add(self.service.rt, number, &stream).is_ok()
+                    && scope.spawn(move || self.run_client(number, stream)).is_ok()
+            }
+            Err(_) => false,
+        };
+        if !started {
+            self.tell(number, &Ended::Served(Served::Memory));
+            self.clients.forget(self.service.rt, number);
+        }
+    }
+
+    /// Accepts connections, each on a thread of its own, until the server stops. Then those that are open are ended.
+    fn accept<'s, E: 's>(&'s self, scope: &'s Scope<'s, E>, listener: &TcpListener)
+    where
+        J: Send + Sync + 's,
+        S: Send + 's,
+        R: Threads + Sync + 's,
+        L: Sync + 's,
+        W: Send + 's,
+    {
+        for (number, accepted) in (0..u64::MAX).zip(listener.incoming()) {
+            if self.stop.is_stopped() {
+                break;
+            }
+            match accepted {
+                Ok(stream) => self.start_client(scope, number, stream),
+                Err(_) => {
+                    self.tell(number, &Ended::NotAccepted);
+                    thread::sleep(self.service.rt, Duration::from_millis(10));
+                }
+            }
+        }
+        self.clients.end_all(self.service.rt);
+    }
+}
+
+/// Starts the nodes, writes where clients are served, and serves them until the server stops.
+fn start_and_accept<
+    's,
+    'r: 's,
+    E: 's,
+    J: Naming + Send + Sync + 's,
+    S: EntryStore + Send + 's,
+    R: Threads + Wait + Clock + Net<Listener = TcpListener, Stream = TcpStream> + Sync + 's,
+    L: Log + Sync + 's,
+    W: Write + Send + 's,
+>(
+    hall: &'s Hall<'r, J, S, R, L, W>,
+    front: &'s Front<'s, L>,
+    scope: &'s Scope<'s, E>,
+    stores: Vec<S>,
+) -> Result<(), Finish> {
+    hall.service
+        .start(scope, front.plan.nodes.as_slice(), stores)?;
+    hall.lines.begin(hall.service.rt, front.listener)?;
+    hall.accept(scope, front.listener);
+    Ok(())
+}
+
+/// Serves until the server stops, and stops the ring then. The first handle starts the threads.
+fn stay_open<
+    'x,
+    'r: 'x,
+    J: Naming + Send + Sync,
+    S: EntryStore + Send,
+    R: Threads + Wait + Clock + Net<Listener = TcpListener, Stream = TcpStream> + Sync,
+    L: Log + Sync,
+    W: Write + Send,
+>(
+    starter: &R,
+    hall: &'x Hall<'r, J, S, R, L, W>,
+    front: &'x Front<'x, L>,
+    stores: Vec<S>,
+) -> Result<(), Finish> {
+    thread::scope(thread::scope_env(), starter, |scope| {
+        let ended = start_and_accept(hall, front, scope, stores);
+        hall.service.ring.stop();
+        ended
+    })
+}
+
+/// Stays with a ring under its name.
+fn stay_named<
+    J: Naming + Send + Sync,
+    S: EntryStore + Send,
+    R: Threads + Wait + Clock + Net<Listener = TcpListener, Stream = TcpStream> + Sync,
+    L: Log + Sync,
+    W: Write + Send + Drop,
+>(
+    rt: &R,
+    front: &Front<'_, L>,
+    stores: Vec<S>,
+    stop: &Stop,
+    writer: W,
+    blank: Blank,
+) -> Result<(), Finish>
+    requires { blank ≡ J.name }
+{
+    let ring = blank.open::<J, S>()?;
+    let service = Service::new(rt, &ring, front);
+    let pool = Pool::new(front.alloc, &ring, front.plan.settings.callers)?;
+    let hall = Hall {
+        service: &service,
+        pool,
+        clients: Clients::new(front.alloc),
+        lines: Lines::new(writer),
+        stop,
+    };
+    stay_open(rt, &hall, front, stores)?;
+    let Hall {
+        service: _,
+        pool: _,
+        clients: _,
+        lines,
+        stop: _,
+    } = hall;
+    lines.finish()
+}
+
+/// Waits for the end of the input, on a thread that nothing waits for, and stops the server then.
+fn stop_behind<
+    R: Threads + Clock + Net<Listener = TcpListener, Stream = TcpStream> + Copy + Send + 'static,
+    I: Read + Send + Drop + 'static,
+>(rt: &R, stop: &Arc<Stop>, input: I) -> Result<(), Finish> {
+    let rt = *rt;
+    let stop = Arc::try_clone(stop)?;
+    let mut input = input;
+    match thread::spawn(&rt, move || stop.stop_behind(&rt, &mut input)) {
+        Ok(_) => Ok(()),
+        Err(_) => Err(Finish::OutOfMemory),
+    }
+}
+
+/// The command `serve --stay`: the nodes of a plan over these stores, one for each, until the input ends.
+pub fn stay<
+    S: EntryStore + Send,
+    R: Threads
+        + Wait
+        + Clock
+        + Net<Listener = TcpListener, Stream = TcpStream>
+        + Copy
+        + Send
+        + Sync
+        + 'static,
+    L: Log + Sync,
+    W: Write + Send + Drop,
+    I: Read + Send + Drop + 'static,
+>(rt: &R, front: &Front<'_, L>, stores: Vec<S>, input: I, writer: W) -> Result<(), Finish> {
+    let blank = blank_of(front.alloc, front.plan)?;
+    let stop = Arc::new(front.alloc, Stop::new(front.listener.local_addr()?))?;
+    stop_behind(rt, &stop, input)?;
+    stay_named::<Brand, S, R, L, W>(rt, front, stores, &stop, writer, blank)
+}

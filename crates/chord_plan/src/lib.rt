@@ -1,0 +1,23 @@
+//! Plans of rings: their numbers, their nodes, and what their callers ask, read from TOML.
+//!
+//! [`Plan::parse`] reads a document and [`read_plan`] a file. A plan that breaks a rule is refused with a [`PlanFault`],
+//! whose text names the table and the key, or the line that is no TOML.
+#![tactic(auto)]
+
+mod ask;
+mod entries;
+mod fault;
+mod file;
+mod node;
+mod plan;
+mod settings;
+
+pub use ask::PlanAsk;
+pub use fault::{EntryFault, PlanFault, TableName};
+pub use file::read_plan;
+pub use node::{PlanNode, StoreKind};
+pub use plan::{PLAN_BYTES, Plan};
+pub use settings::PlanSettings;
+
+#[cfg(test)]
+mod tests;
