@@ -78,18 +78,37 @@ fn serve_command<'a>(alloc: Global) -> Result<Command<'a>, AllocError> {
         .group(until)
 }
 
+/// A command with one more below it.
+fn with<'a>(
+    command: Command<'a>,
+    below: Result<Command<'a>, AllocError>,
+) -> Result<Command<'a>, AllocError> {
+    command.subcommand(below?)
+}
+
 /// The commands of `chord` and what they take.
 pub fn commands<'a>(alloc: Global) -> Result<Command<'a>, AllocError> {
-    Command::new(alloc, "chord")
+    let chord = Command::new(alloc, "chord")
         .bin_name("chord")?
         .version("0.1.0")
         .about("A Chord key store")
-        .subcommand_required(true)
-        .subcommand(world_command(alloc)?)?
-        .subcommand(run_command(alloc)?)?
-        .subcommand(serve_command(alloc)?)?
-        .subcommand(ask_command(alloc)?)?
-        .subcommand(load_command(alloc)?)
+        .subcommand_required(true);
+    let chord = with(chord, world_command(alloc))?;
+    let chord = with(chord, run_command(alloc))?;
+    let chord = with(chord, serve_command(alloc))?;
+    let chord = with(chord, ask_command(alloc))?;
+    with(chord, load_command(alloc))
+}
+
+/// The fault of a command whose line has a wrong value.
+fn fault_of(
+    command: Result<Command<'_>, AllocError>,
+    name: &str,
+    message: &str,
+) -> Result<clap::Error, AllocError> {
+    command?
+        .bin_name(name)?
+        .error(ErrorKind::InvalidValue, message)
 }
 
 /// The fault of a word that names no stores.
@@ -97,9 +116,7 @@ pub fn no_stores(alloc: Global, word: &str) -> Result<clap::Error, AllocError> {
     let message = format!(in alloc;
         "invalid value '{word}' for '--stores <WORD>': 1 to 64 of the letters t, l, n and c"
     )?;
-    world_command(alloc)?
-        .bin_name("chord world")?
-        .error(ErrorKind::InvalidValue, message.as_str())
+    fault_of(world_command(alloc), "chord world", message.as_str())
 }
 
 /// The number from 1 to 65,535 that a word is, if it is one.
@@ -115,9 +132,7 @@ pub fn no_number(alloc: Global, option: &str, word: &str) -> Result<clap::Error,
     let message = format!(in alloc;
         "invalid value '{word}' for '--{option}': a number from 1 to 65535"
     )?;
-    serve_command(alloc)?
-        .bin_name("chord serve")?
-        .error(ErrorKind::InvalidValue, message.as_str())
+    fault_of(serve_command(alloc), "chord serve", message.as_str())
 }
 
 /// Whether the word names 1 to 64 stores, one letter each.

@@ -166,6 +166,58 @@ fn start_run<
     start_ring(rt, threads, &plan, None)
 }
 
+/// How a command ended, with its work done or not.
+fn ended(command: Result<Finish, Finish>) -> Finish {
+    match command {
+        Ok(finish) => finish,
+        Err(finish) => finish,
+    }
+}
+
+/// The words of the command line.
+fn words_of(rt: &HostRuntime) -> Result<Vec<String>, Finish> {
+    match env::args(rt) {
+        Ok(words) => Ok(words.collect(rt.alloc())?),
+        Err(error) if error.kind() == io::ErrorKind::OutOfMemory => Err(Finish::OutOfMemory),
+        Err(_) => {
+            eprintln!(rt; "error: an argument is no text")?;
+            Err(Finish::BadCommandLine)
+        }
+    }
+}
+
+/// What the words say. A fault of them and help are printed, and end the program.
+fn matched<'a>(rt: &HostRuntime, words: &'a [String]) -> Result<ArgMatches<'a>, Finish> {
+    match commands(rt.alloc())?.try_get_matches_from(words) {
+        Ok(matches) => Ok(matches),
+        Err(error) => Err(ended(told(rt, &error))),
+    }
+}
+
+/// Does the command that was matched.
+fn do_command<
+    T: Threads
+        + Wait
+        + Clock
+        + Net<Listener = TcpListener, Stream = TcpStream>
+        + Copy
+        + Send
+        + Sync
+        + 'static,
+>(rt: &HostRuntime, threads: &T, matches: &ArgMatches) -> Result<Finish, Finish> {
+    match matches.subcommand() {
+        Some((name, found)) if name == "run" => start_run(rt, threads, found),
+        Some((name, found)) if name == "serve" => start_serve(rt, threads, found),
+        Some((name, found)) if name == "ask" => start_ask(rt, threads, found),
+        Some((name, found)) if name == "load" => start_load(rt, threads, found),
+        Some((_, found)) => {
+            let word = found.get_str("stores").unwrap_or(DEFAULT_STORES);
+            start_world(rt, rt.alloc(), word)
+        }
+        None => start_world(rt, rt.alloc(), DEFAULT_STORES),
+    }
+}
+
 /// Reads the command line and does the command.
 fn start<
     T: Threads
@@ -177,37 +229,13 @@ fn start<
         + Sync
         + 'static,
 >(rt: &HostRuntime, threads: &T) -> Result<Finish, Finish> {
-    let alloc = rt.alloc();
-    let words: Vec<String> = match env::args(rt) {
-        Ok(words) => words.collect(alloc)?,
-        Err(error) if error.kind() == io::ErrorKind::OutOfMemory => return Err(Finish::OutOfMemory),
-        Err(_) => {
-            eprintln!(rt; "error: an argument is no text")?;
-            return Ok(Finish::BadCommandLine);
-        }
-    };
-    let matches = match commands(alloc)?.try_get_matches_from(words.as_slice()) {
-        Ok(matches) => matches,
-        Err(error) => return told(rt, &error),
-    };
-    match matches.subcommand() {
-        Some((name, found)) if name == "run" => start_run(rt, threads, found),
-        Some((name, found)) if name == "serve" => start_serve(rt, threads, found),
-        Some((name, found)) if name == "ask" => start_ask(rt, threads, found),
-        Some((name, found)) if name == "load" => start_load(rt, threads, found),
-        Some((_, found)) => {
-            let word = found.get_str("stores").unwrap_or(DEFAULT_STORES);
-            start_world(rt, alloc, word)
-        }
-        None => start_world(rt, alloc, DEFAULT_STORES),
-    }
+    let words = words_of(rt)?;
+    let matches = matched(rt, words.as_slice())?;
+    do_command(rt, threads, &matches)
 }
 
 fn main(rt: HostRuntime) -> ExitCode {
-    let finish = match start(&rt, &rt) {
-        Ok(finish) => finish,
-        Err(finish) => finish,
-    };
+    let finish = ended(start(&rt, &rt));
     let _ = match finish {
         Finish::Fault(fault) => eprintln!(rt; "{fault}"),
         Finish::OutOfMemory => eprintln!(rt; "out of memory"),
