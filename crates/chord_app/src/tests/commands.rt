@@ -18,53 +18,35 @@ const REQUESTS: &str =
 const REPLIES: &str =
     "added\nadded\npresent\nvalues 2 78 79\nremoved\nabsent\nadded\nvalues 1 -\nvalues 0\n";
 
-fn manner(port: u16, version: u8, window: u64, tries: u32) -> Manner {
-    Manner {
-        port,
-        version,
-        window,
-        tries,
-    }
-}
-
-/// How asking ended, and whether it wrote what it was to write.
-type Asked = (Result<Finish, Finish>, bool);
-
-fn asks<R: Net<Stream = TcpStream>>(
-    rt: &R,
-    alloc: Global,
-    manner: Manner,
-    input: &str,
-    wanted: &str,
-) -> Asked {
-    let mut reader = input.as_bytes();
-    let mut written: Vec<u8> = Vec::new(alloc);
-    let finish = ask_lines(rt, alloc, manner, &mut reader, &mut written);
-    (finish, written.as_slice() == wanted.as_bytes())
-}
-
-/// Asks a ring of two nodes whose stores have room for so many pairs each, over so many connections in turn.
+/// Asks a ring of two nodes whose stores have room for so many pairs each, over so many connections in turn. Gives how
+/// asking ended, and whether it wrote what it was to write.
 fn asks_a_ring<R: Threads + Wait + Clock + Net<Listener = TcpListener, Stream = TcpStream> + Sync>(
     rt: &R,
     alloc: Global,
     room: u64,
     connections: usize,
-    how: (u8, u64, u32),
+    (version, window, tries): (u8, u64, u32),
     (input, wanted): (&str, &str),
-) -> Option<Asked> {
+) -> Option<(Result<Finish, Finish>, bool)> {
     let plan = plan_with(alloc, 3)?;
     let stores = two_stores(alloc, room).ok()?;
     let listener = TcpListener::bind(rt, "127.0.0.1:0").ok()?;
-    let (version, window, tries) = how;
-    let manner = manner(listener.local_addr().ok()?.port(), version, window, tries);
+    let manner = Manner {
+        port: listener.local_addr().ok()?.port(),
+        version,
+        window,
+        tries,
+    };
     let mut ends: Vec<u8> = Vec::new(alloc);
+    let mut reader = input.as_bytes();
+    let mut written: Vec<u8> = Vec::new(alloc);
     let (served, asked) = thread::join(
         rt,
         || served_by(rt, alloc, &plan, &listener, stores, connections, &mut ends),
-        || asks(rt, alloc, manner, input, wanted),
+        || ask_lines(rt, alloc, manner, &mut reader, &mut written),
     );
     served.ok()?;
-    Some(asked)
+    Some((asked, written.as_slice() == wanted.as_bytes()))
 }
 
 /// The same lines come of each version and window.
@@ -93,18 +75,6 @@ fn a_full_store(rt: HostRuntime) {
     for (connections, how) in [(2, (1, 1, 2)), (2, (2, 1, 2)), (1, (2, 16, 2))] {
         let asked = asks_a_ring(&rt, rt.alloc(), 0, connections, how, lines);
         assert_eq!(rt; asked, Some((Ok(unanswered), true)));
-    }
-}
-
-fn load(port: u16, kind: Kind, requests: u64) -> Load {
-    Load {
-        port,
-        connections: 2,
-        in_flight: 4,
-        keys: 3,
-        value_size: 5,
-        kind,
-        until: Until::Requests(requests),
     }
 }
 
@@ -137,7 +107,15 @@ fn loaded<R: Threads + Wait + Clock + Net<Listener = TcpListener, Stream = TcpSt
     let plan = plan_with(alloc, 3)?;
     let stores = two_stores(alloc, room).ok()?;
     let listener = TcpListener::bind(rt, "127.0.0.1:0").ok()?;
-    let load = load(listener.local_addr().ok()?.port(), kind, 21);
+    let load = Load {
+        port: listener.local_addr().ok()?.port(),
+        connections: 2,
+        in_flight: 4,
+        keys: 3,
+        value_size: 5,
+        kind,
+        until: Until::Requests(21),
+    };
     let mut ends: Vec<u8> = Vec::new(alloc);
     let mut table: Vec<u8> = Vec::new(alloc);
     let lines: Vec<u8> = Vec::new(alloc);
