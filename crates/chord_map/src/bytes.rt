@@ -118,6 +118,3 @@ impl Ord for Bytes {
         self.as_slice().cmp(other.as_slice())
     }
 }
-
-#[cfg(test)]
-mod tests;

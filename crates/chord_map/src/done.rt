@@ -1,5 +1,6 @@
 //! Executed calls.
-ghost use Rattle.std.specs.Prelude.{◌≡◌, IfOk};
+ghost use Rattle.std.specs.Prelude.{◌≡◌, IfOk, IsOk};
+ghost use Rattle.chord_map.specs.Copies.{IsShortReply, IsShortRequest};
 ghost use Rattle.std.specs.Option.{option_copied};
 ghost use Rattle.chord_map.specs.History.{done_at};
 
@@ -19,7 +20,8 @@ pub struct Done {
 impl Done {
     /// An equal copy.
     pub fn try_copy(&self) -> Result<Done, AllocError>
-        ensures { IfOk result (λ copy. copy ≡ self.now) }
+        ensures copy { IfOk result (λ copy. copy ≡ self.now) }
+        ensures short { IsShortRequest self.now.request → IsShortReply self.now.reply → IsOk result }
     {
         Ok(Done {
             caller: self.caller,
@@ -50,6 +52,3 @@ pub fn copy_dones(alloc: Global, dones: &[Done]) -> Result<Vec<Done>, AllocError
     }
     Ok(copies)
 }
-
-#[cfg(test)]
-mod tests;

@@ -15,8 +15,6 @@ mod pair_list;
 mod plain_map;
 mod reply;
 mod request;
-#[cfg(test)]
-mod samples;
 mod short;
 mod values;
 

@@ -148,6 +148,3 @@ impl PairList {
         self.pairs.retain(test);
     }
 }
-
-#[cfg(test)]
-mod tests;

@@ -81,6 +81,3 @@ fn remove(pairs: &mut PairList, key: &Bytes, value: &Bytes) -> Reply
         Reply::Absent
     }
 }
-
-#[cfg(test)]
-mod tests;

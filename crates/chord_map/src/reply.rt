@@ -1,5 +1,6 @@
 //! What a caller may be told.
-ghost use Rattle.std.specs.Prelude.{◌≡◌, ◌↔◌, IsTrue, IfOk, OnErr};
+ghost use Rattle.std.specs.Prelude.{◌≡◌, ◌↔◌, IsTrue, IfOk, IsOk, OnErr};
+ghost use Rattle.chord_map.specs.Copies.{IsShortReply};
 ghost use Rattle.chord_map.specs.Map.{IsValues, fits};
 
 use crate::request::Request;
@@ -17,10 +18,11 @@ pub enum Reply {
 }
 
 impl Reply {
-    /// An equal copy. Only that of values takes memory.
+    /// An equal copy. Only that of values takes memory, of two or more or of a long one.
     pub fn try_copy(&self) -> Result<Reply, AllocError>
         ensures copy { IfOk result (λ copy. copy ≡ self.now) }
         ensures memory { OnErr result (IsValues self.now) }
+        ensures short { IsShortReply self.now → IsOk result }
     {
         match self {
             Reply::Added => Ok(Reply::Added),

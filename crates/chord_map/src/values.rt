@@ -1,5 +1,6 @@
 //! Lists of values.
-ghost use Rattle.std.specs.Prelude.{◌≡◌, ◌≤◌, ◌<◌, ◌++◌, ◌∷◌, [], IfOk, OnOk, OnErr, length, insert, remove, slice_get};
+ghost use Rattle.std.specs.Prelude.{◌≡◌, ◌≤◌, ◌<◌, ◌++◌, ◌∷◌, [], IfOk, IsOk, OnOk, OnErr, length, insert, remove, slice_get};
+ghost use Rattle.chord_map.specs.Copies.{AreFew};
 
 use crate::bytes::Bytes;
 use std::alloc::{AllocError, Global};
@@ -22,11 +23,13 @@ enum Items {
 
 impl Model for Values {
     ghost use Rattle.std.specs.Prelude.{ℕ, List};
-    ghost use Rattle.chord_map.specs.Items.{values_of};
+    ghost use Rattle.chord_map.specs.Items.{values_of, FewInside};
 
     ghost Value = { List (List ℕ) };
 
     ghost view = { λ values. values_of values.items };
+
+    ghost invariant = { λ values. FewInside values.items };
 }
 
 // A vector of equal copies.
@@ -60,20 +63,22 @@ impl Values {
         }
     }
 
-    /// Adds a value at the end.
+    /// Adds a value at the end. The first one takes no memory.
     pub fn push(&mut self, value: Bytes) -> Result<(), AllocError>
         ensures ok { OnOk result (self.new ≡ self.old ++ value ∷ []) }
         ensures err { OnErr result (self.new ≡ self.old) }
+        ensures first { self.old ≡ [] → IsOk result }
     {
         let end = self.as_slice().len();
         self.insert(end, value)
     }
 
-    /// Puts a value at the place, before those from there on.
+    /// Puts a value at the place, before those from there on. The first one takes no memory.
     pub fn insert(&mut self, place: usize, value: Bytes) -> Result<(), AllocError>
         requires { place ≤ length self.old }
         ensures ok { OnOk result (self.new ≡ insert self.old place value) }
         ensures err { OnErr result (self.new ≡ self.old) }
+        ensures first { self.old ≡ [] → IsOk result }
     {
         match mem::replace(&mut self.items, Items::Empty) {
             Items::Empty => self.items = Items::One(value),
@@ -108,15 +113,20 @@ impl Values {
             Items::One(only) => only,
             Items::Many(mut values) => {
                 let taken = values.remove(place);
-                self.items = Items::Many(values);
+                self.items = if values.len() == 1 {
+                    Items::One(values.remove(0))
+                } else {
+                    Items::Many(values)
+                };
                 taken
             }
         }
     }
 
-    /// An equal copy.
+    /// An equal copy. No value takes no memory, nor does a single one of up to 16 bytes.
     pub fn try_copy(&self) -> Result<Values, AllocError>
-        ensures { IfOk result (λ copy. copy ≡ self.now) }
+        ensures copy { IfOk result (λ copy. copy ≡ self.now) }
+        ensures few { AreFew self.now → IsOk result }
     {
         let items = match &self.items {
             Items::Empty => Items::Empty,
@@ -152,6 +162,3 @@ impl Eq for Values {
 
     ghost laws = { same_values-equiv };
 }
-
-#[cfg(test)]
-mod tests;

@@ -17,7 +17,7 @@ loop-done-preserved c =
     (c.strike_out-2.ensures d.caller d.number ∙ ap (λ b. b && told) (c.strike_out.ensures d.caller d.number ∙ ap (λ b. b && mine) (c.in_ok-unknown.ensures d.caller d.number))) in
     elim c.if-contains.branch [
       | then-contains+in_ok-try_copy+in_ok-push w ↦
-          ap (λ news. news.items) w.news-is ∙ w.in_ok-push.ensures.items ∙ ap (λ (done : Done). c.loop-done.news.items ++ done ∷ []) w.in_ok-try_copy.ensures
+          ap (λ news. news.items) w.news-is ∙ w.in_ok-push.ensures.items ∙ ap (λ (done : Done). c.loop-done.news.items ++ done ∷ []) w.in_ok-try_copy.ensures.copy
           ∙ ap (λ (dones : List Done). dones ++ d ∷ []) c.loop-done.invariant
           ∙ sym (more_unknown listed c.args.dones.now c.loop-done.done-index d c.contains.result c.loop-done-test.true c.done-item.is left w.if-contains.true)
       | else-contains w ↦

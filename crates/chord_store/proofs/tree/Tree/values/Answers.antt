@@ -12,7 +12,7 @@ pub returns-in-Some : goal.returns-in-Some
 returns-in-Some c =
     let held = sym c.get.ensures.value ∙ ap option_copied c.in-Some.is in
     let found = sym (values-tree _ c.self.invariant.0 c.args.key.now _ held) ∙ ap (values_at c.args.key.now) c.self.view_is in
-    if_ok_map c.try_copy.result (λ v e. e ∙ found) c.try_copy.ensures
+    if_ok_map c.try_copy.result (λ v e. e ∙ found) c.try_copy.ensures.copy
 
 pub returns-in-None : goal.returns-in-None
 returns-in-None c =

@@ -1,5 +1,4 @@
-use super::{Done, copy_dones, find_done};
-use crate::{Reply, Request};
+use chord_map::{Done, Reply, Request, copy_dones, find_done};
 use std::alloc::{AllocError, Global};
 use std::test::Fail;
 
@@ -31,9 +30,9 @@ fn number_found(alloc: Global, caller: u64, number: u64) -> Option<u64> {
 #[test]
 fn a_call_is_found_by_caller_and_number(rt: HostRuntime) -> Result<(), Fail> {
     let alloc = rt.alloc();
-    assert_eq!(rt; number_found(alloc, 1, 2), Some(2));
-    assert_eq!(rt; number_found(alloc, 1, 3), None);
-    assert_eq!(rt; number_found(alloc, 2, 1), None);
+    assert!(rt; number_found(alloc, 1, 2) == Some(2));
+    assert!(rt; number_found(alloc, 1, 3) == None);
+    assert!(rt; number_found(alloc, 2, 1) == None);
     Ok(())
 }
 
@@ -61,8 +60,8 @@ fn others_are_equal(alloc: Global) -> Option<bool> {
 #[test]
 fn calls_are_copied(rt: HostRuntime) -> Result<(), Fail> {
     let alloc = rt.alloc();
-    assert_eq!(rt; copies_are_equal(alloc), Some(true));
-    assert_eq!(rt; copy_is_equal(alloc), Some(true));
-    assert_eq!(rt; others_are_equal(alloc), Some(false));
+    assert!(rt; copies_are_equal(alloc) == Some(true));
+    assert!(rt; copy_is_equal(alloc) == Some(true));
+    assert!(rt; others_are_equal(alloc) == Some(false));
     Ok(())
 }

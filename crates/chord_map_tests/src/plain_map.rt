@@ -1,6 +1,5 @@
-use super::PlainMap;
 use crate::samples::one_value;
-use crate::{Reply, Request, Values};
+use chord_map::{PlainMap, Reply, Request, Values};
 use std::alloc::{AllocError, Global};
 use std::test::Fail;
 
@@ -47,12 +46,12 @@ fn removes(alloc: Global, map: &mut PlainMap, reply: Reply) -> Option<bool> {
 fn inserts_retrieves_and_removes(rt: HostRuntime) {
     let alloc = rt.alloc();
     let mut map = PlainMap::new(alloc);
-    assert_eq!(rt; finds(alloc, &mut map, Values::new(alloc)), Some(true));
-    assert_eq!(rt; inserts(alloc, &mut map, Reply::Added), Some(true));
-    assert_eq!(rt; inserts(alloc, &mut map, Reply::Present), Some(true));
-    assert_eq!(rt; finds_x(alloc, &mut map), Some(true));
-    assert_eq!(rt; removes(alloc, &mut map, Reply::Removed), Some(true));
-    assert_eq!(rt; removes(alloc, &mut map, Reply::Absent), Some(true));
+    assert!(rt; finds(alloc, &mut map, Values::new(alloc)) == Some(true));
+    assert!(rt; inserts(alloc, &mut map, Reply::Added) == Some(true));
+    assert!(rt; inserts(alloc, &mut map, Reply::Present) == Some(true));
+    assert!(rt; finds_x(alloc, &mut map) == Some(true));
+    assert!(rt; removes(alloc, &mut map, Reply::Removed) == Some(true));
+    assert!(rt; removes(alloc, &mut map, Reply::Absent) == Some(true));
 }
 
 // Whether each of the values 0000 to 0999 is added under `a`.
@@ -74,38 +73,34 @@ fn is_filled(alloc: Global, map: &mut PlainMap) -> Option<bool> {
 fn fills_a_set(rt: HostRuntime) {
     let alloc = rt.alloc();
     let mut map = PlainMap::new(alloc);
-    assert_eq!(rt; is_filled(alloc, &mut map), Some(true));
-    assert_eq!(rt;
+    assert!(rt; is_filled(alloc, &mut map) == Some(true));
+    assert!(rt;
         tells(
             &mut map,
             Request::insert(alloc, b"a", b"1000"),
             &Reply::SetFull
-        ),
-        Some(true)
+        ) == Some(true)
     );
-    assert_eq!(rt;
+    assert!(rt;
         tells(
             &mut map,
             Request::insert(alloc, b"a", b"0999"),
             &Reply::Present
-        ),
-        Some(true)
+        ) == Some(true)
     );
-    assert_eq!(rt;
+    assert!(rt;
         tells(
             &mut map,
             Request::remove(alloc, b"a", b"0000"),
             &Reply::Removed
-        ),
-        Some(true)
+        ) == Some(true)
     );
-    assert_eq!(rt;
+    assert!(rt;
         tells(
             &mut map,
             Request::insert(alloc, b"a", b"1000"),
             &Reply::Added
-        ),
-        Some(true)
+        ) == Some(true)
     );
 }
 
@@ -156,7 +151,7 @@ fn a_refused_growth_leaves_the_map(rt: HostRuntime) -> Result<(), Fail> {
             assert!(rt; ends_at(alloc, &mut map, n)?, "at {n}");
             added = adds(&mut map, &request);
         }
-        assert_eq!(rt; added, Some(true), "at {n}");
+        assert!(rt; added == Some(true), "at {n}");
     }
     assert!(rt; ends_at(alloc, &mut map, 12)?);
     Ok(())

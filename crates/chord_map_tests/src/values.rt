@@ -1,5 +1,4 @@
-use super::Values;
-use crate::Bytes;
+use chord_map::{Bytes, Values};
 use std::alloc::{AllocError, Global};
 use std::test::Fail;
 
@@ -75,6 +74,15 @@ fn a_value_is_taken_out(rt: HostRuntime) -> Result<(), Fail> {
 }
 
 #[test]
+fn the_last_of_two_comes_out(rt: HostRuntime) -> Result<(), Fail> {
+    let mut values = values_of(rt.alloc(), b"xy")?;
+    assert!(rt; takes(&mut values, 0, b'x'));
+    assert!(rt; are_of(&values, b"y"));
+    assert!(rt; takes(&mut values, 0, b'y') && are_of(&values, b""));
+    Ok(())
+}
+
+#[test]
 fn the_only_value_comes_out(rt: HostRuntime) -> Result<(), Fail> {
     let mut values = values_of(rt.alloc(), b"x")?;
     assert!(rt; takes(&mut values, 0, b'x'));
@@ -93,7 +101,7 @@ fn copy_equals(alloc: Global, letters: &[u8], others: &[u8]) -> Option<(bool, bo
 fn a_copy_is_equal(rt: HostRuntime) {
     let alloc = rt.alloc();
     for letters in [b"".as_slice(), b"x", b"xyz"] {
-        assert_eq!(rt; copy_equals(alloc, letters, b"xz"), Some((true, false)));
+        assert!(rt; copy_equals(alloc, letters, b"xz") == Some((true, false)));
     }
 }
 
@@ -105,7 +113,7 @@ fn bytes_are_copied(alloc: Global) -> Option<bool> {
 
 #[test]
 fn copies_bytes(rt: HostRuntime) {
-    assert_eq!(rt; bytes_are_copied(rt.alloc()), Some(true));
+    assert!(rt; bytes_are_copied(rt.alloc()) == Some(true));
 }
 
 // The value of the letter, asked for again where there was no memory.

@@ -1,5 +1,5 @@
 use crate::samples::one_value;
-use crate::{Reply, Request, RequestFault};
+use chord_map::{Reply, Request, RequestFault};
 use std::alloc::{AllocError, Global};
 use std::test::Fail;
 
@@ -12,53 +12,32 @@ fn checked(request: Result<Request, AllocError>) -> Option<Result<(), RequestFau
 fn keys_have_limits(rt: HostRuntime) {
     let alloc = rt.alloc();
     let long = [7u8; 256];
-    assert_eq!(rt;
-        checked(Request::retrieve(alloc, &[])),
-        Some(Err(RequestFault::KeyEmpty))
-    );
-    assert_eq!(rt; checked(Request::retrieve(alloc, &long[..1])), Some(Ok(())));
-    assert_eq!(rt;
-        checked(Request::retrieve(alloc, &long[..255])),
-        Some(Ok(()))
-    );
-    assert_eq!(rt;
-        checked(Request::retrieve(alloc, &long)),
-        Some(Err(RequestFault::KeyLong))
-    );
+    assert!(rt; checked(Request::retrieve(alloc, &[])) == Some(Err(RequestFault::KeyEmpty)));
+    assert!(rt; checked(Request::retrieve(alloc, &long[..1])) == Some(Ok(())));
+    assert!(rt; checked(Request::retrieve(alloc, &long[..255])) == Some(Ok(())));
+    assert!(rt; checked(Request::retrieve(alloc, &long)) == Some(Err(RequestFault::KeyLong)));
 }
 
 #[test]
 fn values_have_limits(rt: HostRuntime) {
     let alloc = rt.alloc();
     let long = [7u8; 4097];
-    assert_eq!(rt; checked(Request::insert(alloc, b"a", &[])), Some(Ok(())));
-    assert_eq!(rt;
-        checked(Request::insert(alloc, b"a", &long[..4096])),
-        Some(Ok(()))
-    );
-    assert_eq!(rt;
-        checked(Request::insert(alloc, b"a", &long)),
-        Some(Err(RequestFault::ValueLong))
-    );
-    assert_eq!(rt;
-        checked(Request::remove(alloc, b"a", &long)),
-        Some(Err(RequestFault::ValueLong))
-    );
-    assert_eq!(rt;
-        checked(Request::remove(alloc, &[], &long)),
-        Some(Err(RequestFault::KeyEmpty))
-    );
+    assert!(rt; checked(Request::insert(alloc, b"a", &[])) == Some(Ok(())));
+    assert!(rt; checked(Request::insert(alloc, b"a", &long[..4096])) == Some(Ok(())));
+    assert!(rt; checked(Request::insert(alloc, b"a", &long)) == Some(Err(RequestFault::ValueLong)));
+    assert!(rt; checked(Request::remove(alloc, b"a", &long)) == Some(Err(RequestFault::ValueLong)));
+    assert!(rt; checked(Request::remove(alloc, &[], &long)) == Some(Err(RequestFault::KeyEmpty)));
 }
 
 #[test]
 fn tells_its_fault(rt: HostRuntime) -> Result<(), Fail> {
     let alloc = rt.alloc();
     let text = format!(in alloc; "{}", RequestFault::KeyEmpty)?;
-    assert_eq!(rt; text.as_str(), "the key is empty");
+    assert!(rt; text.as_str() == "the key is empty");
     let text = format!(in alloc; "{}", RequestFault::KeyLong)?;
-    assert_eq!(rt; text.as_str(), "the key has more than 255 bytes");
+    assert!(rt; text.as_str() == "the key has more than 255 bytes");
     let text = format!(in alloc; "{}", RequestFault::ValueLong)?;
-    assert_eq!(rt; text.as_str(), "the value has more than 4096 bytes");
+    assert!(rt; text.as_str() == "the value has more than 4096 bytes");
     Ok(())
 }
 
@@ -86,58 +65,33 @@ fn names(request: Result<Request, AllocError>, key: &[u8], value: &[u8]) -> Opti
 #[test]
 fn copies(rt: HostRuntime) {
     let alloc = rt.alloc();
-    assert_eq!(rt;
-        is_its_copy(Request::insert(alloc, b"abc", b"x")),
-        Some(true)
-    );
-    assert_eq!(rt; is_its_copy(Request::retrieve(alloc, b"abc")), Some(true));
-    assert_eq!(rt;
-        is_its_copy(Request::remove(alloc, b"abc", b"x")),
-        Some(true)
-    );
+    assert!(rt; is_its_copy(Request::insert(alloc, b"abc", b"x")) == Some(true));
+    assert!(rt; is_its_copy(Request::retrieve(alloc, b"abc")) == Some(true));
+    assert!(rt; is_its_copy(Request::remove(alloc, b"abc", b"x")) == Some(true));
 }
 
 #[test]
 fn compares(rt: HostRuntime) {
     let alloc = rt.alloc();
     let insert_x = || Request::insert(alloc, b"abc", b"x");
-    assert_eq!(rt; are_equal(insert_x(), insert_x()), Some(true));
-    assert_eq!(rt;
-        are_equal(insert_x(), Request::insert(alloc, b"abc", b"y")),
-        Some(false)
-    );
-    assert_eq!(rt;
-        are_equal(insert_x(), Request::remove(alloc, b"abc", b"x")),
-        Some(false)
-    );
-    assert_eq!(rt;
-        are_equal(insert_x(), Request::retrieve(alloc, b"abc")),
-        Some(false)
-    );
-    assert_eq!(rt;
+    assert!(rt; are_equal(insert_x(), insert_x()) == Some(true));
+    assert!(rt; are_equal(insert_x(), Request::insert(alloc, b"abc", b"y")) == Some(false));
+    assert!(rt; are_equal(insert_x(), Request::remove(alloc, b"abc", b"x")) == Some(false));
+    assert!(rt; are_equal(insert_x(), Request::retrieve(alloc, b"abc")) == Some(false));
+    assert!(rt;
         are_equal(
             Request::retrieve(alloc, b"abc"),
             Request::retrieve(alloc, b"ab")
-        ),
-        Some(false)
+        ) == Some(false)
     );
 }
 
 #[test]
 fn names_its_key_and_value(rt: HostRuntime) {
     let alloc = rt.alloc();
-    assert_eq!(rt;
-        names(Request::insert(alloc, b"abc", b"x"), b"abc", b"x"),
-        Some(true)
-    );
-    assert_eq!(rt;
-        names(Request::remove(alloc, b"abc", b"x"), b"abc", b"x"),
-        Some(true)
-    );
-    assert_eq!(rt;
-        names(Request::retrieve(alloc, b"abc"), b"abc", b""),
-        Some(true)
-    );
+    assert!(rt; names(Request::insert(alloc, b"abc", b"x"), b"abc", b"x") == Some(true));
+    assert!(rt; names(Request::remove(alloc, b"abc", b"x"), b"abc", b"x") == Some(true));
+    assert!(rt; names(Request::retrieve(alloc, b"abc"), b"abc", b"") == Some(true));
 }
 
 /// Whether the reply fits the request.
@@ -163,13 +117,13 @@ fn fitting_values(alloc: Global) -> Option<(bool, bool, bool)> {
 fn knows_the_replies_of_its_kind(rt: HostRuntime) {
     let alloc = rt.alloc();
     let of_insert = Some((true, false, false));
-    assert_eq!(rt; fitting(alloc, Reply::Added), of_insert);
-    assert_eq!(rt; fitting(alloc, Reply::Present), of_insert);
-    assert_eq!(rt; fitting(alloc, Reply::SetFull), of_insert);
+    assert!(rt; fitting(alloc, Reply::Added) == of_insert);
+    assert!(rt; fitting(alloc, Reply::Present) == of_insert);
+    assert!(rt; fitting(alloc, Reply::SetFull) == of_insert);
     let of_remove = Some((false, false, true));
-    assert_eq!(rt; fitting(alloc, Reply::Removed), of_remove);
-    assert_eq!(rt; fitting(alloc, Reply::Absent), of_remove);
-    assert_eq!(rt; fitting_values(alloc), Some((false, true, false)));
+    assert!(rt; fitting(alloc, Reply::Removed) == of_remove);
+    assert!(rt; fitting(alloc, Reply::Absent) == of_remove);
+    assert!(rt; fitting_values(alloc) == Some((false, true, false)));
 }
 
 /// Whether the reply with the value x is equal to itself, to the one with y, and to Added.
@@ -182,5 +136,5 @@ fn equals(alloc: Global) -> Option<(bool, bool, bool)> {
 
 #[test]
 fn replies_are_compared(rt: HostRuntime) {
-    assert_eq!(rt; equals(rt.alloc()), Some((true, false, false)));
+    assert!(rt; equals(rt.alloc()) == Some((true, false, false)));
 }

@@ -1,5 +1,5 @@
 //! Replies for tests.
-use crate::{Bytes, Reply, Values};
+use chord_map::{Bytes, Reply, Values};
 use std::alloc::{AllocError, Global};
 
 /// The reply with this one value.

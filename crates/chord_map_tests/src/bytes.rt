@@ -1,4 +1,4 @@
-use super::Bytes;
+use chord_map::Bytes;
 use std::alloc::Global;
 use std::cmp::Ordering;
 
@@ -12,16 +12,10 @@ fn compared(alloc: Global, left: &[u8], right: &[u8]) -> Option<(Ordering, bool)
 #[test]
 fn bytes_compare_one_by_one(rt: HostRuntime) {
     let alloc = rt.alloc();
-    assert_eq!(rt; compared(alloc, b"", b""), Some((Ordering::Equal, true)));
-    assert_eq!(rt; compared(alloc, b"a", b"aa"), Some((Ordering::Less, false)));
-    assert_eq!(rt;
-        compared(alloc, b"b", b"aa"),
-        Some((Ordering::Greater, false))
-    );
-    assert_eq!(rt;
-        compared(alloc, &[127], &[128]),
-        Some((Ordering::Less, false))
-    );
+    assert!(rt; compared(alloc, b"", b"") == Some((Ordering::Equal, true)));
+    assert!(rt; compared(alloc, b"a", b"aa") == Some((Ordering::Less, false)));
+    assert!(rt; compared(alloc, b"b", b"aa") == Some((Ordering::Greater, false)));
+    assert!(rt; compared(alloc, &[127], &[128]) == Some((Ordering::Less, false)));
 }
 
 // Sixteen bytes stand in the value, seventeen are allocated.
@@ -29,12 +23,9 @@ fn bytes_compare_one_by_one(rt: HostRuntime) {
 fn short_and_long_bytes_compare(rt: HostRuntime) {
     let alloc = rt.alloc();
     let less = Some((Ordering::Less, false));
-    assert_eq!(rt; compared(alloc, &[7; 16], &[7; 17]), less);
-    assert_eq!(rt; compared(alloc, &[7; 17], &[8; 16]), less);
-    assert_eq!(rt;
-        compared(alloc, &[7; 17], &[7; 17]),
-        Some((Ordering::Equal, true))
-    );
+    assert!(rt; compared(alloc, &[7; 16], &[7; 17]) == less);
+    assert!(rt; compared(alloc, &[7; 17], &[8; 16]) == less);
+    assert!(rt; compared(alloc, &[7; 17], &[7; 17]) == Some((Ordering::Equal, true)));
 }
 
 // Whether the bytes of a vector, a copy of them and a copy of the vector's slice are equal.
@@ -48,6 +39,6 @@ fn are_all_equal(alloc: Global, bytes: &[u8]) -> Option<bool> {
 #[test]
 fn bytes_are_the_same_wherever_they_stand(rt: HostRuntime) {
     let alloc = rt.alloc();
-    assert_eq!(rt; are_all_equal(alloc, b"x"), Some(true));
-    assert_eq!(rt; are_all_equal(alloc, &[7; 17]), Some(true));
+    assert!(rt; are_all_equal(alloc, b"x") == Some(true));
+    assert!(rt; are_all_equal(alloc, &[7; 17]) == Some(true));
 }

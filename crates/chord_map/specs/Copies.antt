@@ -1,0 +1,26 @@
+-- What is copied without memory: it stands in the value itself. Source: our own.
+use Rattle.std.specs.Prelude.{ℕ, ◌≤◌, List, [], ◌∷◌, length}
+use Rattle.chord_map.specs.Checked.{value_of}
+use Rattle.chord_map.specs.Map.{key_of}
+use Rattle.chord_map.specs.declared.reply.Reply.{Reply}
+use Rattle.chord_map.specs.declared.reply.Reply.TheVariants.{Added, Present, SetFull, Values, Removed, Absent}
+use Rattle.chord_map.specs.declared.request.Request.{Request}
+
+-- a key or a value of up to 16 bytes
+abbrev pub IsShort : List ℕ → Type 0
+IsShort bytes = length bytes ≤ 16
+
+-- no value, or a single short one
+abbrev pub AreFew : List (List ℕ) → Type 0
+AreFew [] = Unit {0}
+AreFew (value ∷ []) = IsShort value
+AreFew (value ∷ other ∷ values) = ⊥
+
+-- its key and its value are short
+abbrev pub IsShortRequest : Request → Type 0
+IsShortRequest request = IsShort (key_of request) × IsShort (value_of request)
+
+-- it has no value, or a single short one
+abbrev pub IsShortReply : Reply → Type 0
+IsShortReply (Values values) = AreFew values
+IsShortReply reply = Unit {0}
