@@ -2,20 +2,20 @@
 //!
 //! `world` is a world of nodes and callers, which does a step a line ([`world`]); `run` a running ring that does what a
 //! plan says ([`run`]); `serve` a running ring that answers clients ([`serve`], [`stay`]); `ask` and `load` are such
-//! clients ([`start_ask`], [`start_load`]). [`command_line`] reads the arguments, and [`Finish`] says with what status the
-//! program ends.
+//! clients ([`start_ask`], [`start_load`]). `chord_command_line` says what a command line has, and [`Finish`] with what
+//! status the program ends.
 #![tactic(auto)]
-
-mod command_line;
 
 use chord_client::{start_ask, start_load, told};
 use chord_command::Finish;
+use chord_command_line::{
+    DEFAULT_STORES, commands, names_stores, no_number, no_stores, small_number,
+};
 use chord_console::{empty_ones, world};
 use chord_host::{Front, listen, run, serve, stay};
 use chord_plan::{Plan, PlanFault, StoreKind, read_plan};
 use chord_store::{CappedStore, EntryStore, ListStore, NotedStore, TreeStore};
 use clap::ArgMatches;
-use command_line::{DEFAULT_STORES, commands, names_stores, no_number, no_stores, small_number};
 use std::alloc::Global;
 use std::net::{Net, TcpListener, TcpStream};
 use std::process::ExitCode;
@@ -243,6 +243,3 @@ fn main(rt: HostRuntime) -> ExitCode {
     };
     ExitCode::from(finish.status())
 }
-
-#[cfg(test)]
-mod tests;

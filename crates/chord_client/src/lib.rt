@@ -6,13 +6,14 @@ mod ask;
 mod load;
 mod telling;
 
-pub use ask::command::{ask_command, start_ask};
-pub use ask::input::ask_lines;
+pub use ask::command::{ask_command, manner_of, start_ask};
+pub use ask::input::{ask_lines, ask_one};
+pub use ask::line::{read_line, read_words};
 pub use ask::link::Manner;
+pub use ask::outcome::Outcome;
 pub use load::bounds::{Kind, Load, Until};
-pub use load::command::{load_command, start_load};
+pub use load::command::{load_command, load_of, start_load};
+pub use load::histogram::{Bucket, Histogram};
+pub use load::report::Report;
 pub use load::running::run_load;
 pub use telling::told;
-
-#[cfg(test)]
-mod tests;

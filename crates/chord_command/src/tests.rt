@@ -14,7 +14,7 @@ fn statuses(rt: HostRuntime) {
         (Finish::BadCommandLine, 2),
         (Finish::OutOfMemory, 3),
     ] {
-        assert_eq!(rt; finish.status(), status);
+        assert!(rt; finish.status() == status);
     }
 }
 
@@ -36,7 +36,7 @@ fn texts_of_faults(rt: HostRuntime) {
         (Fault::Unanswered(3), "fault unanswered 3"),
         (Fault::Clock, "fault clock"),
     ] {
-        assert_eq!(rt; tells(rt.alloc(), fault, wanted), Some((1, true)));
+        assert!(rt; tells(rt.alloc(), fault, wanted) == Some((1, true)));
     }
 }
 
@@ -45,14 +45,11 @@ fn texts_of_faults(rt: HostRuntime) {
 fn words_of_a_line(rt: HostRuntime) {
     let mut words = Words::new("insert  7");
     let all = [words.word(), words.word(), words.word()];
-    assert_eq!(rt; all, [Ok("insert"), Ok(""), Ok("7")]);
-    assert_eq!(rt; (words.has_more(), words.end()), (false, Ok(())));
-    assert_eq!(rt; words.word(), Err(LineFault::Grammar));
+    assert!(rt; all == [Ok("insert"), Ok(""), Ok("7")]);
+    assert!(rt; (words.has_more(), words.end()) == (false, Ok(())));
+    assert!(rt; words.word() == Err(LineFault::Grammar));
     let more = Words::new("a");
-    assert_eq!(rt;
-        (more.has_more(), more.end()),
-        (true, Err(LineFault::Grammar))
-    );
+    assert!(rt; (more.has_more(), more.end()) == (true, Err(LineFault::Grammar)));
 }
 
 #[test]
@@ -66,7 +63,7 @@ fn numbers(rt: HostRuntime) {
         ("+7", Err(LineFault::Grammar)),
         ("", Err(LineFault::Grammar)),
     ] {
-        assert_eq!(rt; Words::new(line).number(), number, "{line}");
+        assert!(rt; Words::new(line).number() == number, "{line}");
     }
 }
 
@@ -78,7 +75,7 @@ fn identifiers(rt: HostRuntime) {
         ("c00000000000000000000000000000a", Err(LineFault::Grammar)),
         ("c00000000000000000000000000000ag", Err(LineFault::Grammar)),
     ] {
-        assert_eq!(rt; Words::new(line).id(), read, "{line}");
+        assert!(rt; Words::new(line).id() == read, "{line}");
     }
 }
 
@@ -99,7 +96,7 @@ fn bytes_of_digits(rt: HostRuntime) {
         ("--", None),
     ] {
         let same = are_bytes(rt.alloc(), line, wanted.unwrap_or(&[]));
-        assert_eq!(rt; same, wanted.map(|_| true), "{line}");
+        assert!(rt; same == wanted.map(|_| true), "{line}");
     }
 }
 
@@ -127,14 +124,11 @@ fn replies_on_a_line(rt: HostRuntime) {
         (Reply::Removed, "removed"),
         (Reply::Absent, "absent"),
     ] {
-        assert_eq!(rt; is_shown(rt.alloc(), &reply, wanted), Some(true));
+        assert!(rt; is_shown(rt.alloc(), &reply, wanted) == Some(true));
     }
-    assert_eq!(rt; are_shown(rt.alloc(), &[], "values 0"), Some(true));
+    assert!(rt; are_shown(rt.alloc(), &[], "values 0") == Some(true));
     let values = [[0x0a, 0xff].as_slice(), b""];
-    assert_eq!(rt;
-        are_shown(rt.alloc(), &values, "values 2 0aff -"),
-        Some(true)
-    );
+    assert!(rt; are_shown(rt.alloc(), &values, "values 2 0aff -") == Some(true));
 }
 
 /// Whether bytes are these digits.
@@ -145,6 +139,6 @@ fn are_digits(alloc: Global, bytes: &[u8], wanted: &str) -> Option<bool> {
 
 #[test]
 fn digits_of_bytes(rt: HostRuntime) {
-    assert_eq!(rt; are_digits(rt.alloc(), &[0, 0xab], "00ab"), Some(true));
-    assert_eq!(rt; are_digits(rt.alloc(), &[], "-"), Some(true));
+    assert!(rt; are_digits(rt.alloc(), &[0, 0xab], "00ab") == Some(true));
+    assert!(rt; are_digits(rt.alloc(), &[], "-") == Some(true));
 }

@@ -10,6 +10,3 @@ mod stores;
 
 pub use session::world;
 pub use stores::{add_store, empty_ones};
-
-#[cfg(test)]
-mod tests;

@@ -173,6 +173,3 @@ fn place_of(items: &[Item], to: u64, number: u64) -> Option<usize>
         .iter()
         .position(|item| item.to == to && item.number == number)
 }
-
-#[cfg(test)]
-mod spent;

@@ -18,6 +18,3 @@ pub use file::read_plan;
 pub use node::{PlanNode, StoreKind};
 pub use plan::{PLAN_BYTES, Plan};
 pub use settings::PlanSettings;
-
-#[cfg(test)]
-mod tests;

@@ -28,6 +28,3 @@ pub use steps::{
     stabilise, take_candidate,
 };
 pub use upkeep::{drop_dead_in, rectify_in, stabilise_in, take_candidate_in};
-
-#[cfg(test)]
-mod tests;

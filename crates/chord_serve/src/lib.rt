@@ -25,6 +25,3 @@ pub use client::{CallFault, call, call_2};
 pub use in_flight::{AgainFault, Client, ReceiveFault, SendFault};
 pub use served::Served;
 pub use server::serve;
-
-#[cfg(test)]
-mod tests;

@@ -31,6 +31,3 @@ pub use node_seat::NodeSeat;
 pub use parcel::Parcel;
 pub use registrar::Registrar;
 pub use shared::Shared;
-
-#[cfg(test)]
-mod tests;

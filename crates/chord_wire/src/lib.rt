@@ -25,6 +25,3 @@ pub use frames::Frames;
 pub use request::WireRequest;
 pub use writing::writable::is_writable;
 pub use writing::{write_fault, write_reply, write_request, write_request_2};
-
-#[cfg(test)]
-mod tests;

@@ -1,5 +1,0 @@
-use Rattle.chord_app.proofs.tests.rings.growths.refused_growths_of_a_ring.Given as goal
-
--- the ring that was just made
-abbrev pub ghosts-two_nodes : goal.ghosts-two_nodes
-ghosts-two_nodes g a = record { name = a.blank }

@@ -1,5 +1,0 @@
-use Rattle.chord_app.proofs.tests.rings.refusals.a_caller_refuses.Given as goal
-
--- the ring that was just made
-abbrev pub ghosts-caller_refusals : goal.ghosts-caller_refusals
-ghosts-caller_refusals g a = record { name = a.blank }

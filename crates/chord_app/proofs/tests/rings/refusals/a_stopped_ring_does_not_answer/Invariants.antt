@@ -1,5 +1,0 @@
-use Rattle.chord_app.proofs.tests.rings.refusals.a_stopped_ring_does_not_answer.Given as goal
-
--- the ring that was just made
-abbrev pub ghosts-stopped : goal.ghosts-stopped
-ghosts-stopped g a = record { name = a.blank }

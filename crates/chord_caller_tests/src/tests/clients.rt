@@ -1,0 +1,199 @@
+//! A client answers as a caller does, and hands out what it takes.
+
+use super::{added, insert, is_ask};
+use chord_caller::{ClientCore, Outcome, ResendFault, SubmitFault, Told};
+use chord_map::{Reply, Request, RequestFault, Values};
+use std::alloc::Global;
+use std::test::Fail;
+
+fn is_added(outcome: &Outcome) -> bool {
+    matches!(outcome, Outcome::Fresh(Reply::Added))
+}
+
+fn is_foreign(outcome: &Outcome) -> bool {
+    matches!(outcome, Outcome::Foreign)
+}
+
+/// Whether the insert under this key goes out as the call of client 7 of this number and floor.
+fn sends(
+    alloc: Global,
+    core: &mut ClientCore,
+    number: u64,
+    floor: u64,
+    key: &[u8],
+) -> Option<bool> {
+    let ask = core.submit(insert(alloc, key).ok()?).ok()?;
+    Some(is_ask(&ask, 7, number, floor, key))
+}
+
+/// Client 7 with a window of two, after it submitted two requests, and whether their calls were right.
+fn of_two(alloc: Global) -> Option<(ClientCore, bool, bool)> {
+    let mut core = ClientCore::new(alloc, 7, 2).ok()?;
+    let first = sends(alloc, &mut core, 1, 0, b"a")?;
+    let second = sends(alloc, &mut core, 2, 0, b"b")?;
+    Some((core, first, second))
+}
+
+/// The number of a new client, which request of it is pending, and why it sends none again.
+fn nothing_pending(alloc: Global) -> Option<(u64, Option<u64>, Option<ResendFault>)> {
+    let core = ClientCore::new(alloc, 7, 2).ok()?;
+    Some((core.number(), core.pending(), core.resend(1).err()))
+}
+
+/// Whether two calls go out as they should.
+fn sends_two(alloc: Global) -> Option<(bool, bool)> {
+    let (_, first, second) = of_two(alloc)?;
+    Some((first, second))
+}
+
+#[test]
+fn a_client_sends_two_requests(rt: HostRuntime) {
+    let nothing = (7, None, Some(ResendFault::Idle));
+    assert!(rt; nothing_pending(rt.alloc()) == Some(nothing));
+    assert!(rt; sends_two(rt.alloc()) == Some((true, true)));
+}
+
+/// Whether the second reply is handed out and known when it comes again, which request is pending then, and the floor.
+fn takes_the_second(core: &mut ClientCore) -> (bool, bool, Option<u64>, u64) {
+    let fresh = is_added(&core.take(added(7, 2)));
+    let known = matches!(core.take(added(7, 2)), Outcome::Known);
+    (fresh, known, core.pending(), core.floor())
+}
+
+/// Why a third request is refused, and whether the first call goes out again as it was.
+fn waits(alloc: Global, core: &ClientCore) -> Option<(Option<SubmitFault>, bool)> {
+    let refusal = core.refusal(&insert(alloc, b"c").ok()?);
+    let again = core.resend(1).ok()?;
+    Some((refusal, is_ask(&again, 7, 1, 0, b"a")))
+}
+
+/// A client after the second reply, with what was found.
+fn second_first(
+    alloc: Global,
+) -> Option<((bool, bool, Option<u64>, u64), Option<SubmitFault>, bool)> {
+    let (mut core, _, _) = of_two(alloc)?;
+    let second = takes_the_second(&mut core);
+    let (refusal, again) = waits(alloc, &core)?;
+    Some((second, refusal, again))
+}
+
+#[test]
+fn a_client_with_a_window_of_two(rt: HostRuntime) {
+    let second = (true, true, Some(1), 0);
+    let waits = Some((second, Some(SubmitFault::WindowFull), true));
+    assert!(rt; second_first(rt.alloc()) == waits);
+}
+
+/// Whether the first reply is handed out then, the floor, and which request is pending.
+fn takes_the_first(core: &mut ClientCore) -> (bool, u64, Option<u64>) {
+    let fresh = is_added(&core.take(added(7, 1)));
+    (fresh, core.floor(), core.pending())
+}
+
+/// Why a third request is refused, whether its call is right, and whether the first reply is known then.
+fn sends_the_third(
+    alloc: Global,
+    core: &mut ClientCore,
+) -> Option<(Option<SubmitFault>, bool, bool)> {
+    let refusal = core.refusal(&insert(alloc, b"c").ok()?);
+    let sent = sends(alloc, core, 3, 2, b"c")?;
+    let known = matches!(core.take(added(7, 1)), Outcome::Known);
+    Some((refusal, sent, known))
+}
+
+/// A client after both replies, with what was found.
+fn both(alloc: Global) -> Option<((bool, u64, Option<u64>), (Option<SubmitFault>, bool, bool))> {
+    let (mut core, _, _) = of_two(alloc)?;
+    core.take(added(7, 2));
+    let first = takes_the_first(&mut core);
+    let third = sends_the_third(alloc, &mut core)?;
+    Some((first, third))
+}
+
+#[test]
+fn a_window_moves_on(rt: HostRuntime) {
+    let moved = ((true, 2, None), (None, true, true));
+    assert!(rt; both(rt.alloc()) == Some(moved));
+}
+
+/// Client 0 with a pending insert, and why an empty key was refused before.
+fn pending_insert(alloc: Global) -> Option<(ClientCore, Option<SubmitFault>)> {
+    let mut core = ClientCore::new(alloc, 0, 1).ok()?;
+    let empty = core.submit(insert(alloc, b"").ok()?).err();
+    core.submit(insert(alloc, b"a").ok()?).ok()?;
+    Some((core, empty))
+}
+
+/// Whether it does not hear another client's reply, nor one to another number.
+fn hears_none(core: &mut ClientCore) -> (bool, bool, bool) {
+    let other = is_foreign(&core.take(added(1, 1)));
+    let zero = is_foreign(&core.take(added(0, 0)));
+    (other, zero, is_foreign(&core.take(added(0, 2))))
+}
+
+/// Why the empty key was refused, what is not heard, whether a set of values is not, and whether it waits then.
+fn foreign(alloc: Global) -> Option<(Option<SubmitFault>, (bool, bool, bool), bool, bool)> {
+    let (mut core, empty) = pending_insert(alloc)?;
+    let others = hears_none(&mut core);
+    let unfit = Told {
+        caller: 0,
+        number: 1,
+        reply: Reply::Values(Values::new(alloc)),
+    };
+    let values = is_foreign(&core.take(unfit));
+    Some((empty, others, values, core.is_pending(1)))
+}
+
+#[test]
+fn a_client_hears_no_foreign_reply(rt: HostRuntime) {
+    let empty = Some(SubmitFault::Bad(RequestFault::KeyEmpty));
+    assert!(rt; foreign(rt.alloc()) == Some((empty, (true, true, true), true, true)));
+}
+
+/// An insert, made again where there was no memory.
+fn request(alloc: Global) -> Option<Request> {
+    match insert(alloc, b"a") {
+        Ok(request) => Some(request),
+        Err(_) => insert(alloc, b"a").ok(),
+    }
+}
+
+/// The number of the call that is submitted, again where there was no memory: it is not pending then.
+fn submits(alloc: Global, core: &mut ClientCore, number: u64) -> Option<u64> {
+    match core.submit(request(alloc)?) {
+        Ok(ask) => Some(ask.number),
+        Err(SubmitFault::Memory) if !core.is_pending(number) => {
+            Some(core.submit(request(alloc)?).ok()?.number)
+        }
+        Err(_) => None,
+    }
+}
+
+/// A client with a window of three, made again where there was no memory.
+fn of_three(alloc: Global) -> Option<ClientCore> {
+    match ClientCore::new(alloc, 0, 3) {
+        Ok(core) => Some(core),
+        Err(_) => ClientCore::new(alloc, 0, 3).ok(),
+    }
+}
+
+/// The number that is submitted two ahead of this one, whether the reply to this one is handed out, and the floor.
+fn turns(alloc: Global, core: &mut ClientCore, number: u64) -> Option<(u64, bool, u64)> {
+    let ahead = submits(alloc, core, number.saturating_add(2))?;
+    let fresh = is_added(&core.take(added(0, number)));
+    Some((ahead, fresh, core.floor()))
+}
+
+#[test]
+fn a_client_turns_round_in_its_window(rt: HostRuntime) -> Result<(), Fail> {
+    let alloc = rt.alloc();
+    let mut core = of_three(alloc).ok_or("no client")?;
+    let first = submits(alloc, &mut core, 1);
+    assert!(rt; (first, submits(alloc, &mut core, 2)) == (Some(1), Some(2)));
+    for number in 1..60u64 {
+        let turned = Some((number.saturating_add(2), true, number));
+        assert!(rt; turns(alloc, &mut core, number) == turned);
+    }
+    assert!(rt; core.pending() == Some(60));
+    Ok(())
+}

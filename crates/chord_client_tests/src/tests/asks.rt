@@ -1,0 +1,312 @@
+//! The command `ask`, over loopback.
+
+use crate::tests::words;
+use chord_client::{
+    Manner, Outcome, ask_command, ask_lines, ask_one, manner_of, read_line, read_words,
+};
+use chord_command::{Fault, Finish, LineFault};
+use chord_map::{Reply, Request};
+use chord_wire::FaultCode;
+use std::alloc::{AllocError, Global};
+use std::io::{self, Read, Write};
+use std::net::{Net, TcpListener, TcpStream};
+use std::thread;
+use std::thread::Threads;
+
+fn manner(port: u16, version: u8, window: u64, tries: u32) -> Manner {
+    Manner {
+        port,
+        version,
+        window,
+        tries,
+    }
+}
+
+/// How asking ended, and whether it wrote what it was to write.
+type Asked = (Result<Finish, Finish>, bool);
+
+fn asks<R: Net<Stream = TcpStream>>(
+    rt: &R,
+    alloc: Global,
+    manner: Manner,
+    input: &str,
+    wanted: &str,
+) -> Asked {
+    let mut reader = input.as_bytes();
+    let mut written: Vec<u8> = Vec::new(alloc);
+    let finish = ask_lines(rt, alloc, manner, &mut reader, &mut written);
+    (finish, written.as_slice() == wanted.as_bytes())
+}
+
+/// Asks the one request of these words.
+fn asks_one<R: Net<Stream = TcpStream>>(
+    rt: &R,
+    alloc: Global,
+    manner: Manner,
+    words: &[&str],
+    wanted: &str,
+) -> Asked {
+    let Ok(request) = read_words(alloc, words) else {
+        return (Err(Finish::BadCommandLine), false);
+    };
+    let mut written: Vec<u8> = Vec::new(alloc);
+    let finish = ask_one(rt, alloc, manner, request, &mut written);
+    (finish, written.as_slice() == wanted.as_bytes())
+}
+
+/// A port at which nobody listens.
+fn free_port<R: Net<Listener = TcpListener, Stream = TcpStream>>(rt: &R) -> io::Result<u16> {
+    let listener = TcpListener::bind(rt, "127.0.0.1:0")?;
+    Ok(listener.local_addr()?.port())
+}
+
+/// Asks where nobody listens.
+fn asks_nobody<R: Net<Listener = TcpListener, Stream = TcpStream>>(
+    rt: &R,
+    alloc: Global,
+) -> Option<Asked> {
+    let manner = manner(free_port(rt).ok()?, 2, 1, 3);
+    Some(asks(rt, alloc, manner, "insert abc x\n", ""))
+}
+
+/// Asks the one request of these words there.
+fn asks_nobody_one<R: Net<Listener = TcpListener, Stream = TcpStream>>(
+    rt: &R,
+    alloc: Global,
+    words: &[&str],
+) -> Option<Asked> {
+    let manner = manner(free_port(rt).ok()?, 1, 1, 1);
+    Some(asks_one(rt, alloc, manner, words, ""))
+}
+
+#[test]
+fn nobody_listens(rt: HostRuntime) {
+    let fault = Err(Finish::Fault(Fault::Connect));
+    assert!(rt; asks_nobody(&rt, rt.alloc()) == Some((fault, true)));
+}
+
+#[test]
+fn nobody_listens_to_one_request(rt: HostRuntime) {
+    let asked = asks_nobody_one(&rt, rt.alloc(), &["retrieve", "abc"]);
+    let fault = Err(Finish::Fault(Fault::Connect));
+    assert!(rt; asked == Some((fault, true)));
+}
+
+/// Takes so many connections, and ends each behind its first bytes. The last one gets this answer first.
+fn ends_early(listener: &TcpListener, connections: usize, answer: &[u8]) -> io::Result<()> {
+    for (number, accepted) in listener.incoming().take(connections).enumerate() {
+        let mut stream = accepted?;
+        let mut bytes = [0u8; 64];
+        stream.read(&mut bytes)?;
+        if number.saturating_add(1) == connections {
+            stream.write_all(answer)?;
+        }
+    }
+    Ok(())
+}
+
+/// Asks the one request of these words, to which Added is answered.
+fn asks_one_of_one<R: Threads + Net<Listener = TcpListener, Stream = TcpStream> + Sync>(
+    rt: &R,
+    alloc: Global,
+    words: &[&str],
+) -> Option<Asked> {
+    let listener = TcpListener::bind(rt, "127.0.0.1:0").ok()?;
+    let manner = manner(listener.local_addr().ok()?.port(), 1, 1, 1);
+    let (server, asked) = thread::join(
+        rt,
+        || ends_early(&listener, 1, &ADDED),
+        || asks_one(rt, alloc, manner, words, "added\n"),
+    );
+    server.ok()?;
+    Some(asked)
+}
+
+#[test]
+fn one_request(rt: HostRuntime) {
+    let asked = asks_one_of_one(&rt, rt.alloc(), &["insert", "a b", ""]);
+    assert!(rt; asked == Some((Ok(Finish::Done), true)));
+}
+
+/// Asks in so many tries one that ends so many connections, the last one with this answer.
+fn asks_one_that_ends<R: Threads + Net<Listener = TcpListener, Stream = TcpStream> + Sync>(
+    rt: &R,
+    alloc: Global,
+    tries: u32,
+    (input, wanted): (&str, &str),
+    ended: usize,
+    answer: &[u8],
+) -> Option<Asked> {
+    let listener = TcpListener::bind(rt, "127.0.0.1:0").ok()?;
+    let manner = manner(listener.local_addr().ok()?.port(), 2, 1, tries);
+    let (server, asked) = thread::join(
+        rt,
+        || ends_early(&listener, ended, answer),
+        || asks(rt, alloc, manner, input, wanted),
+    );
+    server.ok()?;
+    Some(asked)
+}
+
+// Added, number 1.
+const ADDED: [u8; 15] = [0, 0, 0, 0x0b, 1, 0x81, 0, 0, 0, 0, 0, 0, 0, 1, 1];
+
+/// An insert whose connection ended is lost and not sent again. The next request goes over another connection.
+#[test]
+fn a_lost_connection(rt: HostRuntime) {
+    let unanswered = Finish::Fault(Fault::Unanswered(1));
+    for (lines, ended, answer) in [
+        (
+            ("insert abc x\ninsert abc y\n", "lost\nadded\n"),
+            2,
+            ADDED.as_slice(),
+        ),
+        (("remove abc x\n", "lost\n"), 1, [].as_slice()),
+    ] {
+        let asked = asks_one_that_ends(&rt, rt.alloc(), 3, lines, ended, answer);
+        assert!(rt; asked == Some((Ok(unanswered), true)));
+    }
+}
+
+/// A retrieve whose connection ended is asked again over another one, so many times at most.
+#[test]
+fn a_retrieve_is_asked_again(rt: HostRuntime) {
+    let empty = [0u8, 0, 0, 0x0e, 1, 0x82, 0, 0, 0, 0, 0, 0, 0, 1, 0, 0, 0, 0];
+    let bad_number = [0, 0, 0, 0x0b, 1, 0xff, 0, 0, 0, 0, 0, 0, 0, 1, 9];
+    let unanswered = Finish::Fault(Fault::Unanswered(1));
+    for (tries, answer, wanted, finish) in [
+        (3, empty.as_slice(), "values 0\n", Finish::Done),
+        (2, [].as_slice(), "lost\n", unanswered),
+        // An answer of another kind ends a connection, and so does a fault.
+        (1, ADDED.as_slice(), "lost\n", unanswered),
+        (1, bad_number.as_slice(), "fault 9\n", unanswered),
+    ] {
+        let lines = ("retrieve abc\n", wanted);
+        let ended = tries as usize;
+        let asked = asks_one_that_ends(&rt, rt.alloc(), tries, lines, ended, answer);
+        assert!(rt; asked == Some((Ok(finish), true)));
+    }
+}
+
+fn is_insert(read: Result<Request, LineFault>, wanted_key: &[u8], wanted: &[u8]) -> bool {
+    match &read {
+        Ok(Request::Insert { key, value }) => {
+            key.as_slice() == wanted_key && value.as_slice() == wanted
+        }
+        _ => false,
+    }
+}
+
+#[test]
+fn words_of_requests(rt: HostRuntime) {
+    let alloc = rt.alloc();
+    let line = read_line(alloc, b"insert x:0aFF x:-");
+    assert!(rt; is_insert(line, &[10, 255], b""));
+    let words = read_words(alloc, &["insert", "a b", ""]);
+    assert!(rt; is_insert(words, b"a b", b""));
+    let read = read_line(alloc, b"insert a ");
+    assert!(rt; is_insert(read, b"a", b""));
+}
+
+fn is_no_request(read: Result<Request, LineFault>) -> bool {
+    matches!(&read, Err(LineFault::Grammar))
+}
+
+#[test]
+fn words_that_are_no_request(rt: HostRuntime) {
+    for line in [
+        b"".as_slice(),
+        b"insert",
+        b"insert a",
+        b"insert a b c",
+        b"retrieve",
+        b"retrieve a b",
+        b"remove a",
+        b"Insert a b",
+        b"insert  a b",
+        b"retrieve x:-",
+        b"retrieve x:",
+        b"retrieve x:0",
+        b"retrieve x:0g",
+        b"retrieve ",
+        b"\xff ",
+    ] {
+        assert!(rt; is_no_request(read_line(rt.alloc(), line)));
+    }
+    assert!(rt; is_no_request(read_words(rt.alloc(), &[])));
+}
+
+fn lines_of(alloc: Global, outcomes: &[Outcome]) -> Result<String, AllocError> {
+    let mut text = String::new(alloc);
+    for outcome in outcomes {
+        let line = format!(in alloc; "{outcome}\n")?;
+        text.push_str(line.as_str())?;
+    }
+    Ok(text)
+}
+
+/// Whether outcomes of each kind are these lines.
+fn are_lines(alloc: Global, wanted: &str) -> Option<bool> {
+    let outcomes = [
+        Outcome::Reply(Reply::SetFull),
+        Outcome::Full,
+        Outcome::NoAnswer,
+        Outcome::Fault(FaultCode::NumberReused),
+        Outcome::Lost,
+    ];
+    let text = lines_of(alloc, &outcomes).ok()?;
+    Some(text.as_str() == wanted)
+}
+
+#[test]
+fn outcomes_as_lines(rt: HostRuntime) {
+    let wanted = "setfull\nfull\nnoanswer\nfault 8\nlost\n";
+    assert!(rt; are_lines(rt.alloc(), wanted) == Some(true));
+}
+
+/// The port and the version of a command line, its window and tries, and how many words its request has.
+fn options(alloc: Global, line: &'static str) -> Option<((u16, u8), (u64, u32), usize)> {
+    let words = words(alloc, line).ok()?;
+    let found = ask_command(alloc)
+        .ok()?
+        .try_get_matches_from(words.as_slice())
+        .ok()?;
+    let manner = manner_of(&found);
+    let request = found.get_strs("request")?.len();
+    Some((
+        (manner.port, manner.version),
+        (manner.window, manner.tries),
+        request,
+    ))
+}
+
+#[test]
+fn options_of_ask(rt: HostRuntime) {
+    let options = options(rt.alloc(), "ask --port 7001 insert a -b");
+    assert!(rt; options == Some(((7001, 2), (1, 3), 3)));
+}
+
+/// The status of a command line that is refused.
+fn refused(alloc: Global, line: &'static str) -> Option<i32> {
+    let words = words(alloc, line).ok()?;
+    let error = ask_command(alloc)
+        .ok()?
+        .try_get_matches_from(words.as_slice())
+        .err()?;
+    Some(error.exit_code())
+}
+
+#[test]
+fn refused_options_of_ask(rt: HostRuntime) {
+    for line in [
+        "ask --port 0",
+        "ask --port 65536",
+        "ask --window 0",
+        "ask --window 17",
+        "ask --protocol 3",
+        "ask --tries 1001",
+        "ask --tries x",
+    ] {
+        assert!(rt; refused(rt.alloc(), line) == Some(2), "{line}");
+    }
+}

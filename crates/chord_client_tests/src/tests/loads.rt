@@ -1,0 +1,260 @@
+//! The command `load`, over loopback, and its histogram.
+
+use crate::tests::words;
+use chord_client::{Histogram, Kind, Load, Report, Until, load_command, load_of, run_load};
+use chord_command::{Fault, Finish};
+use std::alloc::Global;
+use std::net::{Net, TcpListener, TcpStream};
+use std::sync::Wait;
+use std::thread::Threads;
+use std::time::Clock;
+
+fn load(port: u16, kind: Kind, requests: u64) -> Load {
+    Load {
+        port,
+        connections: 2,
+        in_flight: 4,
+        keys: 3,
+        value_size: 5,
+        kind,
+        until: Until::Requests(requests),
+    }
+}
+
+/// How a load ends where nobody listens, and how long its table is.
+fn loaded_by_nobody<
+    R: Threads + Wait + Clock + Net<Listener = TcpListener, Stream = TcpStream> + Sync,
+>(rt: &R, alloc: Global) -> Option<(Result<Finish, Finish>, usize)> {
+    let listener = TcpListener::bind(rt, "127.0.0.1:0").ok()?;
+    let load = load(listener.local_addr().ok()?.port(), Kind::Retrieve, 5);
+    drop(listener);
+    let mut table: Vec<u8> = Vec::new(alloc);
+    let ended = run_load(rt, alloc, load, None::<Vec<u8>>, &mut table);
+    Some((ended, table.len()))
+}
+
+#[test]
+fn a_load_of_nobody(rt: HostRuntime) {
+    let fault = Err(Finish::Fault(Fault::Connect));
+    assert!(rt; loaded_by_nobody(&rt, rt.alloc()) == Some((fault, 0)));
+}
+
+#[test]
+fn shares_of_connections(rt: HostRuntime) {
+    let load = Load {
+        connections: 4,
+        ..load(1, Kind::Insert, 10)
+    };
+    for (connection, share) in [(0, 3), (1, 3), (2, 2), (3, 2)] {
+        assert!(rt; load.share(connection) == share);
+    }
+}
+
+/// The load that a command line asks for.
+fn load_from(alloc: Global, line: &'static str) -> Option<Load> {
+    let words = words(alloc, line).ok()?;
+    let found = load_command(alloc)
+        .ok()?
+        .try_get_matches_from(words.as_slice())
+        .ok()?;
+    Some(load_of(&found))
+}
+
+/// Its port, connections and requests in flight, its keys and the length of its values, its kind and its end.
+fn options(
+    alloc: Global,
+    line: &'static str,
+) -> Option<((u16, u64, u64), (u64, usize), (Kind, Until))> {
+    let load = load_from(alloc, line)?;
+    Some((
+        (load.port, load.connections, load.in_flight),
+        (load.keys, load.value_size),
+        (load.kind, load.until),
+    ))
+}
+
+#[test]
+fn options_of_load(rt: HostRuntime) {
+    let options = options(rt.alloc(), "load --port 1 --kind insert --requests 7");
+    let wanted = ((1, 1, 1), (1000, 16), (Kind::Insert, Until::Requests(7)));
+    assert!(rt; options == Some(wanted));
+}
+
+#[test]
+fn a_load_of_its_own(rt: HostRuntime) {
+    let wanted = ((1, 1, 1), (1000, 16), (Kind::Retrieve, Until::Seconds(10)));
+    assert!(rt; options(rt.alloc(), "load --port 1") == Some(wanted));
+}
+
+/// The status of a command line that is refused.
+fn refused(alloc: Global, line: &'static str) -> Option<i32> {
+    let words = words(alloc, line).ok()?;
+    let error = load_command(alloc)
+        .ok()?
+        .try_get_matches_from(words.as_slice())
+        .err()?;
+    Some(error.exit_code())
+}
+
+#[test]
+fn refused_options_of_load(rt: HostRuntime) {
+    for line in [
+        "load --port 1 --connections 65",
+        "load --port 1 --in-flight 17",
+        "load --port 1 --keys 0",
+        "load --port 1 --value-size 4097",
+        "load --port 1 --kind remove",
+        "load --port 1 --seconds 3601",
+        "load --port 1 --requests 0",
+    ] {
+        assert!(rt; refused(rt.alloc(), line) == Some(2), "{line}");
+    }
+}
+
+/// Whether the report is this table.
+fn is_shown(alloc: Global, report: &Report, wanted: &str) -> Option<bool> {
+    let text = format!(in alloc; "{report}").ok()?;
+    Some(text.as_str() == wanted)
+}
+
+/// Whether the report of nothing in half a second is this table.
+fn shows_nothing(alloc: Global, wanted: &str) -> Option<bool> {
+    let mut report = Report::new(alloc).ok()?;
+    report.milliseconds = 500;
+    is_shown(alloc, &report, wanted)
+}
+
+#[test]
+fn an_empty_table(rt: HostRuntime) {
+    let wanted =
+        "requests                0\nmilliseconds          500\na second                0\np50                     -\np90                     -\np99                     -\np99.9                   -\nfaults                  0";
+    assert!(rt; shows_nothing(rt.alloc(), wanted) == Some(true));
+}
+
+/// Two reports of known times in one.
+fn joined(alloc: Global) -> Option<Report> {
+    let mut report = Report::new(alloc).ok()?;
+    report.milliseconds = 500;
+    report.times = first_thousand(alloc)?;
+    let mut other = Report::new(alloc).ok()?;
+    if !other.times.record(70, 1000) {
+        return None;
+    }
+    other.faults = 3;
+    report.join(&other);
+    Some(report)
+}
+
+/// Whether they are this table.
+fn shows_both(alloc: Global, wanted: &str) -> Option<bool> {
+    is_shown(alloc, &joined(alloc)?, wanted)
+}
+
+/// A table of known times.
+#[test]
+fn tables(rt: HostRuntime) {
+    let wanted =
+        "requests             2000\nmilliseconds          500\na second             4000\np50                    71 us\np90                   799 us\np99                   991 us\np99.9                1023 us\nfaults                  3";
+    assert!(rt; shows_both(rt.alloc(), wanted) == Some(true));
+}
+
+/// The values below 1,000, each once.
+fn first_thousand(alloc: Global) -> Option<Histogram> {
+    let mut histogram = Histogram::new(alloc).ok()?;
+    for value in 0..1000 {
+        if !histogram.record(value, 1) {
+            return None;
+        }
+    }
+    Some(histogram)
+}
+
+/// The half of one value.
+fn half_of(alloc: Global, value: u64) -> Option<u64> {
+    let mut histogram = Histogram::new(alloc).ok()?;
+    if histogram.record(value, 1) {
+        histogram.percentile(500)
+    } else {
+        None
+    }
+}
+
+#[test]
+fn buckets_of_values(rt: HostRuntime) {
+    for (value, found) in [
+        (0, 0),
+        (31, 31),
+        (32, 33),
+        (33, 33),
+        (34, 35),
+        (63, 63),
+        (64, 67),
+        (67, 67),
+        (68, 71),
+        (1000, 1023),
+        (1_000_000, 1_015_807),
+        (u64::MAX, u64::MAX),
+    ] {
+        assert!(rt; half_of(rt.alloc(), value) == Some(found), "{value}");
+    }
+}
+
+/// The half of no values, how many they are, and how many buckets there are.
+fn of_nothing(alloc: Global) -> Option<(Option<u64>, u64, usize)> {
+    let histogram = Histogram::new(alloc).ok()?;
+    let half = histogram.percentile(500);
+    Some((half, histogram.total(), histogram.buckets().len()))
+}
+
+#[test]
+fn an_empty_histogram(rt: HostRuntime) {
+    assert!(rt; of_nothing(rt.alloc()) == Some((None, 0, 976)));
+}
+
+/// A percentile of the values below 1,000.
+fn percentile(alloc: Global, thousandths: u64) -> Option<u64> {
+    let histogram = first_thousand(alloc)?;
+    if 1 <= thousandths && thousandths <= 1000 {
+        histogram.percentile(thousandths)
+    } else {
+        None
+    }
+}
+
+#[test]
+fn percentiles_of_a_thousand(rt: HostRuntime) {
+    for (thousandths, found) in [
+        (1, 0),
+        (10, 9),
+        (32, 31),
+        (33, 33),
+        (500, 511),
+        (999, 1023),
+        (1000, 1023),
+    ] {
+        let told = percentile(rt.alloc(), thousandths);
+        assert!(rt; told == Some(found), "{thousandths}");
+    }
+}
+
+/// Whether a value is recorded so many times, and how many values there are then.
+fn recorded(histogram: &mut Histogram, times: u64) -> (bool, u64) {
+    (histogram.record(5, times), histogram.total())
+}
+
+/// The same in turn behind 1,000 values, and how many buckets there are.
+fn filled(alloc: Global) -> Option<(u64, [(bool, u64); 3], usize)> {
+    let mut histogram = first_thousand(alloc)?;
+    let total = histogram.total();
+    let first = recorded(&mut histogram, u64::MAX);
+    let second = recorded(&mut histogram, u64::MAX - 1000);
+    let third = recorded(&mut histogram, 1);
+    let buckets = histogram.buckets().len();
+    Some((total, [first, second, third], buckets))
+}
+
+#[test]
+fn the_most_values(rt: HostRuntime) {
+    let recorded = [(false, 1000), (true, u64::MAX), (false, u64::MAX)];
+    assert!(rt; filled(rt.alloc()) == Some((1000, recorded, 976)));
+}

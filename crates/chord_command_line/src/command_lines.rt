@@ -1,0 +1,146 @@
+//! The commands of `chord` and what each takes.
+
+use chord_client::{ask_command, load_command};
+use clap::error::ErrorKind;
+use clap::{Arg, ArgAction, ArgGroup, Command};
+use std::alloc::{AllocError, Global};
+
+/// The stores that nodes take where none are named.
+pub const DEFAULT_STORES: &str = "tltltltl";
+
+/// How many stores may be named at most.
+const STORE_LIMIT: usize = 64;
+
+/// What `chord world --help` ends with.
+const FIRST_LINES: &str =
+    "docs/console.md has all lines. To begin with:\n  create 40000000000000000000000000000000\n  caller\n  insert 0 0 616263 78";
+
+/// The command `world` and what it takes.
+fn world_command<'a>(alloc: Global) -> Result<Command<'a>, AllocError> {
+    let stores = Arg::new(alloc, "stores")
+        .long("stores")
+        .value_name("WORD")
+        .default_value(DEFAULT_STORES)
+        .help("The nodes' stores in their order: t tree, l list, n noted, c capped at one pair");
+    Command::new(alloc, "world")
+        .about("Does the steps on standard input, one line out for each line in")
+        .after_help(FIRST_LINES)
+        .arg(stores)
+}
+
+/// The command `run` and what it takes.
+fn run_command<'a>(alloc: Global) -> Result<Command<'a>, AllocError> {
+    let plan = Arg::new(alloc, "plan")
+        .long("plan")
+        .value_name("FILE")
+        .required(true)
+        .help("The ring's numbers, nodes and asks, as TOML");
+    Command::new(alloc, "run")
+        .about("Runs a ring by a plan, and writes what its callers were answered")
+        .arg(plan)
+}
+
+/// The command `serve` and what it takes.
+fn serve_command<'a>(alloc: Global) -> Result<Command<'a>, AllocError> {
+    let plan = Arg::new(alloc, "plan")
+        .long("plan")
+        .value_name("FILE")
+        .required(true)
+        .help("The ring's numbers and nodes, as TOML");
+    let port = Arg::new(alloc, "port")
+        .long("port")
+        .value_name("N")
+        .required(true)
+        .help("The port on 127.0.0.1, 1 to 65535");
+    let connections = Arg::new(alloc, "connections")
+        .long("connections")
+        .value_name("K")
+        .help("How many connections are served, 1 to 65535");
+    let stay = Arg::new(alloc, "stay")
+        .long("stay")
+        .action(ArgAction::SetTrue)
+        .help("Serves until standard input ends");
+    let notes = Arg::new(alloc, "notes")
+        .long("notes")
+        .action(ArgAction::SetTrue)
+        .help("Notes on standard error how each connection ends, as it ends");
+    let until = ArgGroup::new(alloc, "until")
+        .arg("connections")?
+        .arg("stay")?
+        .required(true);
+    Command::new(alloc, "serve")
+        .about("Serves clients over loopback, and writes how each connection ended")
+        .arg(plan)?
+        .arg(port)?
+        .arg(connections)?
+        .arg(stay)?
+        .arg(notes)?
+        .group(until)
+}
+
+/// A command with one more below it.
+fn with<'a>(
+    command: Command<'a>,
+    below: Result<Command<'a>, AllocError>,
+) -> Result<Command<'a>, AllocError> {
+    command.subcommand(below?)
+}
+
+/// The commands of `chord` and what they take.
+pub fn commands<'a>(alloc: Global) -> Result<Command<'a>, AllocError> {
+    let chord = Command::new(alloc, "chord")
+        .bin_name("chord")?
+        .version("0.1.0")
+        .about("A Chord key store")
+        .subcommand_required(true);
+    let chord = with(chord, world_command(alloc))?;
+    let chord = with(chord, run_command(alloc))?;
+    let chord = with(chord, serve_command(alloc))?;
+    let chord = with(chord, ask_command(alloc))?;
+    with(chord, load_command(alloc))
+}
+
+/// The fault of a command whose line has a wrong value.
+fn fault_of(
+    command: Result<Command<'_>, AllocError>,
+    name: &str,
+    message: &str,
+) -> Result<clap::Error, AllocError> {
+    command?
+        .bin_name(name)?
+        .error(ErrorKind::InvalidValue, message)
+}
+
+/// The fault of a word that names no stores.
+pub fn no_stores(alloc: Global, word: &str) -> Result<clap::Error, AllocError> {
+    let message = format!(in alloc;
+        "invalid value '{word}' for '--stores <WORD>': 1 to 64 of the letters t, l, n and c"
+    )?;
+    fault_of(world_command(alloc), "chord world", message.as_str())
+}
+
+/// The number from 1 to 65,535 that a word is, if it is one.
+pub fn small_number(word: &str) -> Option<u16> {
+    match word.parse::<u16>() {
+        Ok(number) if 0 < number => Some(number),
+        _ => None,
+    }
+}
+
+/// The fault of a word that is no such number.
+pub fn no_number(alloc: Global, option: &str, word: &str) -> Result<clap::Error, AllocError> {
+    let message = format!(in alloc;
+        "invalid value '{word}' for '--{option}': a number from 1 to 65535"
+    )?;
+    fault_of(serve_command(alloc), "chord serve", message.as_str())
+}
+
+/// Whether the word names 1 to 64 stores, one letter each.
+pub fn names_stores(word: &str) -> bool {
+    let count = word.len();
+    0 < count
+        && count <= STORE_LIMIT
+        && word
+            .bytes()
+            .all(|letter| matches!(letter, b't' | b'l' | b'n' | b'c'))
+}

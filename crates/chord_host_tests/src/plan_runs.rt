@@ -1,0 +1,49 @@
+//! The command `run`.
+
+use crate::clients::plan_of;
+use crate::plans::{TWO_NODES, changed, two_stores};
+use chord_command::{Fault, Finish};
+use chord_host::run;
+use std::alloc::Global;
+use std::sync::Wait;
+use std::thread::Threads;
+use std::time::Clock;
+
+/// How a plan runs over two stores with room for so many pairs, and whether it writes these lines.
+fn runs<R: Threads + Wait + Clock + Sync>(
+    rt: &R,
+    alloc: Global,
+    text: &str,
+    room: u64,
+    wanted: &str,
+) -> Option<(Finish, bool)> {
+    let plan = plan_of(alloc, text)?;
+    let stores = two_stores(alloc, room).ok()?;
+    let mut written: Vec<u8> = Vec::new(alloc);
+    let finish = run(rt, alloc, &plan, stores, &mut written);
+    Some((finish, written.as_slice() == wanted.as_bytes()))
+}
+
+/// The plan is run. Over stores without room the caller asks no more after the first request.
+#[test]
+fn plan_run(rt: HostRuntime) {
+    for (room, wanted) in [
+        (4, "0 1 added\n0 2 values 1 78\n0 3 absent\n"),
+        (0, "0 1 full\n"),
+    ] {
+        let ran = runs(&rt, rt.alloc(), TWO_NODES, room, wanted);
+        assert!(rt; ran == Some((Finish::Done, true)));
+    }
+}
+
+/// The same of a plan whose second node the ring refuses.
+fn runs_refused<R: Threads + Wait + Clock + Sync>(rt: &R, alloc: Global) -> Option<(Finish, bool)> {
+    let twice = changed(alloc, "id = \"c0", "id = \"40").ok()?;
+    runs(rt, alloc, twice.as_str(), 4, "")
+}
+
+#[test]
+fn refused_node(rt: HostRuntime) {
+    let fault = Finish::Fault(Fault::Node(1));
+    assert!(rt; runs_refused(&rt, rt.alloc()) == Some((fault, true)));
+}

@@ -1,0 +1,5 @@
+//! The tests of `chord_live`.
+#![tactic(auto)]
+
+#[cfg(test)]
+mod rings;

@@ -1,0 +1,349 @@
+//! Which calls are refused, and in which order.
+ghost use Rattle.std.specs.Prelude.{◌≡◌};
+
+use super::{A, B, C, blank, founded, insert, is_added, opened, retrieve, settings, unheard};
+use chord_ident::Id;
+use chord_links::Peer;
+use chord_live::{
+    AskFault, BeginFault, Blank, Caller, CollectFault, CreateFault, JoinFault, LeaveFault,
+    NewFault, NoSuchNode, Open, OpenFault, RetireFault, RetryFault, Ring, Settings, TickFault,
+};
+use chord_map::{Bytes, Request, RequestFault};
+use chord_store::{CappedStore, EntryStore, Inserted};
+use chord_table::Naming;
+use std::alloc::{AllocError, Global};
+use std::marker::Brand;
+use std::sync::Wait;
+use std::test::Fail;
+use std::time::Clock;
+
+/// Whether a ring of these settings is refused.
+fn are_bad(alloc: Global, settings: Settings) -> bool {
+    matches!(&Blank::new(alloc, settings), Err(NewFault::BadSettings))
+}
+
+#[test]
+fn settings_have_limits(rt: HostRuntime) {
+    for (slots, callers, tries, wait_ms) in [
+        (0, 1, 1, 1),
+        (65, 1, 1, 1),
+        (1, 65, 1, 1),
+        (1, 1, 0, 1),
+        (1, 1, 1_001, 1),
+        (1, 1, 1, 0),
+        (1, 1, 1, 60_001),
+    ] {
+        let limits = settings(slots, callers, tries, wait_ms);
+        assert!(rt;
+            are_bad(rt.alloc(), limits),
+            "{slots}, {callers}, {tries}, {wait_ms}"
+        );
+    }
+}
+
+#[test]
+fn lists_have_limits(rt: HostRuntime) {
+    for successors in [1, 17] {
+        let mut limits = settings(1, 1, 1, 1);
+        limits.successors = successors;
+        assert!(rt; are_bad(rt.alloc(), limits), "{successors}");
+    }
+}
+
+#[test]
+fn settings_at_their_limits_are_good(rt: HostRuntime) {
+    for (slots, callers, tries, wait_ms) in [(1, 0, 1, 1), (64, 64, 1_000, 60_000)] {
+        let limits = settings(slots, callers, tries, wait_ms);
+        assert!(rt; Blank::new(rt.alloc(), limits).is_ok(), "{slots} slots");
+    }
+}
+
+/// Whether the store is one with room for a single pair, and empty.
+fn has_room_for_one(alloc: Global, mut store: CappedStore) -> bool {
+    let Ok(key) = Bytes::from_slice(alloc, b"a") else {
+        return false;
+    };
+    let first = store.insert(&key, b"x".as_slice());
+    first == Ok(Inserted::Added) && store.insert(&key, b"y".as_slice()).is_err()
+}
+
+/// Whether there is no node, for this reason, and its store came back.
+fn is_refused<F: PartialEq + Copy>(
+    alloc: Global,
+    entered: Result<Peer, (F, CappedStore)>,
+    why: F,
+) -> bool {
+    match entered {
+        Err((fault, store)) => fault == why && has_room_for_one(alloc, store),
+        Ok(_) => false,
+    }
+}
+
+#[test]
+fn a_ring_refuses(rt: HostRuntime) -> Result<(), Fail> {
+    let blank = blank(rt.alloc(), settings(2, 1, 1, 10))?;
+    let refused = refusals::<Brand, _>(&rt, rt.alloc(), blank);
+    assert!(rt; refused == Some([true; 6]));
+    Ok(())
+}
+
+/// Whether a ring refuses what it is to while it has no node, none but the first, two, one that left, and once it is
+/// stopped.
+fn refusals<J: Naming, R: Wait + Clock>(rt: &R, alloc: Global, blank: Blank) -> Option<[bool; 6]>
+    requires { blank ≡ J.name }
+{
+    let ring = blank.open::<J, CappedStore>().ok()?;
+    let without_a_node = has_no_node(rt, &ring);
+    let created = is_created_once(rt, alloc, &ring);
+    let filled = fills_its_slots(rt, alloc, &ring);
+    let known = knows_its_nodes(rt, &ring);
+    let departed = departures(rt, &ring);
+    ring.stop();
+    let stopped = is_stopped(rt, alloc, &ring);
+    Some([without_a_node, created, filled, known, departed, stopped])
+}
+
+/// There is no node 0 yet.
+fn has_no_node<J: Naming, R: Wait + Clock>(rt: &R, ring: &Ring<J, CappedStore>) -> bool {
+    let ticked = ring.tick(rt, 0) == Err(TickFault::NoSuchNode);
+    let crashed = ring.crash(rt, 0) == Err(NoSuchNode);
+    let worked = ring.work(rt, 0, &Open) == Err(NoSuchNode);
+    ticked && crashed && worked
+}
+
+/// Whether it is the node of this number and identifier.
+fn is_node<F: Copy>(entered: Result<Peer, (F, CappedStore)>, no: u64, id: u128) -> bool {
+    match entered {
+        Ok(peer) => peer.no == no && peer.id == Id::new(id),
+        Err(_) => false,
+    }
+}
+
+/// The first node is node 0, and there is no other first one.
+fn is_created_once<J: Naming, R: Wait + Clock>(
+    rt: &R,
+    alloc: Global,
+    ring: &Ring<J, CappedStore>,
+) -> bool {
+    let first = ring.create(rt, Id::new(A), CappedStore::new(alloc, 1));
+    let first = is_node(first, 0, A);
+    let again = ring.create(rt, Id::new(A), CappedStore::new(alloc, 1));
+    is_refused(alloc, again, CreateFault::AlreadyCreated) && first
+}
+
+/// Whether no node joins by this one, for this reason.
+fn joins_not<J: Naming, R: Wait + Clock>(
+    rt: &R,
+    alloc: Global,
+    ring: &Ring<J, CappedStore>,
+    (id, via): (u128, u64),
+    why: JoinFault,
+) -> bool {
+    let joined = ring.join(rt, Id::new(id), via, CappedStore::new(alloc, 1));
+    is_refused(alloc, joined, why)
+}
+
+/// A second node joins by the first, under an identifier of its own; there is no place for a third.
+fn fills_its_slots<J: Naming, R: Wait + Clock>(
+    rt: &R,
+    alloc: Global,
+    ring: &Ring<J, CappedStore>,
+) -> bool {
+    let taken = joins_not(rt, alloc, ring, (A, 0), JoinFault::IdTaken);
+    let nowhere = joins_not(rt, alloc, ring, (C, 5), JoinFault::NoSuchNode);
+    let joined = ring.join(rt, Id::new(C), 0, CappedStore::new(alloc, 1));
+    let joined = is_node(joined, 1, C);
+    let full = joins_not(rt, alloc, ring, (B, 0), JoinFault::NoSlot);
+    taken && nowhere && joined && full
+}
+
+/// There is a node 0 to tick, and no node 2 to leave.
+fn knows_its_nodes<J: Naming, R: Wait + Clock>(rt: &R, ring: &Ring<J, CappedStore>) -> bool {
+    let ticked = ring.tick(rt, 0) == Ok(());
+    let left = ring.leave(rt, 2) == Err(LeaveFault::NoSuchNode);
+    let retired = ring.retire(rt, 2) == Err(RetireFault::NoSuchNode);
+    ticked && left && retired
+}
+
+/// A node that holds nothing leaves and retires; one that holds the circle does not.
+fn departures<J: Naming, R: Wait + Clock>(rt: &R, ring: &Ring<J, CappedStore>) -> bool {
+    let staying = ring.retire(rt, 0) == Err(RetireFault::NotLeaving);
+    let leaves = ring.leave(rt, 1) == Ok(());
+    let left = ring.leave(rt, 1) == Err(LeaveFault::NotStaying);
+    let retires = ring.retire(rt, 1) == Ok(());
+    let holder_leaves = ring.leave(rt, 0) == Ok(());
+    let holder_stays = ring.retire(rt, 0) == Err(RetireFault::NotEmpty);
+    [staying, leaves, left, retires, holder_leaves, holder_stays] == [true; 6]
+}
+
+/// Nothing enters a stopped ring.
+fn is_stopped<J: Naming, R: Wait + Clock>(
+    rt: &R,
+    alloc: Global,
+    ring: &Ring<J, CappedStore>,
+) -> bool {
+    let joined = joins_not(rt, alloc, ring, (B, 0), JoinFault::Stopped);
+    let created = ring.create(rt, Id::new(B), CappedStore::new(alloc, 1));
+    let created = is_refused(alloc, created, CreateFault::Stopped);
+    let ticked = ring.tick(rt, 0) == Err(TickFault::Stopped);
+    let opened = matches!(open_fault(rt, ring), Some(OpenFault::Stopped));
+    joined && created && ticked && opened
+}
+
+/// Why no caller is opened.
+fn open_fault<J: Naming, R: Wait>(rt: &R, ring: &Ring<J, CappedStore>) -> Option<OpenFault> {
+    ring.open_caller(rt, 1).err()
+}
+
+#[test]
+fn a_caller_refuses(rt: HostRuntime) -> Result<(), Fail> {
+    let blank = blank(rt.alloc(), settings(1, 1, 1, 1))?;
+    let refused = caller_refusals::<Brand, _>(&rt, rt.alloc(), blank);
+    assert!(rt; refused == Some([true; 6]));
+    Ok(())
+}
+
+/// Whether a ring refuses a second caller, and its one caller what it is to.
+fn caller_refusals<J: Naming, R: Wait + Clock>(
+    rt: &R,
+    alloc: Global,
+    blank: Blank,
+) -> Option<[bool; 6]>
+    requires { blank ≡ J.name }
+{
+    let ring = founded::<J, CappedStore, R>(rt, blank, CappedStore::new(alloc, 1))?;
+    let mut caller = opened(rt, &ring, 1)?;
+    let spent = matches!(open_fault(rt, &ring), Some(OpenFault::CallersSpent));
+    let bad = bad_requests(rt, alloc, &mut caller);
+    let unknown = unknown_nodes(rt, alloc, &mut caller);
+    let nothing = nothing_pending(rt, &mut caller);
+    let full = a_full_window(rt, alloc, &mut caller);
+    let unanswered = no_answers(rt, &mut caller);
+    Some([spent, bad, unknown, nothing, full, unanswered])
+}
+
+/// Why no request is begun at this node.
+fn not_begun<J: Naming, R: Wait + Clock>(
+    rt: &R,
+    caller: &mut Caller<'_, J, CappedStore>,
+    via: u64,
+    request: Result<Request, AllocError>,
+) -> Option<BeginFault> {
+    caller.begin(rt, via, request.ok()?).err()
+}
+
+/// A request with an empty key is refused, whatever the node.
+fn bad_requests<J: Naming, R: Wait + Clock>(
+    rt: &R,
+    alloc: Global,
+    caller: &mut Caller<'_, J, CappedStore>,
+) -> bool {
+    let begun = not_begun(rt, caller, 5, retrieve(alloc, b""));
+    let asked = unheard(rt, caller, 5, retrieve(alloc, b""));
+    begun == Some(BeginFault::Bad(RequestFault::KeyEmpty))
+        && asked == Some(AskFault::Bad(RequestFault::KeyEmpty))
+}
+
+/// Why node `via` does not answer a call.
+fn not_called<J: Naming, R: Wait + Clock>(
+    rt: &R,
+    caller: &mut Caller<'_, J, CappedStore>,
+    via: u64,
+    request: Result<Request, AllocError>,
+) -> Option<AskFault> {
+    caller.call(rt, via, request.ok()?).err()
+}
+
+/// There is no node 5.
+fn unknown_nodes<J: Naming, R: Wait + Clock>(
+    rt: &R,
+    alloc: Global,
+    caller: &mut Caller<'_, J, CappedStore>,
+) -> bool {
+    let begun = not_begun(rt, caller, 5, retrieve(alloc, b"a"));
+    let called = not_called(rt, caller, 5, retrieve(alloc, b"a"));
+    begun == Some(BeginFault::NoSuchNode) && called == Some(AskFault::NoSuchNode)
+}
+
+/// Nothing was sent so far.
+fn nothing_pending<J: Naming, R: Wait + Clock>(
+    rt: &R,
+    caller: &mut Caller<'_, J, CappedStore>,
+) -> bool {
+    let pending = caller.pending();
+    let collected = caller.collect(rt, 1).err();
+    let retried = caller.retry(rt, 0, 1).err();
+    let is_collected = collected == Some(CollectFault::NotBegun);
+    pending.is_none() && is_collected && retried == Some(RetryFault::Idle)
+}
+
+/// Whether the first request is begun.
+fn begins_one<J: Naming, R: Wait + Clock>(
+    rt: &R,
+    caller: &mut Caller<'_, J, CappedStore>,
+    request: Result<Request, AllocError>,
+) -> bool {
+    let begun = match request {
+        Ok(request) => caller.begin(rt, 0, request),
+        Err(_) => return false,
+    };
+    let stands = (caller.is_pending(1), caller.pending(), caller.floor());
+    begun == Ok(1) && stands == (true, Some(1), 0)
+}
+
+/// One request fills the window, and a second one is refused before its node is looked for.
+fn a_full_window<J: Naming, R: Wait + Clock>(
+    rt: &R,
+    alloc: Global,
+    caller: &mut Caller<'_, J, CappedStore>,
+) -> bool {
+    let begun = begins_one(rt, caller, retrieve(alloc, b"a"));
+    let more = not_begun(rt, caller, 5, retrieve(alloc, b"a"));
+    let asked = unheard(rt, caller, 5, retrieve(alloc, b"a"));
+    begun && more == Some(BeginFault::WindowFull) && asked == Some(AskFault::WindowFull)
+}
+
+/// The request that was sent waits, since nobody works for node 0.
+fn no_answers<J: Naming, R: Wait + Clock>(rt: &R, caller: &mut Caller<'_, J, CappedStore>) -> bool {
+    let nowhere = caller.retry(rt, 5, 1).err() == Some(RetryFault::NoSuchNode);
+    let retried = caller.retry(rt, 0, 1).err() == Some(RetryFault::NoAnswer);
+    let collected = caller.collect(rt, 1).err() == Some(CollectFault::NoAnswer);
+    nowhere && retried && collected && caller.is_pending(1)
+}
+
+#[test]
+fn a_stopped_ring_does_not_answer(rt: HostRuntime) -> Result<(), Fail> {
+    let blank = blank(rt.alloc(), settings(1, 1, 1_000, 60_000))?;
+    let unheard = stopped::<Brand, _>(&rt, rt.alloc(), blank);
+    assert!(rt; unheard == Some((true, Some(AskFault::NoAnswer), true)));
+    Ok(())
+}
+
+/// Whether node 0 answers Added to a call.
+fn is_called<J: Naming, R: Wait + Clock>(
+    rt: &R,
+    caller: &mut Caller<'_, J, CappedStore>,
+    request: Result<Request, AllocError>,
+) -> bool {
+    match request {
+        Ok(request) => is_added(caller.call(rt, 0, request)),
+        Err(_) => false,
+    }
+}
+
+/// Whether a caller is answered, how it is not once the ring is stopped twice, and whether its request is pending then.
+fn stopped<J: Naming, R: Wait + Clock>(
+    rt: &R,
+    alloc: Global,
+    blank: Blank,
+) -> Option<(bool, Option<AskFault>, bool)>
+    requires { blank ≡ J.name }
+{
+    let ring = founded::<J, CappedStore, R>(rt, blank, CappedStore::new(alloc, 1))?;
+    let mut caller = opened(rt, &ring, 2)?;
+    let called = is_called(rt, &mut caller, insert(alloc, b"abc", b"x"));
+    ring.stop();
+    ring.stop();
+    let unheard = unheard(rt, &mut caller, 0, retrieve(alloc, b"abc"));
+    Some((called, unheard, caller.is_pending(2)))
+}

@@ -1,0 +1,357 @@
+//! Two nodes with a worker each, and rounds of ticks.
+ghost use Rattle.std.specs.Prelude.{◌≡◌};
+
+use super::{adds, blank, founded, insert, is_added, is_told, opened, retrieve, sees, settings};
+use chord_ident::Id;
+use chord_links::Links;
+use chord_live::{Blank, Caller, Client, Gate, Open, Ring};
+use chord_map::Request;
+use chord_store::{CappedStore, EntryStore};
+use chord_table::Naming;
+use std::alloc::{AllocError, Global};
+use std::marker::Brand;
+use std::sync::Wait;
+use std::sync::atomic::{AtomicBool, Ordering};
+use std::test::Fail;
+use std::thread;
+use std::thread::Threads;
+use std::time::{Clock, Duration};
+
+/// Lies between the identifiers of `abc` and `eq`, whose first bytes are equal.
+const M: u128 = 0xa99a0000000000000000000000000000;
+
+/// What is done once the ring is settled.
+#[derive(Clone, Copy, Debug, PartialEq, Eq)]
+enum Then {
+    /// A caller is answered at node 1 while worker 0 is held in its lock.
+    TwoLocks,
+    /// Node 0 crashes.
+    Crash,
+    /// Node 1 leaves and retires.
+    Leave,
+    /// A client asks for keys of both nodes, and node 0 crashes.
+    Guess,
+    /// Node 1, which answered a client, crashes.
+    GuessCrashed,
+}
+
+/// Holds worker 0 in the lock until told, for at most 10,000 turns of a millisecond.
+#[derive(Drop)]
+struct Held<'a, R: Clock> {
+    rt: &'a R,
+    stands: AtomicBool,
+    opened: AtomicBool,
+    /// Whether it let the worker go without being told.
+    spent: AtomicBool,
+}
+
+impl<'a, R: Clock> Gate for Held<'a, R> {
+    fn pass(&self, no: u64) {
+        if no != 0 {
+            return;
+        }
+        self.stands.store(true, Ordering::SeqCst);
+        for _ in 0..10_000u64 {
+            if self.opened.load(Ordering::SeqCst) {
+                return;
+            }
+            thread::sleep(self.rt, Duration::from_millis(1));
+        }
+        self.spent.store(true, Ordering::SeqCst);
+    }
+}
+
+#[test]
+fn two_locks_at_once(rt: HostRuntime) -> Result<(), Fail> {
+    let blank = blank(rt.alloc(), settings(2, 3, 20, 1_000))?;
+    let done = two_nodes::<Brand, _>(&rt, rt.alloc(), blank, Then::TwoLocks);
+    assert!(rt; done == Some(true));
+    Ok(())
+}
+
+#[test]
+fn a_ring_without_a_crashed_node(rt: HostRuntime) -> Result<(), Fail> {
+    let blank = blank(rt.alloc(), settings(2, 3, 20, 1_000))?;
+    let done = two_nodes::<Brand, _>(&rt, rt.alloc(), blank, Then::Crash);
+    assert!(rt; done == Some(true));
+    Ok(())
+}
+
+#[test]
+fn a_node_leaves_and_retires(rt: HostRuntime) -> Result<(), Fail> {
+    let blank = blank(rt.alloc(), settings(2, 3, 20, 1_000))?;
+    let done = two_nodes::<Brand, _>(&rt, rt.alloc(), blank, Then::Leave);
+    assert!(rt; done == Some(true));
+    Ok(())
+}
+
+#[test]
+fn a_client_begins_where_it_was_answered(rt: HostRuntime) -> Result<(), Fail> {
+    let blank = blank(rt.alloc(), settings(2, 3, 20, 1_000))?;
+    let done = two_nodes::<Brand, _>(&rt, rt.alloc(), blank, Then::Guess);
+    assert!(rt; done == Some(true));
+    Ok(())
+}
+
+#[test]
+fn a_client_asks_no_crashed_node(rt: HostRuntime) -> Result<(), Fail> {
+    let blank = blank(rt.alloc(), settings(2, 3, 20, 1_000))?;
+    let done = two_nodes::<Brand, _>(&rt, rt.alloc(), blank, Then::GuessCrashed);
+    assert!(rt; done == Some(true));
+    Ok(())
+}
+
+/// Node M joins by node A.
+fn joined<J: Naming, R: Wait>(rt: &R, alloc: Global, ring: &Ring<J, CappedStore>) -> bool {
+    ring.join(rt, Id::new(M), 0, CappedStore::new(alloc, 4))
+        .is_ok()
+}
+
+/// Nodes A and M with a worker each, and whether all that is done then is as it is to be.
+fn two_nodes<J: Naming + Send + Sync, R: Threads + Wait + Clock + Sync>(
+    rt: &R,
+    alloc: Global,
+    blank: Blank,
+    then: Then,
+) -> Option<bool>
+    requires { blank ≡ J.name }
+{
+    let ring = founded::<J, CappedStore, R>(rt, blank, CappedStore::new(alloc, 4))?;
+    if !joined(rt, alloc, &ring) {
+        return None;
+    }
+    let ring = &ring;
+    let gate = Held {
+        rt,
+        stands: AtomicBool::new(false),
+        opened: AtomicBool::new(true),
+        spent: AtomicBool::new(false),
+    };
+    let gate = &gate;
+    let (ended, (other, done)) = thread::join(
+        rt,
+        move || ring.work(rt, 0, gate).is_ok(),
+        move || {
+            thread::join(
+                rt,
+                move || ring.work(rt, 1, &Open).is_ok(),
+                move || {
+                    let done = settle_and_then(rt, alloc, ring, gate, then);
+                    ring.stop();
+                    done
+                },
+            )
+        },
+    );
+    Some(done? && ended && other)
+}
+
+/// A round of ticks.
+fn ticked<J: Naming, S: EntryStore, R: Wait + Clock>(rt: &R, ring: &Ring<J, S>) -> bool {
+    let zero = ring.tick(rt, 0).is_ok();
+    ring.tick(rt, 1).is_ok() && zero
+}
+
+/// Eight rounds of ticks, and what comes then.
+fn settle_and_then<J: Naming + Send + Sync, S: EntryStore + Send, R: Threads + Wait + Clock + Sync>(
+    rt: &R,
+    alloc: Global,
+    ring: &Ring<J, S>,
+    gate: &Held<'_, R>,
+    then: Then,
+) -> Option<bool> {
+    for _ in 0..8u64 {
+        if !ticked(rt, ring) {
+            return None;
+        }
+        thread::sleep(rt, Duration::from_millis(5));
+    }
+    match then {
+        Then::TwoLocks => two_locks(rt, alloc, ring, gate),
+        Then::Crash => crash(rt, alloc, ring),
+        Then::Leave => leave(rt, alloc, ring),
+        Then::Guess => guess(rt, alloc, ring),
+        Then::GuessCrashed => guess_crashed(rt, alloc, ring),
+    }
+}
+
+/// Whether a caller of its own is answered Added.
+fn adds_alone<J: Naming, S: EntryStore, R: Wait + Clock>(
+    rt: &R,
+    ring: &Ring<J, S>,
+    via: u64,
+    request: Request,
+) -> bool {
+    match ring.open_caller(rt, 4) {
+        Ok(mut caller) => is_added(caller.ask(rt, via, request)),
+        Err(_) => false,
+    }
+}
+
+/// `b` lies at node 0, `abc` at node 1.
+fn two_locks<J: Naming + Send + Sync, S: EntryStore + Send, R: Threads + Wait + Clock + Sync>(
+    rt: &R,
+    alloc: Global,
+    ring: &Ring<J, S>,
+    gate: &Held<'_, R>,
+) -> Option<bool> {
+    gate.stands.store(false, Ordering::SeqCst);
+    gate.opened.store(false, Ordering::SeqCst);
+    let first = insert(alloc, b"b", b"y").ok()?;
+    let second = insert(alloc, b"abc", b"x").ok()?;
+    let (zero, one) = thread::join(
+        rt,
+        move || adds_alone(rt, ring, 0, first),
+        move || {
+            for _ in 0..10_000u64 {
+                if !gate.stands.load(Ordering::SeqCst) {
+                    thread::sleep(rt, Duration::from_millis(1));
+                }
+            }
+            let answered = gate.stands.load(Ordering::SeqCst) && adds_alone(rt, ring, 1, second);
+            let held = !gate.spent.load(Ordering::SeqCst);
+            gate.opened.store(true, Ordering::SeqCst);
+            answered && held
+        },
+    );
+    Some(zero && one)
+}
+
+/// Node 0, which held nothing of `abc`, crashes; its neighbour drops it and answers.
+fn crash<J: Naming, S: EntryStore, R: Wait + Clock>(
+    rt: &R,
+    alloc: Global,
+    ring: &Ring<J, S>,
+) -> Option<bool> {
+    let mut caller = opened(rt, ring, 1)?;
+    let added = adds(rt, &mut caller, 0, insert(alloc, b"abc", b"x"));
+    let crashed = ring.crash(rt, 0).is_ok();
+    let dropped = ring.tick(rt, 1).is_ok();
+    let seen = sees(rt, &mut caller, 1, retrieve(alloc, b"abc"), b"x");
+    Some(added && crashed && dropped && seen)
+}
+
+/// Whether node 0 answers x alone to a call.
+fn calls<J: Naming, S: EntryStore, R: Wait + Clock>(
+    rt: &R,
+    caller: &mut Caller<'_, J, S>,
+    request: Result<Request, AllocError>,
+) -> bool {
+    match request {
+        Ok(request) => is_told(caller.call(rt, 0, request), b"x"),
+        Err(_) => false,
+    }
+}
+
+/// Node 1 leaves; what it held is at node 0 then.
+fn leave<J: Naming, S: EntryStore, R: Wait + Clock>(
+    rt: &R,
+    alloc: Global,
+    ring: &Ring<J, S>,
+) -> Option<bool> {
+    let mut caller = opened(rt, ring, 1)?;
+    let added = adds(rt, &mut caller, 0, insert(alloc, b"abc", b"x"));
+    let called = calls(rt, &mut caller, retrieve(alloc, b"abc"));
+    let retired = retires(rt, ring);
+    let forgotten = forgets(rt, ring);
+    let seen = sees(rt, &mut caller, 0, retrieve(alloc, b"abc"), b"x");
+    Some(added && called && retired && forgotten && seen)
+}
+
+/// A client of the ring.
+fn client_of<'a, J: Naming, S: EntryStore, R: Wait>(
+    rt: &R,
+    ring: &'a Ring<J, S>,
+) -> Option<Client<'a, J, S>> {
+    ring.open_client(rt, 1).ok()
+}
+
+/// Whether a client that asks at node 0 is answered Added.
+fn client_adds<J: Naming, S: EntryStore, R: Wait + Clock>(
+    rt: &R,
+    client: &mut Client<'_, J, S>,
+    request: Result<Request, AllocError>,
+) -> bool {
+    match request {
+        Ok(request) => is_added(client.call(rt, 0, request)),
+        Err(_) => false,
+    }
+}
+
+/// Whether one is answered x alone.
+fn client_sees<J: Naming, S: EntryStore, R: Wait + Clock>(
+    rt: &R,
+    client: &mut Client<'_, J, S>,
+    request: Result<Request, AllocError>,
+) -> bool {
+    match request {
+        Ok(request) => is_told(client.call(rt, 0, request), b"x"),
+        Err(_) => false,
+    }
+}
+
+/// `abc` lies at node 1, `eq` at node 0: each wrong guess is passed on. The client was answered by node 1 last, so it is
+/// answered there also where node 0, at which it asks, crashed.
+fn guess<J: Naming, S: EntryStore, R: Wait + Clock>(
+    rt: &R,
+    alloc: Global,
+    ring: &Ring<J, S>,
+) -> Option<bool> {
+    let mut client = client_of(rt, ring)?;
+    let added = client_adds(rt, &mut client, insert(alloc, b"abc", b"x"));
+    let other = client_adds(rt, &mut client, insert(alloc, b"eq", b"y"));
+    let seen = client_sees(rt, &mut client, retrieve(alloc, b"abc"));
+    let crashed = ring.crash(rt, 0).is_ok();
+    let again = client_sees(rt, &mut client, retrieve(alloc, b"abc"));
+    Some(added && other && seen && crashed && again)
+}
+
+/// Node 1 answered for `abc` and crashes: `eq`, whose guess it is, is asked for at node 0.
+fn guess_crashed<J: Naming, S: EntryStore, R: Wait + Clock>(
+    rt: &R,
+    alloc: Global,
+    ring: &Ring<J, S>,
+) -> Option<bool> {
+    let mut client = client_of(rt, ring)?;
+    let added = client_adds(rt, &mut client, insert(alloc, b"abc", b"x"));
+    let crashed = ring.crash(rt, 1).is_ok();
+    let other = client_adds(rt, &mut client, insert(alloc, b"eq", b"y"));
+    Some(added && crashed && other)
+}
+
+/// Node 1 leaves, and retires once node 0 holds all that it held.
+fn retires<J: Naming, S: EntryStore, R: Wait + Clock>(rt: &R, ring: &Ring<J, S>) -> bool {
+    if ring.leave(rt, 1).is_err() {
+        return false;
+    }
+    for _ in 0..1_000u64 {
+        if !ticked(rt, ring) {
+            return false;
+        }
+        thread::sleep(rt, Duration::from_millis(1));
+        if ring.retire(rt, 1).is_ok() {
+            return true;
+        }
+    }
+    false
+}
+
+/// Whether node 0 has no finger at node 1 any more at its next tick.
+fn forgets<J: Naming, S: EntryStore, R: Wait + Clock>(rt: &R, ring: &Ring<J, S>) -> bool {
+    if ring.tick(rt, 0).is_err() {
+        return false;
+    }
+    match ring.links_of(rt, 0) {
+        Some(links) => has_no_finger_at_1(&links),
+        None => false,
+    }
+}
+
+fn has_no_finger_at_1(links: &Links) -> bool {
+    for finger in 1..129 {
+        if matches!(links.fingers().get(finger), Some(peer) if peer.no == 1) {
+            return false;
+        }
+    }
+    true
+}

@@ -1,0 +1,5 @@
+//! The tests of `chord_node`.
+#![tactic(auto)]
+
+#[cfg(test)]
+mod tests;

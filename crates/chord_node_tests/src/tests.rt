@@ -1,0 +1,193 @@
+//! One node.
+
+ghost use Rattle.std.specs.Prelude.{◌<◌, ◌≤◌, ◌+◌};
+
+mod asks;
+mod growths;
+mod handovers;
+mod leaving;
+mod parts;
+
+use chord_caller::Ask;
+use chord_handover::{Declined, Got, Part, Ticket};
+use chord_ident::{Id, Span};
+use chord_links::{Links, Peer};
+use chord_map::{Bytes, Request};
+use chord_model::laws;
+use chord_node::laws::no_delivery_clashes;
+use chord_node::{Answered, Back, Given, Node};
+use chord_segment::Segment;
+use chord_store::{CappedStore, EntryStore};
+use std::alloc::{AllocError, Global};
+
+pub const A: u128 = 0x40000000000000000000000000000000;
+
+pub const B: u128 = 0x80000000000000000000000000000000;
+
+pub const C: u128 = 0xc0000000000000000000000000000000;
+
+pub fn span(after: u128, upto: u128) -> Span {
+    Span::new(Id::new(after), Id::new(upto))
+}
+
+pub fn ticket(from: u64, to: u64, number: u64) -> Ticket {
+    Ticket { from, to, number }
+}
+
+/// A call with as many hops as there can be.
+pub fn ask(number: u64, floor: u64, request: Request) -> Ask
+    requires above { floor < number }
+    requires near { number ≤ floor + 16 }
+{
+    Ask {
+        caller: 0,
+        number,
+        floor,
+        request,
+        hops: 255,
+    }
+}
+
+pub fn insert(alloc: Global, key: &[u8], value: &[u8]) -> Result<Request, AllocError> {
+    Ok(Request::Insert {
+        key: Bytes::from_slice(alloc, key)?,
+        value: Bytes::from_slice(alloc, value)?,
+    })
+}
+
+/// What the node answers to the call, where there is memory for it.
+pub fn answered<S: EntryStore>(node: &mut Node<S>, call: &Ask) -> Option<Answered> {
+    let (answered, _) = node.on_ask(call).ok()?;
+    Some(answered)
+}
+
+/// What the node answers to the insert of this value under this key, as this call of caller 0.
+pub fn inserted<S: EntryStore>(
+    alloc: Global,
+    node: &mut Node<S>,
+    number: u64,
+    key: &[u8],
+    value: &[u8],
+) -> Option<Answered>
+    requires some { 0 < number }
+    requires near { number ≤ 16 }
+{
+    let request = insert(alloc, key, value).ok()?;
+    answered(node, &ask(number, 0, request))
+}
+
+/// Node 0, at A, which holds the whole circle.
+pub fn found<S: EntryStore>(alloc: Global, store: S) -> Option<Node<S>> {
+    if store.count() != 0 {
+        return None;
+    }
+    let me = Peer {
+        no: 0,
+        id: Id::new(A),
+    };
+    Node::found(alloc, me, 3, store).ok()
+}
+
+/// Node 1, at C, which holds nothing.
+pub fn newborn(alloc: Global, limit: u64) -> Node<CappedStore> {
+    let me = Peer {
+        no: 1,
+        id: Id::new(C),
+    };
+    Node::newborn(alloc, Links::alone(me, 3), CappedStore::new(alloc, limit))
+}
+
+/// The part of (A, C], with x under `abc`, that node 0, which holds the whole circle, gives to node 1.
+pub fn give_away(alloc: Global, node: &mut Node<CappedStore>) -> Option<Part> {
+    inserted(alloc, node, 1, b"abc", b"x")?;
+    node.cut_at(0, Id::new(C)).ok()?;
+    node.give(0, 1).ok()
+}
+
+/// Node 0 at A with room for so many pairs, after it gave (A, C], with x under `abc`, to node 1; and the part of it.
+pub fn given_away(alloc: Global, limit: u64) -> Option<(Node<CappedStore>, Part)> {
+    let mut node = found(alloc, CappedStore::new(alloc, limit))?;
+    let part = give_away(alloc, &mut node)?;
+    Some((node, part))
+}
+
+/// The only part of a handover of an empty segment.
+pub fn empty_part(alloc: Global, ticket: Ticket, span: Span) -> Part {
+    first_part(alloc, ticket, span, 1)
+}
+
+/// The first of so many parts, with an empty segment and no pairs.
+pub fn first_part(alloc: Global, ticket: Ticket, span: Span, of: u64) -> Part
+    requires { 1 ≤ of }
+{
+    Part {
+        from: ticket.from,
+        to: ticket.to,
+        number: ticket.number,
+        place: 1,
+        of,
+        segment: Some(Segment::empty(alloc, span)),
+        pairs: Vec::new(alloc),
+    }
+}
+
+/// What the node answers to a part that is for it.
+pub fn handed<S: EntryStore>(node: &mut Node<S>, part: &Part) -> Result<Option<Given>, AllocError> {
+    if part.to != node.number() {
+        return Ok(None);
+    }
+    Ok(Some(node.on_give(part)?))
+}
+
+/// What the node answers to a part, where there is memory for it.
+pub fn given<S: EntryStore>(node: &mut Node<S>, part: &Part) -> Option<Given> {
+    handed(node, part).ok()?
+}
+
+/// What the node answers to the only part of a handover of an empty segment.
+pub fn given_empty(
+    alloc: Global,
+    node: &mut Node<CappedStore>,
+    ticket: Ticket,
+    span: Span,
+) -> Option<Given> {
+    given(node, &empty_part(alloc, ticket, span))
+}
+
+/// Whether an item that the node gave left the outbox.
+pub fn freed<S: EntryStore>(node: &mut Node<S>, got: Got) -> Option<bool> {
+    if got.from != node.number() {
+        return None;
+    }
+    Some(node.on_got(&got))
+}
+
+/// What comes of an item that the node gave and that was declined.
+pub fn taken_back<S: EntryStore>(
+    node: &mut Node<S>,
+    declined: Declined,
+) -> Result<Option<Back>, AllocError> {
+    if declined.from != node.number() {
+        return Ok(None);
+    }
+    Ok(Some(node.on_declined(&declined)?))
+}
+
+/// The same where there is memory for it.
+pub fn back<S: EntryStore>(node: &mut Node<S>, declined: Declined) -> Option<Back> {
+    taken_back(node, declined).ok()?
+}
+
+#[test]
+fn laws_are_called() {
+    no_delivery_clashes();
+    laws::one_holder();
+    laws::no_clash();
+    laws::parts_fit();
+    laws::one_history();
+    laws::none_twice();
+    laws::some_run();
+    laws::every_rule();
+    laws::two_parts();
+    laws::seen_first();
+}

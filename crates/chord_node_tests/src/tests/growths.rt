@@ -1,0 +1,215 @@
+//! A refused growth leaves the node as it was, and a second try succeeds. With ample memory nothing is refused; the tests
+//! are run with each growth refused in turn too.
+
+use super::{
+    A, B, C, ask, back, first_part, found, given, given_away, handed, insert, newborn, span,
+    taken_back, ticket,
+};
+use chord_caller::Ask;
+use chord_handover::Part;
+use chord_ident::{Id, Span};
+use chord_map::Reply;
+use chord_node::{Answered, Back, CutAtFault, GiveFault, Given, MergeFault, Node, ResendFault};
+use chord_store::CappedStore;
+use std::alloc::{AllocError, Global};
+
+/// Node 0, which holds the whole circle, made again where there was no memory.
+fn founder(alloc: Global) -> Option<Node<CappedStore>> {
+    match found(alloc, CappedStore::new(alloc, 1)) {
+        Some(node) => Some(node),
+        None => found(alloc, CappedStore::new(alloc, 1)),
+    }
+}
+
+/// Node 0 after it gave (A, C] to node 1, made again where there was no memory.
+fn giver(alloc: Global) -> Option<(Node<CappedStore>, Part)> {
+    match given_away(alloc, 1) {
+        Some(given) => Some(given),
+        None => given_away(alloc, 1),
+    }
+}
+
+/// The call that puts x under `abc`.
+fn insert_x(alloc: Global) -> Result<Ask, AllocError> {
+    match insert(alloc, b"abc", b"x") {
+        Ok(request) => Ok(ask(1, 0, request)),
+        Err(_) => Ok(ask(1, 0, insert(alloc, b"abc", b"x")?)),
+    }
+}
+
+/// What the node answers to the call, which comes again where there was no memory.
+fn answered(node: &mut Node<CappedStore>, call: &Ask) -> Result<Answered, AllocError> {
+    match node.on_ask(call) {
+        Ok((answered, _)) => Ok(answered),
+        Err(_) => Ok(node.on_ask(call)?.0),
+    }
+}
+
+/// Whether the node tells Added to this call.
+fn tells_added(node: &mut Node<CappedStore>, call: &Ask) -> Option<bool> {
+    let answered = answered(node, call).ok()?;
+    Some(matches!(&answered, Answered::Told(told) if told.reply == Reply::Added))
+}
+
+/// Whether the node tells Added to the call that puts x under `abc`.
+fn adds_x(alloc: Global, node: &mut Node<CappedStore>) -> Option<bool> {
+    let call = insert_x(alloc).ok()?;
+    tells_added(node, &call)
+}
+
+/// Whether a call is told Added.
+fn executes(alloc: Global) -> Option<bool> {
+    let mut node = founder(alloc)?;
+    adds_x(alloc, &mut node)
+}
+
+#[test]
+fn a_refused_call_is_not_executed(rt: HostRuntime) {
+    assert!(rt; executes(rt.alloc()) == Some(true));
+}
+
+/// Cuts at B, again where there was no memory: the node holds the circle in one piece then.
+fn cut(node: &mut Node<CappedStore>) -> Result<(), CutAtFault> {
+    match node.cut_at(0, Id::new(B)) {
+        Err(CutAtFault::Memory) if node.span(0) == Some(span(A, A)) => node.cut_at(0, Id::new(B)),
+        cut => cut,
+    }
+}
+
+/// Merges what was cut at B, again where there was no memory: the node holds it in two pieces then.
+fn merge(node: &mut Node<CappedStore>) -> Result<(), MergeFault> {
+    let pieces = (Some(span(A, B)), Some(span(B, A)));
+    match node.merge(0, 1) {
+        Err(MergeFault::Memory) if (node.span(0), node.span(1)) == pieces => node.merge(0, 1),
+        merged => merged,
+    }
+}
+
+/// How a cut and a merge end.
+fn cuts_and_merges(alloc: Global) -> Option<(Result<(), CutAtFault>, Result<(), MergeFault>)> {
+    let mut node = founder(alloc)?;
+    let cut = cut(&mut node);
+    Some((cut, merge(&mut node)))
+}
+
+#[test]
+fn a_refused_cut_and_a_refused_merge(rt: HostRuntime) {
+    assert!(rt; cuts_and_merges(rt.alloc()) == Some((Ok(()), Ok(()))));
+}
+
+/// Whether the node holds the whole circle and keeps nothing that it gave.
+fn holds_all(node: &Node<CappedStore>) -> bool {
+    node.span(0) == Some(span(A, A)) && node.kept_count() == 0
+}
+
+/// Gives to node 1 what it holds, again where there was no memory: it holds the circle then.
+fn give(node: &mut Node<CappedStore>) -> Result<Part, GiveFault> {
+    match node.give(0, 1) {
+        Err(GiveFault::Memory) if holds_all(node) => node.give(0, 1),
+        given => given,
+    }
+}
+
+/// The number of a part that was given.
+fn given_number(node: &mut Node<CappedStore>) -> Option<u64> {
+    Some(give(node).ok()?.number)
+}
+
+/// The number of a part that was given, and the item that is kept.
+fn gives(alloc: Global) -> Option<(Option<u64>, Option<(u64, u64, Span)>)> {
+    let mut node = founder(alloc)?;
+    let number = given_number(&mut node);
+    Some((number, node.kept(0)))
+}
+
+#[test]
+fn a_refused_give_keeps_the_segment(rt: HostRuntime) {
+    assert!(rt; gives(rt.alloc()) == Some((Some(1), Some((1, 1, span(A, A))))));
+}
+
+/// The part that was given to node 1, asked for again where there was no memory.
+fn resent(node: &Node<CappedStore>) -> Result<Part, ResendFault> {
+    match node.resend_part(1, 1, 1) {
+        Err(ResendFault::Memory) => node.resend_part(1, 1, 1),
+        part => part,
+    }
+}
+
+/// Whether the part goes again with the same pairs.
+fn goes_again(node: &Node<CappedStore>, first: &Part) -> Option<bool> {
+    let again = resent(node).ok()?;
+    Some(again.pairs.as_slice() == first.pairs.as_slice())
+}
+
+/// Whether a part that goes again has the same pairs.
+fn resends(alloc: Global) -> Option<bool> {
+    let (node, first) = giver(alloc)?;
+    goes_again(&node, &first)
+}
+
+#[test]
+fn a_refused_resend(rt: HostRuntime) {
+    assert!(rt; resends(rt.alloc()) == Some(true));
+}
+
+/// What node 1 answers to a part, which comes again where there was no memory: it took and holds nothing then.
+fn taken(node: &mut Node<CappedStore>, part: &Part) -> Option<Given> {
+    match handed(node, part) {
+        Ok(given) => given,
+        Err(_) if (node.last_taken(0), node.held_count()) == (0, 0) => given(node, part),
+        Err(_) => None,
+    }
+}
+
+/// What node 1 answers to a handover, and what it holds.
+fn holds(alloc: Global) -> Option<(Option<Given>, Option<Span>)> {
+    let (_, part) = giver(alloc)?;
+    let mut next = newborn(alloc, 1);
+    let given = taken(&mut next, &part);
+    Some((given, next.span(0)))
+}
+
+#[test]
+fn a_refused_handover_is_not_held(rt: HostRuntime) {
+    let got = (Some(Given::Got), Some(span(A, C)));
+    assert!(rt; holds(rt.alloc()) == Some(got));
+}
+
+/// What node 1 answers to a part of two, and how many segments it holds.
+fn notes(alloc: Global) -> (Option<Given>, usize) {
+    let part = first_part(alloc, ticket(0, 1, 1), span(A, C), 2);
+    let mut node = newborn(alloc, 1);
+    let given = taken(&mut node, &part);
+    (given, node.held_count())
+}
+
+#[test]
+fn a_refused_part_is_not_noted(rt: HostRuntime) {
+    assert!(rt; notes(rt.alloc()) == (Some(Given::Part), 0));
+}
+
+/// Whether the node keeps what it gave to node 1, and holds the rest.
+fn keeps(node: &Node<CappedStore>) -> bool {
+    node.kept(0) == Some((1, 1, span(A, C))) && node.held_count() == 1
+}
+
+/// What comes of an item that node 1 declines, again where there was no memory: the node keeps it then.
+fn returned(node: &mut Node<CappedStore>) -> Option<Back> {
+    match taken_back(node, ticket(0, 1, 1)) {
+        Ok(back) => back,
+        Err(_) if keeps(node) => back(node, ticket(0, 1, 1)),
+        Err(_) => None,
+    }
+}
+
+/// What comes of it, and how many items are kept.
+fn takes_back(alloc: Global) -> Option<(Option<Back>, usize)> {
+    let (mut node, _) = giver(alloc)?;
+    let back = returned(&mut node);
+    Some((back, node.kept_count()))
+}
+
+#[test]
+fn a_refused_return_keeps_the_item(rt: HostRuntime) {
+    assert!(rt; takes_back(rt.alloc()) == Some((Some(Back::Held), 0)));
+}

@@ -1,0 +1,303 @@
+//! What a node cuts, merges, gives and takes back.
+
+use super::{A, B, C, back, found, given_away, given_empty, inserted, newborn, span, ticket};
+use chord_handover::Part;
+use chord_ident::{Id, Span};
+use chord_map::Bytes;
+use chord_node::{Back, CutAtFault, GiveFault, Given, MergeFault, Node, Phase, ResendFault};
+use chord_store::{CappedStore, EntryStore, Inserted, StoreFault};
+use std::alloc::Global;
+
+/// Node 0, with room for one pair, which holds the whole circle.
+fn founder(alloc: Global) -> Option<Node<CappedStore>> {
+    found(alloc, CappedStore::new(alloc, 1))
+}
+
+/// The same node after it gave (A, C], with x under `abc`, to node 1.
+fn giver(alloc: Global) -> Option<Node<CappedStore>> {
+    let (node, _) = given_away(alloc, 1)?;
+    Some(node)
+}
+
+/// What a node holds.
+type Spans = (Option<Span>, Option<Span>);
+
+fn spans(node: &Node<CappedStore>) -> Spans {
+    (node.span(0), node.span(1))
+}
+
+/// What a node holds after a cut at B, and after a merge of the two.
+fn cut_and_merge(node: &mut Node<CappedStore>) -> Option<(Spans, Spans)> {
+    node.cut_at(0, Id::new(B)).ok()?;
+    let cut = spans(node);
+    node.merge(0, 1).ok()?;
+    Some((cut, spans(node)))
+}
+
+/// What node 0 holds after both.
+fn cut_and_merged(alloc: Global) -> Option<(Spans, Spans)> {
+    let mut node = founder(alloc)?;
+    cut_and_merge(&mut node)
+}
+
+#[test]
+fn cuts_and_merges(rt: HostRuntime) {
+    let cut = (Some(span(A, B)), Some(span(B, A)));
+    let merged = (Some(span(A, A)), None);
+    assert!(rt; cut_and_merged(rt.alloc()) == Some((cut, merged)));
+}
+
+/// How a cut of nothing and one at an end go, and how many segments are held then.
+fn refused_cuts(alloc: Global) -> Option<(Result<(), CutAtFault>, Result<(), CutAtFault>, usize)> {
+    let mut node = founder(alloc)?;
+    let nothing = node.cut_at(1, Id::new(B));
+    let outside = node.cut_at(0, Id::new(A));
+    Some((nothing, outside, node.held_count()))
+}
+
+#[test]
+fn refuses_cuts(rt: HostRuntime) {
+    let (nothing, outside) = (Err(CutAtFault::NoSegment), Err(CutAtFault::NotInside));
+    assert!(rt; refused_cuts(rt.alloc()) == Some((nothing, outside, 1)));
+}
+
+/// Cuts the circle into (A, B], (B, C] and (C, A], and merges the first segment with this one.
+fn cut_twice(node: &mut Node<CappedStore>, other: usize) -> Option<Result<(), MergeFault>> {
+    node.cut_at(0, Id::new(C)).ok()?;
+    node.cut_at(0, Id::new(B)).ok()?;
+    Some(node.merge(0, other))
+}
+
+/// How the merge of the first segment with this one is refused, and how many are held then.
+fn refused_merge(alloc: Global, other: usize) -> Option<(Option<Result<(), MergeFault>>, usize)> {
+    let mut node = founder(alloc)?;
+    let merged = cut_twice(&mut node, other);
+    Some((merged, node.held_count()))
+}
+
+#[test]
+fn refuses_merges(rt: HostRuntime) {
+    for (other, fault) in [
+        (0, MergeFault::NoSegment),
+        (3, MergeFault::NoSegment),
+        (2, MergeFault::NotAdjacent),
+    ] {
+        let refused = refused_merge(rt.alloc(), other);
+        assert!(rt; refused == Some((Some(Err(fault)), 3)), "at {other}");
+    }
+}
+
+/// Puts x under this key, as call 1.
+fn put(alloc: Global, node: &mut Node<CappedStore>, key: &[u8]) -> Option<()> {
+    inserted(alloc, node, 1, key, b"x")?;
+    Some(())
+}
+
+/// Cuts at C and merges the two segments, with the same call in each.
+fn keep_twice(alloc: Global, node: &mut Node<CappedStore>) -> Option<Result<(), MergeFault>> {
+    node.cut_at(0, Id::new(C)).ok()?;
+    put(alloc, node, b"abc")?;
+    put(alloc, node, b"b")?;
+    Some(node.merge(0, 1))
+}
+
+/// How the merge of two segments with the same call is refused, and what the second one is then.
+fn kept_twice(alloc: Global) -> Option<(Option<Result<(), MergeFault>>, Option<Span>)> {
+    let mut node = found(alloc, CappedStore::new(alloc, 2))?;
+    let merged = keep_twice(alloc, &mut node);
+    Some((merged, node.span(1)))
+}
+
+/// The same call under two keys, each in a segment of its own.
+#[test]
+fn no_call_is_kept_twice(rt: HostRuntime) {
+    let twice = (Some(Err(MergeFault::Twice)), Some(span(C, A)));
+    assert!(rt; kept_twice(rt.alloc()) == Some(twice));
+}
+
+/// How the giving of a segment that is not held is refused.
+fn gives_nothing(alloc: Global) -> Option<(Result<(), GiveFault>, Option<GiveFault>)> {
+    let mut node = founder(alloc)?;
+    Some((node.may_give(1, 1), node.give(1, 1).err()))
+}
+
+#[test]
+fn gives_no_segment_that_it_does_not_hold(rt: HostRuntime) {
+    let fault = GiveFault::NoSegment;
+    assert!(rt; gives_nothing(rt.alloc()) == Some((Err(fault), Some(fault))));
+}
+
+/// Whether a node may give all to node 1, and whether it holds identifier 0.
+type Before = (Result<(), GiveFault>, bool);
+
+fn may_give(node: &Node<CappedStore>) -> Before {
+    (node.may_give(0, 1), node.holds(Id::new(0)))
+}
+
+/// From whom a part goes to whom, the number of its handover, and which part it is of how many.
+type Names = (u64, u64, u64, u64, u64);
+
+fn names(part: &Part) -> Names {
+    (part.from, part.to, part.number, part.place, part.of)
+}
+
+/// The names of the part that is given.
+fn given_names(node: &mut Node<CappedStore>) -> Option<Names> {
+    let part = node.give(0, 1).ok()?;
+    Some(names(&part))
+}
+
+/// What node 0 says before it gives all, the names of the part, and whether it holds identifier 0 then.
+fn gives(alloc: Global) -> Option<(Before, Option<Names>, bool)> {
+    let mut node = founder(alloc)?;
+    let before = may_give(&node);
+    let names = given_names(&mut node);
+    Some((before, names, node.holds(Id::new(0))))
+}
+
+#[test]
+fn gives_what_it_holds(rt: HostRuntime) {
+    let (before, names) = ((Ok(()), true), Some((0, 1, 1, 1, 1)));
+    assert!(rt; gives(rt.alloc()) == Some((before, names, false)));
+}
+
+/// The first item that is kept of what was given, and a second one.
+fn kept(alloc: Global) -> Option<(Option<(u64, u64, Span)>, Option<(u64, u64, Span)>)> {
+    let node = giver(alloc)?;
+    Some((node.kept(0), node.kept(1)))
+}
+
+#[test]
+fn what_is_given_is_kept(rt: HostRuntime) {
+    let item = (1, 1, span(A, C));
+    assert!(rt; kept(rt.alloc()) == Some((Some(item), None)));
+}
+
+/// Whether the parts have the same segment and the same pairs, of which there is one.
+fn have_the_same(part: &Part, other: &Part) -> Option<(bool, usize, bool)> {
+    let segment = part.segment.as_ref()?.equals(other.segment.as_ref()?);
+    let pairs = part.pairs.as_slice() == other.pairs.as_slice();
+    Some((segment, part.pairs.len(), pairs))
+}
+
+/// What the part that goes again is named, and what it has of the first.
+type Again = (Names, Option<(bool, usize, bool)>);
+
+fn sent_again(node: &Node<CappedStore>, first: &Part) -> Option<Again> {
+    let again = node.resend_part(1, 1, 1).ok()?;
+    Some((names(&again), have_the_same(&again, first)))
+}
+
+fn resent(alloc: Global) -> Option<Again> {
+    let (node, first) = given_away(alloc, 1)?;
+    sent_again(&node, &first)
+}
+
+#[test]
+fn a_part_goes_again(rt: HostRuntime) {
+    let same = Some((true, 1, true));
+    assert!(rt; resent(rt.alloc()) == Some(((0, 1, 1, 1, 1), same)));
+}
+
+/// How a part that was not given is refused.
+fn unsent(alloc: Global, to: u64, number: u64, part: u64) -> Option<ResendFault> {
+    let node = giver(alloc)?;
+    node.resend_part(to, number, part).err()
+}
+
+#[test]
+fn no_other_part_goes_again(rt: HostRuntime) {
+    for (to, number, part) in [(1, 1, 0), (1, 1, 2), (1, 2, 1), (2, 1, 1)] {
+        let fault = unsent(rt.alloc(), to, number, part);
+        assert!(rt; fault == Some(ResendFault::NoPart));
+    }
+}
+
+/// How many segments a node holds, and how many items it keeps of what it gave.
+fn counts(node: &Node<CappedStore>) -> (usize, usize) {
+    (node.held_count(), node.kept_count())
+}
+
+/// What comes of an item that was not given and is declined, and the counts before.
+type Unknown = ((usize, usize), Option<Back>);
+
+/// The same, what comes of the item that was given then, where it stands, and how many items are kept.
+fn held_again(alloc: Global) -> Option<(Unknown, Option<Back>, Option<Span>, usize)> {
+    let mut node = giver(alloc)?;
+    let before = counts(&node);
+    let unknown = back(&mut node, ticket(0, 1, 2));
+    let held = back(&mut node, ticket(0, 1, 1));
+    Some(((before, unknown), held, node.span(1), node.kept_count()))
+}
+
+#[test]
+fn what_is_declined_is_held_again(rt: HostRuntime) {
+    let unknown = ((1, 1), Some(Back::Unknown));
+    let held = (unknown, Some(Back::Held), Some(span(A, C)), 0);
+    assert!(rt; held_again(rt.alloc()) == Some(held));
+}
+
+/// What comes of an item that is declined once x came under `b`.
+fn back_after_b(alloc: Global, node: &mut Node<CappedStore>) -> Option<Back> {
+    inserted(alloc, node, 2, b"b", b"x")?;
+    back(node, ticket(0, 1, 1))
+}
+
+/// What comes of an item that is declined to a full store, and what is kept and held then.
+fn back_to_a_full_store(alloc: Global) -> Option<(Option<Back>, Option<(u64, u64, Span)>, usize)> {
+    let mut node = giver(alloc)?;
+    let full = back_after_b(alloc, &mut node);
+    Some((full, node.kept(0), node.held_count()))
+}
+
+/// What is declined comes to a full store: the item stays.
+#[test]
+fn a_full_store_takes_nothing_back(rt: HostRuntime) {
+    let full = (Some(Back::Full), Some((1, 1, span(A, C))), 1);
+    assert!(rt; back_to_a_full_store(rt.alloc()) == Some(full));
+}
+
+/// What a node answers to a handover of a part of what it gave, what comes of the item that is declined, and what is kept.
+fn back_to_another(
+    alloc: Global,
+) -> Option<(Option<Given>, Option<Back>, Option<(u64, u64, Span)>)> {
+    let mut node = giver(alloc)?;
+    let got = given_empty(alloc, &mut node, ticket(2, 0, 1), span(A, B));
+    let clash = back(&mut node, ticket(0, 1, 1));
+    Some((got, clash, node.kept(0)))
+}
+
+/// A handover made by hand meets what was given away.
+#[test]
+fn what_is_held_again_meets_nothing(rt: HostRuntime) {
+    let (got, clash) = (Some(Given::Got), Some(Back::Clash));
+    let kept = Some((1, 1, span(A, C)));
+    assert!(rt; back_to_another(rt.alloc()) == Some((got, clash, kept)));
+}
+
+/// How the insert into a store ends.
+type Put = Result<Inserted, StoreFault>;
+
+/// How many pairs a store has, and how the insert of a pair and of another one end.
+fn stores(key: &Bytes, mut store: CappedStore) -> (u64, Put, Put) {
+    let count = store.count();
+    let first = store.insert(key, b"x");
+    (count, first, store.insert(key, b"y"))
+}
+
+/// The same of the store that a newborn node with room for one pair gives back.
+fn given_back(alloc: Global) -> Option<(u64, Put, Put)> {
+    let node = newborn(alloc, 1);
+    if node.phase() == Phase::Gone {
+        return None;
+    }
+    let key = Bytes::from_slice(alloc, b"a").ok()?;
+    Some(stores(&key, node.into_store()))
+}
+
+/// A node that was not admitted gives its store back, with its limit.
+#[test]
+fn a_store_comes_back(rt: HostRuntime) {
+    let one = (0, Ok(Inserted::Added), Err(StoreFault::Full));
+    assert!(rt; given_back(rt.alloc()) == Some(one));
+}

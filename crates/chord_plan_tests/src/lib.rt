@@ -1,0 +1,5 @@
+//! The tests of `chord_plan`.
+#![tactic(auto)]
+
+#[cfg(test)]
+mod tests;

@@ -1,0 +1,165 @@
+//! Three askers: one over a plain map, one that is full at first, and one that is out of memory once.
+ghost use Rattle.std.specs.Prelude.{◌≡◌, ◌++◌, ◌∷◌, [], true};
+ghost use Rattle.chord_serve.specs.Question.{IsHeard};
+
+use chord_map::{PlainMap, Reply, Request};
+use chord_serve::{Asked, Asker};
+use chord_wire::is_writable;
+use std::alloc::Global;
+
+/// Answers from one plain map, and notes what it was asked.
+#[derive(Drop)]
+pub struct MapAsker {
+    map: PlainMap,
+    pub requests: Vec<Request>,
+}
+
+impl MapAsker {
+    pub fn new(alloc: Global) -> MapAsker {
+        MapAsker {
+            map: PlainMap::new(alloc),
+            requests: Vec::new(alloc),
+        }
+    }
+
+    /// With this request done.
+    pub fn having(mut self, request: &Request) -> Option<MapAsker> {
+        request.check().ok()?;
+        self.map.apply(request).ok()?;
+        Some(self)
+    }
+}
+
+fn note(requests: &mut Vec<Request>, request: &Request) -> bool
+    ensures { result ≡ true → requests.new.items ≡ requests.old.items ++ request.now ∷ [] }
+{
+    match request.try_copy() {
+        Ok(copy) => requests.push(copy).is_ok(),
+        Err(_) => false,
+    }
+}
+
+impl Asker for MapAsker {
+    ghost answers = { λ a question answer b. IsHeard question answer a.requests.items b.requests.items };
+
+    ghost asked = { λ a. a.requests.items };
+
+    fn ask(&mut self, request: &Request) -> Asked {
+        if !note(&mut self.requests, request) {
+            return Asked::Memory;
+        }
+        if request.check().is_err() {
+            return Asked::NoAnswer;
+        }
+        match self.map.apply(request) {
+            Err(_) => Asked::Memory,
+            Ok(reply) => {
+                if reply.fits(request) && is_writable(&reply) {
+                    Asked::Reply(reply)
+                } else {
+                    Asked::NoAnswer
+                }
+            }
+        }
+    }
+
+    fn retry(&mut self, _number: u64) -> Asked {
+        Asked::NoAnswer
+    }
+
+    ghost notes = { λ a b question answer heard. heard.notes };
+
+    ghost kind = { λ a b question answer heard. heard.kind };
+}
+
+/// Is full for each new request, and adds its value when it is asked again.
+#[derive(Drop)]
+pub struct FullAtFirst {
+    pub requests: Vec<Request>,
+    pub retried: u64,
+}
+
+impl FullAtFirst {
+    pub fn new(alloc: Global) -> FullAtFirst {
+        FullAtFirst {
+            requests: Vec::new(alloc),
+            retried: 0,
+        }
+    }
+}
+
+impl Asker for FullAtFirst {
+    ghost answers = { λ a question answer b. IsHeard question answer a.requests.items b.requests.items };
+
+    ghost asked = { λ a. a.requests.items };
+
+    fn ask(&mut self, request: &Request) -> Asked {
+        if note(&mut self.requests, request) {
+            Asked::Full
+        } else {
+            Asked::Memory
+        }
+    }
+
+    fn retry(&mut self, number: u64) -> Asked {
+        self.retried = self.retried.wrapping_add(1);
+        if number == 0 {
+            return Asked::NoAnswer;
+        }
+        match self.requests.get((number - 1) as usize) {
+            None => Asked::NoAnswer,
+            Some(request) => {
+                if Reply::Added.fits(request) {
+                    Asked::Reply(Reply::Added)
+                } else {
+                    Asked::NoAnswer
+                }
+            }
+        }
+    }
+
+    ghost notes = { λ a b question answer heard. heard.notes };
+
+    ghost kind = { λ a b question answer heard. heard.kind };
+}
+
+/// Adds each value, and is out of memory for the request with this number.
+#[derive(Drop)]
+pub struct OutOfMemoryAt {
+    pub requests: Vec<Request>,
+    pub number: usize,
+}
+
+impl OutOfMemoryAt {
+    pub fn new(alloc: Global, number: usize) -> OutOfMemoryAt {
+        OutOfMemoryAt {
+            requests: Vec::new(alloc),
+            number,
+        }
+    }
+}
+
+impl Asker for OutOfMemoryAt {
+    ghost answers = { λ a question answer b. IsHeard question answer a.requests.items b.requests.items };
+
+    ghost asked = { λ a. a.requests.items };
+
+    fn ask(&mut self, request: &Request) -> Asked {
+        if !note(&mut self.requests, request) || self.requests.len() == self.number {
+            return Asked::Memory;
+        }
+        if Reply::Added.fits(request) {
+            Asked::Reply(Reply::Added)
+        } else {
+            Asked::NoAnswer
+        }
+    }
+
+    fn retry(&mut self, _number: u64) -> Asked {
+        Asked::NoAnswer
+    }
+
+    ghost notes = { λ a b question answer heard. heard.notes };
+
+    ghost kind = { λ a b question answer heard. heard.kind };
+}

@@ -1,0 +1,484 @@
+//! A client with several requests in flight, against the server, over memory.
+
+use super::askers::{FullAtFirst, MapAsker};
+use super::devices::Limited;
+use super::sessions::{ADDED, INSERT, INSERT_2, fault, insert, joined};
+use chord_map::{Bytes, Reply, Request, Values};
+use chord_serve::{AgainFault, Asker, CallFault, Client, ReceiveFault, SendFault, Served, serve};
+use chord_wire::{Answer, FaultCode};
+use std::alloc::{AllocError, Global};
+use std::io::Write;
+
+// The same in version 2, number 17, floor 16.
+const INSERT_17: [u8; 27] = [
+    0, 0, 0, 0x17, 2, 1, 0, 0, 0, 0, 0, 0, 0, 17, 0, 0, 0, 0, 0, 0, 0, 16, 1, 0x61, 0, 1, 0x78,
+];
+
+// Removed, number 1.
+const REMOVED: [u8; 15] = [0, 0, 0, 0x0b, 1, 0x83, 0, 0, 0, 0, 0, 0, 0, 1, 1];
+
+/// A client, and what it wrote.
+#[derive(Drop)]
+struct Flight {
+    client: Client,
+    written: Vec<u8>,
+}
+
+impl Flight {
+    fn new(alloc: Global, version: u8, window: u64) -> Option<Flight> {
+        let client = Client::new(alloc, version, window)?;
+        let written = Vec::new(alloc);
+        Some(Flight { client, written })
+    }
+
+    /// Sends a request that keeps the limits.
+    fn send(&mut self, request: Request) -> Result<u64, SendFault> {
+        send(&mut self.client, &mut self.written, request)
+    }
+
+    fn again(&mut self, number: u64) -> Result<(), AgainFault> {
+        self.client.again(&mut self.written, number)
+    }
+
+    /// How many answers it awaits, its floor, and whether it is full.
+    fn standing(&self) -> (usize, u64, bool) {
+        let client = &self.client;
+        (client.in_flight(), client.floor(), client.is_full())
+    }
+
+    fn has_written(&self, frames: &[u8]) -> bool {
+        self.written.as_slice() == frames
+    }
+}
+
+fn retrieve(alloc: Global) -> Result<Request, AllocError> {
+    let key = Bytes::from_slice(alloc, b"a")?;
+    Ok(Request::Retrieve { key })
+}
+
+/// Remove y from under a.
+fn remove(alloc: Global) -> Result<Request, AllocError> {
+    let key = Bytes::from_slice(alloc, b"a")?;
+    let value = Bytes::from_slice(alloc, b"y")?;
+    Ok(Request::Remove { key, value })
+}
+
+/// The one value x.
+fn one_value(alloc: Global) -> Result<Reply, AllocError> {
+    let mut values = Values::new(alloc);
+    values.push(Bytes::from_slice(alloc, b"x")?)?;
+    Ok(Reply::Values(values))
+}
+
+/// Sends a request that keeps the limits.
+fn send<W: Write>(client: &mut Client, writer: &mut W, request: Request) -> Result<u64, SendFault> {
+    if request.check().is_err() {
+        return Err(SendFault::Memory);
+    }
+    client.send(writer, request)
+}
+
+/// A client of version 2 that sent so many inserts, with the numbers from 1.
+fn after_inserts(alloc: Global, window: u64, count: u64) -> Option<Flight> {
+    let mut flight = Flight::new(alloc, 2, window)?;
+    for number in 1..=count {
+        if flight.send(insert(alloc).ok()?) != Ok(number) {
+            return None;
+        }
+    }
+    Some(flight)
+}
+
+/// What the server writes for these bytes.
+fn served<A: Asker>(alloc: Global, input: &[u8], asker: &mut A) -> (Served, Vec<u8>) {
+    let mut reader = input;
+    let mut written = Vec::new(alloc);
+    let served = serve(alloc, &mut reader, &mut written, asker, 10);
+    (served, written)
+}
+
+fn is_reply(received: &Result<(u64, Answer), ReceiveFault>, wanted: u64) -> bool {
+    match received {
+        Ok((number, Answer::Reply { number: inside, .. })) => {
+            *number == wanted && *inside == wanted
+        }
+        _ => false,
+    }
+}
+
+fn is_fault(received: &Result<(u64, Answer), ReceiveFault>, wanted: u64, fault: FaultCode) -> bool {
+    match received {
+        Ok((number, Answer::Fault { code, .. })) => *number == wanted && *code == fault,
+        _ => false,
+    }
+}
+
+fn is_window(alloc: Global, version: u8, window: u64) -> bool {
+    Client::new(alloc, version, window).is_some()
+}
+
+#[test]
+fn which_windows(rt: HostRuntime) {
+    for (version, window, is_one) in [
+        (1, 1, true),
+        (1, 0, false),
+        (1, 2, false),
+        (2, 0, false),
+        (2, 1, true),
+        (2, 16, true),
+        (2, 17, false),
+        (3, 1, false),
+        (0, 1, false),
+    ] {
+        let some = is_window(rt.alloc(), version, window);
+        assert!(rt; some == is_one, "{version} {window}");
+    }
+}
+
+/// How a client stands that sent sixteen inserts, how many bytes it wrote, and whether the first is written first.
+fn sixteen_sent(alloc: Global) -> Option<((usize, u64, bool), usize, bool)> {
+    let flight = after_inserts(alloc, 16, 16)?;
+    let is_first = flight.written.starts_with(&INSERT_2);
+    Some((flight.standing(), flight.written.len(), is_first))
+}
+
+#[test]
+fn sixteen_in_flight(rt: HostRuntime) {
+    let wanted = ((16, 0, true), 16 * 27, true);
+    assert!(rt; sixteen_sent(rt.alloc()) == Some(wanted));
+}
+
+/// What the seventeenth insert is answered, and how many bytes were written then.
+fn seventeenth(alloc: Global) -> Option<(Result<u64, SendFault>, usize)> {
+    let mut flight = after_inserts(alloc, 16, 16)?;
+    let refused = flight.send(insert(alloc).ok()?);
+    Some((refused, flight.written.len()))
+}
+
+#[test]
+fn a_full_window_sends_nothing(rt: HostRuntime) {
+    let refused = (Err(SendFault::WindowFull), 16 * 27);
+    assert!(rt; seventeenth(rt.alloc()) == Some(refused));
+}
+
+/// Whether replies to sixteen requests come in turn, each of which raises the floor to its number.
+fn is_raised(client: &mut Client, mut answers: &[u8]) -> bool {
+    for number in 1..=16u64 {
+        let received = client.receive(&mut answers, 10);
+        if !is_reply(&received, number) || client.floor() != number {
+            return false;
+        }
+    }
+    true
+}
+
+/// The same of a session over sixteen inserts, how it ends, and whether the next insert is written.
+fn sixteen_answered(alloc: Global) -> Option<(Served, bool, Result<u64, SendFault>, bool)> {
+    let mut flight = after_inserts(alloc, 16, 16)?;
+    let (ended, answers) = served(alloc, &flight.written, &mut MapAsker::new(alloc));
+    let raised = is_raised(&mut flight.client, &answers);
+    flight.written.clear();
+    let next = flight.send(insert(alloc).ok()?);
+    Some((ended, raised, next, flight.has_written(&INSERT_17)))
+}
+
+/// Sixteen requests are sent before an answer is read, and the next one has the floor 16.
+#[test]
+fn sixteen_answers_raise_the_floor(rt: HostRuntime) {
+    let wanted = (Served::Ended, true, Ok(17), true);
+    assert!(rt; sixteen_answered(rt.alloc()) == Some(wanted));
+}
+
+/// A client whose two requests a full store refused.
+fn refused_twice(alloc: Global) -> Option<Flight> {
+    let mut flight = after_inserts(alloc, 2, 2)?;
+    let (_, faults) = served(alloc, &flight.written, &mut FullAtFirst::new(alloc));
+    let mut reader = faults.as_slice();
+    for number in 1..=2 {
+        let received = flight.client.receive(&mut reader, 10);
+        if !is_fault(&received, number, FaultCode::Full) {
+            return None;
+        }
+    }
+    Some(flight)
+}
+
+/// A client that sent both again, the second one first.
+fn sent_again(alloc: Global) -> Option<Flight> {
+    let mut flight = refused_twice(alloc)?;
+    flight.again(2).ok()?;
+    flight.again(1).ok()?;
+    Some(flight)
+}
+
+/// How a client stands whose two requests were refused.
+fn standing_refused(alloc: Global) -> Option<(usize, u64, bool)> {
+    Some(refused_twice(alloc)?.standing())
+}
+
+#[test]
+fn a_full_store_keeps_the_window(rt: HostRuntime) {
+    assert!(rt; standing_refused(rt.alloc()) == Some((0, 0, true)));
+}
+
+/// What a client is answered that sends a request again which was not refused.
+fn unrefused_again(alloc: Global) -> Option<Result<(), AgainFault>> {
+    let mut flight = after_inserts(alloc, 2, 2)?;
+    Some(flight.again(1))
+}
+
+/// What one is answered whose two requests were refused, and that sends these numbers again in turn.
+fn refused_again(alloc: Global, numbers: [u64; 4]) -> Option<[Result<(), AgainFault>; 4]> {
+    let mut flight = refused_twice(alloc)?;
+    let [first, second, third, fourth] = numbers;
+    let first = flight.again(first);
+    let second = flight.again(second);
+    let third = flight.again(third);
+    Some([first, second, third, flight.again(fourth)])
+}
+
+#[test]
+fn only_what_was_refused_is_sent_again(rt: HostRuntime) {
+    let refused = Err(AgainFault::NotRefused);
+    assert!(rt; unrefused_again(rt.alloc()) == Some(refused));
+    let wanted = [refused, Ok(()), refused, Ok(())];
+    assert!(rt; refused_again(rt.alloc(), [3, 2, 2, 1]) == Some(wanted));
+}
+
+/// Whether two frames were written again, the second one first.
+fn is_written_again(alloc: Global) -> Option<bool> {
+    let flight = sent_again(alloc)?;
+    let first = flight.written.get(..27)?;
+    let second = flight.written.get(27..54)?;
+    let again = flight.written.get(54..81)? == second;
+    Some(again && flight.written.get(81..)? == first)
+}
+
+/// What a full store refused is sent again as it was, in any order.
+#[test]
+fn a_full_store_is_asked_again(rt: HostRuntime) {
+    assert!(rt; is_written_again(rt.alloc()) == Some(true));
+}
+
+/// Whether the reply to this number comes, and the floor then.
+fn floor_after(client: &mut Client, reader: &mut &[u8], number: u64) -> (bool, u64) {
+    let received = client.receive(reader, 10);
+    (is_reply(&received, number), client.floor())
+}
+
+/// The same of what is sent again: of number 2, and then of number 1.
+fn answered_again(alloc: Global) -> Option<((bool, u64), (bool, u64))> {
+    let mut flight = sent_again(alloc)?;
+    let (_, answers) = served(alloc, &flight.written, &mut FullAtFirst::new(alloc));
+    let mut reader = answers.get(30..)?;
+    let second = floor_after(&mut flight.client, &mut reader, 2);
+    let first = floor_after(&mut flight.client, &mut reader, 1);
+    Some((second, first))
+}
+
+/// What was sent again is answered, and the floor waits for the least number.
+#[test]
+fn what_is_sent_again_is_answered(rt: HostRuntime) {
+    let wanted = ((true, 0), (true, 2));
+    assert!(rt; answered_again(rt.alloc()) == Some(wanted));
+}
+
+/// The number of a client's one request, whether it is written, and whether the client is full then.
+fn one_sent(alloc: Global) -> Option<(Result<u64, SendFault>, bool, bool)> {
+    let mut flight = Flight::new(alloc, 1, 1)?;
+    let sent = flight.send(insert(alloc).ok()?);
+    Some((sent, flight.has_written(&INSERT), flight.client.is_full()))
+}
+
+#[test]
+fn one_at_a_time(rt: HostRuntime) {
+    assert!(rt; one_sent(rt.alloc()) == Some((Ok(1), true, true)));
+}
+
+/// A client of version 1 whose request got no answer in time.
+fn unanswered(alloc: Global) -> Option<Flight> {
+    let mut flight = Flight::new(alloc, 1, 1)?;
+    flight.send(insert(alloc).ok()?).ok()?;
+    let no_answer = fault(1, 11);
+    let received = flight.client.receive(&mut no_answer.as_slice(), 10);
+    if is_fault(&received, 1, FaultCode::NoAnswer) {
+        Some(flight)
+    } else {
+        None
+    }
+}
+
+/// What its next request is answered, and its first one again, and whether the first one is written twice.
+fn held_back(alloc: Global) -> Option<(Result<u64, SendFault>, Result<(), AgainFault>, bool)> {
+    let mut flight = unanswered(alloc)?;
+    let sent = flight.send(retrieve(alloc).ok()?);
+    let again = flight.again(1);
+    let twice = joined(alloc, &[&INSERT, &INSERT]).ok()?;
+    Some((sent, again, flight.has_written(&twice)))
+}
+
+/// In version 1 a request that got no reply holds back the next one.
+#[test]
+fn an_unanswered_request_holds_back_the_next(rt: HostRuntime) {
+    let wanted = (Err(SendFault::WindowFull), Ok(()), true);
+    assert!(rt; held_back(rt.alloc()) == Some(wanted));
+}
+
+/// What its first request is answered again, whether the reply comes, and whether it is full then.
+fn answered_then(alloc: Global) -> Option<(Result<(), AgainFault>, bool, bool)> {
+    let mut flight = unanswered(alloc)?;
+    let again = flight.again(1);
+    let received = flight.client.receive(&mut ADDED.as_slice(), 10);
+    Some((again, is_reply(&received, 1), flight.client.is_full()))
+}
+
+#[test]
+fn an_unanswered_request_is_answered_then(rt: HostRuntime) {
+    let wanted = (Ok(()), true, false);
+    assert!(rt; answered_then(rt.alloc()) == Some(wanted));
+}
+
+fn why(received: Result<(u64, Answer), ReceiveFault>) -> Option<ReceiveFault> {
+    received.err()
+}
+
+/// Why a client receives nothing of this input before it sent a request, the number of its request, why it receives
+/// nothing then, and how many answers it awaits.
+fn nothing_of(
+    alloc: Global,
+    mut input: &[u8],
+) -> Option<(ReceiveFault, Result<u64, SendFault>, ReceiveFault, usize)> {
+    let mut flight = Flight::new(alloc, 2, 16)?;
+    let idle = why(flight.client.receive(&mut input, 10))?;
+    let sent = flight.send(insert(alloc).ok()?);
+    let fault = why(flight.client.receive(&mut input, 10))?;
+    Some((idle, sent, fault, flight.client.in_flight()))
+}
+
+/// Each way in which no answer comes, and that the request is still awaited.
+#[test]
+fn answers_that_are_none(rt: HostRuntime) {
+    let mut other = ADDED;
+    other[13] = 2;
+    let mut bad = ADDED;
+    bad[4] = 2;
+    for (input, fault) in [
+        ([].as_slice(), ReceiveFault::Call(CallFault::Ended)),
+        (&ADDED[..14], ReceiveFault::Call(CallFault::Ended)),
+        (
+            bad.as_slice(),
+            ReceiveFault::Call(CallFault::Malformed(FaultCode::BadVersion)),
+        ),
+        (other.as_slice(), ReceiveFault::WrongNumber),
+        (fault(0, 1).as_slice(), ReceiveFault::WrongNumber),
+        (REMOVED.as_slice(), ReceiveFault::WrongKind),
+    ] {
+        let wanted = (ReceiveFault::Idle, Ok(1), fault, 1);
+        assert!(rt; nothing_of(rt.alloc(), input) == Some(wanted));
+    }
+}
+
+/// Why a client receives no reply, or that it does, from a reader that gives a byte a call and then fails.
+fn read_slowly(alloc: Global, calls: u64, turns: u64) -> Option<Option<ReceiveFault>> {
+    let mut flight = after_inserts(alloc, 4, 1)?;
+    let mut reader = Limited {
+        inner: ADDED.as_slice(),
+        step: 1,
+        calls,
+    };
+    Some(why(flight.client.receive(&mut reader, turns)))
+}
+
+/// A reader that gives a byte a call is read so often, and one that fails ends it.
+#[test]
+fn slow_and_failing_readers(rt: HostRuntime) {
+    for (calls, turns, wanted) in [
+        (20, 14, Some(ReceiveFault::Call(CallFault::TurnsSpent))),
+        (14, 20, Some(ReceiveFault::Call(CallFault::Read))),
+        (20, 15, None),
+    ] {
+        assert!(rt; read_slowly(rt.alloc(), calls, turns) == Some(wanted));
+    }
+}
+
+/// A client whose writer failed behind 7 bytes of its request, and the writer.
+fn half_written(alloc: Global) -> Option<(Client, Limited<Vec<u8>>)> {
+    let mut client = Client::new(alloc, 2, 16)?;
+    let mut writer = Limited {
+        inner: Vec::new(alloc),
+        step: 7,
+        calls: 1,
+    };
+    match send(&mut client, &mut writer, insert(alloc).ok()?) {
+        Err(SendFault::Write) => Some((client, writer)),
+        _ => None,
+    }
+}
+
+/// Whether 7 bytes of the request are written, and how many answers are awaited.
+fn awaited_half_written(alloc: Global) -> Option<(bool, usize)> {
+    let (client, writer) = half_written(alloc)?;
+    let begins = writer.inner.as_slice() == &INSERT_2[..7];
+    Some((begins, client.in_flight()))
+}
+
+/// A request whose frame was not wholly written counts as sent.
+#[test]
+fn a_writer_that_fails(rt: HostRuntime) {
+    assert!(rt; awaited_half_written(rt.alloc()) == Some((true, 1)));
+}
+
+/// Whether the fault of a full store comes, what sending again is answered, and how many answers are awaited.
+fn again_half_written(alloc: Global) -> Option<(bool, Result<(), AgainFault>, usize)> {
+    let (mut client, mut writer) = half_written(alloc)?;
+    let received = client.receive(&mut fault(1, 10).as_slice(), 1);
+    let is_full = is_fault(&received, 1, FaultCode::Full);
+    let again = client.again(&mut writer, 1);
+    Some((is_full, again, client.in_flight()))
+}
+
+#[test]
+fn a_writer_that_fails_again(rt: HostRuntime) {
+    let wanted = (true, Err(AgainFault::Write), 1);
+    assert!(rt; again_half_written(rt.alloc()) == Some(wanted));
+}
+
+/// A client that sent an insert, a retrieve and a remove of what is not there.
+fn three_sent(alloc: Global) -> Option<Flight> {
+    let mut flight = Flight::new(alloc, 2, 3)?;
+    flight.send(insert(alloc).ok()?).ok()?;
+    flight.send(retrieve(alloc).ok()?).ok()?;
+    flight.send(remove(alloc).ok()?).ok()?;
+    Some(flight)
+}
+
+fn tells(received: &Result<(u64, Answer), ReceiveFault>, wanted: u64, told: &Reply) -> bool {
+    match received {
+        Ok((number, Answer::Reply { reply, .. })) => *number == wanted && reply == told,
+        _ => false,
+    }
+}
+
+/// Whether the next answer of a plain map is this reply to this number.
+fn next_tells(client: &mut Client, reader: &mut &[u8], number: u64, told: &Reply) -> bool {
+    tells(&client.receive(reader, 10), number, told)
+}
+
+/// The same of an insert, a retrieve and a remove of what is not there.
+fn three_told(alloc: Global) -> Option<(bool, bool, bool)> {
+    let mut flight = three_sent(alloc)?;
+    let (_, answers) = served(alloc, &flight.written, &mut MapAsker::new(alloc));
+    let mut reader = answers.as_slice();
+    let client = &mut flight.client;
+    let found = one_value(alloc).ok()?;
+    let first = next_tells(client, &mut reader, 1, &Reply::Added);
+    let second = next_tells(client, &mut reader, 2, &found);
+    let third = next_tells(client, &mut reader, 3, &Reply::Absent);
+    Some((first, second, third))
+}
+
+/// Replies are those of a plain map, in the order of the requests.
+#[test]
+fn replies_in_order(rt: HostRuntime) {
+    assert!(rt; three_told(rt.alloc()) == Some((true, true, true)));
+}

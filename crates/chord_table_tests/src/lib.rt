@@ -1,0 +1,5 @@
+//! The tests of `chord_table`.
+#![tactic(auto)]
+
+#[cfg(test)]
+mod tests;

@@ -1,0 +1,5 @@
+//! The tests of `chord_wire`.
+#![tactic(auto)]
+
+#[cfg(test)]
+mod tests;

@@ -1,0 +1,521 @@
+//! Worked frames.
+
+mod growths;
+
+use chord_map::{Bytes, Reply, Request, Values};
+use chord_wire::{
+    Answer, Answers, FaultCode, Frames, WireFault, WireRequest, is_writable, laws, write_fault,
+    write_reply, write_request, write_request_2,
+};
+use std::alloc::{AllocError, Global};
+
+// Insert x under a, number 1.
+const INSERT: [u8; 19] = [
+    0, 0, 0, 0x0f, 1, 1, 0, 0, 0, 0, 0, 0, 0, 1, 1, 0x61, 0, 1, 0x78,
+];
+
+// The same in version 2, with floor 0.
+const INSERT_2: [u8; 27] = [
+    0, 0, 0, 0x17, 2, 1, 0, 0, 0, 0, 0, 0, 0, 1, 0, 0, 0, 0, 0, 0, 0, 0, 1, 0x61, 0, 1, 0x78,
+];
+
+// Retrieve a, number 1.
+const RETRIEVE: [u8; 16] = [0, 0, 0, 0x0c, 1, 2, 0, 0, 0, 0, 0, 0, 0, 1, 1, 0x61];
+
+// Added, number 1.
+const ADDED: [u8; 15] = [0, 0, 0, 0x0b, 1, 0x81, 0, 0, 0, 0, 0, 0, 0, 1, 1];
+
+// The one value x, number 2.
+const ONE_VALUE: [u8; 21] = [
+    0, 0, 0, 0x11, 1, 0x82, 0, 0, 0, 0, 0, 0, 0, 2, 0, 0, 0, 1, 0, 1, 0x78,
+];
+
+// The values x and y, number 2.
+const TWO_VALUES: [u8; 24] = [
+    0, 0, 0, 0x14, 1, 0x82, 0, 0, 0, 0, 0, 0, 0, 2, 0, 0, 0, 2, 0, 1, 0x78, 0, 1, 0x79,
+];
+
+fn insert(alloc: Global, key: &[u8], value: &[u8]) -> Result<Request, AllocError> {
+    let key = Bytes::from_slice(alloc, key)?;
+    let value = Bytes::from_slice(alloc, value)?;
+    Ok(Request::Insert { key, value })
+}
+
+fn values(alloc: Global, all: &[&[u8]]) -> Result<Reply, AllocError> {
+    let mut values = Values::new(alloc);
+    for value in all {
+        values.push(Bytes::from_slice(alloc, value)?)?;
+    }
+    Ok(Reply::Values(values))
+}
+
+/// What a fresh stream of these bytes gives.
+fn request_of(alloc: Global, bytes: &[u8]) -> Result<Option<WireRequest>, WireFault> {
+    let mut frames = Frames::new(alloc);
+    frames.feed(bytes)?;
+    frames.next()
+}
+
+fn answer_of(alloc: Global, bytes: &[u8]) -> Result<Option<Answer>, WireFault> {
+    let mut answers = Answers::new(alloc);
+    answers.feed(bytes)?;
+    answers.next()
+}
+
+/// Feeds the bytes one at a time, and tells whether the stream kept each and gave nothing before the last.
+fn keeps_pieces(frames: &mut Frames, bytes: &[u8]) -> Result<bool, WireFault> {
+    for (place, byte) in bytes.iter().enumerate() {
+        if frames.left() != place || frames.next()?.is_some() {
+            return Ok(false);
+        }
+        frames.feed(&[*byte])?;
+    }
+    Ok(true)
+}
+
+/// Answers that were fed whole, byte by byte, and whole again.
+fn answers_in_pieces(alloc: Global) -> Result<Answers, WireFault> {
+    let mut answers = Answers::new(alloc);
+    answers.feed(&ADDED)?;
+    for byte in &ONE_VALUE {
+        answers.feed(&[*byte])?;
+    }
+    answers.feed(&TWO_VALUES)?;
+    Ok(answers)
+}
+
+/// The bytes with another byte at a place.
+fn changed(alloc: Global, bytes: &[u8], place: usize, byte: u8) -> Result<Vec<u8>, AllocError> {
+    let mut copy = Vec::from_slice(alloc, bytes)?;
+    if let Some(old) = copy.get_mut(place) {
+        *old = byte;
+    }
+    Ok(copy)
+}
+
+/// The frame of a fault of request 1 with this code.
+fn fault_frame(alloc: Global, code: u8) -> Result<Vec<u8>, AllocError> {
+    let bytes = changed(alloc, &ADDED, 5, 0xff)?;
+    changed(alloc, &bytes, 14, code)
+}
+
+fn is_insert(alloc: Global, wire: &WireRequest, version: u8) -> Result<bool, AllocError> {
+    let same = wire.request == insert(alloc, b"a", b"x")?;
+    Ok(same && wire.version == version && wire.number == 1 && wire.floor == 0)
+}
+
+fn is_reply(answer: &Answer, wanted: u64, reply: &Reply) -> bool {
+    match answer {
+        Answer::Reply {
+            number,
+            reply: told,
+        } => *number == wanted && told == reply,
+        Answer::Fault { .. } => false,
+    }
+}
+
+/// The number and the code of a fault.
+fn fault_in(answer: &Answer) -> Option<(u64, FaultCode)> {
+    match answer {
+        Answer::Fault { number, code } => Some((*number, *code)),
+        Answer::Reply { .. } => None,
+    }
+}
+
+/// Whether the insert is written as this frame in this version.
+fn is_written(alloc: Global, version: u8, frame: &[u8]) -> Option<bool> {
+    let request = insert(alloc, b"a", b"x").ok()?;
+    request.check().ok()?;
+    let written = if version == 1 {
+        write_request(alloc, 1, &request)
+    } else {
+        write_request_2(alloc, 1, 0, &request)
+    };
+    Some(written.ok()?.as_slice() == frame)
+}
+
+#[test]
+fn writes_requests(rt: HostRuntime) {
+    assert!(rt; is_written(rt.alloc(), 1, &INSERT) == Some(true));
+    assert!(rt; is_written(rt.alloc(), 2, &INSERT_2) == Some(true));
+}
+
+/// Whether these replies are written as these frames.
+fn are_written(alloc: Global) -> Option<(bool, bool)> {
+    let added = write_reply(alloc, 1, &Reply::Added).ok()?;
+    let found = values(alloc, &[b"x"]).ok()?;
+    if !is_writable(&found) {
+        return None;
+    }
+    let found = write_reply(alloc, 2, &found).ok()?;
+    Some((
+        added.as_slice() == ADDED.as_slice(),
+        found.as_slice() == ONE_VALUE.as_slice(),
+    ))
+}
+
+#[test]
+fn writes_replies(rt: HostRuntime) {
+    assert!(rt; are_written(rt.alloc()) == Some((true, true)));
+}
+
+/// Whether a fault is written as this frame.
+fn is_fault_written(alloc: Global, number: u64, code: FaultCode, frame: &[u8]) -> Option<bool> {
+    if code == FaultCode::Memory {
+        return None;
+    }
+    let written = write_fault(alloc, number, code).ok()?;
+    Some(written.as_slice() == frame)
+}
+
+#[test]
+fn writes_faults(rt: HostRuntime) {
+    let wanted = [0, 0, 0, 0x0b, 1, 0xff, 0, 0, 0, 0, 0, 0, 0, 0, 2];
+    assert!(rt; is_fault_written(rt.alloc(), 0, FaultCode::BadVersion, &wanted) == Some(true));
+}
+
+/// Whether the reply with these values has a frame.
+fn has_frame(alloc: Global, all: &[&[u8]]) -> Option<bool> {
+    let reply = values(alloc, all).ok()?;
+    Some(is_writable(&reply))
+}
+
+#[test]
+fn tells_what_has_a_frame(rt: HostRuntime) {
+    let alloc = rt.alloc();
+    let long = [7u8; 4097];
+    assert!(rt; is_writable(&Reply::Absent));
+    assert!(rt; has_frame(alloc, &[]) == Some(true));
+    assert!(rt; has_frame(alloc, &[&long[..4096]]) == Some(true));
+    assert!(rt; has_frame(alloc, &[&long]) == Some(false));
+    assert!(rt; has_frame(alloc, &[b"x", b"x"]) == Some(false));
+    assert!(rt; has_frame(alloc, &[b"y", b"x"]) == Some(false));
+}
+
+/// Whether these bytes are the insert in this version.
+fn reads_insert(alloc: Global, bytes: &[u8], version: u8) -> Option<bool> {
+    let whole = request_of(alloc, bytes).ok()??;
+    is_insert(alloc, &whole, version).ok()
+}
+
+#[test]
+fn reads_whole_requests(rt: HostRuntime) {
+    assert!(rt; reads_insert(rt.alloc(), &INSERT, 1) == Some(true));
+    assert!(rt; reads_insert(rt.alloc(), &INSERT_2, 2) == Some(true));
+}
+
+/// Whether the next request is the insert in this version.
+fn next_is_insert(alloc: Global, frames: &mut Frames, version: u8) -> Option<bool> {
+    is_insert(alloc, &frames.next().ok()??, version).ok()
+}
+
+/// Whether these bytes, fed one at a time, are the insert in this version, and how many are left then.
+fn reads_pieces(alloc: Global, bytes: &[u8], version: u8) -> Option<(bool, usize)> {
+    let mut frames = Frames::new(alloc);
+    if !matches!(keeps_pieces(&mut frames, bytes), Ok(true)) {
+        return None;
+    }
+    let is_insert = next_is_insert(alloc, &mut frames, version) == Some(true);
+    Some((is_insert, frames.left()))
+}
+
+#[test]
+fn reads_requests_in_any_pieces(rt: HostRuntime) {
+    assert!(rt; reads_pieces(rt.alloc(), &INSERT, 1) == Some((true, 0)));
+    assert!(rt; reads_pieces(rt.alloc(), &INSERT_2, 2) == Some((true, 0)));
+}
+
+/// How many bytes of answers there are, whether the first one is read, and how many are left then.
+fn first_in_pieces(alloc: Global) -> Option<(usize, bool, usize)> {
+    let mut answers = answers_in_pieces(alloc).ok()?;
+    let before = answers.left();
+    let first = answers.next().ok()??;
+    Some((before, is_reply(&first, 1, &Reply::Added), answers.left()))
+}
+
+#[test]
+fn reads_answers_in_any_pieces(rt: HostRuntime) {
+    assert!(rt; first_in_pieces(rt.alloc()) == Some((60, true, 45)));
+}
+
+/// Whether the next answer is the reply with this number.
+fn gives(answers: &mut Answers, number: u64, reply: Result<Reply, AllocError>) -> Option<bool> {
+    Some(is_reply(&answers.next().ok()??, number, &reply.ok()?))
+}
+
+#[test]
+fn reads_values_in_any_pieces(rt: HostRuntime) {
+    let alloc = rt.alloc();
+    let mut answers = match answers_in_pieces(alloc) {
+        Ok(answers) => answers,
+        Err(_) => Answers::new(alloc),
+    };
+    assert!(rt; gives(&mut answers, 1, Ok(Reply::Added)) == Some(true));
+    assert!(rt; gives(&mut answers, 2, values(alloc, &[b"x"])) == Some(true));
+    assert!(rt; answers.left() == 24);
+    assert!(rt; gives(&mut answers, 2, values(alloc, &[b"x", b"y"])) == Some(true));
+    assert!(rt; answers.left() == 0);
+    assert!(rt; matches!(answers.next(), Ok(None)));
+}
+
+/// The fault of these bytes.
+fn fault_of(alloc: Global, bytes: &[u8]) -> Option<WireFault> {
+    request_of(alloc, bytes).err()
+}
+
+#[test]
+fn tells_the_faults_of_the_rows(rt: HostRuntime) {
+    for (bytes, code, number) in [
+        ([0u8; 4].as_slice(), FaultCode::BadLength, 0),
+        ([0, 0, 0x11, 0x15].as_slice(), FaultCode::BadLength, 0),
+        (
+            [0, 0, 0, 0x0c, 9, 2, 0, 0, 0, 0, 0, 0, 0, 1, 1, 0x61].as_slice(),
+            FaultCode::BadVersion,
+            0,
+        ),
+        (
+            [0, 0, 0, 0x0c, 1, 2, 0, 0, 0, 0, 0, 0, 0, 1, 0, 0x61].as_slice(),
+            FaultCode::BadKey,
+            1,
+        ),
+        (
+            [0, 0, 0, 0x0d, 1, 2, 0, 0, 0, 0, 0, 0, 0, 1, 1, 0x61, 0].as_slice(),
+            FaultCode::Trailing,
+            1,
+        ),
+        // The floor is not whole.
+        (
+            [0, 0, 0, 0x0c, 2, 2, 0, 0, 0, 0, 0, 0, 0, 1, 1, 0x61].as_slice(),
+            FaultCode::BadFloor,
+            1,
+        ),
+    ] {
+        let fault = fault_of(rt.alloc(), bytes);
+        assert!(rt; fault == Some(WireFault { code, number }));
+    }
+}
+
+/// The fault of a request with another byte at a place, where it is told again and nothing is consumed.
+fn request_fault(alloc: Global, frame: &[u8], place: usize, byte: u8) -> Option<WireFault> {
+    let bytes = changed(alloc, frame, place, byte).ok()?;
+    let mut frames = Frames::new(alloc);
+    frames.feed(&bytes).ok()?;
+    let fault = frames.next().err()?;
+    let again = frames.next().err()?;
+    if again == fault && frames.left() == bytes.len() {
+        Some(fault)
+    } else {
+        None
+    }
+}
+
+/// The first place where a request with another byte has another fault than its row says.
+fn other_request_fault(
+    alloc: Global,
+    frame: &[u8],
+    rows: &[(usize, u8, FaultCode, u64)],
+) -> Option<usize> {
+    for (place, byte, code, number) in rows {
+        let (code, number) = (*code, *number);
+        let fault = request_fault(alloc, frame, *place, *byte);
+        if fault != Some(WireFault { code, number }) {
+            return Some(*place);
+        }
+    }
+    None
+}
+
+#[test]
+fn each_field_of_a_request_has_its_faults(rt: HostRuntime) {
+    let alloc = rt.alloc();
+    let rows = [
+        (3, 0x0b, FaultCode::BadLength, 0),
+        (2, 0x12, FaultCode::BadLength, 0),
+        (4, 9, FaultCode::BadVersion, 0),
+        (4, 0, FaultCode::BadVersion, 0),
+        (5, 4, FaultCode::BadOperation, 0),
+        (5, 0, FaultCode::BadOperation, 0),
+        (14, 0, FaultCode::BadKey, 1),
+        (14, 5, FaultCode::BadKey, 1),
+        (14, 4, FaultCode::BadValue, 1),
+        (17, 2, FaultCode::BadValue, 1),
+        (16, 0x10, FaultCode::BadValue, 1),
+        (17, 0, FaultCode::Trailing, 1),
+    ];
+    assert!(rt; other_request_fault(alloc, &INSERT, &rows) == None);
+    let rows = [
+        (4, 9, FaultCode::BadVersion, 0),
+        (5, 4, FaultCode::BadOperation, 0),
+        (5, 1, FaultCode::BadValue, 1),
+        (14, 0, FaultCode::BadKey, 1),
+        (14, 2, FaultCode::BadKey, 1),
+    ];
+    assert!(rt; other_request_fault(alloc, &RETRIEVE, &rows) == None);
+    let rows = [
+        (3, 0x0b, FaultCode::BadLength, 0),
+        (4, 3, FaultCode::BadVersion, 0),
+        (4, 1, FaultCode::BadKey, 1),
+        (5, 4, FaultCode::BadOperation, 0),
+        (13, 0, FaultCode::BadFloor, 0),
+        (13, 17, FaultCode::BadFloor, 17),
+        (21, 1, FaultCode::BadFloor, 1),
+        (22, 0, FaultCode::BadKey, 1),
+        (25, 2, FaultCode::BadValue, 1),
+        (25, 0, FaultCode::Trailing, 1),
+    ];
+    assert!(rt; other_request_fault(alloc, &INSERT_2, &rows) == None);
+}
+
+/// The fault of an answer with another byte at a place.
+fn answer_fault(alloc: Global, frame: &[u8], place: usize, byte: u8) -> Option<WireFault> {
+    let bytes = changed(alloc, frame, place, byte).ok()?;
+    answer_of(alloc, &bytes).err()
+}
+
+/// The first place where an answer with another byte has another fault than its row says.
+fn other_answer_fault(
+    alloc: Global,
+    frame: &[u8],
+    rows: &[(usize, u8, FaultCode, u64)],
+) -> Option<usize> {
+    for (place, byte, code, number) in rows {
+        let (code, number) = (*code, *number);
+        let fault = answer_fault(alloc, frame, *place, *byte);
+        if fault != Some(WireFault { code, number }) {
+            return Some(*place);
+        }
+    }
+    None
+}
+
+#[test]
+fn each_field_of_an_answer_has_its_faults(rt: HostRuntime) {
+    let alloc = rt.alloc();
+    let rows = [
+        (3, 0x0a, FaultCode::BadLength, 0),
+        (1, 0x3f, FaultCode::BadLength, 0),
+        (4, 2, FaultCode::BadVersion, 0),
+        (5, 1, FaultCode::BadOperation, 0),
+        (5, 0x84, FaultCode::BadOperation, 0),
+        (14, 3, FaultCode::BadValue, 1),
+        (5, 0x82, FaultCode::BadValue, 1),
+    ];
+    assert!(rt; other_answer_fault(alloc, &ADDED, &rows) == None);
+    let rows = [
+        (5, 0x83, FaultCode::Trailing, 2),
+        (17, 0, FaultCode::Trailing, 2),
+        (17, 2, FaultCode::BadValue, 2),
+        (14, 1, FaultCode::BadValue, 2),
+        (19, 2, FaultCode::BadValue, 2),
+        (18, 0x10, FaultCode::BadValue, 2),
+        (19, 0, FaultCode::Trailing, 2),
+    ];
+    assert!(rt; other_answer_fault(alloc, &ONE_VALUE, &rows) == None);
+    let rows = [
+        (23, 0x78, FaultCode::BadValue, 2),
+        (23, 0x77, FaultCode::BadValue, 2),
+    ];
+    assert!(rt; other_answer_fault(alloc, &TWO_VALUES, &rows) == None);
+}
+
+/// Whether the code of this number has it, is one of the protocol, and is read from its frame.
+fn is_read_back(alloc: Global, number: u8) -> Option<bool> {
+    let code = FaultCode::from_number(number)?;
+    let frame = fault_frame(alloc, number).ok()?;
+    let answer = answer_of(alloc, &frame).ok()??;
+    let is_read = fault_in(&answer) == Some((1, code));
+    Some(is_read && code.to_number() == number && code != FaultCode::Memory)
+}
+
+#[test]
+fn faults_are_read_back(rt: HostRuntime) {
+    for number in [1, 2, 3, 4, 5, 6, 8, 9, 10, 11, 12] {
+        assert!(rt; is_read_back(rt.alloc(), number) == Some(true), "{number}");
+    }
+}
+
+/// Whether the code of this number is written as its frame.
+fn is_code_written(alloc: Global, number: u8) -> Option<bool> {
+    let code = FaultCode::from_number(number)?;
+    let frame = fault_frame(alloc, number).ok()?;
+    is_fault_written(alloc, 1, code, &frame)
+}
+
+#[test]
+fn faults_are_written(rt: HostRuntime) {
+    for number in [1, 2, 3, 4, 5, 6, 8, 9, 10, 11, 12] {
+        let written = is_code_written(rt.alloc(), number);
+        assert!(rt; written == Some(true), "{number}");
+    }
+}
+
+/// The fault of an answer with the fault of this number.
+fn fault_of_number(alloc: Global, number: u8) -> Option<FaultCode> {
+    let frame = fault_frame(alloc, number).ok()?;
+    Some(answer_of(alloc, &frame).err()?.code)
+}
+
+#[test]
+fn no_other_code_is_a_fault(rt: HostRuntime) {
+    for number in [0, 7, 13] {
+        assert!(rt; FaultCode::from_number(number) == None);
+        let fault = fault_of_number(rt.alloc(), number);
+        assert!(rt; fault == Some(FaultCode::BadValue));
+    }
+}
+
+/// How long the frame of the longest request is, whether it is read back, and its number and floor.
+fn longest(alloc: Global) -> Option<(usize, bool, (u64, u64))> {
+    let long = [7u8; 4096];
+    let request = insert(alloc, &long[..255], &long).ok()?;
+    request.check().ok()?;
+    let frame = write_request_2(alloc, 17, 1, &request).ok()?;
+    let wire = request_of(alloc, &frame).ok()??;
+    let is_same = wire.request == request;
+    Some((frame.len(), is_same, (wire.number, wire.floor)))
+}
+
+#[test]
+fn the_longest_request_is_read_back(rt: HostRuntime) {
+    assert!(rt; longest(rt.alloc()) == Some((4376, true, (17, 1))));
+}
+
+#[test]
+fn laws_are_called() {
+    laws::cuts_do_not_matter();
+    laws::one_reading();
+    laws::no_frame_begins_another();
+    laws::values_of_a_map_have_a_frame();
+    laws::faults_are_those_of_the_table();
+}
+
+/// Whether the code has this text.
+fn says(alloc: Global, code: FaultCode, wanted: &str) -> Option<bool> {
+    let text = format!(in alloc; "{code}").ok()?;
+    Some(text.as_str() == wanted)
+}
+
+/// Whether the fault has this text.
+fn tells(alloc: Global, fault: WireFault, wanted: &str) -> Option<bool> {
+    let text = format!(in alloc; "{fault}").ok()?;
+    Some(text.as_str() == wanted)
+}
+
+#[test]
+fn faults_say_what_is_wrong(rt: HostRuntime) {
+    for (code, wanted) in [
+        (FaultCode::BadLength, "bad length"),
+        (FaultCode::BadFloor, "bad floor"),
+        (FaultCode::NumberReused, "the number was another request's"),
+        (FaultCode::Full, "the store is full"),
+        (FaultCode::NoAnswer, "no answer came in time"),
+    ] {
+        assert!(rt; says(rt.alloc(), code, wanted) == Some(true));
+    }
+    let fault = WireFault {
+        code: FaultCode::Trailing,
+        number: 7,
+    };
+    let wanted = "request 7: bytes behind the last field";
+    assert!(rt; tells(rt.alloc(), fault, wanted) == Some(true));
+}

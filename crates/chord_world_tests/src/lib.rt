@@ -1,0 +1,5 @@
+//! The tests of `chord_world`.
+#![tactic(auto)]
+
+#[cfg(test)]
+mod steps;
