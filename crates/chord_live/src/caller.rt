@@ -137,9 +137,11 @@ impl<'a, J: Naming, S: EntryStore> Caller<'a, J, S> {
         ensures same { OnErr result (self.new ≡ self.old) }
     {
         if let Some(fault) = self.own.refusal(&request) {
+            drop(request);
             return Err(BeginFault::from(fault));
         }
         if !self.ring.was(via) {
+            drop(request);
             return Err(BeginFault::NoSuchNode);
         }
         match self.own.submit(&self.ring.table, request) {
@@ -233,9 +235,8 @@ impl<'a, J: Naming, S: EntryStore> Caller<'a, J, S> {
     {
         for _ in 0..times {
             match self.resend(rt, via, number) {
-                Ok(reply) => return Ok(reply),
                 Err(WaitFault::NoAnswer) if !self.ring.is_stopped() => {}
-                Err(fault) => return Err(fault),
+                ended => return ended,
             }
         }
         Err(WaitFault::NoAnswer)
@@ -310,9 +311,8 @@ impl<'a, J: Naming, S: EntryStore> Caller<'a, J, S> {
     {
         for _ in 0..self.ring.settings.tries {
             match self.wait(rt, number) {
-                Ok(reply) => return Ok(reply),
                 Err(WaitFault::NoAnswer) if !self.ring.is_stopped() => {}
-                Err(fault) => return Err(fault),
+                ended => return ended,
             }
         }
         Err(WaitFault::NoAnswer)
@@ -474,9 +474,8 @@ impl<'a, J: Naming, S: EntryStore> Caller<'a, J, S> {
     {
         for _ in 0..times {
             match self.carry_again(rt, via, number) {
-                Ok(reply) => return Ok(reply),
                 Err(WaitFault::NoAnswer) if !self.ring.is_stopped() => {}
-                Err(fault) => return Err(fault),
+                ended => return ended,
             }
         }
         Err(WaitFault::NoAnswer)

@@ -108,9 +108,11 @@ impl<'a, J: Naming, S: EntryStore> Client<'a, J, S> {
         ensures same { OnErr result (self.new ≡ self.old) }
     {
         if let Some(fault) = self.own.refusal(&request) {
+            drop(request);
             return Err(BeginFault::from(fault));
         }
         if !self.ring.was(via) {
+            drop(request);
             return Err(BeginFault::NoSuchNode);
         }
         match self.own.submit(&self.ring.table, request) {

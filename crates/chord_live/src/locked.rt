@@ -65,6 +65,7 @@ impl<J: Naming, S: EntryStore> Locked<J, S> {
         let Keyed { parcel, id } = keyed;
         let message = self.seat.receive(table, parcel);
         if !is_for(&message, self.node.number()) {
+            drop(message);
             return None;
         }
         match deal_by_id(&mut self.node, id, message) {

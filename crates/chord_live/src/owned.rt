@@ -180,12 +180,19 @@ impl<J: Naming> Owned<J> {
             return Heard::Other;
         }
         let Ok(reply) = told.reply.try_copy() else {
+            drop(told);
             return Heard::Memory;
         };
         match self.take_told(table, told) {
             Ok(TakenAs::Fresh) => Heard::Reply(reply),
-            Err(TakeFault::Memory) => Heard::Memory,
-            _ => Heard::Other,
+            Err(TakeFault::Memory) => {
+                drop(reply);
+                Heard::Memory
+            }
+            _ => {
+                drop(reply);
+                Heard::Other
+            }
         }
     }
 
@@ -199,7 +206,10 @@ impl<J: Naming> Owned<J> {
         match self.seat.receive(table, parcel) {
             Message::Told(told) => self.take_reply(table, told, number),
             Message::Full { caller, number: of } if caller == own && of == number => Heard::Full,
-            _ => Heard::Other,
+            other => {
+                drop(other);
+                Heard::Other
+            }
         }
     }
 

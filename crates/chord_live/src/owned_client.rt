@@ -149,7 +149,10 @@ impl<J: Naming> OwnedClient<J> {
             Message::Full { caller, number: of } if caller == own && of == number => {
                 Err(WaitFault::Full)
             }
-            _ => Err(WaitFault::NoAnswer),
+            other => {
+                drop(other);
+                Err(WaitFault::NoAnswer)
+            }
         }
     }
 }

@@ -18,6 +18,16 @@ pub enum Place<J: Naming, S: EntryStore> {
     Crashed(Locked<J, S>),
 }
 
+impl<J: Naming, S: EntryStore> Place<J, S> {
+    /// The same where a node that stands there takes no further step.
+    pub fn crashed(self) -> Place<J, S> {
+        match self {
+            Place::Here(locked) => Place::Crashed(locked),
+            other => other,
+        }
+    }
+}
+
 /// A place for a node, and its inbox.
 #[derive(Drop)]
 pub struct Slot<J: Naming, S: EntryStore> {

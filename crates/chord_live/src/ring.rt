@@ -97,7 +97,7 @@ impl<J: Naming, S: EntryStore> Ring<J, S> {
         requires { no < J.name.slots }
     {
         let slot = &self.slots[no];
-        *slot.place.lock(rt) = Place::Here(locked);
+        drop(std::mem::replace(&mut *slot.place.lock(rt), Place::Here(locked)));
         slot.live.store(true, Ordering::SeqCst);
         self.nodes.store(no as u64 + 1, Ordering::SeqCst);
     }
@@ -208,10 +208,7 @@ impl<J: Naming, S: EntryStore> Ring<J, S> {
         let mut guard = slot.place.lock(rt);
         slot.live.store(false, Ordering::SeqCst);
         let place = std::mem::replace(&mut *guard, Place::Vacant);
-        *guard = match place {
-            Place::Here(locked) => Place::Crashed(locked),
-            other => other,
-        };
+        drop(std::mem::replace(&mut *guard, place.crashed()));
         Ok(())
     }
 

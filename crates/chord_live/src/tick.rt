@@ -112,32 +112,30 @@ impl<J: Naming, S: EntryStore> Ring<J, S> {
         let finger = 1 + earlier as usize;
         let reader = RingReader { ring: self, rt };
         if let Ok(peer) = find_successor(&reader, me.no, links.fingers().start(finger)) {
-            if let Place::Here(locked) = &mut *slot.place.lock(rt) {
-                locked.set_finger(&self.table, finger, peer);
-            }
+            self.set_finger(rt, me.no, finger, peer);
         }
     }
 
-    /// Drops a finger of a node: it leads to the node itself then, and no lookup follows it.
-    fn drop_finger(&self, rt: &impl Wait, me: Peer, finger: usize)
+    /// Another node for a finger of a node.
+    fn set_finger(&self, rt: &impl Wait, no: u64, finger: usize, to: Peer)
         requires low { 1 ≤ finger }
         requires high { finger ≤ 128 }
     {
-        let Some(slot) = self.slots.get(me.no as usize) else {
+        let Some(slot) = self.slots.get(no as usize) else {
             return;
         };
         if let Place::Here(locked) = &mut *slot.place.lock(rt) {
-            locked.set_finger(&self.table, finger, me);
+            locked.set_finger(&self.table, finger, to);
         }
     }
 
-    /// Drops the fingers of a node that lead to dead ones.
+    /// Drops the fingers of a node that lead to dead ones: they lead to the node itself then, and no lookup follows them.
     fn drop_dead_fingers(&self, rt: &impl Wait, links: &Links) {
         let me = links.me();
         for finger in 1..129 {
             if let Some(peer) = links.fingers().get(finger) {
                 if !self.is_live(peer.no) {
-                    self.drop_finger(rt, me, finger);
+                    self.set_finger(rt, me.no, finger, me);
                 }
             }
         }

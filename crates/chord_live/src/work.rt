@@ -29,29 +29,49 @@ impl<J: Naming, S: EntryStore> Ring<J, S> {
         gate: &impl Gate,
         keyed: Keyed<J>,
     ) -> Option<(Target, Keyed<J>)> {
-        let slot = self.slots.get(no as usize)?;
+        let Some(slot) = self.slots.get(no as usize) else {
+            drop(keyed);
+            return None;
+        };
         match &mut *slot.place.lock(rt) {
             Place::Here(locked) => {
                 let sent = locked.answer(&self.table, keyed);
                 gate.pass(no);
                 sent
             }
-            _ => None,
+            _ => {
+                drop(keyed);
+                None
+            }
         }
     }
 
     /// Where a parcel for the target goes, if there is such a node or caller.
     fn inbox_of(&self, target: Target) -> Option<&Sender<Parcel<J>, Global>> {
         match target {
-            Target::Node(no) => Some(&self.slots.get(no as usize)?.inbox),
-            Target::Caller(no) => Some(&self.inboxes.get(no as usize)?.inbox),
+            Target::Node(no) => match self.slots.get(no as usize) {
+                Some(slot) => Some(&slot.inbox),
+                None => None,
+            },
+            Target::Caller(no) => match self.inboxes.get(no as usize) {
+                Some(inbox) => Some(&inbox.inbox),
+                None => None,
+            },
         }
     }
 
     /// Puts a parcel into an inbox; it is lost where there is none.
     pub(crate) fn post(&self, rt: &impl Wait, target: Target, parcel: Parcel<J>) {
-        if let Some(inbox) = self.inbox_of(target) {
-            let _ = inbox.send(rt, parcel).is_ok();
+        match self.inbox_of(target) {
+            Some(inbox) => drop(inbox.send(rt, parcel)),
+            None => drop(parcel),
+        }
+    }
+
+    /// Takes a parcel of a node in, and posts what the node sends.
+    fn take_in(&self, rt: &impl Wait, no: u64, gate: &impl Gate, parcel: Parcel<J>) {
+        if let Some((target, sent)) = self.answer(rt, no, gate, Keyed::new(parcel)) {
+            self.post(rt, target, sent.parcel);
         }
     }
 
@@ -73,10 +93,7 @@ impl<J: Naming, S: EntryStore> Ring<J, S> {
                 return Ok(());
             }
             if let Some(parcel) = self.receive(rt, &slot.parcels, Duration::from_millis(IDLE)) {
-                let keyed = Keyed::new(parcel);
-                if let Some((target, sent)) = self.answer(rt, no, gate, keyed) {
-                    self.post(rt, target, sent.parcel);
-                }
+                self.take_in(rt, no, gate, parcel);
             }
         }
         unreachable!()
@@ -88,20 +105,20 @@ impl<J: Naming, S: EntryStore> Ring<J, S> {
         let mut to = via;
         let mut passed = keyed;
         for _ in 0..HOPS {
-            match self.answer(rt, to, &Open, passed)? {
-                (Target::Node(next), sent) => {
-                    to = next;
-                    passed = sent;
-                }
-                (Target::Caller(caller), sent) => {
+            let (target, sent) = self.answer(rt, to, &Open, passed)?;
+            passed = sent;
+            match target {
+                Target::Node(next) => to = next,
+                Target::Caller(caller) => {
                     return Some(Carried {
                         from: to,
                         caller,
-                        parcel: sent.parcel,
+                        parcel: passed.parcel,
                     });
                 }
             }
         }
+        drop(passed);
         None
     }
 }

@@ -26,18 +26,26 @@ pub const C: u128 = 0xc0000000000000000000000000000000;
 /// A store in a box, as programs choose it.
 pub type Store = Box<dyn EntryStore + Send>;
 
+/// A key and a value for a request.
+fn key_and_value(alloc: Global, key: &[u8], value: &[u8]) -> Result<(Bytes, Bytes), AllocError> {
+    let key = Bytes::from_slice(alloc, key)?;
+    match Bytes::from_slice(alloc, value) {
+        Ok(value) => Ok((key, value)),
+        Err(refused) => {
+            drop(key);
+            Err(refused)
+        }
+    }
+}
+
 pub fn insert(alloc: Global, key: &[u8], value: &[u8]) -> Result<Request, AllocError> {
-    Ok(Request::Insert {
-        key: Bytes::from_slice(alloc, key)?,
-        value: Bytes::from_slice(alloc, value)?,
-    })
+    let (key, value) = key_and_value(alloc, key, value)?;
+    Ok(Request::Insert { key, value })
 }
 
 pub fn remove(alloc: Global, key: &[u8], value: &[u8]) -> Result<Request, AllocError> {
-    Ok(Request::Remove {
-        key: Bytes::from_slice(alloc, key)?,
-        value: Bytes::from_slice(alloc, value)?,
-    })
+    let (key, value) = key_and_value(alloc, key, value)?;
+    Ok(Request::Remove { key, value })
 }
 
 pub fn retrieve(alloc: Global, key: &[u8]) -> Result<Request, AllocError> {
@@ -57,17 +65,28 @@ pub fn is_one_value(reply: &Reply, value: &[u8]) -> bool {
     }
 }
 
+/// Whether it succeeded.
+pub fn succeeds<T: Drop, F: Drop>(done: Result<T, F>) -> bool {
+    let is_ok = done.is_ok();
+    drop(done);
+    is_ok
+}
+
 /// Whether the request was answered Added.
 pub fn is_added<F: Copy>(answer: Result<Reply, F>) -> bool {
-    matches!(&answer, Ok(Reply::Added))
+    let is_added = matches!(&answer, Ok(Reply::Added));
+    drop(answer);
+    is_added
 }
 
 /// Whether the request was answered with this value alone.
 pub fn is_told<F: Copy>(answer: Result<Reply, F>, value: &[u8]) -> bool {
-    match &answer {
+    let is_told = match &answer {
         Ok(reply) => is_one_value(reply, value),
         Err(_) => false,
-    }
+    };
+    drop(answer);
+    is_told
 }
 
 pub fn settings(slots: usize, callers: usize, tries: u64, wait_ms: u64) -> Settings {
@@ -98,10 +117,11 @@ pub fn founded<J: Naming, S: EntryStore, R: Wait>(
     requires vacant { S.content store ≡ [] }
 {
     let ring = blank.open::<J, S>().ok()?;
-    match ring.create(rt, Id::new(A), store) {
-        Ok(_) => Some(ring),
-        Err(_) => None,
+    if succeeds(ring.create(rt, Id::new(A), store)) {
+        return Some(ring);
     }
+    drop(ring);
+    None
 }
 
 /// A caller of the ring.
@@ -150,5 +170,8 @@ pub fn unheard<J: Naming, S: EntryStore, R: Wait + Clock>(
     via: u64,
     request: Result<Request, AllocError>,
 ) -> Option<AskFault> {
-    caller.ask(rt, via, request.ok()?).err()
+    match request {
+        Ok(request) => caller.ask(rt, via, request).err(),
+        Err(_) => None,
+    }
 }

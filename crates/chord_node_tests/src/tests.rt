@@ -73,7 +73,10 @@ pub fn inserted<S: EntryStore>(
     requires near { number ≤ 16 }
 {
     let request = insert(alloc, key, value).ok()?;
-    answered(node, &ask(number, 0, request))
+    let call = ask(number, 0, request);
+    let told = answered(node, &call);
+    drop(call);
+    told
 }
 
 /// Node 0, at A, which holds the whole circle.

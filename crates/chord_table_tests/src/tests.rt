@@ -91,6 +91,31 @@ fn take<J: Naming>(
 }
 
 /// A caller's call comes to a node as it was sent, and the reply to it comes to the caller.
+fn is_heard<J: Naming, S: EntryStore, R: Abort>(
+    rt: &R,
+    alloc: Global,
+    table: &Shared<J>,
+    node: &mut Node<S>,
+    seat: &mut NodeSeat<J>,
+    core: &mut CallerCore,
+    caller: &mut CallerSeat<J>,
+) -> Result<(), Fail>
+    requires node { seat.old.node ≡ node.old }
+    requires caller { caller.old.caller ≡ core.old }
+{
+    let call = ask(table, core, caller, insert(alloc)?)?;
+    assert!(rt; is_first_call(call.message()));
+    let told = reply(table, node, seat, call)?;
+    let heard = take(table, core, caller, told)?;
+    assert!(rt; heard == Heard::Fresh);
+    let replies = core.mine().iter().filter(|done| done.reply == Reply::Added);
+    assert!(rt; replies.count() == 1);
+    seat.look(table);
+    caller.look(table);
+    Ok(())
+}
+
+/// The same at a node and with a caller that enter for it.
 fn is_answered<J: Naming, S: EntryStore, R: Abort>(
     rt: &R,
     alloc: Global,
@@ -102,27 +127,38 @@ fn is_answered<J: Naming, S: EntryStore, R: Abort>(
     requires callers { blank.callers ≡ 1 }
     requires vacant { S.content store ≡ [] }
 {
-    let (table, mut registrar) = blank.open::<J>();
     let me = Peer {
         no: 0,
         id: Id::new(5),
     };
-    let Ok(mut node) = Node::found(alloc, me, 3, store) else {
-        return Err(Fail::from("no node"));
+    let mut node = match Node::found(alloc, me, 3, store) {
+        Ok(node) => node,
+        Err(store) => {
+            drop(store);
+            drop(blank);
+            return Err(Fail::from("no node"));
+        }
     };
+    let (table, mut registrar) = blank.open::<J>();
     let mut seat = registrar.admit_node(&table, 0, &node);
     let mut core = CallerCore::new(alloc, 0, 1);
     let mut caller = registrar.admit_caller(&table, 0, &core);
-    let call = ask(&table, &mut core, &mut caller, insert(alloc)?)?;
-    assert!(rt; is_first_call(call.message()));
-    let told = reply(&table, &mut node, &mut seat, call)?;
-    let heard = take(&table, &mut core, &mut caller, told)?;
-    assert!(rt; heard == Heard::Fresh);
-    let replies = core.mine().iter().filter(|done| done.reply == Reply::Added);
-    assert!(rt; replies.count() == 1);
-    seat.look(&table);
-    caller.look(&table);
-    Ok(())
+    let heard = is_heard(
+        rt,
+        alloc,
+        &table,
+        &mut node,
+        &mut seat,
+        &mut core,
+        &mut caller,
+    );
+    drop(caller);
+    drop(core);
+    drop(seat);
+    drop(node);
+    drop(registrar);
+    drop(table);
+    heard
 }
 
 /// The same over a boxed store.
@@ -149,6 +185,24 @@ fn a_caller_is_answered(rt: HostRuntime) -> Result<(), Fail> {
 }
 
 /// The message that a node takes in is the call that was sent.
+fn comes<J: Naming, R: Abort>(
+    rt: &R,
+    alloc: Global,
+    table: &Shared<J>,
+    seat: &mut NodeSeat<J>,
+    core: &mut CallerCore,
+    caller: &mut CallerSeat<J>,
+) -> Result<(), Fail>
+    requires { caller.old.caller ≡ core.old }
+{
+    let call = ask(table, core, caller, insert(alloc)?)?;
+    let message = seat.receive(table, call);
+    assert!(rt; is_first_call(&message));
+    drop(message);
+    Ok(())
+}
+
+/// The same at a node and with a caller that enter for it.
 fn comes_as_it_was_sent<J: Naming, R: Abort>(
     rt: &R,
     alloc: Global,
@@ -158,21 +212,30 @@ fn comes_as_it_was_sent<J: Naming, R: Abort>(
     requires slots { blank.slots ≡ 2 }
     requires callers { blank.callers ≡ 1 }
 {
-    let (table, mut registrar) = blank.open::<J>();
     let me = Peer {
         no: 0,
         id: Id::new(5),
     };
-    let Ok(node) = Node::found(alloc, me, 3, CappedStore::new(alloc, 4)) else {
-        return Err(Fail::from("no node"));
+    let node = match Node::found(alloc, me, 3, CappedStore::new(alloc, 4)) {
+        Ok(node) => node,
+        Err(store) => {
+            drop(store);
+            drop(blank);
+            return Err(Fail::from("no node"));
+        }
     };
+    let (table, mut registrar) = blank.open::<J>();
     let mut seat = registrar.admit_node(&table, 0, &node);
     let mut core = CallerCore::new(alloc, 0, 1);
     let mut caller = registrar.admit_caller(&table, 0, &core);
-    let call = ask(&table, &mut core, &mut caller, insert(alloc)?)?;
-    let message = seat.receive(&table, call);
-    assert!(rt; is_first_call(&message));
-    Ok(())
+    let come = comes(rt, alloc, &table, &mut seat, &mut core, &mut caller);
+    drop(caller);
+    drop(core);
+    drop(seat);
+    drop(node);
+    drop(registrar);
+    drop(table);
+    come
 }
 
 #[test]
@@ -186,15 +249,21 @@ fn enters_later<J: Naming>(alloc: Global, blank: BlankTable) -> Result<(), Fail>
     requires name { blank ≡ J.name }
     requires slots { blank.slots ≡ 2 }
 {
-    let (table, mut registrar) = blank.open::<J>();
     let me = Peer {
         no: 1,
         id: Id::new(5),
     };
-    let Ok(first) = Node::found(alloc, me, 3, CappedStore::new(alloc, 4)) else {
-        return Err(Fail::from("no node"));
+    let first = match Node::found(alloc, me, 3, CappedStore::new(alloc, 4)) {
+        Ok(first) => first,
+        Err(store) => {
+            drop(store);
+            drop(blank);
+            return Err(Fail::from("no node"));
+        }
     };
-    registrar.admit_node(&table, 1, &first);
+    let (table, mut registrar) = blank.open::<J>();
+    drop(registrar.admit_node(&table, 1, &first));
+    drop(first);
     let other = Peer {
         no: 0,
         id: Id::new(7),
@@ -205,6 +274,10 @@ fn enters_later<J: Naming>(alloc: Global, blank: BlankTable) -> Result<(), Fail>
     node.set_links(links);
     seat.local(&table, &node);
     seat.look(&table);
+    drop(seat);
+    drop(node);
+    drop(registrar);
+    drop(table);
     Ok(())
 }
 

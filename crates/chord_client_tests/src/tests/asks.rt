@@ -35,7 +35,9 @@ fn asks<R: Net<Stream = TcpStream>>(
     let mut reader = input.as_bytes();
     let mut written: Vec<u8> = Vec::new(alloc);
     let finish = ask_lines(rt, alloc, manner, &mut reader, &mut written);
-    (finish, written.as_slice() == wanted.as_bytes())
+    let is_written = written.as_slice() == wanted.as_bytes();
+    drop(written);
+    (finish, is_written)
 }
 
 /// Asks the one request of these words.
@@ -51,13 +53,17 @@ fn asks_one<R: Net<Stream = TcpStream>>(
     };
     let mut written: Vec<u8> = Vec::new(alloc);
     let finish = ask_one(rt, alloc, manner, request, &mut written);
-    (finish, written.as_slice() == wanted.as_bytes())
+    let is_written = written.as_slice() == wanted.as_bytes();
+    drop(written);
+    (finish, is_written)
 }
 
 /// A port at which nobody listens.
 fn free_port<R: Net<Listener = TcpListener, Stream = TcpStream>>(rt: &R) -> io::Result<u16> {
     let listener = TcpListener::bind(rt, "127.0.0.1:0")?;
-    Ok(listener.local_addr()?.port())
+    let address = listener.local_addr();
+    drop(listener);
+    Ok(address?.port())
 }
 
 /// Asks where nobody listens.
@@ -92,17 +98,30 @@ fn nobody_listens_to_one_request(rt: HostRuntime) {
     assert!(rt; asked == Some((fault, true)));
 }
 
+/// Answers the first bytes of a connection.
+fn answer_first<S: Read + Write>(stream: &mut S, answer: &[u8]) -> io::Result<()> {
+    let mut bytes = [0u8; 64];
+    stream.read(&mut bytes)?;
+    stream.write_all(answer)
+}
+
 /// Takes so many connections, and ends each behind its first bytes. The last one gets this answer first.
 fn ends_early(listener: &TcpListener, connections: usize, answer: &[u8]) -> io::Result<()> {
     for (number, accepted) in listener.incoming().take(connections).enumerate() {
         let mut stream = accepted?;
-        let mut bytes = [0u8; 64];
-        stream.read(&mut bytes)?;
-        if number.saturating_add(1) == connections {
-            stream.write_all(answer)?;
-        }
+        let is_last = number.saturating_add(1) == connections;
+        let ended = answer_first(&mut stream, if is_last { answer } else { [].as_slice() });
+        drop(stream);
+        ended?;
     }
     Ok(())
+}
+
+/// A port at which somebody listens.
+fn bound<R: Net<Listener = TcpListener, Stream = TcpStream>>(rt: &R) -> Option<(TcpListener, u16)> {
+    let listener = TcpListener::bind(rt, "127.0.0.1:0").ok()?;
+    let port = listener.local_addr().ok()?.port();
+    Some((listener, port))
 }
 
 /// Asks the one request of these words, to which Added is answered.
@@ -111,13 +130,14 @@ fn asks_one_of_one<R: Threads + Net<Listener = TcpListener, Stream = TcpStream> 
     alloc: Global,
     words: &[&str],
 ) -> Option<Asked> {
-    let listener = TcpListener::bind(rt, "127.0.0.1:0").ok()?;
-    let manner = manner(listener.local_addr().ok()?.port(), 1, 1, 1);
+    let (listener, port) = bound(rt)?;
+    let manner = manner(port, 1, 1, 1);
     let (server, asked) = thread::join(
         rt,
         || ends_early(&listener, 1, &ADDED),
         || asks_one(rt, alloc, manner, words, "added\n"),
     );
+    drop(listener);
     server.ok()?;
     Some(asked)
 }
@@ -137,13 +157,14 @@ fn asks_one_that_ends<R: Threads + Net<Listener = TcpListener, Stream = TcpStrea
     ended: usize,
     answer: &[u8],
 ) -> Option<Asked> {
-    let listener = TcpListener::bind(rt, "127.0.0.1:0").ok()?;
-    let manner = manner(listener.local_addr().ok()?.port(), 2, 1, tries);
+    let (listener, port) = bound(rt)?;
+    let manner = manner(port, 2, 1, tries);
     let (server, asked) = thread::join(
         rt,
         || ends_early(&listener, ended, answer),
         || asks(rt, alloc, manner, input, wanted),
     );
+    drop(listener);
     server.ok()?;
     Some(asked)
 }
@@ -189,12 +210,14 @@ fn a_retrieve_is_asked_again(rt: HostRuntime) {
 }
 
 fn is_insert(read: Result<Request, LineFault>, wanted_key: &[u8], wanted: &[u8]) -> bool {
-    match &read {
+    let is_insert = match &read {
         Ok(Request::Insert { key, value }) => {
             key.as_slice() == wanted_key && value.as_slice() == wanted
         }
         _ => false,
-    }
+    };
+    drop(read);
+    is_insert
 }
 
 #[test]
@@ -209,7 +232,9 @@ fn words_of_requests(rt: HostRuntime) {
 }
 
 fn is_no_request(read: Result<Request, LineFault>) -> bool {
-    matches!(&read, Err(LineFault::Grammar))
+    let is_none = matches!(&read, Err(LineFault::Grammar));
+    drop(read);
+    is_none
 }
 
 #[test]
@@ -236,13 +261,23 @@ fn words_that_are_no_request(rt: HostRuntime) {
     assert!(rt; is_no_request(read_words(rt.alloc(), &[])));
 }
 
-fn lines_of(alloc: Global, outcomes: &[Outcome]) -> Result<String, AllocError> {
-    let mut text = String::new(alloc);
+fn add_lines(alloc: Global, text: &mut String, outcomes: &[Outcome]) -> Result<(), AllocError> {
     for outcome in outcomes {
         let line = format!(in alloc; "{outcome}\n")?;
-        text.push_str(line.as_str())?;
+        let added = text.push_str(line.as_str());
+        drop(line);
+        added?;
     }
-    Ok(text)
+    Ok(())
+}
+
+fn are_lines_of(alloc: Global, outcomes: &[Outcome], wanted: &str) -> Option<bool> {
+    let mut text = String::new(alloc);
+    let added = add_lines(alloc, &mut text, outcomes);
+    let is_wanted = text.as_str() == wanted;
+    drop(text);
+    added.ok()?;
+    Some(is_wanted)
 }
 
 /// Whether outcomes of each kind are these lines.
@@ -254,8 +289,9 @@ fn are_lines(alloc: Global, wanted: &str) -> Option<bool> {
         Outcome::Fault(FaultCode::NumberReused),
         Outcome::Lost,
     ];
-    let text = lines_of(alloc, &outcomes).ok()?;
-    Some(text.as_str() == wanted)
+    let are_lines = are_lines_of(alloc, &outcomes, wanted);
+    drop(outcomes);
+    are_lines
 }
 
 #[test]
@@ -265,19 +301,28 @@ fn outcomes_as_lines(rt: HostRuntime) {
 }
 
 /// The port and the version of a command line, its window and tries, and how many words its request has.
-fn options(alloc: Global, line: &'static str) -> Option<((u16, u8), (u64, u32), usize)> {
-    let words = words(alloc, line).ok()?;
-    let found = ask_command(alloc)
-        .ok()?
-        .try_get_matches_from(words.as_slice())
-        .ok()?;
+type Options = ((u16, u8), (u64, u32), usize);
+
+fn options_of<'a>(alloc: Global, words: &'a [&'static str]) -> Option<Options> {
+    let found = ask_command(alloc).ok()?.try_get_matches_from(words).ok()?;
     let manner = manner_of(&found);
-    let request = found.get_strs("request")?.len();
+    let request = match found.get_strs("request") {
+        Some(words) => Some(words.len()),
+        None => None,
+    };
+    drop(found);
     Some((
         (manner.port, manner.version),
         (manner.window, manner.tries),
-        request,
+        request?,
     ))
+}
+
+fn options(alloc: Global, line: &'static str) -> Option<Options> {
+    let words = words(alloc, line).ok()?;
+    let options = options_of(alloc, words.as_slice());
+    drop(words);
+    options
 }
 
 #[test]
@@ -286,14 +331,20 @@ fn options_of_ask(rt: HostRuntime) {
     assert!(rt; options == Some(((7001, 2), (1, 3), 3)));
 }
 
+/// The status of words that are refused.
+fn status_of<'a>(alloc: Global, words: &'a [&'static str]) -> Option<i32> {
+    let error = ask_command(alloc).ok()?.try_get_matches_from(words).err()?;
+    let status = error.exit_code();
+    drop(error);
+    Some(status)
+}
+
 /// The status of a command line that is refused.
 fn refused(alloc: Global, line: &'static str) -> Option<i32> {
     let words = words(alloc, line).ok()?;
-    let error = ask_command(alloc)
-        .ok()?
-        .try_get_matches_from(words.as_slice())
-        .err()?;
-    Some(error.exit_code())
+    let status = status_of(alloc, words.as_slice());
+    drop(words);
+    status
 }
 
 #[test]

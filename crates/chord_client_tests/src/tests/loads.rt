@@ -26,11 +26,14 @@ fn loaded_by_nobody<
     R: Threads + Wait + Clock + Net<Listener = TcpListener, Stream = TcpStream> + Sync,
 >(rt: &R, alloc: Global) -> Option<(Result<Finish, Finish>, usize)> {
     let listener = TcpListener::bind(rt, "127.0.0.1:0").ok()?;
-    let load = load(listener.local_addr().ok()?.port(), Kind::Retrieve, 5);
+    let address = listener.local_addr();
     drop(listener);
+    let load = load(address.ok()?.port(), Kind::Retrieve, 5);
     let mut table: Vec<u8> = Vec::new(alloc);
     let ended = run_load(rt, alloc, load, None::<Vec<u8>>, &mut table);
-    Some((ended, table.len()))
+    let length = table.len();
+    drop(table);
+    Some((ended, length))
 }
 
 #[test]
@@ -50,14 +53,20 @@ fn shares_of_connections(rt: HostRuntime) {
     }
 }
 
+/// The load that words ask for.
+fn load_of_words<'a>(alloc: Global, words: &'a [&'static str]) -> Option<Load> {
+    let found = load_command(alloc).ok()?.try_get_matches_from(words).ok()?;
+    let load = load_of(&found);
+    drop(found);
+    Some(load)
+}
+
 /// The load that a command line asks for.
 fn load_from(alloc: Global, line: &'static str) -> Option<Load> {
     let words = words(alloc, line).ok()?;
-    let found = load_command(alloc)
-        .ok()?
-        .try_get_matches_from(words.as_slice())
-        .ok()?;
-    Some(load_of(&found))
+    let load = load_of_words(alloc, words.as_slice());
+    drop(words);
+    load
 }
 
 /// Its port, connections and requests in flight, its keys and the length of its values, its kind and its end.
@@ -86,14 +95,20 @@ fn a_load_of_its_own(rt: HostRuntime) {
     assert!(rt; options(rt.alloc(), "load --port 1") == Some(wanted));
 }
 
+/// The status of words that are refused.
+fn status_of<'a>(alloc: Global, words: &'a [&'static str]) -> Option<i32> {
+    let error = load_command(alloc).ok()?.try_get_matches_from(words).err()?;
+    let status = error.exit_code();
+    drop(error);
+    Some(status)
+}
+
 /// The status of a command line that is refused.
 fn refused(alloc: Global, line: &'static str) -> Option<i32> {
     let words = words(alloc, line).ok()?;
-    let error = load_command(alloc)
-        .ok()?
-        .try_get_matches_from(words.as_slice())
-        .err()?;
-    Some(error.exit_code())
+    let status = status_of(alloc, words.as_slice());
+    drop(words);
+    status
 }
 
 #[test]
@@ -112,42 +127,67 @@ fn refused_options_of_load(rt: HostRuntime) {
 }
 
 /// Whether the report is this table.
-fn is_shown(alloc: Global, report: &Report, wanted: &str) -> Option<bool> {
-    let text = format!(in alloc; "{report}").ok()?;
-    Some(text.as_str() == wanted)
+fn is_shown(alloc: Global, report: Option<Report>, wanted: &str) -> Option<bool> {
+    let report = report?;
+    let text = format!(in alloc; "{report}");
+    drop(report);
+    let text = text.ok()?;
+    let is_wanted = text.as_str() == wanted;
+    drop(text);
+    Some(is_wanted)
 }
 
-/// Whether the report of nothing in half a second is this table.
-fn shows_nothing(alloc: Global, wanted: &str) -> Option<bool> {
+/// The report of nothing in half a second.
+fn nothing(alloc: Global) -> Option<Report> {
     let mut report = Report::new(alloc).ok()?;
     report.milliseconds = 500;
-    is_shown(alloc, &report, wanted)
+    Some(report)
 }
 
 #[test]
 fn an_empty_table(rt: HostRuntime) {
     let wanted =
         "requests                0\nmilliseconds          500\na second                0\np50                     -\np90                     -\np99                     -\np99.9                   -\nfaults                  0";
-    assert!(rt; shows_nothing(rt.alloc(), wanted) == Some(true));
+    let alloc = rt.alloc();
+    assert!(rt; is_shown(alloc, nothing(alloc), wanted) == Some(true));
+}
+
+/// A report of the values below 1,000.
+fn report_of_thousand(alloc: Global) -> Option<Report> {
+    let times = first_thousand(alloc)?;
+    Some(Report {
+        times,
+        faults: 0,
+        milliseconds: 500,
+    })
+}
+
+/// A report of one value, with faults.
+fn report_of_one(alloc: Global) -> Option<Report> {
+    let mut report = Report::new(alloc).ok()?;
+    report.faults = 3;
+    if report.times.record(70, 1000) {
+        Some(report)
+    } else {
+        drop(report);
+        None
+    }
 }
 
 /// Two reports of known times in one.
 fn joined(alloc: Global) -> Option<Report> {
-    let mut report = Report::new(alloc).ok()?;
-    report.milliseconds = 500;
-    report.times = first_thousand(alloc)?;
-    let mut other = Report::new(alloc).ok()?;
-    if !other.times.record(70, 1000) {
-        return None;
+    let mut report = report_of_thousand(alloc)?;
+    match report_of_one(alloc) {
+        Some(other) => {
+            report.join(&other);
+            drop(other);
+            Some(report)
+        }
+        None => {
+            drop(report);
+            None
+        }
     }
-    other.faults = 3;
-    report.join(&other);
-    Some(report)
-}
-
-/// Whether they are this table.
-fn shows_both(alloc: Global, wanted: &str) -> Option<bool> {
-    is_shown(alloc, &joined(alloc)?, wanted)
 }
 
 /// A table of known times.
@@ -155,28 +195,40 @@ fn shows_both(alloc: Global, wanted: &str) -> Option<bool> {
 fn tables(rt: HostRuntime) {
     let wanted =
         "requests             2000\nmilliseconds          500\na second             4000\np50                    71 us\np90                   799 us\np99                   991 us\np99.9                1023 us\nfaults                  3";
-    assert!(rt; shows_both(rt.alloc(), wanted) == Some(true));
+    let alloc = rt.alloc();
+    assert!(rt; is_shown(alloc, joined(alloc), wanted) == Some(true));
+}
+
+fn record_thousand(histogram: &mut Histogram) -> bool {
+    for value in 0..1000 {
+        if !histogram.record(value, 1) {
+            return false;
+        }
+    }
+    true
 }
 
 /// The values below 1,000, each once.
 fn first_thousand(alloc: Global) -> Option<Histogram> {
     let mut histogram = Histogram::new(alloc).ok()?;
-    for value in 0..1000 {
-        if !histogram.record(value, 1) {
-            return None;
-        }
+    if record_thousand(&mut histogram) {
+        Some(histogram)
+    } else {
+        drop(histogram);
+        None
     }
-    Some(histogram)
 }
 
 /// The half of one value.
 fn half_of(alloc: Global, value: u64) -> Option<u64> {
     let mut histogram = Histogram::new(alloc).ok()?;
-    if histogram.record(value, 1) {
+    let half = if histogram.record(value, 1) {
         histogram.percentile(500)
     } else {
         None
-    }
+    };
+    drop(histogram);
+    half
 }
 
 #[test]
@@ -203,7 +255,9 @@ fn buckets_of_values(rt: HostRuntime) {
 fn of_nothing(alloc: Global) -> Option<(Option<u64>, u64, usize)> {
     let histogram = Histogram::new(alloc).ok()?;
     let half = histogram.percentile(500);
-    Some((half, histogram.total(), histogram.buckets().len()))
+    let counts = (histogram.total(), histogram.buckets().len());
+    drop(histogram);
+    Some((half, counts.0, counts.1))
 }
 
 #[test]
@@ -214,11 +268,13 @@ fn an_empty_histogram(rt: HostRuntime) {
 /// A percentile of the values below 1,000.
 fn percentile(alloc: Global, thousandths: u64) -> Option<u64> {
     let histogram = first_thousand(alloc)?;
-    if 1 <= thousandths && thousandths <= 1000 {
+    let found = if 1 <= thousandths && thousandths <= 1000 {
         histogram.percentile(thousandths)
     } else {
         None
-    }
+    };
+    drop(histogram);
+    found
 }
 
 #[test]
@@ -250,6 +306,7 @@ fn filled(alloc: Global) -> Option<(u64, [(bool, u64); 3], usize)> {
     let second = recorded(&mut histogram, u64::MAX - 1000);
     let third = recorded(&mut histogram, 1);
     let buckets = histogram.buckets().len();
+    drop(histogram);
     Some((total, [first, second, third], buckets))
 }
 

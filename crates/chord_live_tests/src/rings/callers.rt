@@ -20,8 +20,8 @@ use std::time::Clock;
 #[test]
 fn a_capped_ring(rt: HostRuntime) -> Result<(), Fail> {
     let alloc = rt.alloc();
-    let blank = blank(alloc, settings(1, 3, 1, 2_000))?;
     let store: Store = Box::new(alloc, CappedStore::new(alloc, 1))?;
+    let blank = blank(alloc, settings(1, 3, 1, 2_000))?;
     let done = capped_boxed::<Brand, _>(&rt, alloc, blank, store);
     assert!(rt; done == Some((true, [true; 5])));
     Ok(())
@@ -50,7 +50,17 @@ fn capped<J: Naming + Send + Sync, S: EntryStore + Send, R: Threads + Wait + Clo
     requires vacant { S.content store ≡ [] }
 {
     let ring = founded::<J, S, R>(rt, blank, store)?;
-    let ring = &ring;
+    let done = work_and_use(rt, alloc, &ring);
+    drop(ring);
+    done
+}
+
+/// Whether the worker ended, and what three callers found.
+fn work_and_use<J: Naming + Send + Sync, S: EntryStore + Send, R: Threads + Wait + Clock + Sync>(
+    rt: &R,
+    alloc: Global,
+    ring: &Ring<J, S>,
+) -> Option<(bool, [bool; 5])> {
     let (ended, done) = thread::join(
         rt,
         move || ring.work(rt, 0, &Open).is_ok(),
@@ -70,7 +80,9 @@ fn use_the_ring<J: Naming, S: EntryStore, R: Wait + Clock>(
     ring: &Ring<J, S>,
 ) -> Option<[bool; 5]> {
     let mut zero = opened(rt, ring, 4)?;
-    use_with(rt, alloc, ring, &mut zero)
+    let done = use_with(rt, alloc, ring, &mut zero);
+    drop(zero);
+    done
 }
 
 /// The same with the first of them.
@@ -86,6 +98,7 @@ fn use_with<J: Naming, S: EntryStore, R: Wait + Clock>(
     let collected = collect_turned(rt, alloc, ring) == Some(true);
     let told = tell(zero, &mut one) == Ok(true);
     let crashed = crash(rt, alloc, ring, zero);
+    drop(one);
     Some([filled, made, collected, told, crashed])
 }
 
@@ -101,6 +114,13 @@ fn fill<J: Naming, S: EntryStore, R: Wait + Clock>(
     first && full == Some(AskFault::Full) && one.is_pending(1)
 }
 
+/// Whether the request was answered Removed.
+fn is_removed<F: Copy>(answer: Result<Reply, F>) -> bool {
+    let is_removed = matches!(&answer, Ok(Reply::Removed));
+    drop(answer);
+    is_removed
+}
+
 /// Whether node 0 answers Removed.
 fn removes<J: Naming, S: EntryStore, R: Wait + Clock>(
     rt: &R,
@@ -108,7 +128,7 @@ fn removes<J: Naming, S: EntryStore, R: Wait + Clock>(
     request: Result<Request, AllocError>,
 ) -> bool {
     match request {
-        Ok(request) => matches!(&caller.ask(rt, 0, request), Ok(Reply::Removed)),
+        Ok(request) => is_removed(caller.ask(rt, 0, request)),
         Err(_) => false,
     }
 }
@@ -124,7 +144,7 @@ fn make_room<J: Naming, S: EntryStore, R: Wait + Clock>(
     let retried = is_added(one.retry(rt, 0, 1));
     let collected = is_added(one.collect(rt, 1));
     let counts = (zero.mine().len(), zero.floor(), one.mine().len());
-    removed && retried && collected && counts == (2, 2, 1)
+    removed & retried & collected && counts == (2, 2, 1)
 }
 
 /// Whether the request is begun under this number.
@@ -163,7 +183,8 @@ fn collect_turned<J: Naming, S: EntryStore, R: Wait + Clock>(
     let second = begins(rt, &mut two, retrieve(alloc, b"a"), 2);
     let collected = collects(rt, &mut two);
     let called = calls(rt, &mut two, retrieve(alloc, b"a"));
-    Some(first && second && collected && called)
+    drop(two);
+    Some(first & second & collected & called)
 }
 
 /// Requests 2 and 1 were begun, and no other.
@@ -207,5 +228,5 @@ fn crashes<J: Naming, S: EntryStore, R: Wait + Clock>(rt: &R, ring: &Ring<J, S>)
     let second = ring.crash(rt, 0).is_ok();
     let leaves = ring.leave(rt, 0) == Err(LeaveFault::NotStaying);
     let ticked = ring.tick(rt, 0).is_ok();
-    first && second && leaves && ticked
+    first & second & leaves & ticked
 }

@@ -53,7 +53,9 @@ fn tidied(node: &mut Node<CappedStore>) -> Option<(Tidied, Tidied, Tidied)> {
 /// What a node alone does so.
 fn tidies(alloc: Global) -> Option<(Tidied, Tidied, Tidied)> {
     let mut node = founder(alloc, 4)?;
-    tidied(&mut node)
+    let steps = tidied(&mut node);
+    drop(node);
+    steps
 }
 
 #[test]
@@ -76,34 +78,40 @@ fn dealt(
 }
 
 /// Whether the first call of caller 7 is answered Added to it.
-fn is_added(dealt: &Option<(Target, Message)>) -> bool {
-    match dealt {
+fn is_added(dealt: Option<(Target, Message)>) -> bool {
+    let is_added = match &dealt {
         Some((Target::Caller(7), Message::Told(told))) => {
             (told.caller, told.number) == (7, 1) && told.reply == Reply::Added
         }
         _ => false,
-    }
+    };
+    drop(dealt);
+    is_added
 }
 
 /// Whether the second one is answered Full.
-fn is_full(dealt: &Option<(Target, Message)>) -> bool {
-    match dealt {
+fn is_full(dealt: Option<(Target, Message)>) -> bool {
+    let is_full = match &dealt {
         Some((Target::Caller(7), Message::Full { caller, number })) => (*caller, *number) == (7, 2),
         _ => false,
-    }
+    };
+    drop(dealt);
+    is_full
 }
 
 /// Whether the node answers the first call with Added and the second with Full.
 fn answered(alloc: Global, node: &mut Node<CappedStore>) -> Option<(bool, bool)> {
-    let told = is_added(&dealt(alloc, node, 1, b"abc").ok()?);
-    let full = is_full(&dealt(alloc, node, 2, b"b").ok()?);
+    let told = is_added(dealt(alloc, node, 1, b"abc").ok()?);
+    let full = is_full(dealt(alloc, node, 2, b"b").ok()?);
     Some((told, full))
 }
 
 /// The same of a node with room for one pair.
 fn answers(alloc: Global) -> Option<(bool, bool)> {
     let mut node = founder(alloc, 1)?;
-    answered(alloc, &mut node)
+    let answered = answered(alloc, &mut node);
+    drop(node);
+    answered
 }
 
 #[test]
@@ -114,13 +122,17 @@ fn a_call_is_answered_to_its_caller(rt: HostRuntime) {
 /// Whether the node sends nothing for a call.
 fn sends_nothing(alloc: Global, node: &mut Node<CappedStore>) -> Option<bool> {
     let sent = dealt(alloc, node, 1, b"abc").ok()?;
-    Some(sent.is_none())
+    let sends_nothing = sent.is_none();
+    drop(sent);
+    Some(sends_nothing)
 }
 
 /// The same of a node that holds nothing and knows no other.
 fn drops(alloc: Global) -> Option<bool> {
     let mut node = Node::newborn(alloc, Links::alone(ONE, 3), CappedStore::new(alloc, 4));
-    sends_nothing(alloc, &mut node)
+    let sends_nothing = sends_nothing(alloc, &mut node);
+    drop(node);
+    sends_nothing
 }
 
 #[test]

@@ -2,7 +2,7 @@
 //! refused; the tests are run with each growth refused in turn too.
 ghost use Rattle.std.specs.Prelude.{◌≡◌, []};
 
-use super::{A, C, insert, is_told, opened, retrieve, settings};
+use super::{A, C, insert, is_added, is_told, opened, retrieve, settings, succeeds};
 use chord_ident::Id;
 use chord_live::{
     AskFault, BeginFault, Blank, Caller, CollectFault, CreateFault, JoinFault, NewFault, Open,
@@ -39,7 +39,7 @@ fn created<J: Naming, S: EntryStore>(rt: &impl Wait, ring: &Ring<J, S>, store: S
 {
     match ring.create(rt, Id::new(A), store) {
         Ok(_) => true,
-        Err((CreateFault::Memory, back)) => ring.create(rt, Id::new(A), back).is_ok(),
+        Err((CreateFault::Memory, back)) => succeeds(ring.create(rt, Id::new(A), back)),
         Err(_) => false,
     }
 }
@@ -50,7 +50,7 @@ fn joined<J: Naming, S: EntryStore>(rt: &impl Wait, ring: &Ring<J, S>, store: S)
 {
     match ring.join(rt, Id::new(C), 0, store) {
         Ok(_) => true,
-        Err((JoinFault::Memory, back)) => ring.join(rt, Id::new(C), 0, back).is_ok(),
+        Err((JoinFault::Memory, back)) => succeeds(ring.join(rt, Id::new(C), 0, back)),
         Err(_) => false,
     }
 }
@@ -105,10 +105,20 @@ fn two_nodes<J: Naming + Send + Sync, R: Threads + Wait + Clock + Sync>(
         Ok(ring) => ring,
         Err(_) => return Some(true),
     };
-    if !created(rt, &ring, CappedStore::new(alloc, 4)) || !settled(rt, alloc, &ring) {
+    let done = made_and_used(rt, alloc, &ring);
+    drop(ring);
+    done
+}
+
+/// The same of a ring with no node.
+fn made_and_used<J: Naming + Send + Sync, R: Threads + Wait + Clock + Sync>(
+    rt: &R,
+    alloc: Global,
+    ring: &Ring<J, CappedStore>,
+) -> Option<bool> {
+    if !created(rt, ring, CappedStore::new(alloc, 4)) || !settled(rt, alloc, ring) {
         return None;
     }
-    let ring = &ring;
     let (ended, done) = thread::join(
         rt,
         move || ring.work(rt, 0, &Open).is_ok(),
@@ -127,7 +137,9 @@ fn use_the_ring<J: Naming, S: EntryStore, R: Wait + Clock>(
     ring: &Ring<J, S>,
 ) -> Option<bool> {
     let mut zero = opened(rt, ring, 4)?;
-    use_with(rt, alloc, ring, &mut zero)
+    let done = use_with(rt, alloc, ring, &mut zero);
+    drop(zero);
+    done
 }
 
 /// The same with the first caller.
@@ -140,7 +152,9 @@ fn use_with<J: Naming, S: EntryStore, R: Wait + Clock>(
     let mut one = opened(rt, ring, 4)?;
     let added = adds(rt, alloc, zero) == Some(true);
     let seen = sees(rt, alloc, &mut one) == Some(true);
-    Some(added && seen && told(zero, &mut one))
+    let told = told(zero, &mut one);
+    drop(one);
+    Some(added & seen & told)
 }
 
 /// Whether a caller is answered Added.
@@ -149,8 +163,7 @@ fn adds<J: Naming, S: EntryStore, R: Wait + Clock>(
     alloc: Global,
     caller: &mut Caller<'_, J, S>,
 ) -> Option<bool> {
-    let request = insert_x(alloc).ok()?;
-    let again = insert_x(alloc).ok()?;
+    let (request, again) = insert_x(alloc).ok().zip(insert_x(alloc).ok())?;
     Some(asked(rt, caller, request, again))
 }
 
@@ -160,8 +173,7 @@ fn sees<J: Naming, S: EntryStore, R: Wait + Clock>(
     alloc: Global,
     caller: &mut Caller<'_, J, S>,
 ) -> Option<bool> {
-    let request = retrieve_b(alloc).ok()?;
-    let again = retrieve_b(alloc).ok()?;
+    let (request, again) = retrieve_b(alloc).ok().zip(retrieve_b(alloc).ok())?;
     Some(begun_and_collected(rt, caller, request, again))
 }
 
@@ -170,10 +182,12 @@ fn retried<J: Naming, S: EntryStore, R: Wait + Clock>(
     rt: &R,
     caller: &mut Caller<'_, J, S>,
 ) -> Result<Reply, RetryFault> {
-    match caller.retry(rt, 0, 1) {
-        Err(RetryFault::Memory) => caller.retry(rt, 0, 1),
-        answered => answered,
+    let answered = caller.retry(rt, 0, 1);
+    if matches!(&answered, Err(RetryFault::Memory)) {
+        drop(answered);
+        return caller.retry(rt, 0, 1);
     }
+    answered
 }
 
 /// Asks until the insert is executed; a request that is pending after a refused growth is sent again.
@@ -183,12 +197,28 @@ fn asked<J: Naming, S: EntryStore, R: Wait + Clock>(
     request: Request,
     again: Request,
 ) -> bool {
-    let answered = match caller.ask(rt, 0, request) {
-        Err(AskFault::Memory) if caller.is_pending(1) => retried(rt, caller).ok(),
-        Err(AskFault::Memory) => caller.ask(rt, 0, again).ok(),
-        answered => answered.ok(),
-    };
-    matches!(&answered, Some(Reply::Added)) && caller.floor() == 1
+    let answered = caller.ask(rt, 0, request);
+    let is_refused = matches!(&answered, Err(AskFault::Memory));
+    let mut added = is_added(answered);
+    if is_refused {
+        added = asked_again(rt, caller, again);
+    } else {
+        drop(again);
+    }
+    added && caller.floor() == 1
+}
+
+/// Sends the request again where it is pending, else asks the other one.
+fn asked_again<J: Naming, S: EntryStore, R: Wait + Clock>(
+    rt: &R,
+    caller: &mut Caller<'_, J, S>,
+    again: Request,
+) -> bool {
+    if caller.is_pending(1) {
+        drop(again);
+        return is_added(retried(rt, caller));
+    }
+    is_added(caller.ask(rt, 0, again))
 }
 
 /// Begins a retrieve and collects it.
@@ -198,10 +228,12 @@ fn begun_and_collected<J: Naming, S: EntryStore, R: Wait + Clock>(
     request: Request,
     again: Request,
 ) -> bool {
-    let begun = match caller.begin(rt, 0, request) {
-        Err(BeginFault::Memory) => caller.begin(rt, 0, again),
-        begun => begun,
-    };
+    let mut begun = caller.begin(rt, 0, request);
+    if begun == Err(BeginFault::Memory) {
+        begun = caller.begin(rt, 0, again);
+    } else {
+        drop(again);
+    }
     begun == Ok(1) && is_told(collected(rt, caller), b"x")
 }
 
@@ -210,12 +242,17 @@ fn collected<J: Naming, S: EntryStore, R: Wait + Clock>(
     rt: &R,
     caller: &mut Caller<'_, J, S>,
 ) -> Result<Reply, CollectFault> {
-    match caller.collect(rt, 1) {
-        Err(CollectFault::NoAnswer) | Err(CollectFault::Memory) => match caller.retry(rt, 0, 1) {
-            Ok(reply) => Ok(reply),
-            Err(_) => caller.collect(rt, 1),
-        },
-        collected => collected,
+    let collected = caller.collect(rt, 1);
+    if !matches!(
+        &collected,
+        Err(CollectFault::NoAnswer) | Err(CollectFault::Memory)
+    ) {
+        return collected;
+    }
+    drop(collected);
+    match caller.retry(rt, 0, 1) {
+        Ok(reply) => Ok(reply),
+        Err(_) => caller.collect(rt, 1),
     }
 }
 

@@ -1,7 +1,9 @@
 //! Which calls are refused, and in which order.
 ghost use Rattle.std.specs.Prelude.{◌≡◌};
 
-use super::{A, B, C, blank, founded, insert, is_added, opened, retrieve, settings, unheard};
+use super::{
+    A, B, C, blank, founded, insert, is_added, opened, retrieve, settings, succeeds, unheard,
+};
 use chord_ident::Id;
 use chord_links::Peer;
 use chord_live::{
@@ -19,7 +21,10 @@ use std::time::Clock;
 
 /// Whether a ring of these settings is refused.
 fn are_bad(alloc: Global, settings: Settings) -> bool {
-    matches!(&Blank::new(alloc, settings), Err(NewFault::BadSettings))
+    let made = Blank::new(alloc, settings);
+    let are_bad = matches!(&made, Err(NewFault::BadSettings));
+    drop(made);
+    are_bad
 }
 
 #[test]
@@ -54,17 +59,26 @@ fn lists_have_limits(rt: HostRuntime) {
 fn settings_at_their_limits_are_good(rt: HostRuntime) {
     for (slots, callers, tries, wait_ms) in [(1, 0, 1, 1), (64, 64, 1_000, 60_000)] {
         let limits = settings(slots, callers, tries, wait_ms);
-        assert!(rt; Blank::new(rt.alloc(), limits).is_ok(), "{slots} slots");
+        assert!(rt; succeeds(Blank::new(rt.alloc(), limits)), "{slots} slots");
     }
 }
 
 /// Whether the store is one with room for a single pair, and empty.
 fn has_room_for_one(alloc: Global, mut store: CappedStore) -> bool {
+    let has_room = takes_one(alloc, &mut store);
+    drop(store);
+    has_room
+}
+
+/// Whether the store takes one pair and no second one.
+fn takes_one(alloc: Global, store: &mut CappedStore) -> bool {
     let Ok(key) = Bytes::from_slice(alloc, b"a") else {
         return false;
     };
     let first = store.insert(&key, b"x".as_slice());
-    first == Ok(Inserted::Added) && store.insert(&key, b"y".as_slice()).is_err()
+    let second = store.insert(&key, b"y".as_slice());
+    drop(key);
+    first == Ok(Inserted::Added) && second.is_err()
 }
 
 /// Whether there is no node, for this reason, and its store came back.
@@ -74,7 +88,7 @@ fn is_refused<F: PartialEq + Copy>(
     why: F,
 ) -> bool {
     match entered {
-        Err((fault, store)) => fault == why && has_room_for_one(alloc, store),
+        Err((fault, store)) => has_room_for_one(alloc, store) && fault == why,
         Ok(_) => false,
     }
 }
@@ -100,6 +114,7 @@ fn refusals<J: Naming, R: Wait + Clock>(rt: &R, alloc: Global, blank: Blank) -> 
     let departed = departures(rt, &ring);
     ring.stop();
     let stopped = is_stopped(rt, alloc, &ring);
+    drop(ring);
     Some([without_a_node, created, filled, known, departed, stopped])
 }
 
@@ -108,15 +123,17 @@ fn has_no_node<J: Naming, R: Wait + Clock>(rt: &R, ring: &Ring<J, CappedStore>) 
     let ticked = ring.tick(rt, 0) == Err(TickFault::NoSuchNode);
     let crashed = ring.crash(rt, 0) == Err(NoSuchNode);
     let worked = ring.work(rt, 0, &Open) == Err(NoSuchNode);
-    ticked && crashed && worked
+    ticked & crashed & worked
 }
 
 /// Whether it is the node of this number and identifier.
 fn is_node<F: Copy>(entered: Result<Peer, (F, CappedStore)>, no: u64, id: u128) -> bool {
-    match entered {
+    let is_node = match &entered {
         Ok(peer) => peer.no == no && peer.id == Id::new(id),
         Err(_) => false,
-    }
+    };
+    drop(entered);
+    is_node
 }
 
 /// The first node is node 0, and there is no other first one.
@@ -154,7 +171,7 @@ fn fills_its_slots<J: Naming, R: Wait + Clock>(
     let joined = ring.join(rt, Id::new(C), 0, CappedStore::new(alloc, 1));
     let joined = is_node(joined, 1, C);
     let full = joins_not(rt, alloc, ring, (B, 0), JoinFault::NoSlot);
-    taken && nowhere && joined && full
+    taken & nowhere & joined & full
 }
 
 /// There is a node 0 to tick, and no node 2 to leave.
@@ -162,7 +179,7 @@ fn knows_its_nodes<J: Naming, R: Wait + Clock>(rt: &R, ring: &Ring<J, CappedStor
     let ticked = ring.tick(rt, 0) == Ok(());
     let left = ring.leave(rt, 2) == Err(LeaveFault::NoSuchNode);
     let retired = ring.retire(rt, 2) == Err(RetireFault::NoSuchNode);
-    ticked && left && retired
+    ticked & left & retired
 }
 
 /// A node that holds nothing leaves and retires; one that holds the circle does not.
@@ -187,7 +204,7 @@ fn is_stopped<J: Naming, R: Wait + Clock>(
     let created = is_refused(alloc, created, CreateFault::Stopped);
     let ticked = ring.tick(rt, 0) == Err(TickFault::Stopped);
     let opened = matches!(open_fault(rt, ring), Some(OpenFault::Stopped));
-    joined && created && ticked && opened
+    joined & created & ticked & opened
 }
 
 /// Why no caller is opened.
@@ -212,13 +229,25 @@ fn caller_refusals<J: Naming, R: Wait + Clock>(
     requires { blank ≡ J.name }
 {
     let ring = founded::<J, CappedStore, R>(rt, blank, CappedStore::new(alloc, 1))?;
-    let mut caller = opened(rt, &ring, 1)?;
-    let spent = matches!(open_fault(rt, &ring), Some(OpenFault::CallersSpent));
+    let refused = refusals_of_one(rt, alloc, &ring);
+    drop(ring);
+    refused
+}
+
+/// The same of a ring with a node.
+fn refusals_of_one<J: Naming, R: Wait + Clock>(
+    rt: &R,
+    alloc: Global,
+    ring: &Ring<J, CappedStore>,
+) -> Option<[bool; 6]> {
+    let mut caller = opened(rt, ring, 1)?;
+    let spent = matches!(open_fault(rt, ring), Some(OpenFault::CallersSpent));
     let bad = bad_requests(rt, alloc, &mut caller);
     let unknown = unknown_nodes(rt, alloc, &mut caller);
     let nothing = nothing_pending(rt, &mut caller);
     let full = a_full_window(rt, alloc, &mut caller);
     let unanswered = no_answers(rt, &mut caller);
+    drop(caller);
     Some([spent, bad, unknown, nothing, full, unanswered])
 }
 
@@ -229,7 +258,10 @@ fn not_begun<J: Naming, R: Wait + Clock>(
     via: u64,
     request: Result<Request, AllocError>,
 ) -> Option<BeginFault> {
-    caller.begin(rt, via, request.ok()?).err()
+    match request {
+        Ok(request) => caller.begin(rt, via, request).err(),
+        Err(_) => None,
+    }
 }
 
 /// A request with an empty key is refused, whatever the node.
@@ -251,7 +283,10 @@ fn not_called<J: Naming, R: Wait + Clock>(
     via: u64,
     request: Result<Request, AllocError>,
 ) -> Option<AskFault> {
-    caller.call(rt, via, request.ok()?).err()
+    match request {
+        Ok(request) => caller.call(rt, via, request).err(),
+        Err(_) => None,
+    }
 }
 
 /// There is no node 5.
@@ -308,7 +343,7 @@ fn no_answers<J: Naming, R: Wait + Clock>(rt: &R, caller: &mut Caller<'_, J, Cap
     let nowhere = caller.retry(rt, 5, 1).err() == Some(RetryFault::NoSuchNode);
     let retried = caller.retry(rt, 0, 1).err() == Some(RetryFault::NoAnswer);
     let collected = caller.collect(rt, 1).err() == Some(CollectFault::NoAnswer);
-    nowhere && retried && collected && caller.is_pending(1)
+    nowhere & retried & collected & caller.is_pending(1)
 }
 
 #[test]
@@ -340,10 +375,23 @@ fn stopped<J: Naming, R: Wait + Clock>(
     requires { blank ≡ J.name }
 {
     let ring = founded::<J, CappedStore, R>(rt, blank, CappedStore::new(alloc, 1))?;
-    let mut caller = opened(rt, &ring, 2)?;
+    let found = called_and_stopped(rt, alloc, &ring);
+    drop(ring);
+    found
+}
+
+/// The same of a ring with a node.
+fn called_and_stopped<J: Naming, R: Wait + Clock>(
+    rt: &R,
+    alloc: Global,
+    ring: &Ring<J, CappedStore>,
+) -> Option<(bool, Option<AskFault>, bool)> {
+    let mut caller = opened(rt, ring, 2)?;
     let called = is_called(rt, &mut caller, insert(alloc, b"abc", b"x"));
     ring.stop();
     ring.stop();
     let unheard = unheard(rt, &mut caller, 0, retrieve(alloc, b"abc"));
-    Some((called, unheard, caller.is_pending(2)))
+    let is_pending = caller.is_pending(2);
+    drop(caller);
+    Some((called, unheard, is_pending))
 }

@@ -1,7 +1,9 @@
 //! Two nodes with a worker each, and rounds of ticks.
 ghost use Rattle.std.specs.Prelude.{◌≡◌};
 
-use super::{adds, blank, founded, insert, is_added, is_told, opened, retrieve, sees, settings};
+use super::{
+    adds, blank, founded, insert, is_added, is_told, opened, retrieve, sees, settings, succeeds,
+};
 use chord_ident::Id;
 use chord_links::Links;
 use chord_live::{Blank, Caller, Client, Gate, Open, Ring};
@@ -103,8 +105,7 @@ fn a_client_asks_no_crashed_node(rt: HostRuntime) -> Result<(), Fail> {
 
 /// Node M joins by node A.
 fn joined<J: Naming, R: Wait>(rt: &R, alloc: Global, ring: &Ring<J, CappedStore>) -> bool {
-    ring.join(rt, Id::new(M), 0, CappedStore::new(alloc, 4))
-        .is_ok()
+    succeeds(ring.join(rt, Id::new(M), 0, CappedStore::new(alloc, 4)))
 }
 
 /// Nodes A and M with a worker each, and whether all that is done then is as it is to be.
@@ -117,10 +118,21 @@ fn two_nodes<J: Naming + Send + Sync, R: Threads + Wait + Clock + Sync>(
     requires { blank ≡ J.name }
 {
     let ring = founded::<J, CappedStore, R>(rt, blank, CappedStore::new(alloc, 4))?;
-    if !joined(rt, alloc, &ring) {
+    let done = joined_and_worked(rt, alloc, &ring, then);
+    drop(ring);
+    done
+}
+
+/// The same where the first node is there.
+fn joined_and_worked<J: Naming + Send + Sync, R: Threads + Wait + Clock + Sync>(
+    rt: &R,
+    alloc: Global,
+    ring: &Ring<J, CappedStore>,
+    then: Then,
+) -> Option<bool> {
+    if !joined(rt, alloc, ring) {
         return None;
     }
-    let ring = &ring;
     let gate = Held {
         rt,
         stands: AtomicBool::new(false),
@@ -180,12 +192,15 @@ fn adds_alone<J: Naming, S: EntryStore, R: Wait + Clock>(
     rt: &R,
     ring: &Ring<J, S>,
     via: u64,
-    request: Request,
+    request: Result<Request, AllocError>,
 ) -> bool {
-    match ring.open_caller(rt, 4) {
-        Ok(mut caller) => is_added(caller.ask(rt, via, request)),
-        Err(_) => false,
-    }
+    let Some(mut caller) = opened(rt, ring, 4) else {
+        drop(request);
+        return false;
+    };
+    let added = adds(rt, &mut caller, via, request);
+    drop(caller);
+    added
 }
 
 /// `b` lies at node 0, `abc` at node 1.
@@ -197,18 +212,17 @@ fn two_locks<J: Naming + Send + Sync, S: EntryStore + Send, R: Threads + Wait + 
 ) -> Option<bool> {
     gate.stands.store(false, Ordering::SeqCst);
     gate.opened.store(false, Ordering::SeqCst);
-    let first = insert(alloc, b"b", b"y").ok()?;
-    let second = insert(alloc, b"abc", b"x").ok()?;
     let (zero, one) = thread::join(
         rt,
-        move || adds_alone(rt, ring, 0, first),
+        move || adds_alone(rt, ring, 0, insert(alloc, b"b", b"y")),
         move || {
             for _ in 0..10_000u64 {
                 if !gate.stands.load(Ordering::SeqCst) {
                     thread::sleep(rt, Duration::from_millis(1));
                 }
             }
-            let answered = gate.stands.load(Ordering::SeqCst) && adds_alone(rt, ring, 1, second);
+            let answered = gate.stands.load(Ordering::SeqCst)
+                && adds_alone(rt, ring, 1, insert(alloc, b"abc", b"x"));
             let held = !gate.spent.load(Ordering::SeqCst);
             gate.opened.store(true, Ordering::SeqCst);
             answered && held
@@ -228,7 +242,8 @@ fn crash<J: Naming, S: EntryStore, R: Wait + Clock>(
     let crashed = ring.crash(rt, 0).is_ok();
     let dropped = ring.tick(rt, 1).is_ok();
     let seen = sees(rt, &mut caller, 1, retrieve(alloc, b"abc"), b"x");
-    Some(added && crashed && dropped && seen)
+    drop(caller);
+    Some(added & crashed & dropped & seen)
 }
 
 /// Whether node 0 answers x alone to a call.
@@ -255,7 +270,8 @@ fn leave<J: Naming, S: EntryStore, R: Wait + Clock>(
     let retired = retires(rt, ring);
     let forgotten = forgets(rt, ring);
     let seen = sees(rt, &mut caller, 0, retrieve(alloc, b"abc"), b"x");
-    Some(added && called && retired && forgotten && seen)
+    drop(caller);
+    Some(added & called & retired & forgotten & seen)
 }
 
 /// A client of the ring.
@@ -303,7 +319,8 @@ fn guess<J: Naming, S: EntryStore, R: Wait + Clock>(
     let seen = client_sees(rt, &mut client, retrieve(alloc, b"abc"));
     let crashed = ring.crash(rt, 0).is_ok();
     let again = client_sees(rt, &mut client, retrieve(alloc, b"abc"));
-    Some(added && other && seen && crashed && again)
+    drop(client);
+    Some(added & other & seen & crashed & again)
 }
 
 /// Node 1 answered for `abc` and crashes: `eq`, whose guess it is, is asked for at node 0.
@@ -316,7 +333,8 @@ fn guess_crashed<J: Naming, S: EntryStore, R: Wait + Clock>(
     let added = client_adds(rt, &mut client, insert(alloc, b"abc", b"x"));
     let crashed = ring.crash(rt, 1).is_ok();
     let other = client_adds(rt, &mut client, insert(alloc, b"eq", b"y"));
-    Some(added && crashed && other)
+    drop(client);
+    Some(added & crashed & other)
 }
 
 /// Node 1 leaves, and retires once node 0 holds all that it held.

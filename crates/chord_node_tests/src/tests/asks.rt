@@ -21,31 +21,37 @@ const OTHER: Peer = Peer {
     id: Id { number: A },
 };
 
-fn is_told(answered: &Answered, number: u64, reply: &Reply) -> bool {
-    match answered {
+fn is_told(answered: Answered, number: u64, reply: &Reply) -> bool {
+    let is_told = match &answered {
         Answered::Told(told) => told.number == number && told.reply == *reply,
         _ => false,
-    }
+    };
+    drop(answered);
+    is_told
 }
 
-fn is_full(answered: &Answered) -> bool {
-    matches!(answered, Answered::Full)
+fn is_full(answered: Answered) -> bool {
+    let is_full = matches!(&answered, Answered::Full);
+    drop(answered);
+    is_full
 }
 
-fn is_dropped(answered: &Answered) -> bool {
-    matches!(answered, Answered::Dropped)
+fn is_dropped(answered: Answered) -> bool {
+    let is_dropped = matches!(&answered, Answered::Dropped);
+    drop(answered);
+    is_dropped
 }
 
 /// Whether the insert of x under `abc`, as call 1, is told Added.
 fn adds_x(alloc: Global, node: &mut Node<CappedStore>) -> Option<bool> {
     let told = inserted(alloc, node, 1, b"abc", b"x")?;
-    Some(is_told(&told, 1, &Reply::Added))
+    Some(is_told(told, 1, &Reply::Added))
 }
 
 /// Whether that call is dropped.
 fn drops_x(alloc: Global, node: &mut Node<CappedStore>) -> Option<bool> {
     let dropped = inserted(alloc, node, 1, b"abc", b"x")?;
-    Some(is_dropped(&dropped))
+    Some(is_dropped(dropped))
 }
 
 /// Whether the first call is told Added, and when it comes again.
@@ -72,13 +78,13 @@ fn is_third(done: &Option<Done>) -> bool {
 /// Whether the insert of y under `abc`, as call 2, is refused.
 fn refuses_y(alloc: Global, node: &mut Node<CappedStore>) -> Option<bool> {
     let full = inserted(alloc, node, 2, b"abc", b"y")?;
-    Some(is_full(&full))
+    Some(is_full(full))
 }
 
 /// Whether this call, the third, is told Present and noted so.
 fn is_present(node: &mut Node<CappedStore>, call: &Ask) -> Option<(bool, bool)> {
     let (present, done) = node.on_ask(call).ok()?;
-    Some((is_told(&present, 3, &Reply::Present), is_third(&done)))
+    Some((is_told(present, 3, &Reply::Present), is_third(&done)))
 }
 
 /// Whether the insert of x under `abc`, as call 3, is told Present and noted so.
@@ -120,7 +126,7 @@ fn only_x(alloc: Global) -> Option<Reply> {
 fn tells_x(alloc: Global, node: &mut Node<CappedStore>) -> Option<bool> {
     let told = retrieved(alloc, node)?;
     let values = only_x(alloc)?;
-    Some(is_told(&told, 2, &values))
+    Some(is_told(told, 2, &values))
 }
 
 /// Whether an insert is told Added, a retrieve the value, and the first call, which is seen then, nothing.
@@ -162,20 +168,22 @@ fn neighbour(alloc: Global) -> Node<CappedStore> {
 }
 
 /// Whether it is a call that goes on to node 0 with one hop less than there can be.
-fn is_passed(answered: &Answered) -> bool {
-    matches!(answered, Answered::Forward(0, passed) if passed.hops == 254)
+fn is_passed(answered: Answered) -> bool {
+    let is_passed = matches!(&answered, Answered::Forward(0, passed) if passed.hops == 254);
+    drop(answered);
+    is_passed
 }
 
 /// Whether the insert of x under `abc` goes on.
 fn passes_x(alloc: Global, node: &mut Node<CappedStore>) -> Option<bool> {
     let passed = inserted(alloc, node, 1, b"abc", b"x")?;
-    Some(is_passed(&passed))
+    Some(is_passed(passed))
 }
 
 /// Whether this call is dropped.
 fn is_call_dropped(node: &mut Node<CappedStore>, call: &Ask) -> Option<bool> {
     let dropped = answered(node, call)?;
-    Some(is_dropped(&dropped))
+    Some(is_dropped(dropped))
 }
 
 /// Whether the insert of x under `abc` is dropped where its hops are spent.
@@ -212,13 +220,13 @@ fn taken(alloc: Global, node: &mut Node<CappedStore>, number: u64, value: &[u8])
 /// Whether x, as call 1 that is handed over, is told Added.
 fn takes_x(alloc: Global, node: &mut Node<CappedStore>) -> Option<bool> {
     let told = taken(alloc, node, 1, b"x")?;
-    Some(is_told(&told, 1, &Reply::Added))
+    Some(is_told(told, 1, &Reply::Added))
 }
 
 /// Whether y, as call 2 that is handed over, is refused.
 fn takes_no_y(alloc: Global, node: &mut Node<CappedStore>) -> Option<bool> {
     let full = taken(alloc, node, 2, b"y")?;
-    Some(is_full(&full))
+    Some(is_full(full))
 }
 
 /// At a node with room for one pair: whether a call that is handed over is told Added, and when it comes again, and
@@ -240,13 +248,13 @@ fn a_call_is_taken(rt: HostRuntime) {
 /// Whether a call that is handed over goes on with one hop less.
 fn passes_taken(alloc: Global, node: &mut Node<CappedStore>) -> Option<bool> {
     let passed = taken(alloc, node, 1, b"x")?;
-    Some(is_passed(&passed))
+    Some(is_passed(passed))
 }
 
 /// Whether it is dropped.
 fn drops_taken(alloc: Global, node: &mut Node<CappedStore>) -> Option<bool> {
     let dropped = taken(alloc, node, 1, b"x")?;
-    Some(is_dropped(&dropped))
+    Some(is_dropped(dropped))
 }
 
 /// Whether a call that is handed over goes on with one hop less, and is dropped where no other node is known.

@@ -5,7 +5,7 @@ ghost use Rattle.chord_serve.specs.Question.{IsHeard};
 use chord_map::{PlainMap, Reply, Request};
 use chord_serve::{Asked, Asker};
 use chord_wire::is_writable;
-use std::alloc::Global;
+use std::alloc::{AllocError, Global};
 
 /// Answers from one plain map, and notes what it was asked.
 #[derive(Drop)]
@@ -22,11 +22,26 @@ impl MapAsker {
         }
     }
 
+    /// Whether the request is done.
+    fn does(&mut self, request: &Request) -> bool {
+        if request.check().is_err() {
+            return false;
+        }
+        let applied = self.map.apply(request);
+        let is_done = applied.is_ok();
+        drop(applied);
+        is_done
+    }
+
     /// With this request done.
-    pub fn having(mut self, request: &Request) -> Option<MapAsker> {
-        request.check().ok()?;
-        self.map.apply(request).ok()?;
-        Some(self)
+    pub fn having(mut self, request: Result<Request, AllocError>) -> Option<MapAsker> {
+        let is_done = request.as_ref().is_ok_and(|request| self.does(request));
+        drop(request);
+        if is_done {
+            return Some(self);
+        }
+        drop(self);
+        None
     }
 }
 
@@ -34,7 +49,12 @@ fn note(requests: &mut Vec<Request>, request: &Request) -> bool
     ensures { result ≡ true → requests.new.items ≡ requests.old.items ++ request.now ∷ [] }
 {
     match request.try_copy() {
-        Ok(copy) => requests.push(copy).is_ok(),
+        Ok(copy) => {
+            let pushed = requests.push(copy);
+            let is_noted = pushed.is_ok();
+            drop(pushed);
+            is_noted
+        }
         Err(_) => false,
     }
 }
@@ -55,10 +75,10 @@ impl Asker for MapAsker {
             Err(_) => Asked::Memory,
             Ok(reply) => {
                 if reply.fits(request) && is_writable(&reply) {
-                    Asked::Reply(reply)
-                } else {
-                    Asked::NoAnswer
+                    return Asked::Reply(reply);
                 }
+                drop(reply);
+                Asked::NoAnswer
             }
         }
     }

@@ -37,6 +37,7 @@ fn session(alloc: Global) -> Option<(Served, usize)> {
     let mut written = roomy(alloc).ok()?;
     let mut asker = MapAsker::new(alloc);
     let served = serve(alloc, &mut input.as_slice(), &mut written, &mut asker, 10);
+    drop(asker);
     Some((served, begun(&output, &written)?))
 }
 
@@ -68,23 +69,33 @@ fn answered(
     calls(alloc, (&mut reader, written), answers, version, request, 10)
 }
 
+/// The same made again where it wants memory and wrote its whole frame or nothing.
+fn answered_again(
+    alloc: Global,
+    (version, frame): (u8, &[u8]),
+    written: &mut Vec<u8>,
+    request: &Request,
+) -> Result<Answer, CallFault> {
+    let mut answers = Answers::new(alloc);
+    let mut answer = answered(alloc, version, written, &mut answers, request);
+    if answer
+        .as_ref()
+        .is_err_and(|fault| is_refused(*fault, written, frame))
+    {
+        written.clear();
+        answer = answered(alloc, version, written, &mut answers, request);
+    }
+    drop(answers);
+    answer
+}
+
 /// Whether a call, made again where it wants memory, is answered and writes exactly this frame.
 fn is_answered(alloc: Global, version: u8, frame: &[u8]) -> Option<bool> {
-    let request = request(alloc).ok()?;
     let mut written = roomy(alloc).ok()?;
-    let mut answers = Answers::new(alloc);
-    let first = answered(alloc, version, &mut written, &mut answers, &request);
-    let answer = match first {
-        Ok(answer) => answer,
-        Err(fault) => {
-            if !is_refused(fault, &written, frame) {
-                return Some(false);
-            }
-            written.clear();
-            answered(alloc, version, &mut written, &mut answers, &request).ok()?
-        }
-    };
-    Some(is_added(&answer) && written.as_slice() == frame)
+    let request = request(alloc).ok()?;
+    let answer = answered_again(alloc, (version, frame), &mut written, &request);
+    drop(request);
+    Some(is_added(answer) && written.as_slice() == frame)
 }
 
 #[test]
@@ -100,7 +111,10 @@ fn sent(
     written: &mut Vec<u8>,
 ) -> Option<Result<u64, SendFault>> {
     let request = request(alloc).ok()?;
-    request.check().ok()?;
+    if request.check().is_err() {
+        drop(request);
+        return None;
+    }
     Some(client.send(written, request))
 }
 
@@ -108,11 +122,12 @@ fn sent(
 fn sent_again(alloc: Global) -> Option<(Result<u64, SendFault>, bool)> {
     let mut written = roomy(alloc).ok()?;
     let mut client = Client::new(alloc, 2, 16)?;
-    let mut number = sent(alloc, &mut client, &mut written)?;
-    if number == Err(SendFault::Memory) && written.is_empty() {
-        number = sent(alloc, &mut client, &mut written)?;
+    let mut number = sent(alloc, &mut client, &mut written);
+    if number == Some(Err(SendFault::Memory)) && written.is_empty() {
+        number = sent(alloc, &mut client, &mut written);
     }
-    Some((number, written.as_slice() == INSERT_2.as_slice()))
+    drop(client);
+    Some((number?, written.as_slice() == INSERT_2.as_slice()))
 }
 
 /// A client whose send wanted memory wrote nothing, and sends under the same number then.

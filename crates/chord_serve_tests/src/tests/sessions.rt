@@ -1,6 +1,6 @@
 use super::askers::{FullAtFirst, MapAsker};
 use super::devices::Limited;
-use chord_map::{Bytes, Reply, Request};
+use chord_map::{Reply, Request};
 use chord_serve::{Asker, CallFault, Served, call, call_2, laws, serve};
 use chord_wire::{Answer, Answers, FaultCode};
 use std::alloc::{AllocError, Global};
@@ -78,15 +78,19 @@ fn session<A: Asker>(
 /// The same over a plain map, and how many requests it was asked.
 fn mapped(alloc: Global, input: &[&[u8]], output: &[&[u8]]) -> Option<((Served, bool), usize)> {
     let mut asker = MapAsker::new(alloc);
-    let told = session(alloc, &mut asker, input, output)?;
-    Some((told, asker.requests.len()))
+    let told = session(alloc, &mut asker, input, output);
+    let asked = asker.requests.len();
+    drop(asker);
+    Some((told?, asked))
 }
 
 /// The same over a store that is full at first, and how often it was asked again.
 fn full(alloc: Global, input: &[&[u8]], output: &[&[u8]]) -> Option<((Served, bool), usize, u64)> {
     let mut asker = FullAtFirst::new(alloc);
-    let told = session(alloc, &mut asker, input, output)?;
-    Some((told, asker.requests.len(), asker.retried))
+    let told = session(alloc, &mut asker, input, output);
+    let (asked, retried) = (asker.requests.len(), asker.retried);
+    drop(asker);
+    Some((told?, asked, retried))
 }
 
 #[test]
@@ -203,13 +207,9 @@ fn cut_at(alloc: Global, cut: usize) -> Option<(Served, usize)> {
     let (input, output) = three(alloc).ok()?;
     let mut reader = input.get(..cut)?;
     let mut written = Vec::new(alloc);
-    let served = serve(
-        alloc,
-        &mut reader,
-        &mut written,
-        &mut MapAsker::new(alloc),
-        10,
-    );
+    let mut asker = MapAsker::new(alloc);
+    let served = serve(alloc, &mut reader, &mut written, &mut asker, 10);
+    drop(asker);
     Some((served, begun(&output, &written)?))
 }
 
@@ -246,6 +246,7 @@ fn read_in_pieces(
     let mut written = Vec::new(alloc);
     let mut asker = MapAsker::new(alloc);
     let served = serve(alloc, &mut reader, &mut written, &mut asker, turns);
+    drop(asker);
     let reads = calls.saturating_sub(reader.calls);
     Some((served, begun(&output, &written)?, reads))
 }
@@ -281,6 +282,7 @@ fn written_in_pieces(alloc: Global, step: usize, calls: u64) -> Option<(Served, 
     };
     let mut asker = MapAsker::new(alloc);
     let served = serve(alloc, &mut input.as_slice(), &mut writer, &mut asker, 20);
+    drop(asker);
     Some((served, begun(&output, &writer.inner)?))
 }
 
@@ -325,19 +327,19 @@ fn turns_and_pieces(rt: HostRuntime) {
 }
 
 pub fn insert(alloc: Global) -> Result<Request, AllocError> {
-    let key = Bytes::from_slice(alloc, b"a")?;
-    let value = Bytes::from_slice(alloc, b"x")?;
-    Ok(Request::Insert { key, value })
+    Request::insert(alloc, b"a", b"x")
 }
 
-pub fn is_added(answer: &Answer) -> bool {
-    matches!(
-        answer,
-        Answer::Reply {
+pub fn is_added(answer: Result<Answer, CallFault>) -> bool {
+    let is_added = matches!(
+        &answer,
+        Ok(Answer::Reply {
             number: 1,
             reply: Reply::Added
-        }
-    )
+        })
+    );
+    drop(answer);
+    is_added
 }
 
 /// Call number 1 in this version, with floor 0.
@@ -365,16 +367,18 @@ fn is_called(alloc: Global, answers: &mut Answers, version: u8, frame: &[u8]) ->
     let mut written: Vec<u8> = Vec::new(alloc);
     let mut reader = ADDED.as_slice();
     let devices = (&mut reader, &mut written);
-    let answer = calls(alloc, devices, answers, version, &request, 10).ok()?;
-    Some(is_added(&answer) && written.as_slice() == frame)
+    let answer = calls(alloc, devices, answers, version, &request, 10);
+    drop(request);
+    Some(is_added(answer) && written.as_slice() == frame)
 }
 
 /// The same of two calls with one stream of answers, in version 1 and then in version 2.
 fn both_are_called(alloc: Global) -> Option<(bool, bool)> {
     let mut answers = Answers::new(alloc);
-    let first = is_called(alloc, &mut answers, 1, &INSERT)?;
-    let second = is_called(alloc, &mut answers, 2, &INSERT_2)?;
-    Some((first, second))
+    let first = is_called(alloc, &mut answers, 1, &INSERT);
+    let second = is_called(alloc, &mut answers, 2, &INSERT_2);
+    drop(answers);
+    Some((first?, second?))
 }
 
 #[test]
@@ -404,6 +408,8 @@ fn fault_of(
     let mut answers = Answers::new(alloc);
     let devices = (&mut reader, &mut writer);
     let answer = calls(alloc, devices, &mut answers, version, &request, turns);
+    drop(request);
+    drop(answers);
     Some((answer.err(), reads.saturating_sub(reader.calls)))
 }
 

@@ -3,7 +3,7 @@
 use super::askers::{MapAsker, OutOfMemoryAt};
 use super::devices::Limited;
 use super::sessions::{ADDED, INSERT, RETRIEVE, begun, fault, joined, three};
-use chord_map::{Bytes, Request};
+use chord_map::Request;
 use chord_serve::{Asker, Served, serve};
 use chord_wire::FaultCode;
 use std::alloc::{AllocError, Global};
@@ -52,7 +52,10 @@ impl Outcome {
 /// The same of the three frames.
 fn three_frames(alloc: Global, step: usize, writes: u64) -> Option<(Served, usize, u64)> {
     let (input, output) = three(alloc).ok()?;
-    session(alloc, (&input, step), &mut MapAsker::new(alloc), writes).against(&output)
+    let mut asker = MapAsker::new(alloc);
+    let outcome = session(alloc, (&input, step), &mut asker, writes);
+    drop(asker);
+    outcome.against(&output)
 }
 
 #[test]
@@ -67,7 +70,9 @@ fn one_write_a_turn(rt: HostRuntime) {
 #[test]
 fn half_a_frame_writes_nothing(rt: HostRuntime) {
     let alloc = rt.alloc();
-    let outcome = session(alloc, (&INSERT[..18], 4096), &mut MapAsker::new(alloc), 100);
+    let mut asker = MapAsker::new(alloc);
+    let outcome = session(alloc, (&INSERT[..18], 4096), &mut asker, 100);
+    drop(asker);
     assert!(rt; outcome.against(&[]) == Some((Served::Truncated, 0, 0)));
 }
 
@@ -91,7 +96,10 @@ fn with_a_bad_frame(alloc: Global, writes: u64) -> Option<(Served, usize, u64)> 
     bad[5] = 4;
     let input = joined(alloc, &[&INSERT, &INSERT, &bad, &INSERT]).ok()?;
     let output = joined(alloc, &[&ADDED, &ADDED, &fault(0, 3)]).ok()?;
-    session(alloc, (&input, 4096), &mut MapAsker::new(alloc), writes).against(&output)
+    let mut asker = MapAsker::new(alloc);
+    let outcome = session(alloc, (&input, 4096), &mut asker, writes);
+    drop(asker);
+    outcome.against(&output)
 }
 
 #[test]
@@ -126,7 +134,9 @@ fn out_of_memory_at(
     let output = joined(alloc, &[&ADDED, &added]).ok()?;
     let mut asker = OutOfMemoryAt::new(alloc, number);
     let outcome = session(alloc, (&input, 4096), &mut asker, writes);
-    Some((outcome.against(&output)?, asker.requests.len()))
+    let asked = asker.requests.len();
+    drop(asker);
+    Some((outcome.against(&output)?, asked))
 }
 
 #[test]
@@ -143,17 +153,18 @@ fn memory_ends_and_a_write_fails(rt: HostRuntime) {
     assert!(rt; told == Some(((Served::Write, 0, 0), 3)));
 }
 
-/// A map with so many values of 4,096 bytes under a.
+/// Insert a value of 4,096 bytes under a.
+fn insert_long(alloc: Global, first: u8) -> Result<Request, AllocError> {
+    let mut value = [0u8; 4096];
+    value[0] = first;
+    Request::insert(alloc, b"a", &value)
+}
+
+/// A map with so many such values.
 fn map_of(alloc: Global, count: u8) -> Option<MapAsker> {
     let mut asker = MapAsker::new(alloc);
     for first in 0..count {
-        let value: Vec<u8> = (0u16..4096)
-            .map(|place| if place == 0 { first } else { 0 })
-            .collect(alloc)
-            .ok()?;
-        let key = Bytes::from_slice(alloc, b"a").ok()?;
-        let value = Bytes::from_vec(value);
-        asker = asker.having(&Request::Insert { key, value })?;
+        asker = asker.having(insert_long(alloc, first))?;
     }
     Some(asker)
 }
@@ -176,7 +187,9 @@ fn retrieved(alloc: Global, count: u8, writes: u64) -> Option<((Served, usize, u
     let mut asker = map_of(alloc, count)?;
     let outcome = session(alloc, (&input, 4096), &mut asker, writes);
     let told = (outcome.end, outcome.written.len(), outcome.writes);
-    Some((told, asker.requests.len()))
+    let asked = asker.requests.len();
+    drop(asker);
+    Some((told, asked))
 }
 
 #[test]

@@ -9,7 +9,7 @@ use chord_links::Peer;
 use chord_map::{Reply, Request};
 use chord_node::{Message, Node};
 use chord_store::CappedStore;
-use chord_table::{BlankTable, CallerSeat, Naming, Parcel, Registrar, Shared};
+use chord_table::{BlankTable, CallerSeat, Naming, NodeSeat, Parcel, Registrar, Shared};
 use std::alloc::Global;
 use std::marker::Brand;
 use std::process::Abort;
@@ -60,32 +60,77 @@ fn hears<J: Naming>(
 }
 
 /// A client's call goes out twice, and the reply to it is handed out.
+fn hears_once<J: Naming, R: Abort>(
+    rt: &R,
+    alloc: Global,
+    table: &Shared<J>,
+    node: &mut Node<CappedStore>,
+    seat: &mut NodeSeat<J>,
+    core: &mut ClientCore,
+    caller: &mut CallerSeat<J>,
+) -> Result<(), Fail>
+    requires node { seat.old.node ≡ node.old }
+    requires caller { IsCoreOf core.old caller.old.caller }
+{
+    let call = submits(table, core, caller, insert(alloc)?)?;
+    assert!(rt; is_first_call(call.message()));
+    let again = match sends_again(table, core, caller) {
+        Ok(again) => again,
+        Err(fail) => {
+            drop(call);
+            return Err(fail);
+        }
+    };
+    assert!(rt; is_first_call(again.message()));
+    drop(again);
+    let told = reply(table, node, seat, call)?;
+    let outcome = hears(table, core, caller, told)?;
+    assert!(rt; matches!(&outcome, Outcome::Fresh(Reply::Added)));
+    drop(outcome);
+    assert!(rt; core.floor() == 1);
+    caller.look(table);
+    Ok(())
+}
+
+/// The same at a node and with a client that enter for it.
 fn hands_out<J: Naming, R: Abort>(rt: &R, alloc: Global, blank: BlankTable) -> Result<(), Fail>
     requires name { blank ≡ J.name }
     requires slots { blank.slots ≡ 2 }
     requires callers { blank.callers ≡ 1 }
 {
-    let (table, mut registrar) = blank.open::<J>();
+    let mut core = ClientCore::new(alloc, 0, 1)?;
     let me = Peer {
         no: 0,
         id: Id::new(5),
     };
-    let Ok(mut node) = Node::found(alloc, me, 3, CappedStore::new(alloc, 4)) else {
-        return Err(Fail::from("no node"));
+    let mut node = match Node::found(alloc, me, 3, CappedStore::new(alloc, 4)) {
+        Ok(node) => node,
+        Err(store) => {
+            drop(store);
+            drop(core);
+            drop(blank);
+            return Err(Fail::from("no node"));
+        }
     };
+    let (table, mut registrar) = blank.open::<J>();
     let mut seat = registrar.admit_node(&table, 0, &node);
-    let mut core = ClientCore::new(alloc, 0, 1)?;
     let mut caller = registrar.open_caller(&table, 0, 1);
-    let call = submits(&table, &mut core, &mut caller, insert(alloc)?)?;
-    assert!(rt; is_first_call(call.message()));
-    let again = sends_again(&table, &core, &mut caller)?;
-    assert!(rt; is_first_call(again.message()));
-    let told = reply(&table, &mut node, &mut seat, call)?;
-    let outcome = hears(&table, &mut core, &mut caller, told)?;
-    assert!(rt; matches!(outcome, Outcome::Fresh(Reply::Added)));
-    assert!(rt; core.floor() == 1);
-    caller.look(&table);
-    Ok(())
+    let heard = hears_once(
+        rt,
+        alloc,
+        &table,
+        &mut node,
+        &mut seat,
+        &mut core,
+        &mut caller,
+    );
+    drop(caller);
+    drop(core);
+    drop(seat);
+    drop(node);
+    drop(registrar);
+    drop(table);
+    heard
 }
 
 #[test]
