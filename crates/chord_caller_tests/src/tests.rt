@@ -2,17 +2,14 @@
 ghost use Rattle.std.specs.Prelude.{◌≤◌};
 
 use chord_caller::{Ask, CallerCore, Heard, Note, ResendFault, SubmitFault, TakeFault, Told};
-use chord_map::{Bytes, Reply, Request, RequestFault, Values};
+use chord_map::{Reply, Request, RequestFault, Values};
 use std::alloc::{AllocError, Global};
 
 mod clients;
 mod growths;
 
 fn insert(alloc: Global, key: &[u8]) -> Result<Request, AllocError> {
-    Ok(Request::Insert {
-        key: Bytes::from_slice(alloc, key)?,
-        value: Bytes::from_slice(alloc, b"x")?,
-    })
+    Request::insert(alloc, key, b"x")
 }
 
 fn added(caller: u64, number: u64) -> Told {
@@ -24,12 +21,26 @@ fn added(caller: u64, number: u64) -> Told {
 }
 
 /// Whether the ask is the call of this caller and number for the key, sent with this floor.
-fn is_ask(ask: &Ask, caller: u64, number: u64, floor: u64, key: &[u8]) -> bool {
-    ask.caller == caller
+fn is_ask(ask: Option<Ask>, caller: u64, number: u64, floor: u64, key: &[u8]) -> Option<bool> {
+    let ask = ask?;
+    let is_call = ask.caller == caller
         && ask.number == number
         && ask.floor == floor
         && ask.request.key() == key
-        && ask.hops == 255
+        && ask.hops == 255;
+    drop(ask);
+    Some(is_call)
+}
+
+fn number_of(ask: Ask) -> u64 {
+    let number = ask.number;
+    drop(ask);
+    number
+}
+
+/// The call of an insert under this key.
+fn asks(alloc: Global, core: &mut CallerCore, key: &[u8]) -> Option<Ask> {
+    core.submit(insert(alloc, key).ok()?).ok()
 }
 
 /// A caller of this number and window that submitted inserts under these keys.
@@ -39,7 +50,7 @@ fn submitted(alloc: Global, number: u64, window: u64, keys: &[&[u8]]) -> Option<
 {
     let mut core = CallerCore::new(alloc, number, window);
     for key in keys {
-        core.submit(insert(alloc, key).ok()?).ok()?;
+        number_of(asks(alloc, &mut core, key)?);
     }
     Some(core)
 }
@@ -53,10 +64,11 @@ fn refused(alloc: Global, core: &mut CallerCore, key: &[u8]) -> Option<SubmitFau
 fn submits_one(alloc: Global) -> Option<(Option<u64>, bool, Option<u64>, SubmitFault)> {
     let mut core = CallerCore::new(alloc, 7, 1);
     let before = core.pending();
-    let ask = core.submit(insert(alloc, b"abc").ok()?).ok()?;
+    let ask = asks(alloc, &mut core, b"abc");
     let after = core.pending();
-    let full = refused(alloc, &mut core, b"a")?;
-    Some((before, is_ask(&ask, 7, 1, 0, b"abc"), after, full))
+    let full = refused(alloc, &mut core, b"a");
+    drop(core);
+    Some((before, is_ask(ask, 7, 1, 0, b"abc")?, after, full?))
 }
 
 #[test]
@@ -74,7 +86,9 @@ fn a_caller_has_its_number(rt: HostRuntime) {
 /// Whether the call goes out again as it was.
 fn goes_out_again(alloc: Global) -> Option<bool> {
     let core = submitted(alloc, 7, 1, &[b"abc"])?;
-    Some(is_ask(&core.resend(1).ok()?, 7, 1, 0, b"abc"))
+    let again = core.resend(1).ok();
+    drop(core);
+    is_ask(again, 7, 1, 0, b"abc")
 }
 
 #[test]
@@ -89,7 +103,9 @@ fn hears_others(alloc: Global) -> Option<(Option<TakeFault>, Option<TakeFault>, 
     let mut core = submitted(alloc, 7, 1, &[b"abc"])?;
     let other = core.take(added(8, 1)).err();
     let next = core.take(added(7, 2)).err();
-    Some((other, next, core.is_pending(1)))
+    let waits = core.is_pending(1);
+    drop(core);
+    Some((other, next, waits))
 }
 
 #[test]
@@ -101,9 +117,11 @@ fn a_foreign_reply_is_not_taken(rt: HostRuntime) {
 /// What a reply is that comes twice, how many replies were taken then, and the floor.
 fn takes_twice(alloc: Global) -> Option<(Heard, Heard, usize, u64)> {
     let mut core = submitted(alloc, 7, 1, &[b"abc"])?;
-    let first = core.take(added(7, 1)).ok()?;
-    let again = core.take(added(7, 1)).ok()?;
-    Some((first, again, core.mine().len(), core.floor()))
+    let first = core.take(added(7, 1)).ok();
+    let again = core.take(added(7, 1)).ok();
+    let (taken, floor) = (core.mine().len(), core.floor());
+    drop(core);
+    Some((first?, again?, taken, floor))
 }
 
 #[test]
@@ -128,6 +146,7 @@ fn numbers(alloc: Global) -> Option<(Heard, [bool; 4])> {
         core.was_submitted(2),
         core.was_submitted(3),
     ];
+    drop(core);
     Some((heard, were))
 }
 
@@ -137,26 +156,35 @@ fn two_numbers_were_submitted(rt: HostRuntime) {
     assert!(rt; numbers(rt.alloc()) == Some(two));
 }
 
-/// Whether the calls 1 and 3 are not among those taken, and whether call 2 is the insert under `b` that was answered Added.
-fn finds_the_second(alloc: Global) -> Option<(bool, bool, u64, u64, bool)> {
+/// The caller and the number of call 2, and whether it is the insert under `b` that was answered Added.
+fn second_of(core: &CallerCore) -> Option<(u64, u64, bool)> {
+    let found = core.taken(2)?;
+    let is_b = found.request.key() == b"b".as_slice() && matches!(&found.reply, Reply::Added);
+    Some((found.caller, found.number, is_b))
+}
+
+/// Whether the calls 1 and 3 are not among those taken, and what call 2 is.
+fn finds_the_second(alloc: Global) -> Option<(bool, bool, (u64, u64, bool))> {
     let (core, _) = second_taken(alloc, 7)?;
     let (first, third) = (core.taken(1).is_none(), core.taken(3).is_none());
-    let found = core.taken(2)?;
-    let is_b = found.request.key() == b"b".as_slice() && found.reply == Reply::Added;
-    Some((first, third, found.caller, found.number, is_b))
+    let second = second_of(&core);
+    drop(core);
+    Some((first, third, second?))
 }
 
 #[test]
 fn a_taken_call_is_found_by_its_number(rt: HostRuntime) {
-    assert!(rt; finds_the_second(rt.alloc()) == Some((true, true, 7, 2, true)));
+    assert!(rt; finds_the_second(rt.alloc()) == Some((true, true, (7, 2, true))));
 }
 
 /// Why an empty key is refused, and the number of the call that comes then.
 fn after_an_empty_key(alloc: Global) -> Option<(SubmitFault, u64)> {
     let mut core = CallerCore::new(alloc, 0, 1);
-    let empty = refused(alloc, &mut core, b"")?;
-    let ask = core.submit(insert(alloc, b"a").ok()?).ok()?;
-    Some((empty, ask.number))
+    let empty = refused(alloc, &mut core, b"");
+    let ask = asks(alloc, &mut core, b"a");
+    drop(core);
+    let number = number_of(ask?);
+    Some((empty?, number))
 }
 
 #[test]
@@ -174,7 +202,9 @@ fn hears_values(alloc: Global) -> Option<(Option<TakeFault>, bool)> {
         reply: Reply::Values(Values::new(alloc)),
     };
     let fault = core.take(unfit).err();
-    Some((fault, core.is_pending(1)))
+    let waits = core.is_pending(1);
+    drop(core);
+    Some((fault, waits))
 }
 
 #[test]
@@ -183,22 +213,34 @@ fn a_reply_of_another_kind_is_not_taken(rt: HostRuntime) {
     assert!(rt; hears_values(rt.alloc()) == Some(foreign));
 }
 
+/// What the caller says of an insert under `c` before it comes.
+fn refusal(alloc: Global, core: &CallerCore) -> Option<Option<SubmitFault>> {
+    let request = insert(alloc, b"c").ok()?;
+    let refusal = core.refusal(&request);
+    drop(request);
+    Some(refusal)
+}
+
 /// What the caller says of a third request, in words and when it comes, before the reply to the first.
 fn before_the_first(alloc: Global) -> Option<(Heard, Option<SubmitFault>, SubmitFault)> {
     let (mut core, heard) = second_taken(alloc, 0)?;
-    let refusal = core.refusal(&insert(alloc, b"c").ok()?);
-    Some((heard, refusal, refused(alloc, &mut core, b"c")?))
+    let refusal = refusal(alloc, &core);
+    let full = refused(alloc, &mut core, b"c");
+    drop(core);
+    Some((heard, refusal?, full?))
 }
 
 /// The same after the reply to the first, and whether its call is right.
 fn after_the_first(alloc: Global) -> Option<(Heard, Option<SubmitFault>, bool)> {
     let (mut core, _) = second_taken(alloc, 0)?;
-    refused(alloc, &mut core, b"c")?;
-    let heard = core.take(added(0, 1)).ok()?;
-    let third = insert(alloc, b"c").ok()?;
-    let refusal = core.refusal(&third);
-    let ask = core.submit(third).ok()?;
-    Some((heard, refusal, is_ask(&ask, 0, 3, 2, b"c")))
+    let before = refused(alloc, &mut core, b"c");
+    let heard = core.take(added(0, 1)).ok();
+    let refusal = refusal(alloc, &core);
+    let ask = asks(alloc, &mut core, b"c");
+    drop(core);
+    let is_third = is_ask(ask, 0, 3, 2, b"c")?;
+    before?;
+    Some((heard?, refusal?, is_third))
 }
 
 #[test]
@@ -211,22 +253,28 @@ fn a_window_of_two(rt: HostRuntime) {
 /// What caller 1 shows after its first reply, and what that reply was.
 fn shown(alloc: Global) -> Option<(Note, Heard)> {
     let mut core = submitted(alloc, 1, 1, &[b"a"])?;
-    let heard = core.take(added(1, 1)).ok()?;
-    Some((core.show().ok()?, heard))
+    let heard = core.take(added(1, 1)).ok();
+    let note = core.show().ok();
+    drop(core);
+    Some((note?, heard?))
 }
 
 /// How much caller 0 was told of and took itself after it met the note twice.
 fn met_twice(alloc: Global, note: &Note) -> Option<(usize, usize)> {
     let mut core = CallerCore::new(alloc, 0, 1);
-    core.meet(note).ok()?;
-    core.meet(note).ok()?;
-    Some((core.told().len(), core.mine().len()))
+    let has_met = core.meet(note).is_ok() && core.meet(note).is_ok();
+    let known = (core.told().len(), core.mine().len());
+    drop(core);
+    if has_met { Some(known) } else { None }
 }
 
 /// What the reply was, how much the note shows, and how much is known of it where it was met.
 fn shows_and_meets(alloc: Global) -> Option<(Heard, usize, (usize, usize))> {
     let (note, heard) = shown(alloc)?;
-    Some((heard, note.done.len(), met_twice(alloc, &note)?))
+    let shows = note.done.len();
+    let met = met_twice(alloc, &note);
+    drop(note);
+    Some((heard, shows, met?))
 }
 
 #[test]

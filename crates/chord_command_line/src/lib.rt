@@ -9,6 +9,3 @@ mod command_lines;
 pub use command_lines::{
     DEFAULT_STORES, commands, names_stores, no_number, no_stores, small_number,
 };
-
-#[cfg(test)]
-mod tests;

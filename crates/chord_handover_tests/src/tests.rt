@@ -32,34 +32,51 @@ fn outbox_of(alloc: Global, owner: u64) -> Result<Outbox, Fail> {
     Ok(outbox)
 }
 
+/// Whether a copy of the first item is the whole circle with no pairs.
+fn copy_is_empty(outbox: &Outbox) -> Option<bool> {
+    let copy = outbox.item(1, 1)?.try_copy().ok()?;
+    let is_empty = (copy.segment().span().after == Id::new(A)) & (copy.pairs().len() == 0);
+    drop(copy);
+    Some(is_empty)
+}
+
 #[test]
 fn items_are_shown(rt: HostRuntime) -> Result<(), Fail> {
     let mut outbox = outbox_of(rt.alloc(), 0)?;
     assert!(rt; outbox.nth(0) == Some((1, 1)) && outbox.next_number(1) == Some(2));
-    let copy = outbox.item(1, 1).ok_or("no item")?.try_copy()?;
-    assert!(rt; copy.segment().span().after == Id::new(A));
-    assert!(rt; copy.pairs().len() == 0);
+    assert!(rt; copy_is_empty(&outbox) == Some(true));
     Ok(())
+}
+
+/// Whether it is there.
+fn is_there<T: Drop>(value: Option<T>) -> bool {
+    value.is_some()
 }
 
 #[test]
 fn items_stay_until_got(rt: HostRuntime) -> Result<(), Fail> {
     let mut outbox = outbox_of(rt.alloc(), 0)?;
     assert!(rt; !outbox.is_empty());
-    assert!(rt; outbox.got(1, 1).is_some());
-    assert!(rt; outbox.got(1, 1).is_none());
+    assert!(rt; is_there(outbox.got(1, 1)));
+    assert!(rt; !is_there(outbox.got(1, 1)));
     assert!(rt; outbox.is_empty());
     Ok(())
+}
+
+/// Whether the second item comes back, the whole circle with no pairs.
+fn comes_back(outbox: &mut Outbox) -> Option<bool> {
+    let (segment, pairs) = outbox.declined(1, 2)?.into_parts();
+    let is_empty = (segment.span().upto == Id::new(A)) & (pairs.len() == 0);
+    drop(segment);
+    drop(pairs);
+    Some(is_empty)
 }
 
 #[test]
 fn a_declined_item_comes_back(rt: HostRuntime) -> Result<(), Fail> {
     let mut outbox = outbox_of(rt.alloc(), 0)?;
     assert!(rt; give_one(rt.alloc(), &mut outbox)? == 2);
-    let back = outbox.declined(1, 2).ok_or("no item")?;
-    let (segment, pairs) = back.into_parts();
-    assert!(rt; segment.span().upto == Id::new(A));
-    assert!(rt; pairs.len() == 0);
+    assert!(rt; comes_back(&mut outbox) == Some(true));
     assert!(rt; !outbox.is_empty());
     Ok(())
 }
@@ -67,7 +84,9 @@ fn a_declined_item_comes_back(rt: HostRuntime) -> Result<(), Fail> {
 #[test]
 fn an_item_without_pairs_has_one_part(rt: HostRuntime) -> Result<(), Fail> {
     let outbox = outbox_of(rt.alloc(), 3)?;
-    let part = outbox.part(1, 1, 1)?.ok_or("no part")?;
+    let part = outbox.part(1, 1, 1);
+    drop(outbox);
+    let part = part?.ok_or("no part")?;
     assert!(rt; (part.from, part.to, part.number) == (3, 1, 1));
     assert!(rt; (part.place, part.of) == (1, 1));
     assert!(rt; part.segment.is_some());
@@ -77,8 +96,8 @@ fn an_item_without_pairs_has_one_part(rt: HostRuntime) -> Result<(), Fail> {
 #[test]
 fn there_is_no_further_part_or_item(rt: HostRuntime) -> Result<(), Fail> {
     let outbox = outbox_of(rt.alloc(), 3)?;
-    assert!(rt; outbox.part(1, 1, 2)?.is_none());
-    assert!(rt; outbox.part(1, 2, 1)?.is_none());
+    assert!(rt; !is_there(outbox.part(1, 1, 2)?));
+    assert!(rt; !is_there(outbox.part(1, 2, 1)?));
     Ok(())
 }
 
@@ -95,14 +114,19 @@ fn numbers_are_taken_in_order(rt: HostRuntime) -> Result<(), Fail> {
     Ok(())
 }
 
+/// Adds this value under one key.
+fn push(pairs: &mut Vec<Pair>, alloc: Global, value: &[u8]) -> Result<(), AllocError> {
+    let key = Bytes::from_slice(alloc, b"abc")?;
+    let value = Bytes::from_slice(alloc, value)?;
+    pairs.push(Pair { key, value })?;
+    Ok(())
+}
+
 /// So many pairs under one key, whose values rise.
 pub fn pairs(alloc: Global, count: u8) -> Result<Vec<Pair>, AllocError> {
     let mut pairs = Vec::new(alloc);
     for i in 0..count {
-        pairs.push(Pair {
-            key: Bytes::from_slice(alloc, b"abc")?,
-            value: Bytes::from_slice(alloc, &[i])?,
-        })?;
+        push(&mut pairs, alloc, &[i])?;
     }
     Ok(pairs)
 }
@@ -142,15 +166,18 @@ pub fn makes(taken: &Taken, part: &Part) -> Result<&'static str, AllocError> {
     if taken.judge(part.from, part.number) != Verdict::Next {
         return Ok("not next");
     }
-    Ok(match taken.whole_with(part)? {
+    let gather = taken.whole_with(part)?;
+    let made = match &gather {
         Gather::More => "more",
         Gather::Unfit => "unfit",
         Gather::Whole(_) => "whole",
-    })
+    };
+    drop(gather);
+    Ok(made)
 }
 
 /// The word, also where memory was refused.
-fn said(word: Result<&'static str, AllocError>) -> &'static str {
+pub fn said(word: Result<&'static str, AllocError>) -> &'static str {
     word.unwrap_or("out of memory")
 }
 
@@ -194,13 +221,14 @@ fn two_parts_make_it_whole(rt: HostRuntime) -> Result<(), Fail> {
 
 #[test]
 fn a_part_of_a_handover_that_was_taken_is_not_next(rt: HostRuntime) -> Result<(), Fail> {
-    let (_, second) = two_parts(rt.alloc())?;
+    let (first, second) = two_parts(rt.alloc())?;
+    drop(first);
     let mut taken = Taken::new(rt.alloc());
     taken.reserve()?;
     if taken.last(0) == 0 {
         taken.mark(0);
     }
-    assert!(rt; take_in(&mut taken, &second)? == "not next");
+    assert!(rt; said(take_in(&mut taken, &second)) == "not next");
     Ok(())
 }
 
@@ -210,10 +238,13 @@ fn makes_whole(taken: &Taken, part: &Part, pairs: &[Pair]) -> bool {
         return false;
     }
     let circle = Span::new(Id::new(A), Id::new(A));
-    match taken.whole_with(part) {
+    let gather = taken.whole_with(part);
+    let is_whole = match &gather {
         Ok(Gather::Whole(whole)) => whole.segment().span() == circle && whole.pairs() == pairs,
         _ => false,
-    }
+    };
+    drop(gather);
+    is_whole
 }
 
 #[test]
@@ -226,13 +257,23 @@ fn what_is_whole_has_all_pairs(rt: HostRuntime) -> Result<(), Fail> {
     Ok(())
 }
 
+/// What the part makes with what is noted, where it is there.
+fn makes_of(taken: &Taken, part: Option<Part>) -> &'static str {
+    let Some(part) = part else {
+        return "out of memory";
+    };
+    let made = makes(taken, &part);
+    drop(part);
+    said(made)
+}
+
 /// What part i of so many, with so many pairs, makes with what is noted.
 fn makes_with(taken: &Taken, alloc: Global, i: u64, of: u64, count: u8) -> &'static str
     requires low { 1 ≤ i }
     requires high { i ≤ of }
 {
     match pairs(alloc, count) {
-        Ok(pairs) => said(makes(taken, &part_of(alloc, i, of, pairs))),
+        Ok(pairs) => makes_of(taken, Some(part_of(alloc, i, of, pairs))),
         Err(_) => "out of memory",
     }
 }
@@ -257,10 +298,7 @@ fn pairs_from(alloc: Global, first: u64, count: u64) -> Result<Vec<Pair>, AllocE
     let mut pairs = Vec::new(alloc);
     for i in 0..count {
         let value = (first + i) as u16;
-        pairs.push(Pair {
-            key: Bytes::from_slice(alloc, b"abc")?,
-            value: Bytes::from_slice(alloc, &value.to_be_bytes())?,
-        })?;
+        push(&mut pairs, alloc, &value.to_be_bytes())?;
     }
     Ok(pairs)
 }
@@ -270,7 +308,10 @@ fn all_but_the_last(alloc: Global) -> Result<Taken, AllocError> {
     let mut taken = Taken::new(alloc);
     for i in 1..16 {
         let pairs = pairs_from(alloc, 64 * (i - 1), 64)?;
-        note(&mut taken, &part_of(alloc, i, 16, pairs))?;
+        let part = part_of(alloc, i, 16, pairs);
+        let noted = note(&mut taken, &part);
+        drop(part);
+        noted?;
     }
     Ok(taken)
 }
@@ -285,16 +326,19 @@ fn last_part(alloc: Global, count: u64) -> Result<Part, AllocError>
 #[test]
 fn a_set_of_a_parcel_has_at_most_a_thousand_values(rt: HostRuntime) -> Result<(), Fail> {
     let all = pairs_from(rt.alloc(), 0, 1000)?;
-    let fits = last_part(rt.alloc(), 40)?;
-    let is_more = last_part(rt.alloc(), 41)?;
     let taken = all_but_the_last(rt.alloc())?;
+    let fits = last_part(rt.alloc(), 40)?;
     assert!(rt; makes_whole(&taken, &fits, &all));
-    assert!(rt; said(makes(&taken, &is_more)) == "unfit");
+    assert!(rt; makes_of(&taken, last_part(rt.alloc(), 41).ok()) == "unfit");
     Ok(())
 }
 
-fn equals_its_copy(part: &Part) -> Option<bool> {
-    Some(part.equals(&part.try_copy().ok()?))
+/// Whether it equals the other, where that is there.
+fn equals(part: &Part, other: Option<Part>) -> Option<bool> {
+    let other = other?;
+    let is_equal = part.equals(&other);
+    drop(other);
+    Some(is_equal)
 }
 
 /// Whether it equals part i of so many, with so many pairs.
@@ -302,14 +346,15 @@ fn equals_part(part: &Part, alloc: Global, i: u64, of: u64, count: u8) -> Option
     requires low { 1 ≤ i }
     requires high { i ≤ of }
 {
-    Some(part.equals(&part_of(alloc, i, of, pairs(alloc, count).ok()?)))
+    let pairs = pairs(alloc, count).ok()?;
+    equals(part, Some(part_of(alloc, i, of, pairs)))
 }
 
 #[test]
 fn parts_are_compared(rt: HostRuntime) -> Result<(), Fail> {
     let alloc = rt.alloc();
     let first = part(alloc, 1, pairs(alloc, 64)?);
-    assert!(rt; equals_its_copy(&first) == Some(true));
+    assert!(rt; equals(&first, first.try_copy().ok()) == Some(true));
     assert!(rt; equals_part(&first, alloc, 1, 2, 64) == Some(true));
     assert!(rt; equals_part(&first, alloc, 1, 2, 63) == Some(false));
     assert!(rt; equals_part(&first, alloc, 2, 2, 64) == Some(false));
@@ -324,10 +369,13 @@ fn parts_are_noted(rt: HostRuntime) -> Result<(), Fail> {
         to: 1,
         number: 1,
     };
-    let part = empty_parcel(rt.alloc()).part(ticket, 1)?;
+    let parcel = empty_parcel(rt.alloc());
+    let part = parcel.part(ticket, 1);
+    drop(parcel);
+    let part = part?;
     let mut taken = Taken::new(rt.alloc());
     note(&mut taken, &part)?;
     taken.forget_noted();
-    assert!(rt; makes(&taken, &part)? == "whole");
+    assert!(rt; said(makes(&taken, &part)) == "whole");
     Ok(())
 }

@@ -1,12 +1,20 @@
+use crate::samples::equal;
 use chord_map::Bytes;
 use std::alloc::Global;
 use std::cmp::Ordering;
 
+// How the two compare, and whether they are equal, where both are there.
+fn compared_all<T: Ord + Drop>(left: Option<T>, right: Option<T>) -> Option<(Ordering, bool)> {
+    let (left, right) = (left?, right?);
+    Some((left.cmp(&right), left == right))
+}
+
 // How two byte strings compare, and whether they are equal.
 fn compared(alloc: Global, left: &[u8], right: &[u8]) -> Option<(Ordering, bool)> {
-    let left = Bytes::from_slice(alloc, left).ok()?;
-    let right = Bytes::from_slice(alloc, right).ok()?;
-    Some((left.cmp(&right), left == right))
+    compared_all(
+        Bytes::from_slice(alloc, left).ok(),
+        Bytes::from_slice(alloc, right).ok(),
+    )
 }
 
 #[test]
@@ -28,12 +36,21 @@ fn short_and_long_bytes_compare(rt: HostRuntime) {
     assert!(rt; compared(alloc, &[7; 17], &[7; 17]) == Some((Ordering::Equal, true)));
 }
 
+// Whether the copy is there and has these bytes.
+fn is_copy(copy: Option<Bytes>, bytes: &[u8]) -> Option<bool> {
+    let copy = copy?;
+    let is_same = copy.as_slice() == bytes;
+    drop(copy);
+    Some(is_same)
+}
+
 // Whether the bytes of a vector, a copy of them and a copy of the vector's slice are equal.
 fn are_all_equal(alloc: Global, bytes: &[u8]) -> Option<bool> {
     let vector = Bytes::from_vec(bytes.to_vec(alloc).ok()?);
-    let copy = vector.try_copy().ok()?;
-    let of_slice = Bytes::from_slice(alloc, bytes).ok()?;
-    Some(vector == copy && copy == of_slice && of_slice.as_slice() == bytes)
+    let copy = vector.try_copy().ok();
+    let is_same = vector.as_slice() == bytes;
+    let of_slice = Bytes::from_slice(alloc, bytes).ok();
+    Some(is_same && equal(of_slice, Some(vector))? && is_copy(copy, bytes)?)
 }
 
 #[test]

@@ -1,3 +1,4 @@
+use crate::samples::equal;
 use chord_map::{Done, Reply, Request, copy_dones, find_done};
 use std::alloc::{AllocError, Global};
 use std::test::Fail;
@@ -46,15 +47,13 @@ fn copies_are_equal(alloc: Global) -> Option<bool> {
 /// Whether a copy of a call is equal to it.
 fn copy_is_equal(alloc: Global) -> Option<bool> {
     let done = added(alloc, 1, 2).ok()?;
-    let copy = done.try_copy().ok()?;
-    Some(copy == done)
+    let copy = done.try_copy().ok();
+    equal(copy, Some(done))
 }
 
 /// Whether two calls are equal of which each has the other's number as its caller.
 fn others_are_equal(alloc: Global) -> Option<bool> {
-    let first = added(alloc, 1, 2).ok()?;
-    let second = added(alloc, 2, 1).ok()?;
-    Some(first == second)
+    equal(added(alloc, 1, 2).ok(), added(alloc, 2, 1).ok())
 }
 
 #[test]

@@ -1,7 +1,6 @@
-use crate::samples::one_value;
+use crate::samples::{equal, one_value};
 use chord_map::{PlainMap, Reply, Request, Values};
 use std::alloc::{AllocError, Global};
-use std::test::Fail;
 
 // The reply to the request, where it is one and memory is there.
 fn told(map: &mut PlainMap, request: &Request) -> Option<Reply> {
@@ -13,23 +12,31 @@ fn told(map: &mut PlainMap, request: &Request) -> Option<Reply> {
 
 // Whether this is the reply to the request.
 fn tells(map: &mut PlainMap, request: Result<Request, AllocError>, reply: &Reply) -> Option<bool> {
-    Some(told(map, &request.ok()?)? == *reply)
+    let request = request.ok()?;
+    let found = told(map, &request);
+    drop(request);
+    let is_told = found.as_ref().map(|found| found == reply);
+    drop(found);
+    is_told
 }
 
 // Whether the values found under `abc` are these.
 fn finds(alloc: Global, map: &mut PlainMap, values: Values) -> Option<bool> {
-    tells(
-        map,
-        Request::retrieve(alloc, b"abc"),
-        &Reply::Values(values),
-    )
+    let wanted = Reply::Values(values);
+    let is_found = tells(map, Request::retrieve(alloc, b"abc"), &wanted);
+    drop(wanted);
+    is_found
 }
 
 // Whether x alone is found under `abc`, and a copy of the reply is equal to it.
 fn finds_x(alloc: Global, map: &mut PlainMap) -> Option<bool> {
-    let found = told(map, &Request::retrieve(alloc, b"abc").ok()?)?;
-    let copy = found.try_copy().ok()?;
-    Some(found == one_value(alloc, b"x").ok()? && copy == found)
+    let request = Request::retrieve(alloc, b"abc").ok()?;
+    let found = told(map, &request);
+    drop(request);
+    let found = found?;
+    let copy = found.try_copy().ok();
+    let is_found = equal(one_value(alloc, b"x").ok(), Some(found));
+    Some(is_found? && equal(copy, one_value(alloc, b"x").ok())?)
 }
 
 // Whether this is the reply to an insert of x under `abc`.
@@ -112,47 +119,57 @@ fn insert_of(alloc: Global, n: u8) -> Result<Request, AllocError> {
     }
 }
 
-// Whether the values under `a` are [0], [1] and so on, below `end`.
-fn ends_at(alloc: Global, map: &mut PlainMap, end: u8) -> Result<bool, AllocError> {
-    let request = Request::retrieve(alloc, b"a")?;
-    let found = match told(map, &request) {
-        Some(found) => Some(found),
-        None => told(map, &request),
-    };
-    let Some(Reply::Values(values)) = found else {
-        return Ok(false);
-    };
+// Whether these are [0], [1] and so on, below `end`.
+fn are_below(values: &Values, end: u8) -> bool {
     let mut rest = values.as_slice().iter();
     for n in 0..end {
         if !rest
             .next()
             .is_some_and(|value| value.as_slice() == [n].as_slice())
         {
-            return Ok(false);
+            return false;
         }
     }
-    Ok(rest.next().is_none())
+    rest.next().is_none()
+}
+
+// Whether the values under `a` are those below `end`, asked for again where there was no memory.
+fn ends_at(alloc: Global, map: &mut PlainMap, end: u8) -> Result<bool, AllocError> {
+    let request = Request::retrieve(alloc, b"a")?;
+    let found = told(map, &request).or_else(|| told(map, &request));
+    drop(request);
+    let is_end = match &found {
+        Some(Reply::Values(values)) => are_below(values, end),
+        _ => false,
+    };
+    drop(found);
+    Ok(is_end)
 }
 
 // Whether Added is the reply, where memory is there.
 fn adds(map: &mut PlainMap, request: &Request) -> Option<bool> {
-    Some(told(map, request)? == Reply::Added)
+    equal(told(map, request), Some(Reply::Added))
+}
+
+// Whether [n] is added; where there was no memory, the values have to be those below it, and it is added then.
+fn adds_at_last(alloc: Global, map: &mut PlainMap, n: u8) -> Result<bool, AllocError> {
+    let request = insert_of(alloc, n)?;
+    let added = match adds(map, &request) {
+        Some(added) => Ok(added),
+        None => ends_at(alloc, map, n).map(|is_end| is_end && adds(map, &request) == Some(true)),
+    };
+    drop(request);
+    added
 }
 
 // With ample memory no growth is refused.
 #[test]
-fn a_refused_growth_leaves_the_map(rt: HostRuntime) -> Result<(), Fail> {
+fn a_refused_growth_leaves_the_map(rt: HostRuntime) {
     let alloc = rt.alloc();
     let mut map = PlainMap::new(alloc);
     for n in 0..12 {
-        let request = insert_of(alloc, n)?;
-        let mut added = adds(&mut map, &request);
-        if added.is_none() {
-            assert!(rt; ends_at(alloc, &mut map, n)?, "at {n}");
-            added = adds(&mut map, &request);
-        }
-        assert!(rt; added == Some(true), "at {n}");
+        let added = adds_at_last(alloc, &mut map, n);
+        assert!(rt; added.is_ok_and(|added| added), "at {n}");
     }
-    assert!(rt; ends_at(alloc, &mut map, 12)?);
-    Ok(())
+    assert!(rt; ends_at(alloc, &mut map, 12).is_ok_and(|is_end| is_end));
 }

@@ -1,11 +1,13 @@
-use crate::samples::one_value;
+use crate::samples::{equal, one_value};
 use chord_map::{Reply, Request, RequestFault};
 use std::alloc::{AllocError, Global};
-use std::test::Fail;
 
 /// What the check says of a request.
 fn checked(request: Result<Request, AllocError>) -> Option<Result<(), RequestFault>> {
-    Some(request.ok()?.check())
+    let request = request.ok()?;
+    let checked = request.check();
+    drop(request);
+    Some(checked)
 }
 
 #[test]
@@ -29,23 +31,31 @@ fn values_have_limits(rt: HostRuntime) {
     assert!(rt; checked(Request::remove(alloc, &[], &long)) == Some(Err(RequestFault::KeyEmpty)));
 }
 
+/// Whether the fault has this text.
+fn reads(alloc: Global, fault: RequestFault, text: &str) -> Option<bool> {
+    let made = format!(in alloc; "{fault}").ok()?;
+    Some(made.as_str() == text)
+}
+
 #[test]
-fn tells_its_fault(rt: HostRuntime) -> Result<(), Fail> {
-    let alloc = rt.alloc();
-    let text = format!(in alloc; "{}", RequestFault::KeyEmpty)?;
-    assert!(rt; text.as_str() == "the key is empty");
-    let text = format!(in alloc; "{}", RequestFault::KeyLong)?;
-    assert!(rt; text.as_str() == "the key has more than 255 bytes");
-    let text = format!(in alloc; "{}", RequestFault::ValueLong)?;
-    assert!(rt; text.as_str() == "the value has more than 4096 bytes");
-    Ok(())
+fn tells_its_fault(rt: HostRuntime) {
+    for (fault, text) in [
+        (RequestFault::KeyEmpty, "the key is empty"),
+        (RequestFault::KeyLong, "the key has more than 255 bytes"),
+        (
+            RequestFault::ValueLong,
+            "the value has more than 4096 bytes",
+        ),
+    ] {
+        assert!(rt; reads(rt.alloc(), fault, text) == Some(true), "{text}");
+    }
 }
 
 /// Whether a copy of the request is equal to it.
 fn is_its_copy(request: Result<Request, AllocError>) -> Option<bool> {
     let request = request.ok()?;
-    let copy = request.try_copy().ok()?;
-    Some(copy == request)
+    let copy = request.try_copy().ok();
+    equal(copy, Some(request))
 }
 
 /// Whether the requests are equal.
@@ -53,13 +63,15 @@ fn are_equal(
     first: Result<Request, AllocError>,
     second: Result<Request, AllocError>,
 ) -> Option<bool> {
-    Some(first.ok()? == second.ok()?)
+    equal(first.ok(), second.ok())
 }
 
 /// Whether the request names this key and this value.
 fn names(request: Result<Request, AllocError>, key: &[u8], value: &[u8]) -> Option<bool> {
     let request = request.ok()?;
-    Some(request.key() == key && request.value() == value)
+    let is_named = request.key() == key && request.value() == value;
+    drop(request);
+    Some(is_named)
 }
 
 #[test]
@@ -96,16 +108,19 @@ fn names_its_key_and_value(rt: HostRuntime) {
 
 /// Whether the reply fits the request.
 fn fits(reply: &Reply, request: Result<Request, AllocError>) -> Option<bool> {
-    Some(reply.fits(&request.ok()?))
+    let request = request.ok()?;
+    let fits = reply.fits(&request);
+    drop(request);
+    Some(fits)
 }
 
 /// Whether the reply fits an insert, a retrieve and a remove.
 fn fitting(alloc: Global, reply: Reply) -> Option<(bool, bool, bool)> {
-    Some((
-        fits(&reply, Request::insert(alloc, b"a", b"x"))?,
-        fits(&reply, Request::retrieve(alloc, b"a"))?,
-        fits(&reply, Request::remove(alloc, b"a", b"x"))?,
-    ))
+    let insert = fits(&reply, Request::insert(alloc, b"a", b"x"));
+    let retrieve = fits(&reply, Request::retrieve(alloc, b"a"));
+    let remove = fits(&reply, Request::remove(alloc, b"a", b"x"));
+    drop(reply);
+    Some((insert?, retrieve?, remove?))
 }
 
 /// The same of the reply with the value x.
@@ -128,10 +143,11 @@ fn knows_the_replies_of_its_kind(rt: HostRuntime) {
 
 /// Whether the reply with the value x is equal to itself, to the one with y, and to Added.
 fn equals(alloc: Global) -> Option<(bool, bool, bool)> {
-    let values = one_value(alloc, b"x").ok()?;
-    let same = one_value(alloc, b"x").ok()?;
-    let other = one_value(alloc, b"y").ok()?;
-    Some((values == same, values == other, values == Reply::Added))
+    let values = || one_value(alloc, b"x").ok();
+    let same = equal(values(), values());
+    let other = equal(values(), one_value(alloc, b"y").ok());
+    let added = equal(values(), Some(Reply::Added));
+    Some((same?, other?, added?))
 }
 
 #[test]

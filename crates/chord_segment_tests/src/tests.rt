@@ -3,7 +3,7 @@
 mod growths;
 
 use chord_ident::{Id, Span};
-use chord_map::{Bytes, Reply, Request};
+use chord_map::{Reply, Request};
 use chord_segment::{CutFault, Done, JoinFault, Past, Segment};
 use std::alloc::{AllocError, Global};
 use std::test::Fail;
@@ -20,28 +20,35 @@ pub fn span(after: u128, upto: u128) -> Span {
 
 /// The call of this caller and number that added x under the key.
 pub fn added(alloc: Global, caller: u64, number: u64, key: &[u8]) -> Result<Done, AllocError> {
-    let request = Request::Insert {
-        key: Bytes::from_slice(alloc, key)?,
-        value: Bytes::from_slice(alloc, b"x")?,
-    };
     Ok(Done {
         caller,
         number,
-        request,
+        request: Request::insert(alloc, key, b"x")?,
         reply: Reply::Added,
     })
 }
 
-/// Keeps a call, after it tested what that asks for.
-fn keep(segment: &mut Segment, done: Done, floor: u64) -> bool {
+/// Keeps a call where its asks are met, or hands it back.
+pub fn kept(segment: &mut Segment, done: Done, floor: u64) -> Result<bool, Done> {
     let inside = segment.span().contains(Id::of_bytes(done.request.key()));
-    if !inside || done.number <= floor || done.number - floor > 16 {
-        return false;
+    if inside && done.number > floor && done.number - floor <= 16 {
+        if let Past::New = segment.find(done.caller, done.number) {
+            return match segment.append(done, floor) {
+                Ok(()) => Ok(true),
+                Err(refused) => Err(refused.value),
+            };
+        }
     }
-    if let Past::New = segment.find(done.caller, done.number) {
-        return segment.append(done, floor).is_ok();
-    }
-    false
+    drop(done);
+    Ok(false)
+}
+
+/// Whether it is kept then.
+pub fn keep(segment: &mut Segment, done: Done, floor: u64) -> bool {
+    let kept = kept(segment, done, floor);
+    let is_kept = matches!(kept, Ok(true));
+    drop(kept);
+    is_kept
 }
 
 /// Whether it keeps the call of this caller and number.
@@ -53,8 +60,7 @@ pub fn keeps(segment: &Segment, caller: u64, number: u64) -> bool {
 pub fn one(alloc: Global, span: Span, key: &[u8]) -> Result<Segment, AllocError> {
     let mut segment = Segment::empty(alloc, span);
     segment.reserve(0)?;
-    let done = added(alloc, 0, 1, key)?;
-    if !keep(&mut segment, done, 0) {
+    if !keep_added(&mut segment, alloc, 1, key, 0) {
         return Err(AllocError);
     }
     Ok(segment)
@@ -79,25 +85,47 @@ fn what_is_kept_goes_by_key(rt: HostRuntime) -> Result<(), Fail> {
     Ok(())
 }
 
+/// Whether it keeps the first call of caller 0, and that has this key.
+fn keeps_under(segment: &Segment, key: &[u8]) -> bool {
+    matches!(segment.find(0, 1), Past::Kept(done) if done.request.key() == key)
+}
+
+/// Whether the call of this caller and number is new to it.
+fn is_new(segment: &Segment, caller: u64, number: u64) -> bool {
+    matches!(segment.find(caller, number), Past::New)
+}
+
+/// Whether a copy of it is the same, and keeps the first call of caller 0 alone.
+fn is_copied(whole: &Segment) -> Option<bool> {
+    let copy = whole.try_copy().ok()?;
+    let is_same = copy.equals(whole) & (copy.span() == span(A, A)) & (copy.floor(0) == 0);
+    let is_kept = keeps_under(&copy, b"abc") & is_new(&copy, 0, 2);
+    drop(copy);
+    Some(is_same & is_kept)
+}
+
 #[test]
 fn a_copy_is_the_same(rt: HostRuntime) -> Result<(), Fail> {
     let whole = one(rt.alloc(), span(A, A), b"abc")?;
-    let copy = whole.try_copy()?;
-    assert!(rt; copy.equals(&whole));
-    assert!(rt; copy.span() == span(A, A));
-    assert!(rt; copy.floor(0) == 0);
-    assert!(rt;
-        matches!(copy.find(0, 1), Past::Kept(done) if done.request.key() == b"abc".as_slice())
-    );
-    assert!(rt; matches!(copy.find(0, 2), Past::New));
+    assert!(rt; is_copied(&whole) == Some(true));
     Ok(())
+}
+
+/// Whether it equals the other, where that is there.
+pub fn equals(segment: &Segment, other: Option<Segment>) -> Option<bool> {
+    let other = other?;
+    let is_equal = segment.equals(&other);
+    drop(other);
+    Some(is_equal)
 }
 
 #[test]
 fn others_are_not_the_same(rt: HostRuntime) -> Result<(), Fail> {
     let whole = one(rt.alloc(), span(A, A), b"abc")?;
-    assert!(rt; !whole.equals(&one(rt.alloc(), span(A, A), b"abd")?));
-    assert!(rt; !whole.equals(&Segment::empty(rt.alloc(), span(A, A))));
+    let other = one(rt.alloc(), span(A, A), b"abd").ok();
+    assert!(rt; equals(&whole, other) == Some(false));
+    let empty = Segment::empty(rt.alloc(), span(A, A));
+    assert!(rt; equals(&whole, Some(empty)) == Some(false));
     Ok(())
 }
 
@@ -114,12 +142,18 @@ fn neighbours_keep_a_call_once(rt: HostRuntime) -> Result<(), Fail> {
 
 /// Why it cannot be cut there.
 fn cut_fault(segment: Segment, at: u128) -> Option<CutFault> {
-    Some(segment.cut(Id::new(at)).err()?.fault)
+    let uncut = segment.cut(Id::new(at)).err()?;
+    let fault = uncut.fault;
+    drop(uncut);
+    Some(fault)
 }
 
 /// Why they cannot be joined.
 fn join_fault(first: Segment, second: Segment) -> Option<JoinFault> {
-    Some(first.join(second).err()?.fault)
+    let unjoined = first.join(second).err()?;
+    let fault = unjoined.fault;
+    drop(unjoined);
+    Some(fault)
 }
 
 #[test]
@@ -148,15 +182,13 @@ fn keep_added(segment: &mut Segment, alloc: Global, number: u64, key: &[u8], flo
 fn floors_drop_what_was_taken(rt: HostRuntime) -> Result<(), Fail> {
     let mut segment = one(rt.alloc(), span(A, A), b"abc")?;
     assert!(rt; keep_added(&mut segment, rt.alloc(), 2, b"b", 0));
-    assert!(rt; keeps(&segment, 0, 1));
-    assert!(rt; keeps(&segment, 0, 2));
+    assert!(rt; keeps(&segment, 0, 1) & keeps(&segment, 0, 2));
     assert!(rt; keep_added(&mut segment, rt.alloc(), 3, b"a", 2));
     assert!(rt; segment.floor(0) == 2);
     assert!(rt; keeps(&segment, 0, 3));
     assert!(rt; matches!(segment.find(0, 1), Past::Seen));
     let (before, behind) = cut_at_b(segment)?;
-    assert!(rt; before.floor(0) == 2);
-    assert!(rt; behind.floor(0) == 2);
+    assert!(rt; (before.floor(0), behind.floor(0)) == (2, 2));
     Ok(())
 }
 
@@ -174,7 +206,7 @@ fn kept_of(alloc: Global, span: Span, callers: &[u64], key: &[u8]) -> Result<Seg
 
 /// Whether it keeps the first call of each of these callers under `abc`, and no more.
 fn keeps_of(segment: &Segment, alloc: Global, callers: &[u64]) -> Option<bool> {
-    Some(segment.equals(&kept_of(alloc, span(A, A), callers, b"abc").ok()?))
+    equals(segment, kept_of(alloc, span(A, A), callers, b"abc").ok())
 }
 
 #[test]
@@ -189,14 +221,20 @@ fn callers_are_kept_apart(rt: HostRuntime) -> Result<(), Fail> {
     Ok(())
 }
 
+/// Whether caller 7 is readied in a copy, and that is the same still.
+fn is_readied_unseen(before: &Segment) -> Option<bool> {
+    let mut segment = before.try_copy().ok()?;
+    let is_readied = segment.reserve(7).is_ok();
+    let is_same = segment.equals(before) & before.equals(&segment);
+    let is_unseen = (segment.floor(7) == 0) & is_new(&segment, 7, 1);
+    drop(segment);
+    Some(is_readied & is_same & is_unseen)
+}
+
 #[test]
 fn a_readied_caller_is_not_seen(rt: HostRuntime) -> Result<(), Fail> {
     let before = kept_of(rt.alloc(), span(A, A), &[5, 9], b"abc")?;
-    let mut segment = before.try_copy()?;
-    segment.reserve(7)?;
-    assert!(rt; segment.equals(&before) && before.equals(&segment));
-    assert!(rt; segment.floor(7) == 0);
-    assert!(rt; matches!(segment.find(7, 1), Past::New));
+    assert!(rt; is_readied_unseen(&before) == Some(true));
     Ok(())
 }
 

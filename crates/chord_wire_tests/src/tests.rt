@@ -35,18 +35,31 @@ const TWO_VALUES: [u8; 24] = [
     0, 0, 0, 0x14, 1, 0x82, 0, 0, 0, 0, 0, 0, 0, 2, 0, 0, 0, 2, 0, 1, 0x78, 0, 1, 0x79,
 ];
 
-fn insert(alloc: Global, key: &[u8], value: &[u8]) -> Result<Request, AllocError> {
-    let key = Bytes::from_slice(alloc, key)?;
-    let value = Bytes::from_slice(alloc, value)?;
-    Ok(Request::Insert { key, value })
+fn push_all(alloc: Global, values: &mut Values, all: &[&[u8]]) -> Result<(), AllocError> {
+    for value in all {
+        values.push(Bytes::from_slice(alloc, value)?)?;
+    }
+    Ok(())
 }
 
 fn values(alloc: Global, all: &[&[u8]]) -> Result<Reply, AllocError> {
     let mut values = Values::new(alloc);
-    for value in all {
-        values.push(Bytes::from_slice(alloc, value)?)?;
+    let pushed = push_all(alloc, &mut values, all);
+    if pushed.is_err() {
+        drop(values);
+        return Err(AllocError);
     }
     Ok(Reply::Values(values))
+}
+
+/// Whether the two are equal, where both are there.
+fn equal<T: PartialEq + Drop>(first: Option<T>, second: Option<T>) -> Option<bool> {
+    Some(first? == second?)
+}
+
+/// Whether nothing is there yet, and no fault.
+fn is_nothing<T: Drop>(next: Result<Option<T>, WireFault>) -> bool {
+    matches!(&next, Ok(None))
 }
 
 /// What a fresh stream of these bytes gives.
@@ -65,7 +78,7 @@ fn answer_of(alloc: Global, bytes: &[u8]) -> Result<Option<Answer>, WireFault> {
 /// Feeds the bytes one at a time, and tells whether the stream kept each and gave nothing before the last.
 fn keeps_pieces(frames: &mut Frames, bytes: &[u8]) -> Result<bool, WireFault> {
     for (place, byte) in bytes.iter().enumerate() {
-        if frames.left() != place || frames.next()?.is_some() {
+        if frames.left() != place || !is_nothing(frames.next()) {
             return Ok(false);
         }
         frames.feed(&[*byte])?;
@@ -99,39 +112,62 @@ fn fault_frame(alloc: Global, code: u8) -> Result<Vec<u8>, AllocError> {
     changed(alloc, &bytes, 14, code)
 }
 
-fn is_insert(alloc: Global, wire: &WireRequest, version: u8) -> Result<bool, AllocError> {
-    let same = wire.request == insert(alloc, b"a", b"x")?;
-    Ok(same && wire.version == version && wire.number == 1 && wire.floor == 0)
+/// Whether the request is the insert in this version.
+fn is_insert(alloc: Global, wire: Option<WireRequest>, version: u8) -> Option<bool> {
+    let wire = wire?;
+    let is_first = wire.version == version && wire.number == 1 && wire.floor == 0;
+    let is_same = equal(Some(wire.request), Request::insert(alloc, b"a", b"x").ok());
+    Some(is_same? && is_first)
 }
 
-fn is_reply(answer: &Answer, wanted: u64, reply: &Reply) -> bool {
-    match answer {
-        Answer::Reply {
-            number,
-            reply: told,
-        } => *number == wanted && told == reply,
-        Answer::Fault { .. } => false,
+/// The reply in the answer, where it has this number.
+fn reply_in(answer: Option<Answer>, wanted: u64) -> Option<Reply> {
+    match answer? {
+        Answer::Reply { number, reply } => {
+            if number == wanted {
+                return Some(reply);
+            }
+            drop(reply);
+            None
+        }
+        other => {
+            drop(other);
+            None
+        }
     }
 }
 
+fn is_reply(answer: Option<Answer>, wanted: u64, reply: Option<Reply>) -> Option<bool> {
+    equal(reply_in(answer, wanted), reply)
+}
+
 /// The number and the code of a fault.
-fn fault_in(answer: &Answer) -> Option<(u64, FaultCode)> {
-    match answer {
+fn fault_in(answer: Option<Answer>) -> Option<(u64, FaultCode)> {
+    let answer = answer?;
+    let fault = match &answer {
         Answer::Fault { number, code } => Some((*number, *code)),
         Answer::Reply { .. } => None,
+    };
+    drop(answer);
+    fault
+}
+
+/// The frame of request 1 in this version.
+fn request_frame(alloc: Global, version: u8, request: &Request) -> Option<Vec<u8>> {
+    request.check().ok()?;
+    if version == 1 {
+        write_request(alloc, 1, request).ok()
+    } else {
+        write_request_2(alloc, 1, 0, request).ok()
     }
 }
 
 /// Whether the insert is written as this frame in this version.
 fn is_written(alloc: Global, version: u8, frame: &[u8]) -> Option<bool> {
-    let request = insert(alloc, b"a", b"x").ok()?;
-    request.check().ok()?;
-    let written = if version == 1 {
-        write_request(alloc, 1, &request)
-    } else {
-        write_request_2(alloc, 1, 0, &request)
-    };
-    Some(written.ok()?.as_slice() == frame)
+    let request = Request::insert(alloc, b"a", b"x").ok()?;
+    let written = request_frame(alloc, version, &request);
+    drop(request);
+    Some(written?.as_slice() == frame)
 }
 
 #[test]
@@ -140,23 +176,32 @@ fn writes_requests(rt: HostRuntime) {
     assert!(rt; is_written(rt.alloc(), 2, &INSERT_2) == Some(true));
 }
 
-/// Whether these replies are written as these frames.
-fn are_written(alloc: Global) -> Option<(bool, bool)> {
-    let added = write_reply(alloc, 1, &Reply::Added).ok()?;
-    let found = values(alloc, &[b"x"]).ok()?;
-    if !is_writable(&found) {
+fn reply_frame(alloc: Global, number: u64, reply: &Reply) -> Option<Vec<u8>> {
+    if !is_writable(reply) {
         return None;
     }
-    let found = write_reply(alloc, 2, &found).ok()?;
-    Some((
-        added.as_slice() == ADDED.as_slice(),
-        found.as_slice() == ONE_VALUE.as_slice(),
-    ))
+    write_reply(alloc, number, reply).ok()
+}
+
+/// Whether the reply with this number is written as this frame.
+fn is_reply_written(
+    alloc: Global,
+    number: u64,
+    reply: Result<Reply, AllocError>,
+    frame: &[u8],
+) -> Option<bool> {
+    let reply = reply.ok()?;
+    let written = reply_frame(alloc, number, &reply);
+    drop(reply);
+    Some(written?.as_slice() == frame)
 }
 
 #[test]
 fn writes_replies(rt: HostRuntime) {
-    assert!(rt; are_written(rt.alloc()) == Some((true, true)));
+    let alloc = rt.alloc();
+    assert!(rt; is_reply_written(alloc, 1, Ok(Reply::Added), &ADDED) == Some(true));
+    let found = values(alloc, &[b"x"]);
+    assert!(rt; is_reply_written(alloc, 2, found, &ONE_VALUE) == Some(true));
 }
 
 /// Whether a fault is written as this frame.
@@ -174,28 +219,29 @@ fn writes_faults(rt: HostRuntime) {
     assert!(rt; is_fault_written(rt.alloc(), 0, FaultCode::BadVersion, &wanted) == Some(true));
 }
 
-/// Whether the reply with these values has a frame.
-fn has_frame(alloc: Global, all: &[&[u8]]) -> Option<bool> {
-    let reply = values(alloc, all).ok()?;
-    Some(is_writable(&reply))
+/// Whether the reply has a frame.
+fn has_frame(reply: Result<Reply, AllocError>) -> Option<bool> {
+    let reply = reply.ok()?;
+    let is_writable = is_writable(&reply);
+    drop(reply);
+    Some(is_writable)
 }
 
 #[test]
 fn tells_what_has_a_frame(rt: HostRuntime) {
     let alloc = rt.alloc();
     let long = [7u8; 4097];
-    assert!(rt; is_writable(&Reply::Absent));
-    assert!(rt; has_frame(alloc, &[]) == Some(true));
-    assert!(rt; has_frame(alloc, &[&long[..4096]]) == Some(true));
-    assert!(rt; has_frame(alloc, &[&long]) == Some(false));
-    assert!(rt; has_frame(alloc, &[b"x", b"x"]) == Some(false));
-    assert!(rt; has_frame(alloc, &[b"y", b"x"]) == Some(false));
+    assert!(rt; has_frame(Ok(Reply::Absent)) == Some(true));
+    assert!(rt; has_frame(values(alloc, &[])) == Some(true));
+    assert!(rt; has_frame(values(alloc, &[&long[..4096]])) == Some(true));
+    assert!(rt; has_frame(values(alloc, &[&long])) == Some(false));
+    assert!(rt; has_frame(values(alloc, &[b"x", b"x"])) == Some(false));
+    assert!(rt; has_frame(values(alloc, &[b"y", b"x"])) == Some(false));
 }
 
 /// Whether these bytes are the insert in this version.
 fn reads_insert(alloc: Global, bytes: &[u8], version: u8) -> Option<bool> {
-    let whole = request_of(alloc, bytes).ok()??;
-    is_insert(alloc, &whole, version).ok()
+    is_insert(alloc, request_of(alloc, bytes).ok()?, version)
 }
 
 #[test]
@@ -206,7 +252,7 @@ fn reads_whole_requests(rt: HostRuntime) {
 
 /// Whether the next request is the insert in this version.
 fn next_is_insert(alloc: Global, frames: &mut Frames, version: u8) -> Option<bool> {
-    is_insert(alloc, &frames.next().ok()??, version).ok()
+    is_insert(alloc, frames.next().ok()?, version)
 }
 
 /// Whether these bytes, fed one at a time, are the insert in this version, and how many are left then.
@@ -225,22 +271,26 @@ fn reads_requests_in_any_pieces(rt: HostRuntime) {
     assert!(rt; reads_pieces(rt.alloc(), &INSERT_2, 2) == Some((true, 0)));
 }
 
+fn next_of(answers: &mut Answers) -> Option<Answer> {
+    answers.next().ok()?
+}
+
+/// Whether the next answer is the reply with this number.
+fn gives(answers: &mut Answers, number: u64, reply: Result<Reply, AllocError>) -> Option<bool> {
+    is_reply(next_of(answers), number, reply.ok())
+}
+
 /// How many bytes of answers there are, whether the first one is read, and how many are left then.
 fn first_in_pieces(alloc: Global) -> Option<(usize, bool, usize)> {
     let mut answers = answers_in_pieces(alloc).ok()?;
     let before = answers.left();
-    let first = answers.next().ok()??;
-    Some((before, is_reply(&first, 1, &Reply::Added), answers.left()))
+    let is_first = gives(&mut answers, 1, Ok(Reply::Added))?;
+    Some((before, is_first, answers.left()))
 }
 
 #[test]
 fn reads_answers_in_any_pieces(rt: HostRuntime) {
     assert!(rt; first_in_pieces(rt.alloc()) == Some((60, true, 45)));
-}
-
-/// Whether the next answer is the reply with this number.
-fn gives(answers: &mut Answers, number: u64, reply: Result<Reply, AllocError>) -> Option<bool> {
-    Some(is_reply(&answers.next().ok()??, number, &reply.ok()?))
 }
 
 #[test]
@@ -255,7 +305,7 @@ fn reads_values_in_any_pieces(rt: HostRuntime) {
     assert!(rt; answers.left() == 24);
     assert!(rt; gives(&mut answers, 2, values(alloc, &[b"x", b"y"])) == Some(true));
     assert!(rt; answers.left() == 0);
-    assert!(rt; matches!(answers.next(), Ok(None)));
+    assert!(rt; is_nothing(answers.next()));
 }
 
 /// The fault of these bytes.
@@ -422,8 +472,8 @@ fn each_field_of_an_answer_has_its_faults(rt: HostRuntime) {
 fn is_read_back(alloc: Global, number: u8) -> Option<bool> {
     let code = FaultCode::from_number(number)?;
     let frame = fault_frame(alloc, number).ok()?;
-    let answer = answer_of(alloc, &frame).ok()??;
-    let is_read = fault_in(&answer) == Some((1, code));
+    let answer = answer_of(alloc, &frame).ok()?;
+    let is_read = fault_in(answer)? == (1, code);
     Some(is_read && code.to_number() == number && code != FaultCode::Memory)
 }
 
@@ -464,15 +514,27 @@ fn no_other_code_is_a_fault(rt: HostRuntime) {
     }
 }
 
+fn longest_request(alloc: Global) -> Option<Request> {
+    let long = [7u8; 4096];
+    Request::insert(alloc, &long[..255], &long).ok()
+}
+
+/// Its frame with number 17 and floor 1.
+fn longest_frame(alloc: Global, request: &Request) -> Option<Vec<u8>> {
+    request.check().ok()?;
+    write_request_2(alloc, 17, 1, request).ok()
+}
+
 /// How long the frame of the longest request is, whether it is read back, and its number and floor.
 fn longest(alloc: Global) -> Option<(usize, bool, (u64, u64))> {
-    let long = [7u8; 4096];
-    let request = insert(alloc, &long[..255], &long).ok()?;
-    request.check().ok()?;
-    let frame = write_request_2(alloc, 17, 1, &request).ok()?;
+    let request = longest_request(alloc)?;
+    let frame = longest_frame(alloc, &request);
+    drop(request);
+    let frame = frame?;
     let wire = request_of(alloc, &frame).ok()??;
-    let is_same = wire.request == request;
-    Some((frame.len(), is_same, (wire.number, wire.floor)))
+    let told = (wire.number, wire.floor);
+    let is_same = equal(Some(wire.request), longest_request(alloc));
+    Some((frame.len(), is_same?, told))
 }
 
 #[test]

@@ -1,17 +1,27 @@
 //! A client answers as a caller does, and hands out what it takes.
 
-use super::{added, insert, is_ask};
+use super::{added, insert, is_ask, number_of};
 use chord_caller::{ClientCore, Outcome, ResendFault, SubmitFault, Told};
 use chord_map::{Reply, Request, RequestFault, Values};
 use std::alloc::Global;
 use std::test::Fail;
 
-fn is_added(outcome: &Outcome) -> bool {
-    matches!(outcome, Outcome::Fresh(Reply::Added))
+fn is_added(outcome: Outcome) -> bool {
+    let is_added = matches!(&outcome, Outcome::Fresh(Reply::Added));
+    drop(outcome);
+    is_added
 }
 
-fn is_foreign(outcome: &Outcome) -> bool {
-    matches!(outcome, Outcome::Foreign)
+fn is_known(outcome: Outcome) -> bool {
+    let is_known = matches!(&outcome, Outcome::Known);
+    drop(outcome);
+    is_known
+}
+
+fn is_foreign(outcome: Outcome) -> bool {
+    let is_foreign = matches!(&outcome, Outcome::Foreign);
+    drop(outcome);
+    is_foreign
 }
 
 /// Whether the insert under this key goes out as the call of client 7 of this number and floor.
@@ -22,8 +32,8 @@ fn sends(
     floor: u64,
     key: &[u8],
 ) -> Option<bool> {
-    let ask = core.submit(insert(alloc, key).ok()?).ok()?;
-    Some(is_ask(&ask, 7, number, floor, key))
+    let ask = core.submit(insert(alloc, key).ok()?).ok();
+    is_ask(ask, 7, number, floor, key)
 }
 
 /// Client 7 with a window of two, after it submitted two requests, and whether their calls were right.
@@ -37,12 +47,15 @@ fn of_two(alloc: Global) -> Option<(ClientCore, bool, bool)> {
 /// The number of a new client, which request of it is pending, and why it sends none again.
 fn nothing_pending(alloc: Global) -> Option<(u64, Option<u64>, Option<ResendFault>)> {
     let core = ClientCore::new(alloc, 7, 2).ok()?;
-    Some((core.number(), core.pending(), core.resend(1).err()))
+    let told = (core.number(), core.pending(), core.resend(1).err());
+    drop(core);
+    Some(told)
 }
 
 /// Whether two calls go out as they should.
 fn sends_two(alloc: Global) -> Option<(bool, bool)> {
-    let (_, first, second) = of_two(alloc)?;
+    let (core, first, second) = of_two(alloc)?;
+    drop(core);
     Some((first, second))
 }
 
@@ -55,16 +68,24 @@ fn a_client_sends_two_requests(rt: HostRuntime) {
 
 /// Whether the second reply is handed out and known when it comes again, which request is pending then, and the floor.
 fn takes_the_second(core: &mut ClientCore) -> (bool, bool, Option<u64>, u64) {
-    let fresh = is_added(&core.take(added(7, 2)));
-    let known = matches!(core.take(added(7, 2)), Outcome::Known);
+    let fresh = is_added(core.take(added(7, 2)));
+    let known = is_known(core.take(added(7, 2)));
     (fresh, known, core.pending(), core.floor())
+}
+
+/// What the client says of an insert under `c` before it comes.
+fn refusal(alloc: Global, core: &ClientCore) -> Option<Option<SubmitFault>> {
+    let request = insert(alloc, b"c").ok()?;
+    let refusal = core.refusal(&request);
+    drop(request);
+    Some(refusal)
 }
 
 /// Why a third request is refused, and whether the first call goes out again as it was.
 fn waits(alloc: Global, core: &ClientCore) -> Option<(Option<SubmitFault>, bool)> {
-    let refusal = core.refusal(&insert(alloc, b"c").ok()?);
-    let again = core.resend(1).ok()?;
-    Some((refusal, is_ask(&again, 7, 1, 0, b"a")))
+    let refusal = refusal(alloc, core)?;
+    let again = is_ask(core.resend(1).ok(), 7, 1, 0, b"a")?;
+    Some((refusal, again))
 }
 
 /// A client after the second reply, with what was found.
@@ -73,7 +94,9 @@ fn second_first(
 ) -> Option<((bool, bool, Option<u64>, u64), Option<SubmitFault>, bool)> {
     let (mut core, _, _) = of_two(alloc)?;
     let second = takes_the_second(&mut core);
-    let (refusal, again) = waits(alloc, &core)?;
+    let waits = waits(alloc, &core);
+    drop(core);
+    let (refusal, again) = waits?;
     Some((second, refusal, again))
 }
 
@@ -86,7 +109,7 @@ fn a_client_with_a_window_of_two(rt: HostRuntime) {
 
 /// Whether the first reply is handed out then, the floor, and which request is pending.
 fn takes_the_first(core: &mut ClientCore) -> (bool, u64, Option<u64>) {
-    let fresh = is_added(&core.take(added(7, 1)));
+    let fresh = is_added(core.take(added(7, 1)));
     (fresh, core.floor(), core.pending())
 }
 
@@ -95,19 +118,20 @@ fn sends_the_third(
     alloc: Global,
     core: &mut ClientCore,
 ) -> Option<(Option<SubmitFault>, bool, bool)> {
-    let refusal = core.refusal(&insert(alloc, b"c").ok()?);
+    let refusal = refusal(alloc, core)?;
     let sent = sends(alloc, core, 3, 2, b"c")?;
-    let known = matches!(core.take(added(7, 1)), Outcome::Known);
+    let known = is_known(core.take(added(7, 1)));
     Some((refusal, sent, known))
 }
 
 /// A client after both replies, with what was found.
 fn both(alloc: Global) -> Option<((bool, u64, Option<u64>), (Option<SubmitFault>, bool, bool))> {
     let (mut core, _, _) = of_two(alloc)?;
-    core.take(added(7, 2));
+    drop(core.take(added(7, 2)));
     let first = takes_the_first(&mut core);
-    let third = sends_the_third(alloc, &mut core)?;
-    Some((first, third))
+    let third = sends_the_third(alloc, &mut core);
+    drop(core);
+    Some((first, third?))
 }
 
 #[test]
@@ -120,15 +144,15 @@ fn a_window_moves_on(rt: HostRuntime) {
 fn pending_insert(alloc: Global) -> Option<(ClientCore, Option<SubmitFault>)> {
     let mut core = ClientCore::new(alloc, 0, 1).ok()?;
     let empty = core.submit(insert(alloc, b"").ok()?).err();
-    core.submit(insert(alloc, b"a").ok()?).ok()?;
+    number_of(core.submit(insert(alloc, b"a").ok()?).ok()?);
     Some((core, empty))
 }
 
 /// Whether it does not hear another client's reply, nor one to another number.
 fn hears_none(core: &mut ClientCore) -> (bool, bool, bool) {
-    let other = is_foreign(&core.take(added(1, 1)));
-    let zero = is_foreign(&core.take(added(0, 0)));
-    (other, zero, is_foreign(&core.take(added(0, 2))))
+    let other = is_foreign(core.take(added(1, 1)));
+    let zero = is_foreign(core.take(added(0, 0)));
+    (other, zero, is_foreign(core.take(added(0, 2))))
 }
 
 /// Why the empty key was refused, what is not heard, whether a set of values is not, and whether it waits then.
@@ -140,8 +164,10 @@ fn foreign(alloc: Global) -> Option<(Option<SubmitFault>, (bool, bool, bool), bo
         number: 1,
         reply: Reply::Values(Values::new(alloc)),
     };
-    let values = is_foreign(&core.take(unfit));
-    Some((empty, others, values, core.is_pending(1)))
+    let values = is_foreign(core.take(unfit));
+    let waits = core.is_pending(1);
+    drop(core);
+    Some((empty, others, values, waits))
 }
 
 #[test]
@@ -161,9 +187,9 @@ fn request(alloc: Global) -> Option<Request> {
 /// The number of the call that is submitted, again where there was no memory: it is not pending then.
 fn submits(alloc: Global, core: &mut ClientCore, number: u64) -> Option<u64> {
     match core.submit(request(alloc)?) {
-        Ok(ask) => Some(ask.number),
+        Ok(ask) => Some(number_of(ask)),
         Err(SubmitFault::Memory) if !core.is_pending(number) => {
-            Some(core.submit(request(alloc)?).ok()?.number)
+            Some(number_of(core.submit(request(alloc)?).ok()?))
         }
         Err(_) => None,
     }
@@ -180,7 +206,7 @@ fn of_three(alloc: Global) -> Option<ClientCore> {
 /// The number that is submitted two ahead of this one, whether the reply to this one is handed out, and the floor.
 fn turns(alloc: Global, core: &mut ClientCore, number: u64) -> Option<(u64, bool, u64)> {
     let ahead = submits(alloc, core, number.saturating_add(2))?;
-    let fresh = is_added(&core.take(added(0, number)));
+    let fresh = is_added(core.take(added(0, number)));
     Some((ahead, fresh, core.floor()))
 }
 

@@ -1,7 +1,7 @@
 //! Each growth refused in turn: a call that wants memory says so, and the caller is as it was.
 // With ample memory nothing is refused. A call that was refused is made again, with room for it.
 
-use super::{added, insert};
+use super::{added, insert, number_of};
 use chord_caller::{CallerCore, Heard, Note, ResendFault, SubmitFault, TakeFault};
 use chord_map::Request;
 use std::alloc::{AllocError, Global};
@@ -31,12 +31,12 @@ fn stands_at(core: &CallerCore, submitted: u64, taken: u64) -> bool {
 
 fn submits(rt: &impl Abort, alloc: Global, core: &mut CallerCore, number: u64) -> Result<(), Fail> {
     match core.submit(request(alloc)?) {
-        Ok(ask) => assert!(rt; ask.number == number),
+        Ok(ask) => assert!(rt; number_of(ask) == number),
         Err(fault) => {
             assert!(rt; fault == SubmitFault::Memory);
             assert!(rt; stands_at(core, number.saturating_sub(1), 0), "at {number}");
-            let ask = core.submit(request(alloc)?)?;
-            assert!(rt; ask.number == number);
+            let asked = number_of(core.submit(request(alloc)?)?);
+            assert!(rt; asked == number);
         }
     }
     Ok(())
@@ -50,7 +50,7 @@ fn sends_again(rt: &impl Abort, core: &CallerCore, number: u64) -> Result<(), Fa
             core.resend(number)?
         }
     };
-    assert!(rt; ask.number == number);
+    assert!(rt; number_of(ask) == number);
     Ok(())
 }
 

@@ -1,7 +1,7 @@
 //! A refused growth leaves all as it was, and a second try succeeds. With ample memory nothing is refused; the tests are
 //! run with each growth refused in turn too.
 
-use super::{A, empty_parcel, makes, note, part, two_parts};
+use super::{A, empty_parcel, makes, note, part, said, two_parts};
 use chord_handover::{GiveFault, Outbox, Part, Taken};
 use chord_ident::{Id, Span};
 use std::alloc::{AllocError, Global};
@@ -37,9 +37,9 @@ fn note_the_second(taken: &mut Taken, (first, second): &(Part, Part)) -> Result<
 fn refused_notes_and_gathers(rt: HostRuntime) -> Result<(), Fail> {
     let parts = parts(rt.alloc())?;
     let mut taken = Taken::new(rt.alloc());
-    assert!(rt; made(&taken, &parts.1)? == "more");
-    assert!(rt; note_the_second(&mut taken, &parts)?);
-    assert!(rt; made(&taken, &parts.0)? == "whole");
+    assert!(rt; said(made(&taken, &parts.1)) == "more");
+    assert!(rt; matches!(note_the_second(&mut taken, &parts), Ok(true)));
+    assert!(rt; said(made(&taken, &parts.0)) == "whole");
     Ok(())
 }
 
@@ -62,13 +62,11 @@ fn give(outbox: &mut Outbox, alloc: Global) -> Option<u64> {
         Err(ungiven) => ungiven,
     };
     let span = Span::new(Id::new(A), Id::new(A));
-    if ungiven.fault != GiveFault::Memory
-        || !outbox.is_empty()
-        || ungiven.parcelled.segment().span() != span
-    {
-        return None;
-    }
-    outbox.give(1, ungiven.parcelled).ok()
+    let is_back = ungiven.fault == GiveFault::Memory
+        && outbox.is_empty()
+        && ungiven.parcelled.segment().span() == span;
+    let number = outbox.give(1, ungiven.parcelled).ok();
+    if is_back { number } else { None }
 }
 
 #[test]
@@ -83,13 +81,25 @@ fn a_refused_give_hands_the_parcel_back(rt: HostRuntime) -> Result<(), Fail> {
     Ok(())
 }
 
+/// The first part of a handover.
+fn first_part(alloc: Global) -> Result<Part, AllocError> {
+    let (first, second) = parts(alloc)?;
+    drop(second);
+    Ok(first)
+}
+
+/// A copy, at the second try where the first was refused.
+fn copied(part: &Part) -> Result<Part, AllocError> {
+    match part.try_copy() {
+        Ok(copy) => Ok(copy),
+        Err(_) => part.try_copy(),
+    }
+}
+
 #[test]
 fn refused_parts_and_copies(rt: HostRuntime) -> Result<(), Fail> {
-    let (first, _) = parts(rt.alloc())?;
-    let copy = match first.try_copy() {
-        Ok(copy) => copy,
-        Err(_) => first.try_copy()?,
-    };
+    let first = first_part(rt.alloc())?;
+    let copy = copied(&first)?;
     assert!(rt; copy.pairs.as_slice() == first.pairs.as_slice());
     assert!(rt; copy.segment.is_some());
     Ok(())
@@ -98,13 +108,11 @@ fn refused_parts_and_copies(rt: HostRuntime) -> Result<(), Fail> {
 /// Parts that are all there and make no parcel take no memory.
 #[test]
 fn parts_of_no_parcel_are_unfit(rt: HostRuntime) -> Result<(), Fail> {
-    let (first, _) = parts(rt.alloc())?;
-    let (again, _) = parts(rt.alloc())?;
+    let again = first_part(rt.alloc())?;
     let second = part(rt.alloc(), 2, again.pairs);
+    let first = first_part(rt.alloc())?;
     let mut taken = Taken::new(rt.alloc());
-    if note(&mut taken, &first).is_err() {
-        note(&mut taken, &first)?;
-    }
-    assert!(rt; makes(&taken, &second)? == "unfit");
+    assert!(rt; note(&mut taken, &first).is_ok() || note(&mut taken, &first).is_ok());
+    assert!(rt; said(makes(&taken, &second)) == "unfit");
     Ok(())
 }

@@ -1,18 +1,18 @@
 //! Each growth refused in turn: a call that wants memory says so, and the stream has what it had.
 // With ample memory nothing is refused. A call that was refused is made again, with room for it.
 
-use super::{ADDED, INSERT, INSERT_2, ONE_VALUE, TWO_VALUES, insert, is_reply, values};
-use chord_map::{Reply, Request};
-use chord_wire::{
-    Answer, Answers, FaultCode, Frames, WireRequest, is_writable, write_fault, write_reply,
-    write_request, write_request_2,
+use super::{
+    ADDED, INSERT, INSERT_2, ONE_VALUE, TWO_VALUES, is_nothing, is_reply, reply_frame,
+    request_frame, values,
 };
+use chord_map::{Reply, Request};
+use chord_wire::{Answer, Answers, FaultCode, Frames, WireRequest, write_fault};
 use std::alloc::{AllocError, Global};
 
 fn request(alloc: Global) -> Result<Request, AllocError> {
-    match insert(alloc, b"a", b"x") {
+    match Request::insert(alloc, b"a", b"x") {
         Ok(request) => Ok(request),
-        Err(_) => insert(alloc, b"a", b"x"),
+        Err(_) => Request::insert(alloc, b"a", b"x"),
     }
 }
 
@@ -87,13 +87,14 @@ fn reads_pieces(
 ) -> Option<(bool, usize)> {
     for byte in bytes {
         // Memory is never told of where nothing is decided.
-        if !matches!(frames.next(), Ok(None)) {
+        if !is_nothing(frames.next()) {
             return None;
         }
         feeds_frames(frames, &[*byte])?;
     }
     let wire = next_request(frames)?;
     let is_wanted = wire.request == *wanted && wire.version == version;
+    drop(wire);
     Some((is_wanted, frames.left()))
 }
 
@@ -101,9 +102,10 @@ fn reads_pieces(
 fn inserts_in_pieces(alloc: Global) -> Option<((bool, usize), (bool, usize))> {
     let wanted = request(alloc).ok()?;
     let mut frames = Frames::new(alloc);
-    let first = reads_pieces(&mut frames, &INSERT, &wanted, 1)?;
-    let second = reads_pieces(&mut frames, &INSERT_2, &wanted, 2)?;
-    Some((first, second))
+    let first = reads_pieces(&mut frames, &INSERT, &wanted, 1);
+    let second = reads_pieces(&mut frames, &INSERT_2, &wanted, 2);
+    drop(wanted);
+    Some((first?, second?))
 }
 
 #[test]
@@ -116,7 +118,7 @@ fn requests_are_read_where_growths_are_refused(rt: HostRuntime) {
 fn fed_answers(alloc: Global) -> Option<Answers> {
     let mut answers = Answers::new(alloc);
     for byte in &ONE_VALUE {
-        if !matches!(answers.next(), Ok(None)) {
+        if !is_nothing(answers.next()) {
             return None;
         }
         feeds_answers(&mut answers, &[*byte])?;
@@ -127,8 +129,8 @@ fn fed_answers(alloc: Global) -> Option<Answers> {
 
 /// Whether the next answer is reply 2 with these values.
 fn next_is(alloc: Global, answers: &mut Answers, all: &[&[u8]]) -> Option<bool> {
-    let wanted = reply(alloc, all).ok()?;
-    Some(is_reply(&next_answer(answers)?, 2, &wanted))
+    let wanted = reply(alloc, all).ok();
+    is_reply(next_answer(answers), 2, wanted)
 }
 
 /// The same of both answers, and how many bytes are left then.
@@ -144,44 +146,31 @@ fn answers_are_read_where_growths_are_refused(rt: HostRuntime) {
     assert!(rt; both_answers(rt.alloc()) == Some((true, true, 0)));
 }
 
-/// Whether the request is written as its frame.
-fn is_written(alloc: Global) -> Option<bool> {
+/// Whether the request is written as this frame in this version.
+fn is_written(alloc: Global, version: u8, wanted: &[u8]) -> Option<bool> {
     let asked = request(alloc).ok()?;
-    asked.check().ok()?;
-    let frame = match write_request(alloc, 1, &asked) {
-        Ok(frame) => frame,
-        Err(_) => write_request(alloc, 1, &asked).ok()?,
+    let frame = match request_frame(alloc, version, &asked) {
+        Some(frame) => Some(frame),
+        None => request_frame(alloc, version, &asked),
     };
-    Some(frame.as_slice() == INSERT.as_slice())
-}
-
-/// The same in version 2.
-fn is_written_2(alloc: Global) -> Option<bool> {
-    let asked = request(alloc).ok()?;
-    asked.check().ok()?;
-    let frame = match write_request_2(alloc, 1, 0, &asked) {
-        Ok(frame) => frame,
-        Err(_) => write_request_2(alloc, 1, 0, &asked).ok()?,
-    };
-    Some(frame.as_slice() == INSERT_2.as_slice())
+    drop(asked);
+    Some(frame?.as_slice() == wanted)
 }
 
 #[test]
 fn requests_are_written_where_growths_are_refused(rt: HostRuntime) {
-    assert!(rt; is_written(rt.alloc()) == Some(true));
-    assert!(rt; is_written_2(rt.alloc()) == Some(true));
+    assert!(rt; is_written(rt.alloc(), 1, &INSERT) == Some(true));
+    assert!(rt; is_written(rt.alloc(), 2, &INSERT_2) == Some(true));
 }
 
 fn is_reply_written(alloc: Global) -> Option<bool> {
     let told = reply(alloc, &[b"x"]).ok()?;
-    if !is_writable(&told) {
-        return None;
-    }
-    let frame = match write_reply(alloc, 2, &told) {
-        Ok(frame) => frame,
-        Err(_) => write_reply(alloc, 2, &told).ok()?,
+    let frame = match reply_frame(alloc, 2, &told) {
+        Some(frame) => Some(frame),
+        None => reply_frame(alloc, 2, &told),
     };
-    Some(frame.as_slice() == ONE_VALUE.as_slice())
+    drop(told);
+    Some(frame?.as_slice() == ONE_VALUE.as_slice())
 }
 
 #[test]

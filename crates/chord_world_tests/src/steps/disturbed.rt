@@ -75,14 +75,22 @@ fn play<S: EntryStore>(world: &mut World<S>, stores: &mut Vec<S>, steps: &[Step]
     }
 }
 
+/// Whether the map replies to the call as it was replied to.
+fn replies(map: &mut PlainMap, done: &Done) -> Result<bool, AllocError> {
+    if done.request.check().is_err() {
+        return Ok(false);
+    }
+    let reply = map.apply(&done.request)?;
+    let is_same = reply == done.reply;
+    drop(reply);
+    Ok(is_same)
+}
+
 /// Whether a replay of the history on a plain map gives each of its replies.
 fn replays(alloc: Global, history: &[Done]) -> Result<bool, AllocError> {
     let mut map = PlainMap::new(alloc);
     for done in history {
-        if done.request.check().is_err() {
-            return Ok(false);
-        }
-        if map.apply(&done.request)? != done.reply {
+        if !replies(&mut map, done)? {
             return Ok(false);
         }
     }

@@ -1,7 +1,7 @@
 //! Scripts that several tests run.
 
 use chord_ident::Id;
-use chord_map::{Bytes, Request};
+use chord_map::Request;
 use chord_world::Step;
 use std::alloc::{AllocError, Global};
 
@@ -28,12 +28,10 @@ pub fn submit(
     key: &[u8],
     value: &[u8],
 ) -> Result<Step, AllocError> {
-    let key = Bytes::from_slice(alloc, key)?;
-    let value = Bytes::from_slice(alloc, value)?;
     let request = match asks {
-        Asks::Insert => Request::Insert { key, value },
-        Asks::Remove => Request::Remove { key, value },
-        Asks::Retrieve => Request::Retrieve { key },
+        Asks::Insert => Request::insert(alloc, key, value)?,
+        Asks::Remove => Request::remove(alloc, key, value)?,
+        Asks::Retrieve => Request::retrieve(alloc, key)?,
     };
     Ok(Step::Submit {
         caller,

@@ -1,7 +1,7 @@
 //! The command lines.
 
 use crate::tests::serve_lines::{prints, shows};
-use crate::{names_stores, no_stores};
+use chord_command_line::{names_stores, no_stores};
 
 mod serve_lines;
 

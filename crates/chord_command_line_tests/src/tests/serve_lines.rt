@@ -1,6 +1,7 @@
 //! The command line of `serve`.
 
-use crate::{commands, no_number, small_number};
+use chord_command_line::{commands, no_number, small_number};
+use clap::ArgMatches;
 use std::alloc::{AllocError, Global};
 
 /// The words of a command line.
@@ -15,18 +16,23 @@ pub fn shows(
     wanted: &str,
 ) -> Option<(bool, i32)> {
     let error = error.ok()?;
-    let text = error.to_string(alloc).ok()?;
-    Some((text.as_str() == wanted, error.exit_code()))
+    let text = error.to_string(alloc);
+    let status = error.exit_code();
+    drop(error);
+    Some((text.ok()?.as_str() == wanted, status))
 }
 
 /// Whether this is printed for a command line, and the status that the program ends with.
 pub fn prints(alloc: Global, line: &'static str, wanted: &str) -> Option<(bool, i32)> {
     let words = words(alloc, line).ok()?;
-    let error = commands(alloc)
-        .ok()?
-        .try_get_matches_from(words.as_slice())
-        .err()?;
-    shows(alloc, Ok(error), wanted)
+    let commands = commands(alloc).ok()?;
+    match commands.try_get_matches_from(words.as_slice()) {
+        Ok(matches) => {
+            drop(matches);
+            None
+        }
+        Err(error) => shows(alloc, Ok(error), wanted),
+    }
 }
 
 const USAGE: &str =
@@ -63,18 +69,9 @@ fn faults_of_serve(rt: HostRuntime) {
     }
 }
 
-/// Whether the command line is one of `serve` with the plan `p` and port 7, whether it has these connections, and
-/// whether it wants notes.
-fn serves(
-    alloc: Global,
-    line: &'static str,
-    connections: Option<&str>,
-) -> Option<(bool, bool, bool)> {
-    let words = words(alloc, line).ok()?;
-    let matches = commands(alloc)
-        .ok()?
-        .try_get_matches_from(words.as_slice())
-        .ok()?;
+/// Whether these are of `serve` with the plan `p` and port 7, whether they have these connections, and whether they
+/// want notes.
+fn matched(matches: &ArgMatches, connections: Option<&str>) -> Option<(bool, bool, bool)> {
     let (name, found) = matches.subcommand()?;
     let is_serve = name == "serve"
         && found.get_str("plan") == Some("p")
@@ -84,6 +81,27 @@ fn serves(
         found.get_str("connections") == connections,
         found.get_flag("notes"),
     ))
+}
+
+/// The same of a command line.
+fn serves(
+    alloc: Global,
+    line: &'static str,
+    connections: Option<&str>,
+) -> Option<(bool, bool, bool)> {
+    let words = words(alloc, line).ok()?;
+    let commands = commands(alloc).ok()?;
+    match commands.try_get_matches_from(words.as_slice()) {
+        Ok(matches) => {
+            let serves = matched(&matches, connections);
+            drop(matches);
+            serves
+        }
+        Err(error) => {
+            drop(error);
+            None
+        }
+    }
 }
 
 /// What is taken: each alone, with notes or without.

@@ -1,0 +1,5 @@
+//! The tests of `chord_command_line`.
+#![tactic(auto)]
+
+#[cfg(test)]
+mod tests;
