@@ -27,7 +27,7 @@ use std::{env, io};
 /// Does `world`.
 fn start_world(rt: &HostRuntime, alloc: Global, word: &str) -> Result<Finish, Finish> {
     if !names_stores(word) {
-        return told(rt, &no_stores(alloc, word)?);
+        return told(rt, no_stores(alloc, word)?);
     }
     let mut stores: Vec<Box<dyn EntryStore + Send>> = Vec::new(alloc);
     for letter in word.bytes() {
@@ -127,13 +127,13 @@ fn start_serve<
     let alloc = rt.alloc();
     let port = found.get_str("port").unwrap_or("");
     let Some(port) = small_number(port) else {
-        return told(rt, &no_number(alloc, "port <N>", port)?);
+        return told(rt, no_number(alloc, "port <N>", port)?);
     };
     let connections = match found.get_str("connections") {
         None => None,
         Some(word) => match small_number(word) {
             Some(count) => Some(count as usize),
-            None => return told(rt, &no_number(alloc, "connections <K>", word)?),
+            None => return told(rt, no_number(alloc, "connections <K>", word)?),
         },
     };
     let notes = if found.get_flag("notes") {
@@ -190,7 +190,7 @@ fn words_of(rt: &HostRuntime) -> Result<Vec<String>, Finish> {
 fn matched<'a>(rt: &HostRuntime, words: &'a [String]) -> Result<ArgMatches<'a>, Finish> {
     match commands(rt.alloc())?.try_get_matches_from(words) {
         Ok(matches) => Ok(matches),
-        Err(error) => Err(ended(told(rt, &error))),
+        Err(error) => Err(ended(told(rt, error))),
     }
 }
 

@@ -16,4 +16,4 @@ pub use load::command::{load_command, load_of, start_load};
 pub use load::histogram::{Bucket, Histogram};
 pub use load::report::Report;
 pub use load::running::run_load;
-pub use telling::told;
+pub use telling::{fault_of, told};

@@ -1,10 +1,30 @@
-//! How a fault of a command line is told.
+//! Faults of command lines, and how they are told.
 
 use chord_command::Finish;
+use clap::Command;
 use clap::error::ErrorKind;
+use std::alloc::AllocError;
+
+/// The fault of a command, under its whole name, whose line has a wrong value.
+pub fn fault_of(
+    command: Result<Command<'_>, AllocError>,
+    name: &str,
+    message: &str,
+) -> Result<clap::Error, AllocError> {
+    let mut command = command?.bin_name(name)?;
+    let fault = command.error(ErrorKind::InvalidValue, message);
+    drop(command);
+    fault
+}
 
 /// The text of a command line fault goes to standard error, and help to standard output.
-pub fn told<R: Print + Eprint>(rt: &R, error: &clap::Error) -> Result<Finish, Finish> {
+pub fn told<R: Print + Eprint>(rt: &R, error: clap::Error) -> Result<Finish, Finish> {
+    let finish = print(rt, &error);
+    drop(error);
+    finish
+}
+
+fn print<R: Print + Eprint>(rt: &R, error: &clap::Error) -> Result<Finish, Finish> {
     if error.kind() == ErrorKind::OutOfMemory {
         return Err(Finish::OutOfMemory);
     }

@@ -1,7 +1,6 @@
 //! The commands of `chord` and what each takes.
 
-use chord_client::{ask_command, load_command};
-use clap::error::ErrorKind;
+use chord_client::{ask_command, fault_of, load_command};
 use clap::{Arg, ArgAction, ArgGroup, Command};
 use std::alloc::{AllocError, Global};
 
@@ -15,100 +14,125 @@ const STORE_LIMIT: usize = 64;
 const FIRST_LINES: &str =
     "docs/console.md has all lines. To begin with:\n  create 40000000000000000000000000000000\n  caller\n  insert 0 0 616263 78";
 
-/// The command `world` and what it takes.
-fn world_command<'a>(alloc: Global) -> Result<Command<'a>, AllocError> {
-    let stores = Arg::new(alloc, "stores")
+/// The option for the stores of a world.
+fn stores_option<'a>(alloc: Global) -> Arg<'a> {
+    Arg::new(alloc, "stores")
         .long("stores")
         .value_name("WORD")
         .default_value(DEFAULT_STORES)
-        .help("The nodes' stores in their order: t tree, l list, n noted, c capped at one pair");
+        .help("The nodes' stores in their order: t tree, l list, n noted, c capped at one pair")
+}
+
+/// The command `world` and what it takes.
+fn world_command<'a>(alloc: Global) -> Result<Command<'a>, AllocError> {
     Command::new(alloc, "world")
         .about("Does the steps on standard input, one line out for each line in")
         .after_help(FIRST_LINES)
-        .arg(stores)
+        .arg(stores_option(alloc))
+}
+
+/// The option for the file of a plan.
+fn plan_option<'a>(alloc: Global, help: &'a str) -> Arg<'a> {
+    Arg::new(alloc, "plan")
+        .long("plan")
+        .value_name("FILE")
+        .required(true)
+        .help(help)
 }
 
 /// The command `run` and what it takes.
 fn run_command<'a>(alloc: Global) -> Result<Command<'a>, AllocError> {
-    let plan = Arg::new(alloc, "plan")
-        .long("plan")
-        .value_name("FILE")
-        .required(true)
-        .help("The ring's numbers, nodes and asks, as TOML");
     Command::new(alloc, "run")
         .about("Runs a ring by a plan, and writes what its callers were answered")
-        .arg(plan)
+        .arg(plan_option(alloc, "The ring's numbers, nodes and asks, as TOML"))
+}
+
+/// The option for the port to serve on.
+fn port_option<'a>(alloc: Global) -> Arg<'a> {
+    Arg::new(alloc, "port")
+        .long("port")
+        .value_name("N")
+        .required(true)
+        .help("The port on 127.0.0.1, 1 to 65535")
+}
+
+fn connections_option<'a>(alloc: Global) -> Arg<'a> {
+    Arg::new(alloc, "connections")
+        .long("connections")
+        .value_name("K")
+        .help("How many connections are served, 1 to 65535")
+}
+
+fn stay_option<'a>(alloc: Global) -> Arg<'a> {
+    Arg::new(alloc, "stay")
+        .long("stay")
+        .action(ArgAction::SetTrue)
+        .help("Serves until standard input ends")
+}
+
+fn notes_option<'a>(alloc: Global) -> Arg<'a> {
+    Arg::new(alloc, "notes")
+        .long("notes")
+        .action(ArgAction::SetTrue)
+        .help("Notes on standard error how each connection ends, as it ends")
+}
+
+/// How long to serve: one of the two options.
+fn until_group<'a>(alloc: Global) -> Result<ArgGroup<'a>, AllocError> {
+    let until = ArgGroup::new(alloc, "until")
+        .arg("connections")?
+        .arg("stay")?;
+    Ok(until.required(true))
 }
 
 /// The command `serve` and what it takes.
 fn serve_command<'a>(alloc: Global) -> Result<Command<'a>, AllocError> {
-    let plan = Arg::new(alloc, "plan")
-        .long("plan")
-        .value_name("FILE")
-        .required(true)
-        .help("The ring's numbers and nodes, as TOML");
-    let port = Arg::new(alloc, "port")
-        .long("port")
-        .value_name("N")
-        .required(true)
-        .help("The port on 127.0.0.1, 1 to 65535");
-    let connections = Arg::new(alloc, "connections")
-        .long("connections")
-        .value_name("K")
-        .help("How many connections are served, 1 to 65535");
-    let stay = Arg::new(alloc, "stay")
-        .long("stay")
-        .action(ArgAction::SetTrue)
-        .help("Serves until standard input ends");
-    let notes = Arg::new(alloc, "notes")
-        .long("notes")
-        .action(ArgAction::SetTrue)
-        .help("Notes on standard error how each connection ends, as it ends");
-    let until = ArgGroup::new(alloc, "until")
-        .arg("connections")?
-        .arg("stay")?
-        .required(true);
-    Command::new(alloc, "serve")
+    let serve = Command::new(alloc, "serve")
         .about("Serves clients over loopback, and writes how each connection ended")
-        .arg(plan)?
-        .arg(port)?
-        .arg(connections)?
-        .arg(stay)?
-        .arg(notes)?
-        .group(until)
+        .arg(plan_option(alloc, "The ring's numbers and nodes, as TOML"))?
+        .arg(port_option(alloc))?
+        .arg(connections_option(alloc))?
+        .arg(stay_option(alloc))?
+        .arg(notes_option(alloc));
+    let (serve, until) = both(serve, until_group(alloc))?;
+    serve.group(until)
+}
+
+/// Both, or the first one's fault.
+fn both<A: Drop, B: Drop>(
+    a: Result<A, AllocError>,
+    b: Result<B, AllocError>,
+) -> Result<(A, B), AllocError> {
+    Ok((a?, b?))
 }
 
 /// A command with one more below it.
 fn with<'a>(
-    command: Command<'a>,
+    command: Result<Command<'a>, AllocError>,
     below: Result<Command<'a>, AllocError>,
 ) -> Result<Command<'a>, AllocError> {
-    command.subcommand(below?)
+    let (command, below) = both(command, below)?;
+    command.subcommand(below)
+}
+
+/// The program and its version, with no command yet.
+fn program<'a>(alloc: Global) -> Result<Command<'a>, AllocError> {
+    let chord = Command::new(alloc, "chord").bin_name("chord")?;
+    Ok(
+        chord
+            .version("0.1.0")
+            .about("A Chord key store")
+            .subcommand_required(true),
+    )
 }
 
 /// The commands of `chord` and what they take.
 pub fn commands<'a>(alloc: Global) -> Result<Command<'a>, AllocError> {
-    let chord = Command::new(alloc, "chord")
-        .bin_name("chord")?
-        .version("0.1.0")
-        .about("A Chord key store")
-        .subcommand_required(true);
-    let chord = with(chord, world_command(alloc))?;
-    let chord = with(chord, run_command(alloc))?;
-    let chord = with(chord, serve_command(alloc))?;
-    let chord = with(chord, ask_command(alloc))?;
+    let chord = with(program(alloc), world_command(alloc));
+    let chord = with(chord, run_command(alloc));
+    let chord = with(chord, serve_command(alloc));
+    let chord = with(chord, ask_command(alloc));
     with(chord, load_command(alloc))
-}
-
-/// The fault of a command whose line has a wrong value.
-fn fault_of(
-    command: Result<Command<'_>, AllocError>,
-    name: &str,
-    message: &str,
-) -> Result<clap::Error, AllocError> {
-    command?
-        .bin_name(name)?
-        .error(ErrorKind::InvalidValue, message)
 }
 
 /// The fault of a word that names no stores.

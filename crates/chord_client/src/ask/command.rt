@@ -3,9 +3,8 @@
 use crate::ask::input::{ask_lines, ask_one};
 use crate::ask::line::read_words;
 use crate::ask::link::Manner;
-use crate::telling::told;
+use crate::telling::{fault_of, told};
 use chord_command::{Finish, LineFault};
-use clap::error::ErrorKind;
 use clap::{Arg, ArgMatches, Command, value_parser};
 use std::alloc::{AllocError, Global};
 use std::net::{Net, TcpStream};
@@ -13,6 +12,10 @@ use std::net::{Net, TcpStream};
 /// What `chord ask --help` ends with.
 const EXAMPLES: &str =
     "REQUEST is one of\n  insert KEY VALUE\n  retrieve KEY\n  remove KEY VALUE\nA key or value is text as it stands, or hexadecimal digits behind x:, as x:616263.";
+
+/// What is said of words that are no request.
+const NO_REQUEST: &str =
+    "the request is none: insert KEY VALUE, retrieve KEY or remove KEY VALUE, a key of 1 to 255 bytes, a value of at most 4096";
 
 /// The option for the port of a server.
 pub fn port_option<'a>(alloc: Global) -> Arg<'a> {
@@ -24,31 +27,35 @@ pub fn port_option<'a>(alloc: Global) -> Arg<'a> {
         .help("The server's port on 127.0.0.1, 1 to 65535")
 }
 
+/// An option for a number within bounds. Its value has a name, and is the default where there is none.
+pub fn number_option<'a>(
+    alloc: Global,
+    (name, value_name): (&'a str, &'a str),
+    default: &'a str,
+    (least, most): (i64, i64),
+    help: &'a str,
+) -> Arg<'a> {
+    Arg::new(alloc, name)
+        .long(name)
+        .value_name(value_name)
+        .default_value(default)
+        .value_parser(value_parser!(u64).range(least..=most))
+        .help(help)
+}
+
 fn window_option<'a>(alloc: Global) -> Arg<'a> {
-    Arg::new(alloc, "window")
-        .long("window")
-        .value_name("W")
-        .default_value("1")
-        .value_parser(value_parser!(u64).range(1..=16))
-        .help("How many requests are sent before their answers are read, 1 to 16")
+    let help = "How many requests are sent before their answers are read, 1 to 16";
+    number_option(alloc, ("window", "W"), "1", (1, 16), help)
 }
 
 fn protocol_option<'a>(alloc: Global) -> Arg<'a> {
-    Arg::new(alloc, "protocol")
-        .long("protocol")
-        .value_name("VERSION")
-        .default_value("2")
-        .value_parser(value_parser!(u8).range(1..=2))
-        .help("The version of the protocol, 1 or 2. In version 1 the window is 1")
+    let help = "The version of the protocol, 1 or 2. In version 1 the window is 1";
+    number_option(alloc, ("protocol", "VERSION"), "2", (1, 2), help)
 }
 
 fn tries_option<'a>(alloc: Global) -> Arg<'a> {
-    Arg::new(alloc, "tries")
-        .long("tries")
-        .value_name("T")
-        .default_value("3")
-        .value_parser(value_parser!(u32).range(1..=1000))
-        .help("How often a request is sent at most, 1 to 1000")
+    let help = "How often a request is sent at most, 1 to 1000";
+    number_option(alloc, ("tries", "T"), "3", (1, 1000), help)
 }
 
 fn words_argument<'a>(alloc: Global) -> Arg<'a> {
@@ -59,32 +66,50 @@ fn words_argument<'a>(alloc: Global) -> Arg<'a> {
         .help("One request. Without it they are read from standard input, one a line")
 }
 
-/// The command `ask` and what it takes.
-pub fn ask_command<'a>(alloc: Global) -> Result<Command<'a>, AllocError> {
-    Command::new(alloc, "ask")
-        .about("Asks a server, and writes one line for each request")
-        .after_help(EXAMPLES)
-        .arg(port_option(alloc))?
-        .arg(window_option(alloc))?
-        .arg(protocol_option(alloc))?
-        .arg(tries_option(alloc))?
-        .arg(words_argument(alloc))
+/// A command with one more argument.
+pub fn with_argument<'a>(
+    command: Result<Command<'a>, AllocError>,
+    argument: Arg<'a>,
+) -> Result<Command<'a>, AllocError> {
+    match command {
+        Ok(command) => command.arg(argument),
+        Err(refused) => {
+            drop(argument);
+            Err(refused)
+        }
+    }
 }
 
-/// A fault of the command line of `ask`.
-fn refused(alloc: Global, message: &str) -> Result<clap::Error, AllocError> {
-    ask_command(alloc)?
-        .bin_name("chord ask")?
-        .error(ErrorKind::InvalidValue, message)
+/// The command `ask` and what it takes.
+pub fn ask_command<'a>(alloc: Global) -> Result<Command<'a>, AllocError> {
+    let ask = Command::new(alloc, "ask")
+        .about("Asks a server, and writes one line for each request")
+        .after_help(EXAMPLES)
+        .arg(port_option(alloc));
+    let ask = with_argument(ask, window_option(alloc));
+    let ask = with_argument(ask, protocol_option(alloc));
+    let ask = with_argument(ask, tries_option(alloc));
+    with_argument(ask, words_argument(alloc))
+}
+
+/// Tells that the command line of `ask` has a wrong value.
+fn refuse(rt: &HostRuntime, message: &str) -> Result<Finish, Finish> {
+    let command = ask_command(rt.alloc());
+    told(rt, fault_of(command, "chord ask", message)?)
+}
+
+/// The number of an option that has a default.
+pub fn number_of(found: &ArgMatches, name: &str) -> u64 {
+    found.get_one::<u64>(name).unwrap_or(1)
 }
 
 /// How the command line says that a server is asked.
 pub fn manner_of(found: &ArgMatches) -> Manner {
     Manner {
         port: found.get_one::<u16>("port").unwrap_or(1),
-        version: found.get_one::<u8>("protocol").unwrap_or(2),
-        window: found.get_one::<u64>("window").unwrap_or(1),
-        tries: found.get_one::<u32>("tries").unwrap_or(1),
+        version: u8::try_from(number_of(found, "protocol")).unwrap_or(2),
+        window: number_of(found, "window"),
+        tries: u32::try_from(number_of(found, "tries")).unwrap_or(1),
     }
 }
 
@@ -97,20 +122,14 @@ pub fn start_ask<R: Net<Stream = TcpStream>>(
     let alloc = rt.alloc();
     let manner = manner_of(found);
     if manner.version == 1 && manner.window != 1 {
-        let fault = refused(alloc, "in version 1 of the protocol the window is 1")?;
-        return told(rt, &fault);
+        return refuse(rt, "in version 1 of the protocol the window is 1");
     }
     let mut writer = rt.stdout();
     match found.get_strs("request") {
         Some(words) if !words.is_empty() => match read_words(alloc, words) {
             Ok(request) => ask_one(net, alloc, manner, request, &mut writer),
             Err(LineFault::OutOfMemory) => Err(Finish::OutOfMemory),
-            Err(LineFault::Grammar) => {
-                let message =
-                    "the request is none: insert KEY VALUE, retrieve KEY or remove KEY VALUE, a key of 1 to 255 bytes, a value of at most 4096";
-                let fault = refused(alloc, message)?;
-                told(rt, &fault)
-            }
+            Err(LineFault::Grammar) => refuse(rt, NO_REQUEST),
         },
         _ => ask_lines(net, alloc, manner, &mut rt.stdin(), &mut writer),
     }

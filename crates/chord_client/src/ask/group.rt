@@ -72,6 +72,14 @@ fn receive_all(link: &mut Link, questions: &mut [Question], tries: u32) -> Resul
     Ok(Passing::Done)
 }
 
+/// Sends those that are open, and receives all their answers.
+fn ask_over(link: &mut Link, questions: &mut [Question], tries: u32) -> Result<Passing, Finish> {
+    match send_open(link, questions)? {
+        Passing::Done => receive_all(link, questions, tries),
+        Passing::Broken => Ok(Passing::Broken),
+    }
+}
+
 /// Asks those that are open once over one connection, which is kept where it stands.
 fn ask_round<R: Net<Stream = TcpStream>>(
     rt: &R,
@@ -84,11 +92,13 @@ fn ask_round<R: Net<Stream = TcpStream>>(
         Some(link) => link,
         None => Link::open(rt, alloc, manner)?,
     };
-    let sent = send_open(&mut link, questions)?;
-    if sent == Passing::Done && receive_all(&mut link, questions, manner.tries)? == Passing::Done {
-        *kept = Some(link);
+    let asked = ask_over(&mut link, questions, manner.tries);
+    if asked == Ok(Passing::Done) {
+        drop(kept.replace(link));
         return Ok(());
     }
+    drop(link);
+    asked?;
     for question in questions.iter_mut() {
         question.lose(manner.tries);
     }

@@ -205,7 +205,9 @@ pub fn ask_lines<R: Net<Stream = TcpStream>, I: Read, W: Write>(
     writer: &mut W,
 ) -> Result<Finish, Finish> {
     let mut session = Session::open(rt, alloc, manner)?;
-    session.ask_all(rt, reader, writer)
+    let asked = session.ask_all(rt, reader, writer);
+    drop(session);
+    asked
 }
 
 /// Asks one request, and writes its line.
@@ -218,6 +220,15 @@ pub fn ask_one<R: Net<Stream = TcpStream>, W: Write>(
 ) -> Result<Finish, Finish>
     requires { IsRequest request }
 {
-    let mut session = Session::open(rt, alloc, manner)?;
-    session.ask(rt, request, writer)
+    match Session::open(rt, alloc, manner) {
+        Ok(mut session) => {
+            let asked = session.ask(rt, request, writer);
+            drop(session);
+            asked
+        }
+        Err(finish) => {
+            drop(request);
+            Err(finish)
+        }
+    }
 }

@@ -14,6 +14,34 @@ fn bytes_of(alloc: Global, word: &str) -> Result<Bytes, LineFault> {
     }
 }
 
+/// Both, or the first one's fault.
+fn both<A: Drop, B: Drop>(
+    one: Result<A, LineFault>,
+    other: Result<B, LineFault>,
+) -> Result<(A, B), LineFault> {
+    Ok((one?, other?))
+}
+
+/// The request of these words.
+fn parse(alloc: Global, name: &str, key: &str, value: Option<&str>) -> Result<Request, LineFault> {
+    let key = bytes_of(alloc, key);
+    match (name, value) {
+        ("retrieve", None) => Ok(Request::Retrieve { key: key? }),
+        ("insert", Some(value)) => {
+            let (key, value) = both(key, bytes_of(alloc, value))?;
+            Ok(Request::Insert { key, value })
+        }
+        ("remove", Some(value)) => {
+            let (key, value) = both(key, bytes_of(alloc, value))?;
+            Ok(Request::Remove { key, value })
+        }
+        _ => {
+            drop(key);
+            Err(LineFault::Grammar)
+        }
+    }
+}
+
 /// The request of these words, where it keeps the limits of keys and values.
 fn request_of(
     alloc: Global,
@@ -23,22 +51,13 @@ fn request_of(
 ) -> Result<Request, LineFault>
     ensures { IfOk result IsRequest }
 {
-    let key = bytes_of(alloc, key)?;
-    let request = match (name, value) {
-        ("insert", Some(value)) => Request::Insert {
-            key,
-            value: bytes_of(alloc, value)?,
-        },
-        ("retrieve", None) => Request::Retrieve { key },
-        ("remove", Some(value)) => Request::Remove {
-            key,
-            value: bytes_of(alloc, value)?,
-        },
-        _ => return Err(LineFault::Grammar),
-    };
+    let request = parse(alloc, name, key, value)?;
     match request.check() {
         Ok(()) => Ok(request),
-        Err(_) => Err(LineFault::Grammar),
+        Err(_) => {
+            drop(request);
+            Err(LineFault::Grammar)
+        }
     }
 }
 

@@ -1,6 +1,6 @@
 //! The command line of `load`.
 
-use crate::ask::command::port_option;
+use crate::ask::command::{number_of, number_option, port_option, with_argument};
 use crate::load::bounds::{Kind, Load, Until};
 use crate::load::running::run_load;
 use chord_command::Finish;
@@ -13,39 +13,23 @@ use std::thread::Threads;
 use std::time::Clock;
 
 fn connections_option<'a>(alloc: Global) -> Arg<'a> {
-    Arg::new(alloc, "connections")
-        .long("connections")
-        .value_name("C")
-        .default_value("1")
-        .value_parser(value_parser!(u64).range(1..=64))
-        .help("How many connections ask at once, 1 to 64")
+    let help = "How many connections ask at once, 1 to 64";
+    number_option(alloc, ("connections", "C"), "1", (1, 64), help)
 }
 
 fn in_flight_option<'a>(alloc: Global) -> Arg<'a> {
-    Arg::new(alloc, "in-flight")
-        .long("in-flight")
-        .value_name("W")
-        .default_value("1")
-        .value_parser(value_parser!(u64).range(1..=16))
-        .help("How many requests are in flight on each, 1 to 16")
+    let help = "How many requests are in flight on each, 1 to 16";
+    number_option(alloc, ("in-flight", "W"), "1", (1, 16), help)
 }
 
 fn keys_option<'a>(alloc: Global) -> Arg<'a> {
-    Arg::new(alloc, "keys")
-        .long("keys")
-        .value_name("K")
-        .default_value("1000")
-        .value_parser(value_parser!(u64).range(1..=1_000_000))
-        .help("How many keys are named in turn, 1 to 1000000")
+    let help = "How many keys are named in turn, 1 to 1000000";
+    number_option(alloc, ("keys", "K"), "1000", (1, 1_000_000), help)
 }
 
 fn value_size_option<'a>(alloc: Global) -> Arg<'a> {
-    Arg::new(alloc, "value-size")
-        .long("value-size")
-        .value_name("BYTES")
-        .default_value("16")
-        .value_parser(value_parser!(usize).range(0..=4096))
-        .help("How many bytes each value has that is inserted, 0 to 4096")
+    let help = "How many bytes each value has that is inserted, 0 to 4096";
+    number_option(alloc, ("value-size", "BYTES"), "16", (0, 4096), help)
 }
 
 fn kind_option<'a>(alloc: Global) -> Arg<'a> {
@@ -58,12 +42,8 @@ fn kind_option<'a>(alloc: Global) -> Arg<'a> {
 }
 
 fn seconds_option<'a>(alloc: Global) -> Arg<'a> {
-    Arg::new(alloc, "seconds")
-        .long("seconds")
-        .value_name("S")
-        .default_value("10")
-        .value_parser(value_parser!(u64).range(1..=3600))
-        .help("How long requests are begun, 1 to 3600")
+    let help = "How long requests are begun, 1 to 3600";
+    number_option(alloc, ("seconds", "S"), "10", (1, 3600), help)
 }
 
 fn requests_option<'a>(alloc: Global) -> Arg<'a> {
@@ -76,26 +56,26 @@ fn requests_option<'a>(alloc: Global) -> Arg<'a> {
 
 /// The command `load` and what it takes.
 pub fn load_command<'a>(alloc: Global) -> Result<Command<'a>, AllocError> {
-    Command::new(alloc, "load")
+    let load = Command::new(alloc, "load")
         .about("Asks a server many requests, and writes how long they took")
-        .arg(port_option(alloc))?
-        .arg(connections_option(alloc))?
-        .arg(in_flight_option(alloc))?
-        .arg(keys_option(alloc))?
-        .arg(value_size_option(alloc))?
-        .arg(kind_option(alloc))?
-        .arg(seconds_option(alloc))?
-        .arg(requests_option(alloc))
+        .arg(port_option(alloc));
+    let load = with_argument(load, connections_option(alloc));
+    let load = with_argument(load, in_flight_option(alloc));
+    let load = with_argument(load, keys_option(alloc));
+    let load = with_argument(load, value_size_option(alloc));
+    let load = with_argument(load, kind_option(alloc));
+    let load = with_argument(load, seconds_option(alloc));
+    with_argument(load, requests_option(alloc))
 }
 
 /// The load that the command line says.
 pub fn load_of(found: &ArgMatches) -> Load {
     Load {
         port: found.get_one::<u16>("port").unwrap_or(1),
-        connections: found.get_one::<u64>("connections").unwrap_or(1),
-        in_flight: found.get_one::<u64>("in-flight").unwrap_or(1),
-        keys: found.get_one::<u64>("keys").unwrap_or(1),
-        value_size: found.get_one::<usize>("value-size").unwrap_or(0),
+        connections: number_of(found, "connections"),
+        in_flight: number_of(found, "in-flight"),
+        keys: number_of(found, "keys"),
+        value_size: number_of(found, "value-size") as usize,
         kind: if found.get_str("kind") == Some("insert") {
             Kind::Insert
         } else {
@@ -103,7 +83,7 @@ pub fn load_of(found: &ArgMatches) -> Load {
         },
         until: match found.get_one::<u64>("requests") {
             Some(count) => Until::Requests(count),
-            None => Until::Seconds(found.get_one::<u64>("seconds").unwrap_or(1)),
+            None => Until::Seconds(number_of(found, "seconds")),
         },
     }
 }

@@ -102,6 +102,17 @@ fn run_all<
     })
 }
 
+/// Writes the table of what a load came to. Says how the command ends.
+fn write_report<W: Write>(report: &Report, writer: &mut W) -> Result<Finish, Finish> {
+    writeln!(writer, "{report}")?;
+    writer.flush()?;
+    if report.faults == 0 {
+        Ok(Finish::Done)
+    } else {
+        Ok(Finish::Fault(Fault::Unanswered(report.faults)))
+    }
+}
+
 /// Runs a load, and writes a table of what it came to.
 pub fn run_load<
     R: Threads + Wait + Clock + Net<Listener = TcpListener, Stream = TcpStream> + Sync,
@@ -119,11 +130,7 @@ pub fn run_load<
     if let Ok(took) = start.elapsed(rt) {
         report.milliseconds = u64::try_from(took.as_millis()).unwrap_or(u64::MAX);
     }
-    writeln!(writer, "{report}")?;
-    writer.flush()?;
-    if report.faults == 0 {
-        Ok(Finish::Done)
-    } else {
-        Ok(Finish::Fault(Fault::Unanswered(report.faults)))
-    }
+    let finish = write_report(&report, writer);
+    drop(report);
+    finish
 }

@@ -1,4 +1,5 @@
 //! One connection of a load.
+ghost use Rattle.chord_map.specs.Checked.{IsRequest};
 
 use crate::ask::link::{Link, Manner};
 use crate::load::bounds::{Kind, Load, Until};
@@ -54,6 +55,16 @@ fn key_of(alloc: Global, number: u64) -> Result<Bytes, AllocError> {
     Bytes::from_slice(alloc, text.as_bytes())
 }
 
+/// The code of a fault, where the answer is one.
+fn code_of(answer: Answer) -> Option<FaultCode> {
+    let code = match &answer {
+        Answer::Reply { .. } => None,
+        Answer::Fault { code, .. } => Some(*code),
+    };
+    drop(answer);
+    code
+}
+
 impl<'a, R: Clock> Worker<'a, R> {
     /// Whether one more request is to be sent.
     fn is_due(&self) -> Result<bool, Finish> {
@@ -95,10 +106,24 @@ impl<'a, R: Clock> Worker<'a, R> {
     /// Sends a new request.
     fn send(&mut self) -> Result<Going, Finish> {
         let request = self.next_request()?;
-        if request.check().is_err() {
-            return Err(Finish::BadCommandLine);
+        let kept = self.keep_start();
+        match request.check() {
+            Ok(()) => self.pass(request, kept),
+            Err(_) => {
+                drop(request);
+                Err(Finish::BadCommandLine)
+            }
         }
-        self.keep_start()?;
+    }
+
+    /// Sends a request whose beginning was kept.
+    fn pass(&mut self, request: Request, kept: Result<(), Finish>) -> Result<Going, Finish>
+        requires { IsRequest request }
+    {
+        if let Err(finish) = kept {
+            drop(request);
+            return Err(finish);
+        }
         let mut writer = &self.link.stream;
         match self.link.client.send(&mut writer, request) {
             Ok(_) => Ok(Going::On),
@@ -144,22 +169,31 @@ impl<'a, R: Clock> Worker<'a, R> {
     /// Receives an answer. A request that got a fault is sent again in place of a new one.
     fn receive(&mut self) -> Result<Going, Finish> {
         let mut reader = &self.link.stream;
-        match self.link.client.receive(&mut reader, READS) {
-            Ok((_, Answer::Reply { .. })) => {
+        let (number, code) = match self.link.client.receive(&mut reader, READS) {
+            Ok((number, answer)) => (number, code_of(answer)),
+            Err(ReceiveFault::Call(CallFault::Memory)) => return Err(Finish::OutOfMemory),
+            Err(_) => return Ok(Going::Broken),
+        };
+        match code {
+            Some(code) => self.retry(number, code),
+            None => {
                 self.keep_time()?;
                 Ok(Going::On)
             }
-            Ok((number, Answer::Fault { code, .. })) => {
-                self.report.faults = self.report.faults.saturating_add(1);
-                self.sent.pop_front();
-                let may_pass = matches!(code, FaultCode::Full | FaultCode::NoAnswer);
-                if may_pass && self.is_due()? {
-                    return self.again(number);
-                }
-                Ok(if may_pass { Going::On } else { Going::Broken })
-            }
-            Err(ReceiveFault::Call(CallFault::Memory)) => Err(Finish::OutOfMemory),
-            Err(_) => Ok(Going::Broken),
+        }
+    }
+
+    /// Counts a fault, and sends its request again where that may pass and a request is due.
+    fn retry(&mut self, number: u64, code: FaultCode) -> Result<Going, Finish> {
+        self.report.faults = self.report.faults.saturating_add(1);
+        self.sent.pop_front();
+        if !matches!(code, FaultCode::Full | FaultCode::NoAnswer) {
+            return Ok(Going::Broken);
+        }
+        if self.is_due()? {
+            self.again(number)
+        } else {
+            Ok(Going::On)
         }
     }
 
@@ -181,6 +215,13 @@ impl<'a, R: Clock> Worker<'a, R> {
         self.report.faults = self.report.faults.saturating_add(lost);
         Ok(())
     }
+
+    /// What was found. The connection is closed.
+    fn into_report(self) -> Report {
+        drop(self.link);
+        drop(self.sent);
+        self.report
+    }
 }
 
 /// What one connection of the load came to. What was in flight when it broke counts as faults.
@@ -197,17 +238,25 @@ pub fn work<R: Net<Stream = TcpStream> + Clock>(
         window: load.in_flight,
         tries: 1,
     };
+    let report = Report::new(alloc)?;
+    let start = now(rt)?;
     let mut worker = Worker {
         rt,
         alloc,
         load,
         connection,
         link: Link::open(rt, alloc, manner)?,
-        start: now(rt)?,
+        start,
         made: 0,
         sent: VecDeque::new(alloc),
-        report: Report::new(alloc)?,
+        report,
     };
-    worker.run(answered)?;
-    Ok(worker.report)
+    let ran = worker.run(answered);
+    ended(ran, worker.into_report())
+}
+
+/// The report, unless the run ended by a fault.
+fn ended<T: Drop>(ran: Result<(), Finish>, report: T) -> Result<T, Finish> {
+    ran?;
+    Ok(report)
 }
