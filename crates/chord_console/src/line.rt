@@ -24,60 +24,72 @@ impl Line {
     /// Reads a line without its end.
     pub fn read(alloc: Global, line: &str) -> Result<Line, LineFault> {
         let mut words = Words::new(line);
-        let read = match words.word()? {
-            "create" => Line::Step(Step::Create { id: words.id()? }),
-            "caller" => Line::Step(Step::OpenCaller {
-                window: window(&mut words)?,
-            }),
-            "insert" => Line::Step(insert(alloc, &mut words)?),
-            "retrieve" => Line::Step(retrieve(alloc, &mut words)?),
-            "remove" => Line::Step(remove(alloc, &mut words)?),
-            "resend" => Line::Step(resend(&mut words)?),
-            "deliver" => Line::Step(Step::Deliver {
-                message: words.number()?,
-            }),
-            "show" => Line::Step(Step::Show {
-                caller: words.number()?,
-            }),
-            "meet" => Line::Step(meet(&mut words)?),
-            "join" => Line::Step(join(&mut words)?),
-            "cut" => Line::Step(cut(&mut words)?),
-            "merge" => Line::Step(merge(&mut words)?),
-            "give" => Line::Step(give(&mut words)?),
-            "part" => Line::Step(part(&mut words)?),
-            "stabilise" => Line::Stabilise(words.number()?),
-            "candidate" => Line::Step(candidate(&mut words)?),
-            "drop" => Line::Step(Step::DropDead {
-                node: words.number()?,
-            }),
-            "rectify" => Line::Step(rectify(&mut words)?),
-            "finger" => Line::Step(finger(&mut words)?),
-            "leave" => Line::Step(Step::Leave {
-                node: words.number()?,
-            }),
-            "retire" => Line::Step(Step::Retire {
-                node: words.number()?,
-            }),
-            "crash" => Line::Step(Step::Crash {
-                node: words.number()?,
-            }),
-            "holder" => Line::Holder(words.id()?),
-            "history" => Line::History,
-            "list" => Line::List(words.number()?),
-            _ => return Err(LineFault::Grammar),
-        };
-        words.end()?;
-        Ok(read)
+        let word = words.word()?;
+        let line = line_of(alloc, word, &mut words)?;
+        match words.end() {
+            Ok(()) => Ok(line),
+            Err(fault) => {
+                drop(line);
+                Err(fault)
+            }
+        }
     }
 }
 
-/// The window of a caller: the number that stands there, else 1.
-fn window(words: &mut Words) -> Result<u64, LineFault> {
-    if words.has_more() {
-        words.number()
-    } else {
-        Ok(1)
+/// What a line asks for that begins with this word.
+fn line_of(alloc: Global, word: &str, words: &mut Words) -> Result<Line, LineFault> {
+    match word {
+        "history" => Ok(Line::History),
+        "holder" => Ok(Line::Holder(words.id()?)),
+        "list" => Ok(Line::List(words.number()?)),
+        "stabilise" => Ok(Line::Stabilise(words.number()?)),
+        _ => Ok(Line::Step(step_of(alloc, word, words)?)),
     }
+}
+
+/// The step of a line that begins with this word.
+fn step_of(alloc: Global, word: &str, words: &mut Words) -> Result<Step, LineFault> {
+    match word {
+        "insert" => insert(alloc, words),
+        "retrieve" => retrieve(alloc, words),
+        "remove" => remove(alloc, words),
+        "create" => create(words),
+        "caller" => caller(words),
+        "resend" => resend(words),
+        "meet" => meet(words),
+        "join" => join(words),
+        "cut" => cut(words),
+        "merge" => merge(words),
+        "give" => give(words),
+        "part" => part(words),
+        "candidate" => candidate(words),
+        "rectify" => rectify(words),
+        "finger" => finger(words),
+        _ => step_of_one(word, words.number()?),
+    }
+}
+
+/// The step of a line that has this word and one number.
+fn step_of_one(word: &str, number: u64) -> Result<Step, LineFault> {
+    match word {
+        "deliver" => Ok(Step::Deliver { message: number }),
+        "show" => Ok(Step::Show { caller: number }),
+        "drop" => Ok(Step::DropDead { node: number }),
+        "leave" => Ok(Step::Leave { node: number }),
+        "retire" => Ok(Step::Retire { node: number }),
+        "crash" => Ok(Step::Crash { node: number }),
+        _ => Err(LineFault::Grammar),
+    }
+}
+
+fn create(words: &mut Words) -> Result<Step, LineFault> {
+    Ok(Step::Create { id: words.id()? })
+}
+
+/// A caller of the window that stands there, else 1.
+fn caller(words: &mut Words) -> Result<Step, LineFault> {
+    let window = if words.has_more() { words.number()? } else { 1 };
+    Ok(Step::OpenCaller { window })
 }
 
 fn insert(alloc: Global, words: &mut Words) -> Result<Step, LineFault> {

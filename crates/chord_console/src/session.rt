@@ -5,6 +5,7 @@ ghost use Rattle.std.specs.List.{All};
 use crate::line::Line;
 use crate::refusal::name_of;
 use chord_command::{Fault, Finish, LineFault, Shown};
+use chord_map::Done;
 use chord_node::Holder;
 use chord_store::EntryStore;
 use chord_world::{Outcome, Refusal, Step, World};
@@ -26,41 +27,54 @@ struct Session<S: EntryStore> {
     lines: u64,
 }
 
+/// The word that what came of a step is told by, and the number behind it, if there is one.
+fn word_of(outcome: Outcome) -> (&'static str, Option<u64>) {
+    match outcome {
+        Outcome::Node(number) => ("node", Some(number)),
+        Outcome::Caller(number) => ("caller", Some(number)),
+        Outcome::Message(number) => ("message", Some(number)),
+        Outcome::Told(number) => ("told", Some(number)),
+        Outcome::Forwarded(number) => ("forward", Some(number)),
+        Outcome::Dropped => ("dropped", None),
+        Outcome::Full(number) => ("full", Some(number)),
+        Outcome::Fresh(_) => ("fresh", None),
+        Outcome::Known => ("known", None),
+        Outcome::HeardFull => ("full", None),
+        Outcome::Got(number) => ("got", Some(number)),
+        Outcome::Declined(number) => ("declined", Some(number)),
+        Outcome::Early => ("early", None),
+        Outcome::NoRoom => ("full", None),
+        Outcome::Noted => ("part", None),
+        Outcome::Freed => ("freed", None),
+        Outcome::Unknown => ("unknown", None),
+        Outcome::Held => ("held", None),
+        Outcome::Met => ("met", None),
+        Outcome::Candidate(Some(number)) => ("candidate", Some(number)),
+        Outcome::Candidate(None) => ("none", None),
+        Outcome::Done => ("ok", None),
+    }
+}
+
+/// The call that a caller took last.
+fn last_of<S: EntryStore>(world: &World<S>, caller: u64) -> Option<&Done> {
+    world.mine(caller)?.last()
+}
+
 /// Writes what came of a step.
 fn write_outcome<S: EntryStore, W: Write>(
     world: &World<S>,
     outcome: Outcome,
     writer: &mut W,
 ) -> io::Result<()> {
-    match outcome {
-        Outcome::Node(number) => writeln!(writer, "node {number}"),
-        Outcome::Caller(number) => writeln!(writer, "caller {number}"),
-        Outcome::Message(number) => writeln!(writer, "message {number}"),
-        Outcome::Told(number) => writeln!(writer, "told {number}"),
-        Outcome::Forwarded(number) => writeln!(writer, "forward {number}"),
-        Outcome::Dropped => writeln!(writer, "dropped"),
-        Outcome::Full(number) => writeln!(writer, "full {number}"),
-        Outcome::Known => writeln!(writer, "known"),
-        Outcome::HeardFull => writeln!(writer, "full"),
-        Outcome::Got(number) => writeln!(writer, "got {number}"),
-        Outcome::Declined(number) => writeln!(writer, "declined {number}"),
-        Outcome::Early => writeln!(writer, "early"),
-        Outcome::NoRoom => writeln!(writer, "full"),
-        Outcome::Noted => writeln!(writer, "part"),
-        Outcome::Freed => writeln!(writer, "freed"),
-        Outcome::Unknown => writeln!(writer, "unknown"),
-        Outcome::Held => writeln!(writer, "held"),
-        Outcome::Met => writeln!(writer, "met"),
-        Outcome::Candidate(Some(number)) => writeln!(writer, "candidate {number}"),
-        Outcome::Candidate(None) => writeln!(writer, "none"),
-        Outcome::Done => writeln!(writer, "ok"),
-        Outcome::Fresh(caller) => match world.mine(caller).and_then(|mine| mine.last()) {
-            Some(done) => {
-                let reply = Shown(&done.reply);
-                writeln!(writer, "fresh {reply}")
-            }
-            None => writeln!(writer, "fresh"),
-        },
+    if let Outcome::Fresh(caller) = outcome {
+        if let Some(done) = last_of(world, caller) {
+            let reply = Shown(&done.reply);
+            return writeln!(writer, "fresh {reply}");
+        }
+    }
+    match word_of(outcome) {
+        (word, Some(number)) => writeln!(writer, "{word} {number}"),
+        (word, None) => writeln!(writer, "{word}"),
     }
 }
 
@@ -139,6 +153,19 @@ impl<S: EntryStore> Session<S> {
             Err(LineFault::OutOfMemory) => return Err(Finish::OutOfMemory),
         };
         self.line.clear();
+        self.do_line(stores, line, writer)
+    }
+
+    /// Does what a line asks for, and writes what came of it.
+    fn do_line<W: Write>(
+        &mut self,
+        stores: &mut Vec<S>,
+        line: Line,
+        writer: &mut W,
+    ) -> Result<(), Finish>
+        requires { All (λ s. S.content s ≡ []) stores.old.items }
+        ensures { All (λ s. S.content s ≡ []) stores.new.items }
+    {
         match line {
             Line::History => {
                 let count = self.world.history().len();
@@ -148,9 +175,9 @@ impl<S: EntryStore> Session<S> {
             Line::List(node) => written(write_list(&self.world, node, writer)),
             Line::Stabilise(node) => {
                 let head = head_of(&self.world, node);
-                self.do_step(stores, &Step::Stabilise { node, head }, writer)
+                self.do_step(stores, Step::Stabilise { node, head }, writer)
             }
-            Line::Step(step) => self.do_step(stores, &step, writer),
+            Line::Step(step) => self.do_step(stores, step, writer),
         }
     }
 
@@ -158,13 +185,15 @@ impl<S: EntryStore> Session<S> {
     fn do_step<W: Write>(
         &mut self,
         stores: &mut Vec<S>,
-        step: &Step,
+        step: Step,
         writer: &mut W,
     ) -> Result<(), Finish>
         requires { All (λ s. S.content s ≡ []) stores.old.items }
         ensures { All (λ s. S.content s ≡ []) stores.new.items }
     {
-        match self.world.step(stores, step) {
+        let did = self.world.step(stores, &step);
+        drop(step);
+        match did {
             Ok(outcome) => written(write_outcome(&self.world, outcome, writer)),
             Err(refusal) => write_refusal(refusal, writer),
         }
