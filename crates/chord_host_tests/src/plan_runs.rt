@@ -1,9 +1,8 @@
 //! The command `run`.
 
-use crate::clients::plan_of;
-use crate::plans::{TWO_NODES, changed, two_stores};
 use chord_command::{Fault, Finish};
 use chord_host::run;
+use chord_loopback::{TWO_NODES, changed, plan_of, two_stores};
 use std::alloc::Global;
 use std::sync::Wait;
 use std::thread::Threads;

@@ -1,13 +1,12 @@
 //! The command `serve` over loopback, for so many connections.
 
-use crate::clients::{
-    ask, ask_insert, ask_remove, expect, expect_end, fault_frame, insert, leave, lines, plan_of,
-    plan_with, reply_frame, request_frame, retrieve,
-};
-use crate::plans::{changed, two_stores};
 use chord_command::{Fault, Finish};
 use chord_host::{Front, listen, serve};
-use chord_map::{Bytes, Reply, Values};
+use chord_loopback::{
+    Act, Acts, Answer, Ask, ask, ask_insert, bound, changed, do_acts, expect, insert, is_served,
+    leave, plan_of, plan_with, request_frame, retrieve, two_stores,
+};
+use chord_map::{Bytes, Reply, Request, Values};
 use chord_plan::Plan;
 use chord_wire::FaultCode;
 use log::Log;
@@ -15,57 +14,44 @@ use log::sink::{Discard, Locked};
 use std::alloc::{AllocError, Global};
 use std::fmt::Write as _;
 use std::io::{self, Read, Write};
-use std::net::{Net, OpenStream, Shutdown, SocketAddr, TcpListener, TcpStream};
+use std::net::{Net, OpenStream, SocketAddr, TcpListener, TcpStream};
 use std::sync::Wait;
 use std::thread;
 use std::thread::Threads;
 use std::time::Clock;
 
-/// A client sends these bytes and no more: this is answered, and no more.
-fn answered<R: Net>(
-    rt: &R,
-    alloc: Global,
-    address: SocketAddr,
-    bytes: &[u8],
-    wanted: &[u8],
-) -> io::Result<()> {
-    let mut stream = TcpStream::connect(rt, address)?;
-    stream.write_all(bytes)?;
-    stream.shutdown(Shutdown::Write)?;
-    expect(alloc, &mut stream, wanted)?;
-    expect_end(&mut stream)
-}
-
-/// Four clients, one after another.
-fn four_clients<R: Net>(rt: &R, alloc: Global, address: SocketAddr) -> io::Result<()> {
-    let frame = request_frame(alloc, 1, &*insert(alloc, b"x")?)?;
-    let added = reply_frame(alloc, 1, &Reply::Added)?;
-    let refused = fault_frame(alloc, 0, FaultCode::BadLength)?;
-    answered(rt, alloc, address, &frame, &added)?;
-    answered(rt, alloc, address, b"abc", b"")?;
-    answered(rt, alloc, address, &[0u8; 4], &refused)?;
-    answered(rt, alloc, address, b"", b"")
-}
+/// Four clients, one after another, which say no more before they read: the server is to answer all the same.
+const FOUR: Acts = &[
+    (0, Act::Connect),
+    (0, Act::Ask(1, Ask::Insert(b"x"))),
+    (0, Act::Hush),
+    (0, Act::Hear(1, Answer::Added)),
+    (0, Act::End),
+    (1, Act::Connect),
+    (1, Act::Say(b"abc")),
+    (1, Act::Leave),
+    (2, Act::Connect),
+    (2, Act::Say(b"\x00\x00\x00\x00")),
+    (2, Act::Hush),
+    (2, Act::Hear(0, Answer::Fault(FaultCode::BadLength))),
+    (2, Act::End),
+    (3, Act::Connect),
+    (3, Act::Leave),
+];
 
 /// Who asks a server.
 #[derive(Clone, Copy)]
 enum Clients {
-    Four,
-    Hostile,
-    TwoVersions,
+    Acting(Acts),
     SixtyFour,
-    HalfAFrame,
     NeverReads,
 }
 
 impl Clients {
     fn ask<R: Net>(self, rt: &R, alloc: Global, address: SocketAddr) -> io::Result<()> {
         match self {
-            Clients::Four => four_clients(rt, alloc, address),
-            Clients::Hostile => hostile_clients(rt, alloc, address),
-            Clients::TwoVersions => two_versions(rt, alloc, address),
+            Clients::Acting(acts) => do_acts(rt, alloc, address, &mut Vec::new(alloc), acts),
             Clients::SixtyFour => many_clients(rt, alloc, address, 64),
-            Clients::HalfAFrame => half_a_frame(rt, alloc, address),
             Clients::NeverReads => never_reads(rt, alloc, address),
         }
     }
@@ -106,16 +92,15 @@ fn writes<
     wanted: &str,
 ) -> Option<bool> {
     let plan = plan_with(alloc, callers)?;
-    let listener = TcpListener::bind(rt, "127.0.0.1:0").ok()?;
-    let address = listener.local_addr().ok()?;
+    let (listener, address) = bound(rt)?;
     let (written, answered) = thread::join(
         rt,
         || served(rt, alloc, &plan, &listener, connections, notes),
         || clients.ask(rt, alloc, address),
     );
-    answered.ok()?;
-    let wanted = lines(alloc, address, wanted).ok()?;
-    Some(written.ok()?.as_slice() == wanted.as_bytes())
+    drop(listener);
+    drop(plan);
+    Some(is_served(alloc, address, answered, written, wanted))
 }
 
 /// Also how the notes look.
@@ -125,7 +110,7 @@ fn loopback_server(rt: HostRuntime) {
     let notes = Locked::new(rt, Vec::new(alloc));
     let wanted =
         "connection 0 ended\nconnection 1 truncated\nconnection 2 malformed 1\nconnection 3 callersspent\n";
-    let is_written = writes(&rt, alloc, (3, 4), &notes, Clients::Four, wanted);
+    let is_written = writes(&rt, alloc, (3, 4), &notes, Clients::Acting(FOUR), wanted);
     assert!(rt; is_written == Some(true));
     let noted: Vec<u8> = notes.into_inner();
     let wanted =
@@ -139,13 +124,17 @@ fn faulty_clients(rt: HostRuntime) {
     for (counts, clients, wanted) in [
         (
             (8, 8),
-            Clients::Hostile,
+            Clients::Acting(HOSTILE),
             "connection 0 ended\nconnection 1 malformed 1\nconnection 2 malformed 2\nconnection 3 malformed 3\nconnection 4 malformed 12\nconnection 5 malformed 4\nconnection 6 malformed 5\nconnection 7 malformed 6\n",
         ),
-        ((1, 1), Clients::TwoVersions, "connection 0 malformed 2\n"),
+        (
+            (1, 1),
+            Clients::Acting(TWO_VERSIONS),
+            "connection 0 malformed 2\n",
+        ),
         (
             (2, 2),
-            Clients::HalfAFrame,
+            Clients::Acting(HALF_A_FRAME),
             "connection 0 truncated\nconnection 1 ended\n",
         ),
         (
@@ -159,82 +148,78 @@ fn faulty_clients(rt: HostRuntime) {
     }
 }
 
-/// A client whose bytes end its connection: this is answered, and no more.
-fn hostile<R: Net>(
-    rt: &R,
-    alloc: Global,
-    address: SocketAddr,
-    bytes: &[u8],
-    answer: &[u8],
-) -> io::Result<()> {
-    let mut stream = TcpStream::connect(rt, address)?;
-    stream.write_all(bytes)?;
-    expect(alloc, &mut stream, answer)?;
-    expect_end(&mut stream)
-}
-
-/// Frames that are refused, each with its fault and the number in it.
-const HOSTILE: [(&[u8], FaultCode, u64); 7] = [
-    (b"\x00\x00\x00\x0b", FaultCode::BadLength, 0),
+/// One client is served while others, one after another, send a frame that is refused.
+const HOSTILE: Acts = &[
+    (0, Act::Connect),
+    (0, Act::Ask(1, Ask::Insert(b"x"))),
+    (0, Act::Hear(1, Answer::Added)),
+    (1, Act::Connect),
+    (1, Act::Say(b"\x00\x00\x00\x0b")),
+    (1, Act::Hear(0, Answer::Fault(FaultCode::BadLength))),
+    (1, Act::End),
+    (2, Act::Connect),
     (
-        b"\x00\x00\x00\x0c\x03\x02\x00\x00\x00\x00\x00\x00\x00\x01\x01a",
-        FaultCode::BadVersion,
-        0,
+        2,
+        Act::Say(b"\x00\x00\x00\x0c\x03\x02\x00\x00\x00\x00\x00\x00\x00\x01\x01a"),
     ),
+    (2, Act::Hear(0, Answer::Fault(FaultCode::BadVersion))),
+    (2, Act::End),
+    (3, Act::Connect),
     (
-        b"\x00\x00\x00\x0c\x01\x04\x00\x00\x00\x00\x00\x00\x00\x01\x01a",
-        FaultCode::BadOperation,
-        0,
+        3,
+        Act::Say(b"\x00\x00\x00\x0c\x01\x04\x00\x00\x00\x00\x00\x00\x00\x01\x01a"),
     ),
+    (3, Act::Hear(0, Answer::Fault(FaultCode::BadOperation))),
+    (3, Act::End),
+    (4, Act::Connect),
     (
-        b"\x00\x00\x00\x14\x02\x02\x00\x00\x00\x00\x00\x00\x00\x01\x00\x00\x00\x00\x00\x00\x00\x01\x01a",
-        FaultCode::BadFloor,
-        1,
+        4,
+        Act::Say(
+            b"\x00\x00\x00\x14\x02\x02\x00\x00\x00\x00\x00\x00\x00\x01\x00\x00\x00\x00\x00\x00\x00\x01\x01a",
+        ),
     ),
+    (4, Act::Hear(1, Answer::Fault(FaultCode::BadFloor))),
+    (4, Act::End),
+    (5, Act::Connect),
     (
-        b"\x00\x00\x00\x0c\x01\x02\x00\x00\x00\x00\x00\x00\x00\x01\x00a",
-        FaultCode::BadKey,
-        1,
+        5,
+        Act::Say(b"\x00\x00\x00\x0c\x01\x02\x00\x00\x00\x00\x00\x00\x00\x01\x00a"),
     ),
+    (5, Act::Hear(1, Answer::Fault(FaultCode::BadKey))),
+    (5, Act::End),
+    (6, Act::Connect),
     (
-        b"\x00\x00\x00\x0c\x01\x01\x00\x00\x00\x00\x00\x00\x00\x01\x01a",
-        FaultCode::BadValue,
-        1,
+        6,
+        Act::Say(b"\x00\x00\x00\x0c\x01\x01\x00\x00\x00\x00\x00\x00\x00\x01\x01a"),
     ),
+    (6, Act::Hear(1, Answer::Fault(FaultCode::BadValue))),
+    (6, Act::End),
+    (7, Act::Connect),
     (
-        b"\x00\x00\x00\x0d\x01\x02\x00\x00\x00\x00\x00\x00\x00\x01\x01aa",
-        FaultCode::Trailing,
-        1,
+        7,
+        Act::Say(b"\x00\x00\x00\x0d\x01\x02\x00\x00\x00\x00\x00\x00\x00\x01\x01aa"),
     ),
+    (7, Act::Hear(1, Answer::Fault(FaultCode::Trailing))),
+    (7, Act::End),
+    (0, Act::Ask(2, Ask::Insert(b"x"))),
+    (0, Act::Hear(2, Answer::Present)),
+    (0, Act::Leave),
 ];
 
-/// One client is served while others are refused, one after another.
-fn hostile_clients<R: Net>(rt: &R, alloc: Global, address: SocketAddr) -> io::Result<()> {
-    let mut stream = TcpStream::connect(rt, address)?;
-    let request = insert(alloc, b"x")?;
-    ask(alloc, &mut stream, 1, &request, &Reply::Added)?;
-    for (bytes, code, number) in HOSTILE {
-        let answer = fault_frame(alloc, number, code)?;
-        hostile(rt, alloc, address, bytes, &answer)?;
-    }
-    ask(alloc, &mut stream, 2, &request, &Reply::Present)?;
-    leave(&mut stream)
-}
-
-/// Request 2 of version 2 with floor 1: the set of `a` is asked for.
-const VERSION_2: &[u8] =
-    b"\x00\x00\x00\x14\x02\x02\x00\x00\x00\x00\x00\x00\x00\x02\x00\x00\x00\x00\x00\x00\x00\x01\x01a";
-
-/// A client asks in another version than at first.
-fn two_versions<R: Net>(rt: &R, alloc: Global, address: SocketAddr) -> io::Result<()> {
-    let mut stream = TcpStream::connect(rt, address)?;
-    let request = insert(alloc, b"x")?;
-    ask(alloc, &mut stream, 1, &request, &Reply::Added)?;
-    stream.write_all(VERSION_2)?;
-    let refused = fault_frame(alloc, 0, FaultCode::BadVersion)?;
-    expect(alloc, &mut stream, &refused)?;
-    expect_end(&mut stream)
-}
+/// A client asks in another version than at first: its request 2, with floor 1, for the set of `a`.
+const TWO_VERSIONS: Acts = &[
+    (0, Act::Connect),
+    (0, Act::Ask(1, Ask::Insert(b"x"))),
+    (0, Act::Hear(1, Answer::Added)),
+    (
+        0,
+        Act::Say(
+            b"\x00\x00\x00\x14\x02\x02\x00\x00\x00\x00\x00\x00\x00\x02\x00\x00\x00\x00\x00\x00\x00\x01\x01a",
+        ),
+    ),
+    (0, Act::Hear(0, Answer::Fault(FaultCode::BadVersion))),
+    (0, Act::End),
+];
 
 /// The text of a number of two digits.
 fn two_digits(alloc: Global, number: u64) -> Result<String, AllocError> {
@@ -251,37 +236,70 @@ fn values(alloc: Global, count: u64) -> Result<Reply, AllocError> {
     Ok(Reply::Values(values))
 }
 
-/// So many connections are open at once, and each has sent a value.
-fn open_connections<R: Net>(
+/// The frame that inserts the number as a value, under the number 1.
+fn insert_frame(alloc: Global, number: u64) -> io::Result<Vec<u8>> {
+    let text = two_digits(alloc, number)?;
+    let request = insert(alloc, text.as_bytes());
+    drop(text);
+    request_frame(alloc, 1, &*request?)
+}
+
+/// A connection that has sent the number as a value.
+fn open_connection<R: Net>(
     rt: &R,
     alloc: Global,
     address: SocketAddr,
-    count: u64,
-) -> io::Result<Vec<R::Stream>> {
-    let mut streams = Vec::new(alloc);
-    for number in 0..count {
-        let mut stream = TcpStream::connect(rt, address)?;
-        let request = insert(alloc, two_digits(alloc, number)?.as_bytes())?;
-        stream.write_all(&request_frame(alloc, 1, &request)?)?;
-        streams.push(stream)?;
-    }
-    Ok(streams)
+    number: u64,
+) -> io::Result<R::Stream> {
+    let frame = insert_frame(alloc, number)?;
+    let mut stream = TcpStream::connect(rt, address)?;
+    let sent = stream.write_all(&frame);
+    drop(frame);
+    sent?;
+    Ok(stream)
 }
 
-/// So many connections are open at once, and each adds a value. Then each sees all of them.
-fn many_clients<R: Net>(rt: &R, alloc: Global, address: SocketAddr, count: u64) -> io::Result<()> {
-    let mut streams = open_connections(rt, alloc, address, count)?;
-    let added = reply_frame(alloc, 1, &Reply::Added)?;
+/// Each reads these bytes.
+fn each_hears<S: Read>(alloc: Global, streams: &mut [S], wanted: &[u8]) -> io::Result<()> {
     for stream in streams.iter_mut() {
-        expect(alloc, stream, &added)?;
+        expect(alloc, stream, wanted)?;
     }
-    let all = values(alloc, count)?;
-    let request = retrieve(alloc)?;
+    Ok(())
+}
+
+/// Each asks the request under the number 2, is told the reply, and leaves.
+fn each_sees<S: Read + Write + OpenStream>(
+    alloc: Global,
+    streams: &mut [S],
+    request: &Request,
+    reply: &Reply,
+) -> io::Result<()> {
     for stream in streams.iter_mut() {
-        ask(alloc, stream, 2, &request, &all)?;
+        ask(alloc, stream, 2, request, reply)?;
         leave(stream)?;
     }
     Ok(())
+}
+
+/// Each adds the value that it sent, and then sees all of them.
+fn add_and_see<S: Read + Write + OpenStream>(alloc: Global, streams: &mut [S]) -> io::Result<()> {
+    let added = Answer::Added.frame(alloc, 1)?;
+    each_hears(alloc, streams, &added)?;
+    drop(added);
+    let request = retrieve(alloc)?;
+    let all = values(alloc, streams.len() as u64)?;
+    let seen = each_sees(alloc, streams, &request, &all);
+    drop(all);
+    seen
+}
+
+/// So many connections are open at once.
+fn many_clients<R: Net>(rt: &R, alloc: Global, address: SocketAddr, count: u64) -> io::Result<()> {
+    let mut streams = Vec::new(alloc);
+    for number in 0..count {
+        streams.push(open_connection(rt, alloc, address, number)?)?;
+    }
+    add_and_see(alloc, &mut streams)
 }
 
 /// The lines of 64 connections that end in turn.
@@ -307,17 +325,16 @@ fn sixty_four_at_once(rt: HostRuntime) {
     assert!(rt; writes_sixty_four(&rt, rt.alloc()) == Some(true));
 }
 
-/// Half of a frame is sent, and another client is served meanwhile.
-fn half_a_frame<R: Net>(rt: &R, alloc: Global, address: SocketAddr) -> io::Result<()> {
-    let request = insert(alloc, b"x")?;
-    let frame = request_frame(alloc, 1, &request)?;
-    let mut slow = TcpStream::connect(rt, address)?;
-    slow.write_all(&frame[..frame.len() / 2])?;
-    let mut stream = TcpStream::connect(rt, address)?;
-    ask(alloc, &mut stream, 1, &request, &Reply::Added)?;
-    leave(&mut stream)?;
-    leave(&mut slow)
-}
+/// A client sends half of the frame that inserts `x` under `abc`, and another is served meanwhile.
+const HALF_A_FRAME: Acts = &[
+    (0, Act::Connect),
+    (0, Act::Say(b"\x00\x00\x00\x11\x01\x01\x00\x00\x00\x00")),
+    (1, Act::Connect),
+    (1, Act::Ask(1, Ask::Insert(b"x"))),
+    (1, Act::Hear(1, Answer::Added)),
+    (1, Act::Leave),
+    (0, Act::Leave),
+];
 
 /// 32 values of 4,096 bytes are added, which fill 128 KiB.
 fn fill<S: Read + Write>(alloc: Global, stream: &mut S) -> io::Result<()> {
@@ -328,6 +345,14 @@ fn fill<S: Read + Write>(alloc: Global, stream: &mut S) -> io::Result<()> {
     Ok(())
 }
 
+/// A client that is served.
+const ANOTHER: Acts = &[
+    (0, Act::Connect),
+    (0, Act::Ask(1, Ask::Remove(b"x"))),
+    (0, Act::Hear(1, Answer::Absent)),
+    (0, Act::Leave),
+];
+
 /// They are asked for 4,096 times and never read. Another client is served meanwhile.
 fn never_reads<R: Net>(rt: &R, alloc: Global, address: SocketAddr) -> io::Result<()> {
     let mut greedy = TcpStream::connect(rt, address)?;
@@ -336,9 +361,7 @@ fn never_reads<R: Net>(rt: &R, alloc: Global, address: SocketAddr) -> io::Result
     for number in 33..4_129u64 {
         greedy.write_all(&request_frame(alloc, number, &request)?)?;
     }
-    let mut stream = TcpStream::connect(rt, address)?;
-    ask_remove(alloc, &mut stream, 1, b"x", &Reply::Absent)?;
-    leave(&mut stream)
+    do_acts(rt, alloc, address, &mut Vec::new(alloc), ANOTHER)
 }
 
 /// Why a plan whose second node the ring refuses is not served.
@@ -347,9 +370,13 @@ fn not_served<R: Threads + Wait + Clock + Net<Listener = TcpListener, Stream = T
     alloc: Global,
 ) -> Option<Finish> {
     let twice = changed(alloc, "id = \"c0", "id = \"40").ok()?;
-    let plan = plan_of(alloc, twice.as_str())?;
-    let listener = TcpListener::bind(rt, "127.0.0.1:0").ok()?;
-    served(rt, alloc, &plan, &listener, 1, &Discard).err()
+    let plan = plan_of(alloc, twice.as_str());
+    drop(twice);
+    let plan = plan?;
+    let (listener, _) = bound(rt)?;
+    let fault = served(rt, alloc, &plan, &listener, 1, &Discard).err();
+    drop(plan);
+    fault
 }
 
 /// A node that the ring refuses ends the command before it listens.
@@ -361,11 +388,10 @@ fn served_refused_node(rt: HostRuntime) {
 
 /// Why a port that is taken is not listened at, and whether it is once it is free.
 fn listens<R: Net<Listener = TcpListener, Stream = TcpStream>>(rt: &R) -> Option<(Finish, bool)> {
-    let listener = TcpListener::bind(rt, "127.0.0.1:0").ok()?;
-    let port = listener.local_addr().ok()?.port();
-    let refused = listen(rt, port).err()?;
+    let (listener, address) = bound(rt)?;
+    let refused = listen(rt, address.port()).err();
     drop(listener);
-    Some((refused, listen(rt, port).is_ok()))
+    Some((refused?, listen(rt, address.port()).is_ok()))
 }
 
 #[test]

@@ -1,10 +1,9 @@
 //! A server that stays while a growth is refused: one connection ends at most, and the others are answered. With ample
 //! memory nothing is refused; the toolchain's failing allocations refuse one.
 
-use crate::clients::plan_with;
-use crate::plans::two_stores;
 use chord_command::Finish;
 use chord_host::{Front, stay};
+use chord_loopback::{bound, plan_with, two_stores};
 use chord_plan::Plan;
 use log::sink::Discard;
 use std::alloc::Global;
@@ -99,8 +98,7 @@ fn served<
         + 'static,
 >(rt: &R, alloc: Global, (reader, writer): (PipeReader, PipeWriter)) -> Option<Ended> {
     let plan = plan_with(alloc, 3)?;
-    let listener = TcpListener::bind(rt, "127.0.0.1:0").ok()?;
-    let address = listener.local_addr().ok()?;
+    let (listener, address) = bound(rt)?;
     let mut room = [0u8; 256];
     let written = room.as_mut_slice();
     let (stayed, answered) = thread::join(

@@ -1,15 +1,37 @@
 //! The commands `ask` and `load` over loopback, with a ring of two nodes behind the server.
 
-use crate::clients::{plan_with, served_by};
-use crate::plans::two_stores;
 use chord_client::{Kind, Load, Manner, Until, ask_lines, run_load};
 use chord_command::{Fault, Finish};
+use chord_host::{Front, serve};
+use chord_loopback::{bound, plan_with, two_stores};
+use chord_plan::Plan;
+use chord_store::EntryStore;
+use log::sink::Discard;
 use std::alloc::Global;
 use std::net::{Net, TcpListener, TcpStream};
 use std::sync::Wait;
 use std::thread;
 use std::thread::Threads;
 use std::time::Clock;
+
+/// Serves so many connections over these stores, with no notes.
+fn served_by<R: Threads + Wait + Clock + Sync, S: EntryStore + Send>(
+    rt: &R,
+    alloc: Global,
+    plan: &Plan,
+    listener: &TcpListener,
+    stores: Vec<S>,
+    connections: usize,
+    written: &mut Vec<u8>,
+) -> Result<(), Finish> {
+    let front = Front {
+        alloc,
+        plan,
+        listener,
+        notes: &Discard,
+    };
+    serve(rt, &front, stores, connections, written)
+}
 
 /// Each kind of request, with text and digits.
 const REQUESTS: &str =
@@ -28,11 +50,11 @@ fn asks_a_ring<R: Threads + Wait + Clock + Net<Listener = TcpListener, Stream = 
     (version, window, tries): (u8, u64, u32),
     (input, wanted): (&str, &str),
 ) -> Option<(Result<Finish, Finish>, bool)> {
-    let plan = plan_with(alloc, 3)?;
+    let (listener, address) = bound(rt)?;
     let stores = two_stores(alloc, room).ok()?;
-    let listener = TcpListener::bind(rt, "127.0.0.1:0").ok()?;
+    let plan = plan_with(alloc, 3)?;
     let manner = Manner {
-        port: listener.local_addr().ok()?.port(),
+        port: address.port(),
         version,
         window,
         tries,
@@ -45,8 +67,13 @@ fn asks_a_ring<R: Threads + Wait + Clock + Net<Listener = TcpListener, Stream = 
         || served_by(rt, alloc, &plan, &listener, stores, connections, &mut ends),
         || ask_lines(rt, alloc, manner, &mut reader, &mut written),
     );
+    let is_written = written.as_slice() == wanted.as_bytes();
+    drop(written);
+    drop(ends);
+    drop(plan);
+    drop(listener);
     served.ok()?;
-    Some((asked, written.as_slice() == wanted.as_bytes()))
+    Some((asked, is_written))
 }
 
 /// The same lines come of each version and window.
@@ -104,11 +131,11 @@ fn loaded<R: Threads + Wait + Clock + Net<Listener = TcpListener, Stream = TcpSt
     kind: Kind,
     (answered, faults): (&str, &str),
 ) -> Option<(Result<Finish, Finish>, bool)> {
-    let plan = plan_with(alloc, 3)?;
+    let (listener, address) = bound(rt)?;
     let stores = two_stores(alloc, room).ok()?;
-    let listener = TcpListener::bind(rt, "127.0.0.1:0").ok()?;
+    let plan = plan_with(alloc, 3)?;
     let load = Load {
-        port: listener.local_addr().ok()?.port(),
+        port: address.port(),
         connections: 2,
         in_flight: 4,
         keys: 3,
@@ -124,8 +151,13 @@ fn loaded<R: Threads + Wait + Clock + Net<Listener = TcpListener, Stream = TcpSt
         || served_by(rt, alloc, &plan, &listener, stores, 2, &mut ends),
         || run_load(rt, alloc, load, Some(lines), &mut table),
     );
+    let is_told = is_table(&table, answered, faults);
+    drop(table);
+    drop(ends);
+    drop(plan);
+    drop(listener);
     served.ok()?;
-    Some((ended, is_table(&table, answered, faults)))
+    Some((ended, is_told))
 }
 
 #[test]

@@ -1,18 +1,16 @@
 //! The command `serve --stay` over loopback.
 
-use crate::clients::{
-    ask_in_vain, ask_insert, ask_remove, ask_retrieve, expect_end, insert, leave, lines, plan_with,
-};
-use crate::plans::two_stores;
 use chord_command::{Fault, Finish};
 use chord_host::{Front, stay};
-use chord_map::Reply;
+use chord_loopback::{
+    Act, Acts, Answer, Ask, bound, do_acts, is_served, leave, plan_with, two_stores,
+};
 use chord_plan::Plan;
 use chord_wire::FaultCode;
 use log::Log;
 use log::sink::{Discard, Locked};
 use std::alloc::Global;
-use std::io::{self, PipeReader, PipeWriter, Read, Write};
+use std::io::{self, PipeReader, PipeWriter, Write};
 use std::net::{Net, SocketAddr, TcpListener, TcpStream};
 use std::sync::Wait;
 use std::test::Fail;
@@ -99,27 +97,25 @@ fn stayed_in_32_bytes<
     stay_over(rt, alloc, plan, listener, 4, input, &Discard, written)
 }
 
-/// Who asks a server that stays.
+/// What clients of a server that stays do before its input ends, and after.
 #[derive(Clone, Copy)]
-enum Clients {
-    InTurn,
-    Crowded,
-    FullAndAgain,
+struct Script {
+    before: Acts,
+    after: Acts,
 }
 
-impl Clients {
-    fn ask<R: Net>(
+impl Script {
+    fn play<R: Net>(
         self,
         rt: &R,
         alloc: Global,
         address: SocketAddr,
         input: PipeWriter,
     ) -> io::Result<()> {
-        match self {
-            Clients::InTurn => in_turn(rt, alloc, address, input),
-            Clients::Crowded => crowded(rt, alloc, address, input),
-            Clients::FullAndAgain => full_and_again(rt, alloc, address, input),
-        }
+        let mut streams = Vec::new(alloc);
+        do_acts(rt, alloc, address, &mut streams, self.before)?;
+        drop(input);
+        do_acts(rt, alloc, address, &mut streams, self.after)
     }
 }
 
@@ -141,97 +137,76 @@ fn writes<
     (callers, limit): (u64, u64),
     (reader, writer): (PipeReader, PipeWriter),
     notes: &L,
-    clients: Clients,
+    script: Script,
     wanted: &str,
 ) -> Option<bool> {
     let plan = plan_with(alloc, callers)?;
-    let listener = TcpListener::bind(rt, "127.0.0.1:0").ok()?;
-    let address = listener.local_addr().ok()?;
+    let (listener, address) = bound(rt)?;
     let (written, answered) = thread::join(
         rt,
         || stayed_and_noted(rt, alloc, &plan, &listener, limit, reader, notes),
-        || clients.ask(rt, alloc, address, writer),
+        || script.play(rt, alloc, address, writer),
     );
-    answered.ok()?;
-    let wanted = lines(alloc, address, wanted).ok()?;
-    Some(written.ok()?.as_slice() == wanted.as_bytes())
+    drop(listener);
+    drop(plan);
+    Some(is_served(alloc, address, answered, written, wanted))
 }
 
-/// A client adds a value twice.
-fn adds_twice<R: Net>(rt: &R, alloc: Global, address: SocketAddr) -> io::Result<()> {
-    let mut stream = TcpStream::connect(rt, address)?;
-    ask_insert(alloc, &mut stream, 1, b"x", &Reply::Added)?;
-    ask_insert(alloc, &mut stream, 2, b"x", &Reply::Present)?;
-    leave(&mut stream)
-}
-
-/// A client sees the value, and leaves out a number.
-fn leaves_out_a_number<R: Net>(rt: &R, alloc: Global, address: SocketAddr) -> io::Result<()> {
-    let mut stream = TcpStream::connect(rt, address)?;
-    ask_retrieve(alloc, &mut stream, 1, &[b"x".as_slice()])?;
-    let request = insert(alloc, b"x")?;
-    ask_in_vain(alloc, &mut stream, 3, &request, FaultCode::BadNumber)?;
-    leave(&mut stream)
-}
-
-/// A client removes the value, under one number twice.
-fn removes_once<R: Net>(rt: &R, alloc: Global, address: SocketAddr) -> io::Result<()> {
-    let mut stream = TcpStream::connect(rt, address)?;
-    ask_remove(alloc, &mut stream, 1, b"x", &Reply::Removed)?;
-    ask_remove(alloc, &mut stream, 1, b"x", &Reply::Removed)?;
-    leave(&mut stream)
-}
-
-/// Three clients, one after another, each with numbers from 1 on. A fourth stays, and the input ends.
-fn in_turn<R: Net>(
-    rt: &R,
-    alloc: Global,
-    address: SocketAddr,
-    input: PipeWriter,
-) -> io::Result<()> {
-    adds_twice(rt, alloc, address)?;
-    leaves_out_a_number(rt, alloc, address)?;
-    removes_once(rt, alloc, address)?;
-    let mut fourth = TcpStream::connect(rt, address)?;
-    ask_remove(alloc, &mut fourth, 1, b"x", &Reply::Absent)?;
-    drop(input);
-    expect_end(&mut fourth)
-}
+/// Three clients, one after another, each with numbers from 1 on: one adds a value twice, one sees it and leaves out a
+/// number, and one removes it, under one number twice. A fourth stays, and the input ends.
+const IN_TURN: Script = Script {
+    before: &[
+        (0, Act::Connect),
+        (0, Act::Ask(1, Ask::Insert(b"x"))),
+        (0, Act::Hear(1, Answer::Added)),
+        (0, Act::Ask(2, Ask::Insert(b"x"))),
+        (0, Act::Hear(2, Answer::Present)),
+        (0, Act::Leave),
+        (1, Act::Connect),
+        (1, Act::Ask(1, Ask::Retrieve)),
+        (1, Act::Hear(1, Answer::Values(&[b"x"]))),
+        (1, Act::Ask(3, Ask::Insert(b"x"))),
+        (1, Act::Hear(3, Answer::Fault(FaultCode::BadNumber))),
+        (1, Act::Leave),
+        (2, Act::Connect),
+        (2, Act::Ask(1, Ask::Remove(b"x"))),
+        (2, Act::Hear(1, Answer::Removed)),
+        (2, Act::Ask(1, Ask::Remove(b"x"))),
+        (2, Act::Hear(1, Answer::Removed)),
+        (2, Act::Leave),
+        (3, Act::Connect),
+        (3, Act::Ask(1, Ask::Remove(b"x"))),
+        (3, Act::Hear(1, Answer::Absent)),
+    ],
+    after: &[(3, Act::End)],
+};
 
 /// One caller serves all connections in turn. That which is open at the end is ended.
 #[test]
 fn one_caller_for_all(rt: HostRuntime) -> Result<(), Fail> {
     let wanted = "connection 0 ended\nconnection 1 ended\nconnection 2 ended\nconnection 3 ended\n";
     let pipe = io::pipe(&rt)?;
-    let clients = Clients::InTurn;
-    let is_written = writes(&rt, rt.alloc(), (1, 4), pipe, &Discard, clients, wanted);
+    let is_written = writes(&rt, rt.alloc(), (1, 4), pipe, &Discard, IN_TURN, wanted);
     assert!(rt; is_written == Some(true));
     Ok(())
 }
 
-/// A client finds no caller, and is closed.
-fn is_closed<R: Net>(rt: &R, address: SocketAddr) -> io::Result<()> {
-    let mut stream = TcpStream::connect(rt, address)?;
-    expect_end(&mut stream)
-}
-
 /// The one caller is taken, so another client is closed. Once it is free, the next is served.
-fn crowded<R: Net>(
-    rt: &R,
-    alloc: Global,
-    address: SocketAddr,
-    input: PipeWriter,
-) -> io::Result<()> {
-    let mut first = TcpStream::connect(rt, address)?;
-    ask_insert(alloc, &mut first, 1, b"x", &Reply::Added)?;
-    is_closed(rt, address)?;
-    leave(&mut first)?;
-    let mut third = TcpStream::connect(rt, address)?;
-    ask_insert(alloc, &mut third, 1, b"x", &Reply::Present)?;
-    leave(&mut third)?;
-    drop(input);
-    Ok(())
-}
+const CROWDED: Script = Script {
+    before: &[
+        (0, Act::Connect),
+        (0, Act::Ask(1, Ask::Insert(b"x"))),
+        (0, Act::Hear(1, Answer::Added)),
+        (1, Act::Connect),
+        (1, Act::End),
+        (0, Act::Leave),
+        (2, Act::Connect),
+        (2, Act::Ask(1, Ask::Insert(b"x"))),
+        (2, Act::Hear(1, Answer::Present)),
+        (2, Act::Leave),
+    ],
+    after: &[],
+};
 
 /// Lines and notes come in the order in which connections end.
 #[test]
@@ -240,7 +215,7 @@ fn a_caller_that_is_taken(rt: HostRuntime) -> Result<(), Fail> {
     let notes = Locked::new(rt, Vec::new(alloc));
     let wanted = "connection 1 callersspent\nconnection 0 ended\nconnection 2 ended\n";
     let pipe = io::pipe(&rt)?;
-    let is_written = writes(&rt, alloc, (1, 4), pipe, &notes, Clients::Crowded, wanted);
+    let is_written = writes(&rt, alloc, (1, 4), pipe, &notes, CROWDED, wanted);
     assert!(rt; is_written == Some(true));
     let noted: Vec<u8> = notes.into_inner();
     let wanted =
@@ -249,50 +224,40 @@ fn a_caller_that_is_taken(rt: HostRuntime) -> Result<(), Fail> {
     Ok(())
 }
 
-/// A client leaves with a request that found the store full.
-fn leaves_a_request<R: Net>(rt: &R, alloc: Global, address: SocketAddr) -> io::Result<()> {
-    let mut stream = TcpStream::connect(rt, address)?;
-    ask_insert(alloc, &mut stream, 1, b"x", &Reply::Added)?;
-    let request = insert(alloc, b"y")?;
-    ask_in_vain(alloc, &mut stream, 2, &request, FaultCode::Full)?;
-    leave(&mut stream)
-}
-
-/// A client makes room while no caller is free for another one, and stays.
-fn makes_room<R: Net>(rt: &R, alloc: Global, address: SocketAddr) -> io::Result<R::Stream> {
-    let mut stream = TcpStream::connect(rt, address)?;
-    ask_insert(alloc, &mut stream, 1, b"x", &Reply::Present)?;
-    is_closed(rt, address)?;
-    ask_remove(alloc, &mut stream, 2, b"x", &Reply::Removed)?;
-    Ok(stream)
-}
-
-/// A client sees the value that took the room, and finds the store full, twice.
-fn finds_it_full<S: Read + Write>(alloc: Global, stream: &mut S) -> io::Result<()> {
-    ask_retrieve(alloc, stream, 1, &[b"y".as_slice()])?;
-    let request = insert(alloc, b"z")?;
-    ask_in_vain(alloc, stream, 2, &request, FaultCode::Full)?;
-    ask_in_vain(alloc, stream, 2, &request, FaultCode::Full)
-}
-
-/// A client leaves with a request that found the store full. Another makes room, and then the caller serves again.
-fn full_and_again<R: Net>(
-    rt: &R,
-    alloc: Global,
-    address: SocketAddr,
-    input: PipeWriter,
-) -> io::Result<()> {
-    leaves_a_request(rt, alloc, address)?;
-    let mut second = makes_room(rt, alloc, address)?;
-    let mut fourth = TcpStream::connect(rt, address)?;
-    finds_it_full(alloc, &mut fourth)?;
-    ask_remove(alloc, &mut second, 3, b"y", &Reply::Removed)?;
-    ask_insert(alloc, &mut fourth, 2, b"z", &Reply::Added)?;
-    leave(&mut fourth)?;
-    leave(&mut second)?;
-    drop(input);
-    Ok(())
-}
+/// A client leaves with a request that found the store full, so its caller is not free, and while another is served a
+/// third is closed. Once there is room the first caller serves again: a fourth sees that the request was done, and finds
+/// the store full, twice, until there is room again.
+const FULL_AND_AGAIN: Script = Script {
+    before: &[
+        (0, Act::Connect),
+        (0, Act::Ask(1, Ask::Insert(b"x"))),
+        (0, Act::Hear(1, Answer::Added)),
+        (0, Act::Ask(2, Ask::Insert(b"y"))),
+        (0, Act::Hear(2, Answer::Fault(FaultCode::Full))),
+        (0, Act::Leave),
+        (1, Act::Connect),
+        (1, Act::Ask(1, Ask::Insert(b"x"))),
+        (1, Act::Hear(1, Answer::Present)),
+        (2, Act::Connect),
+        (2, Act::End),
+        (1, Act::Ask(2, Ask::Remove(b"x"))),
+        (1, Act::Hear(2, Answer::Removed)),
+        (3, Act::Connect),
+        (3, Act::Ask(1, Ask::Retrieve)),
+        (3, Act::Hear(1, Answer::Values(&[b"y"]))),
+        (3, Act::Ask(2, Ask::Insert(b"z"))),
+        (3, Act::Hear(2, Answer::Fault(FaultCode::Full))),
+        (3, Act::Ask(2, Ask::Insert(b"z"))),
+        (3, Act::Hear(2, Answer::Fault(FaultCode::Full))),
+        (1, Act::Ask(3, Ask::Remove(b"y"))),
+        (1, Act::Hear(3, Answer::Removed)),
+        (3, Act::Ask(2, Ask::Insert(b"z"))),
+        (3, Act::Hear(2, Answer::Added)),
+        (3, Act::Leave),
+        (1, Act::Leave),
+    ],
+    after: &[],
+};
 
 /// A caller with a pending request serves only once that is answered.
 #[test]
@@ -300,8 +265,8 @@ fn a_pending_request(rt: HostRuntime) -> Result<(), Fail> {
     let wanted =
         "connection 0 ended\nconnection 2 callersspent\nconnection 3 ended\nconnection 1 ended\n";
     let pipe = io::pipe(&rt)?;
-    let clients = Clients::FullAndAgain;
-    let is_written = writes(&rt, rt.alloc(), (2, 1), pipe, &Discard, clients, wanted);
+    let script = FULL_AND_AGAIN;
+    let is_written = writes(&rt, rt.alloc(), (2, 1), pipe, &Discard, script, wanted);
     assert!(rt; is_written == Some(true));
     Ok(())
 }
@@ -328,13 +293,14 @@ fn stays_without_room<
     (reader, _writer): (PipeReader, PipeWriter),
 ) -> Option<Result<(), Finish>> {
     let plan = plan_with(alloc, 1)?;
-    let listener = TcpListener::bind(rt, "127.0.0.1:0").ok()?;
-    let address = listener.local_addr().ok()?;
+    let (listener, address) = bound(rt)?;
     let (stayed, answered) = thread::join(
         rt,
         || stayed_in_32_bytes(rt, alloc, &plan, &listener, reader),
         || one_end(rt, address),
     );
+    drop(listener);
+    drop(plan);
     answered.ok()?;
     Some(stayed)
 }

@@ -2,18 +2,12 @@
 
 use crate::plans::changed;
 use chord_command::Finish;
-use chord_host::{Front, serve};
 use chord_map::{Bytes, Reply, Request, Values};
 use chord_plan::Plan;
-use chord_store::EntryStore;
 use chord_wire::{FaultCode, is_writable, write_fault, write_reply, write_request};
-use log::sink::Discard;
 use std::alloc::{AllocError, Global};
 use std::io::{self, Read, Write};
-use std::net::{OpenStream, Shutdown, SocketAddr, TcpListener};
-use std::sync::Wait;
-use std::thread::Threads;
-use std::time::Clock;
+use std::net::{Net, OpenStream, Shutdown, SocketAddr, TcpListener, TcpStream};
 
 /// The plan of a text.
 pub fn plan_of(alloc: Global, text: &str) -> Option<Plan> {
@@ -25,6 +19,15 @@ pub fn plan_with(alloc: Global, callers: u64) -> Option<Plan> {
     let line = format!(in alloc; "callers = {callers}").ok()?;
     let text = changed(alloc, "callers = 1", line.as_str()).ok()?;
     plan_of(alloc, text.as_str())
+}
+
+/// A listener at a port of its own, and its address.
+pub fn bound<R: Net<Listener = TcpListener, Stream = TcpStream>>(
+    rt: &R,
+) -> Option<(TcpListener, SocketAddr)> {
+    let listener = TcpListener::bind(rt, "127.0.0.1:0").ok()?;
+    let address = listener.local_addr().ok()?;
+    Some((listener, address))
 }
 
 /// All requests have one key.
@@ -99,18 +102,6 @@ pub fn ask<S: Read + Write>(
     expect(alloc, stream, &reply_frame(alloc, number, reply)?)
 }
 
-/// The request is answered by this fault.
-pub fn ask_in_vain<S: Read + Write>(
-    alloc: Global,
-    stream: &mut S,
-    number: u64,
-    request: &Request,
-    code: FaultCode,
-) -> io::Result<()> {
-    stream.write_all(&request_frame(alloc, number, request)?)?;
-    expect(alloc, stream, &fault_frame(alloc, number, code)?)
-}
-
 /// An insert of this value is answered by this reply.
 pub fn ask_insert<S: Read + Write>(
     alloc: Global,
@@ -123,59 +114,40 @@ pub fn ask_insert<S: Read + Write>(
     ask(alloc, stream, number, &request, reply)
 }
 
-/// A remove of this value is answered by this reply.
-pub fn ask_remove<S: Read + Write>(
-    alloc: Global,
-    stream: &mut S,
-    number: u64,
-    value: &[u8],
-    reply: &Reply,
-) -> io::Result<()> {
-    let request = remove(alloc, value)?;
-    ask(alloc, stream, number, &request, reply)
-}
-
-/// A retrieve is answered by these values.
-pub fn ask_retrieve<S: Read + Write>(
-    alloc: Global,
-    stream: &mut S,
-    number: u64,
-    all: &[&[u8]],
-) -> io::Result<()> {
+/// A reply of these values.
+pub fn values_of(alloc: Global, all: &[&[u8]]) -> Result<Reply, AllocError> {
     let mut values = Values::new(alloc);
     for value in all {
         values.push(Bytes::from_slice(alloc, value)?)?;
     }
-    let request = retrieve(alloc)?;
-    ask(alloc, stream, number, &request, &Reply::Values(values))
+    Ok(Reply::Values(values))
 }
 
 /// What a server writes: its address, and then these lines.
-pub fn lines(alloc: Global, address: SocketAddr, rest: &str) -> Result<String, AllocError> {
+fn lines(alloc: Global, address: SocketAddr, rest: &str) -> Result<String, AllocError> {
     format!(in alloc; "listening on {address}\n{rest}")
+}
+
+/// Whether clients were answered, and a server wrote its address and these lines.
+pub fn is_served(
+    alloc: Global,
+    address: SocketAddr,
+    answered: io::Result<()>,
+    written: Result<Vec<u8>, Finish>,
+    wanted: &str,
+) -> bool {
+    let wanted = lines(alloc, address, wanted);
+    let is_written = match (&written, &wanted) {
+        (Ok(written), Ok(wanted)) => written.as_slice() == wanted.as_bytes(),
+        _ => false,
+    };
+    drop(written);
+    drop(wanted);
+    answered.is_ok() && is_written
 }
 
 /// The client says no more, and the server closes the connection.
 pub fn leave<S: Read + OpenStream>(stream: &mut S) -> io::Result<()> {
     stream.shutdown(Shutdown::Write)?;
     expect_end(stream)
-}
-
-/// Serves so many connections over these stores, with no notes.
-pub fn served_by<R: Threads + Wait + Clock + Sync, S: EntryStore + Send>(
-    rt: &R,
-    alloc: Global,
-    plan: &Plan,
-    listener: &TcpListener,
-    stores: Vec<S>,
-    connections: usize,
-    written: &mut Vec<u8>,
-) -> Result<(), Finish> {
-    let front = Front {
-        alloc,
-        plan,
-        listener,
-        notes: &Discard,
-    };
-    serve(rt, &front, stores, connections, written)
 }

@@ -1,0 +1,13 @@
+//! What tests of servers share: a plan of two nodes, clients over loopback, and what they do, one act after another.
+#![tactic(auto)]
+
+mod acts;
+mod clients;
+mod plans;
+
+pub use acts::{Act, Acts, Answer, Ask, do_acts};
+pub use clients::{
+    ask, ask_insert, bound, expect, insert, is_served, leave, plan_of, plan_with, request_frame,
+    retrieve,
+};
+pub use plans::{TWO_NODES, changed, two_stores};
