@@ -10,28 +10,44 @@ use chord_map::Reply;
 use chord_node::Message;
 use chord_store::ListStore;
 use chord_world::{Answer, Outcome, Refusal, Step, StepFault, World, run};
-use scripts::{A, Asks, deliver_all, resend, submit};
+use deeds::{A, Deed, new_world, steps_of};
 use std::alloc::{AllocError, Global};
 use std::test::Fail;
 
+mod deeds;
 mod disturbed;
 mod growths;
 mod rings;
 mod scripts;
 
 /// A caller inserts x under abc, and the call is delivered twice.
-fn script(alloc: Global) -> Result<Vec<Step>, AllocError> {
-    let id = Id::new(A);
-    let mut steps = Vec::new(alloc);
-    steps.push(Step::Deliver { message: 0 })?;
-    steps.push(Step::Create { id })?;
-    steps.push(Step::Create { id })?;
-    steps.push(Step::OpenCaller { window: 17 })?;
-    steps.push(Step::OpenCaller { window: 1 })?;
-    steps.push(submit(alloc, 0, 0, Asks::Insert, b"abc", b"x")?)?;
-    deliver_all(&mut steps, &[0, 1, 0, 2, 3])?;
-    Ok(steps)
-}
+const REPEATED: &[Deed] = &[
+    Deed::Deliver(0),
+    Deed::Create(A),
+    Deed::Create(A),
+    Deed::Open(17),
+    Deed::Open(1),
+    Deed::Insert(0, b"abc", b"x"),
+    Deed::Deliver(0),
+    Deed::Deliver(1),
+    Deed::Deliver(0),
+    Deed::Deliver(2),
+    Deed::Deliver(3),
+];
+
+const ANSWERS_TO_REPEATED: &[Answer] = &[
+    Answer::Refused(Refusal::NotCreated),
+    Answer::Did(Outcome::Node(0)),
+    Answer::Refused(Refusal::AlreadyCreated),
+    Answer::Refused(Refusal::Step(StepFault::BadWindow)),
+    Answer::Did(Outcome::Caller(0)),
+    Answer::Did(Outcome::Message(0)),
+    Answer::Did(Outcome::Told(1)),
+    Answer::Did(Outcome::Fresh(0)),
+    Answer::Did(Outcome::Told(2)),
+    Answer::Did(Outcome::Known),
+    Answer::Refused(Refusal::NoSuchMessage),
+];
 
 /// One empty list.
 fn one_list(alloc: Global) -> Result<Vec<ListStore>, AllocError>
@@ -45,45 +61,32 @@ fn one_list(alloc: Global) -> Result<Vec<ListStore>, AllocError>
 /// A world that did the steps over one list, and what came of each.
 fn world_after(
     alloc: Global,
-    steps: &[Step],
+    script: &[Deed],
 ) -> Result<(Box<World<ListStore>>, Vec<Answer>), AllocError> {
+    let steps = steps_of(alloc, script)?;
     let mut stores = one_list(alloc)?;
-    let mut world = Box::new(alloc, World::new(alloc, 3))?;
-    let answers = run(alloc, &mut world, &mut stores, steps)?;
+    let mut world = new_world(alloc)?;
+    let answers = run(alloc, &mut world, &mut stores, &steps)?;
     Ok((world, answers))
 }
 
 #[test]
 fn a_repeated_call_acts_once(rt: HostRuntime) -> Result<(), Fail> {
-    let steps = script(rt.alloc())?;
-    let (world, answers) = world_after(rt.alloc(), &steps)?;
-    let wanted = [
-        Answer::Refused(Refusal::NotCreated),
-        Answer::Did(Outcome::Node(0)),
-        Answer::Refused(Refusal::AlreadyCreated),
-        Answer::Refused(Refusal::Step(StepFault::BadWindow)),
-        Answer::Did(Outcome::Caller(0)),
-        Answer::Did(Outcome::Message(0)),
-        Answer::Did(Outcome::Told(1)),
-        Answer::Did(Outcome::Fresh(0)),
-        Answer::Did(Outcome::Told(2)),
-        Answer::Did(Outcome::Known),
-        Answer::Refused(Refusal::NoSuchMessage),
-    ];
-    assert!(rt; answers.as_slice() == wanted.as_slice() && world.history().len() == 1);
+    let (world, answers) = world_after(rt.alloc(), REPEATED)?;
+    assert!(rt; answers.as_slice() == ANSWERS_TO_REPEATED && world.history().len() == 1);
     world.headline();
     Ok(())
 }
 
 /// The world after the steps.
-fn world_of(alloc: Global, steps: &[Step]) -> Result<Box<World<ListStore>>, AllocError> {
-    let (world, _) = world_after(alloc, steps)?;
+fn world_of(alloc: Global, script: &[Deed]) -> Result<Box<World<ListStore>>, AllocError> {
+    let (world, _) = world_after(alloc, script)?;
     Ok(world)
 }
 
 /// What came of each of the steps.
-fn answers_to(alloc: Global, steps: &[Step]) -> Result<Vec<Answer>, AllocError> {
-    let (_, answers) = world_after(alloc, steps)?;
+fn answers_to(alloc: Global, script: &[Deed]) -> Result<Vec<Answer>, AllocError> {
+    let (_, answers) = world_after(alloc, script)?;
     Ok(answers)
 }
 
@@ -98,73 +101,75 @@ fn is_ask(world: &World<ListStore>, message: u64) -> bool {
 
 #[test]
 fn a_repeated_call_is_told_once(rt: HostRuntime) -> Result<(), Fail> {
-    let world = world_of(rt.alloc(), &script(rt.alloc())?)?;
+    let world = world_of(rt.alloc(), REPEATED)?;
     assert!(rt; count_taken(&world, 0) == Some(1) && count_taken(&world, 1) == None);
     assert!(rt; is_ask(&world, 0) && world.message(3).is_none());
     Ok(())
 }
 
+/// What comes of the first node where there is no store for it.
+fn created_without_a_store(alloc: Global) -> Result<Result<Outcome, Refusal>, AllocError> {
+    let mut stores: Vec<ListStore> = Vec::new(alloc);
+    let mut world = new_world(alloc)?;
+    let step = Step::Create { id: Id::new(0) };
+    let did = world.step(&mut stores, &step);
+    drop(step);
+    drop(world);
+    Ok(did)
+}
+
 #[test]
 fn a_step_without_a_store(rt: HostRuntime) -> Result<(), Fail> {
-    let mut stores: Vec<ListStore> = Vec::new(rt.alloc());
-    let mut world = Box::new(rt.alloc(), World::new(rt.alloc(), 3))?;
-    let step = Step::Create { id: Id::new(0) };
-    let refused = world.step(&mut stores, &step);
+    let refused = created_without_a_store(rt.alloc())?;
     assert!(rt; refused == Err(Refusal::NoStore) && Refusal::NoStore.number() == 7);
     Ok(())
 }
 
-/// Caller 1 inserts x under abc and shows what it knows; caller 0 meets the note and asks for abc.
-fn script_of_two(alloc: Global) -> Result<Vec<Step>, AllocError> {
-    let mut steps = Vec::new(alloc);
-    steps.push(Step::Create { id: Id::new(7) })?;
-    steps.push(Step::OpenCaller { window: 1 })?;
-    steps.push(Step::OpenCaller { window: 1 })?;
-    steps.push(submit(alloc, 1, 0, Asks::Insert, b"abc", b"x")?)?;
-    deliver_all(&mut steps, &[0, 1])?;
-    steps.push(Step::Show { caller: 1 })?;
-    ask_after_a_note(alloc, &mut steps)?;
-    Ok(steps)
-}
+/// Caller 1 inserts x under abc and shows what it knows; caller 0 meets the note and asks for abc, twice.
+const NOTED: &[Deed] = &[
+    Deed::Create(7),
+    Deed::Open(1),
+    Deed::Open(1),
+    Deed::Insert(1, b"abc", b"x"),
+    Deed::Deliver(0),
+    Deed::Deliver(1),
+    Deed::Show(1),
+    Deed::Meet(0, 2),
+    Deed::Retrieve(0, 0, b"abc"),
+    Deed::Resend(0, None),
+    Deed::Deliver(4),
+    Deed::Deliver(3),
+    Deed::Deliver(5),
+    Deed::Deliver(2),
+];
 
-/// Caller 0 meets the note and asks for abc, twice.
-fn ask_after_a_note(alloc: Global, steps: &mut Vec<Step>) -> Result<(), AllocError> {
-    steps.push(Step::Meet {
-        caller: 0,
-        message: 2,
-    })?;
-    steps.push(submit(alloc, 0, 0, Asks::Retrieve, b"abc", b"")?)?;
-    steps.push(resend(0, None))?;
-    deliver_all(steps, &[4, 3, 5, 2])
-}
+const ANSWERS_TO_NOTED: &[Answer] = &[
+    Answer::Did(Outcome::Node(0)),
+    Answer::Did(Outcome::Caller(0)),
+    Answer::Did(Outcome::Caller(1)),
+    Answer::Did(Outcome::Message(0)),
+    Answer::Did(Outcome::Told(1)),
+    Answer::Did(Outcome::Fresh(1)),
+    Answer::Did(Outcome::Message(2)),
+    Answer::Did(Outcome::Met),
+    Answer::Did(Outcome::Message(3)),
+    Answer::Did(Outcome::Message(4)),
+    Answer::Did(Outcome::Told(5)),
+    Answer::Did(Outcome::Told(6)),
+    Answer::Did(Outcome::Fresh(0)),
+    Answer::Refused(Refusal::Step(StepFault::NeedsMeet)),
+];
 
 #[test]
 fn notes_are_met(rt: HostRuntime) -> Result<(), Fail> {
-    let answers = answers_to(rt.alloc(), &script_of_two(rt.alloc())?)?;
-    let wanted = [
-        Answer::Did(Outcome::Node(0)),
-        Answer::Did(Outcome::Caller(0)),
-        Answer::Did(Outcome::Caller(1)),
-        Answer::Did(Outcome::Message(0)),
-        Answer::Did(Outcome::Told(1)),
-        Answer::Did(Outcome::Fresh(1)),
-        Answer::Did(Outcome::Message(2)),
-        Answer::Did(Outcome::Met),
-        Answer::Did(Outcome::Message(3)),
-        Answer::Did(Outcome::Message(4)),
-        Answer::Did(Outcome::Told(5)),
-        Answer::Did(Outcome::Told(6)),
-        Answer::Did(Outcome::Fresh(0)),
-        Answer::Refused(Refusal::Step(StepFault::NeedsMeet)),
-    ];
-    assert!(rt; answers.as_slice() == wanted.as_slice());
+    assert!(rt; answers_to(rt.alloc(), NOTED)?.as_slice() == ANSWERS_TO_NOTED);
     Ok(())
 }
 
 /// What a caller was told of stands in the history before what it asks then.
 #[test]
 fn a_note_stands_before_what_is_asked_then(rt: HostRuntime) -> Result<(), Fail> {
-    let world = world_of(rt.alloc(), &script_of_two(rt.alloc())?)?;
+    let world = world_of(rt.alloc(), NOTED)?;
     let history = world.history();
     assert!(rt; history.len() == 2 && (history[0].caller, history[1].caller) == (1, 0));
     Ok(())
@@ -183,73 +188,86 @@ fn was_told_of_an_insert(world: &World<ListStore>, caller: u64) -> Option<bool> 
 
 #[test]
 fn a_caller_knows_what_it_was_told_of(rt: HostRuntime) -> Result<(), Fail> {
-    let world = world_of(rt.alloc(), &script_of_two(rt.alloc())?)?;
+    let world = world_of(rt.alloc(), NOTED)?;
     assert!(rt; count_told(&world, 0) == Some(1) && was_told_of_an_insert(&world, 0) == Some(true));
     assert!(rt; count_told(&world, 1) == Some(0) && count_told(&world, 2) == None);
     Ok(())
 }
 
 /// The call that is delivered twice, with requests that go out again before it and behind it.
-fn script_with_resends(alloc: Global) -> Result<Vec<Step>, AllocError> {
-    let mut steps = Vec::new(alloc);
-    steps.push(resend(0, None))?;
-    steps.push(resend(0, Some(1)))?;
-    steps.append(&mut script(alloc)?)?;
-    steps.push(resend(0, Some(1)))?;
-    steps.push(resend(0, None))?;
-    steps.push(Step::Meet {
-        caller: 0,
-        message: 1,
-    })?;
-    Ok(steps)
-}
+const RESENT: &[Deed] = &[
+    Deed::Resend(0, None),
+    Deed::Resend(0, Some(1)),
+    Deed::Deliver(0),
+    Deed::Create(A),
+    Deed::Create(A),
+    Deed::Open(17),
+    Deed::Open(1),
+    Deed::Insert(0, b"abc", b"x"),
+    Deed::Deliver(0),
+    Deed::Deliver(1),
+    Deed::Deliver(0),
+    Deed::Deliver(2),
+    Deed::Deliver(3),
+    Deed::Resend(0, Some(1)),
+    Deed::Resend(0, None),
+    Deed::Meet(0, 1),
+];
+
+const ANSWERS_BEFORE: &[Answer] = &[
+    Answer::Refused(Refusal::NotCreated),
+    Answer::Refused(Refusal::NotCreated),
+];
+
+const ANSWERS_BEHIND: &[Answer] = &[
+    Answer::Refused(Refusal::Step(StepFault::Idle)),
+    Answer::Refused(Refusal::Step(StepFault::Idle)),
+    Answer::Refused(Refusal::Step(StepFault::NotNote)),
+];
 
 /// Pending requests go out again; none is left in the end.
 #[test]
 fn a_request_goes_out_again(rt: HostRuntime) -> Result<(), Fail> {
-    let answers = answers_to(rt.alloc(), &script_with_resends(rt.alloc())?)?;
-    let wanted = [
-        Answer::Refused(Refusal::NotCreated),
-        Answer::Refused(Refusal::NotCreated),
-    ];
-    assert!(rt; answers.get(..2) == Some(wanted.as_slice()));
-    let wanted = [
-        Answer::Refused(Refusal::Step(StepFault::Idle)),
-        Answer::Refused(Refusal::Step(StepFault::Idle)),
-        Answer::Refused(Refusal::Step(StepFault::NotNote)),
-    ];
-    assert!(rt; answers.get(13..) == Some(wanted.as_slice()));
+    let answers = answers_to(rt.alloc(), RESENT)?;
+    let before = answers.get(..2) == Some(ANSWERS_BEFORE);
+    let behind = answers.get(13..) == Some(ANSWERS_BEHIND);
+    drop(answers);
+    assert!(rt; before && behind);
     Ok(())
 }
 
 /// A node is created, and its fingers are to go to nodes that there are and are not.
-fn script_of_fingers(alloc: Global) -> Result<Vec<Step>, AllocError> {
-    let mut steps = Vec::new(alloc);
-    steps.push(Step::Create { id: Id::new(7) })?;
-    for (finger, to) in [(129, 7), (129, 0), (1, 0)] {
-        steps.push(Step::Finger {
-            node: 0,
-            finger,
-            to,
-        })?;
-    }
-    Ok(steps)
+const FINGERS: &[Deed] = &[
+    Deed::Create(7),
+    Deed::Finger(0, 129, 7),
+    Deed::Finger(0, 129, 0),
+    Deed::Finger(0, 1, 0),
+];
+
+const ANSWERS_TO_FINGERS: &[Answer] = &[
+    Answer::Did(Outcome::Node(0)),
+    Answer::Refused(Refusal::NoSuchNode),
+    Answer::Refused(Refusal::Step(StepFault::BadFinger)),
+    Answer::Did(Outcome::Done),
+];
+
+/// Whether node 0 is the only node, and its first finger alone is set, to itself.
+fn has_its_first_finger(world: &World<ListStore>) -> bool {
+    let Some(links) = world.links(0) else {
+        return false;
+    };
+    let id = Id::new(7);
+    let (first, second) = (links.fingers().get(1), links.fingers().get(2));
+    first == Some(Peer { no: 0, id }) && second == None && world.links(1).is_none()
 }
 
 #[test]
 fn fingers_are_set(rt: HostRuntime) -> Result<(), Fail> {
-    let steps = script_of_fingers(rt.alloc())?;
-    let (world, answers) = world_after(rt.alloc(), &steps)?;
-    let wanted = [
-        Answer::Did(Outcome::Node(0)),
-        Answer::Refused(Refusal::NoSuchNode),
-        Answer::Refused(Refusal::Step(StepFault::BadFinger)),
-        Answer::Did(Outcome::Done),
-    ];
-    assert!(rt; answers.as_slice() == wanted.as_slice());
-    let links = world.links(0).ok_or("no node 0")?;
-    let id = Id::new(7);
-    let (first, second) = (links.fingers().get(1), links.fingers().get(2));
-    assert!(rt; first == Some(Peer { no: 0, id }) && second == None && world.links(1).is_none());
+    let (world, answers) = world_after(rt.alloc(), FINGERS)?;
+    let are_told = answers.as_slice() == ANSWERS_TO_FINGERS;
+    let are_set = has_its_first_finger(&world);
+    drop(world);
+    drop(answers);
+    assert!(rt; are_told && are_set);
     Ok(())
 }

@@ -3,7 +3,8 @@ ghost use Rattle.std.specs.Prelude.{◌≡◌, [], List, IfOk};
 ghost use Rattle.std.specs.List.{All};
 ghost use Rattle.chord_map.specs.declared.pair.Pair.{Pair};
 
-use crate::steps::scripts::{A, C, full_store_and_a_retry, moving_key};
+use crate::steps::deeds::{A, C, new_world, steps_of};
+use crate::steps::scripts::{FULL_STORE_AND_A_RETRY, MOVING_KEY};
 use chord_ident::Id;
 use chord_map::PlainMap;
 use chord_segment::Done;
@@ -100,7 +101,7 @@ fn replays(alloc: Global, history: &[Done]) -> Result<bool, AllocError> {
 /// Whether the world still stands after the steps are done in this order.
 fn stands(alloc: Global, room: u64, steps: &[Step], order: &[usize]) -> Result<bool, AllocError> {
     let mut stores = two_stores(alloc, room)?;
-    let mut world = Box::new(alloc, World::new(alloc, 3))?;
+    let mut world = new_world(alloc)?;
     play(&mut world, &mut stores, steps, order);
     for id in [Id::new(0), Id::new(A), Id::new(C), Id::of_bytes(b"abc")] {
         if world.holder(id).is_none() {
@@ -156,14 +157,14 @@ fn disturbs(alloc: Global, room: u64, steps: &[Step]) -> Result<Option<u64>, All
 
 #[test]
 fn a_moving_key_is_disturbed(rt: HostRuntime) -> Result<(), Fail> {
-    let steps = moving_key(rt.alloc())?;
+    let steps = steps_of(rt.alloc(), MOVING_KEY)?;
     assert!(rt; disturbs(rt.alloc(), u64::MAX, &steps)? == Some(20));
     Ok(())
 }
 
 #[test]
 fn a_full_store_is_disturbed(rt: HostRuntime) -> Result<(), Fail> {
-    let steps = full_store_and_a_retry(rt.alloc())?;
+    let steps = steps_of(rt.alloc(), FULL_STORE_AND_A_RETRY)?;
     assert!(rt; disturbs(rt.alloc(), 1, &steps)? == Some(8));
     Ok(())
 }

@@ -3,8 +3,9 @@
 ghost use Rattle.std.specs.Prelude.{◌≡◌, [], IfOk};
 ghost use Rattle.std.specs.List.{All};
 
+use crate::steps::deeds::{A, B, C, Deed, new_world, steps_of};
 use crate::steps::disturbed::two_stores;
-use crate::steps::scripts::{A, Asks, B, C, moving_key, resend, submit};
+use crate::steps::scripts::MOVING_KEY;
 use chord_ident::Id;
 use chord_map::Reply;
 use chord_node::Holder;
@@ -14,7 +15,7 @@ use std::alloc::{AllocError, Global};
 use std::test::Fail;
 
 /// A step, and what is to come of it.
-type Wanted = (Step, Result<Outcome, Refusal>);
+type Row = (Deed, Result<Outcome, Refusal>);
 
 /// One store alone.
 fn alone<S: EntryStore>(alloc: Global, store: S) -> Result<Vec<S>, AllocError>
@@ -52,91 +53,93 @@ fn at_last<S: EntryStore>(
     }
 }
 
-/// Caller 0 or 1 inserts a value under a.
-fn insert(alloc: Global, caller: u64, value: &[u8]) -> Result<Step, AllocError> {
-    submit(alloc, caller, 0, Asks::Insert, b"a", value)
-}
-
-/// Caller 0 or 1 removes a value from a.
-fn remove(alloc: Global, caller: u64, value: &[u8]) -> Result<Step, AllocError> {
-    submit(alloc, caller, 0, Asks::Remove, b"a", value)
-}
-
-/// Messages are delivered, each with what comes of it.
-fn deliver_each(steps: &mut Vec<Wanted>, deliveries: &[(u64, Outcome)]) -> Result<(), AllocError> {
-    for (message, outcome) in deliveries {
-        steps.push((Step::Deliver { message: *message }, Ok(*outcome)))?;
+/// The step of a script, at the second try where the first was out of memory.
+fn step_at_last(alloc: Global, deed: Deed) -> Result<Step, AllocError> {
+    match deed.step(alloc) {
+        Ok(step) => Ok(step),
+        Err(_) => deed.step(alloc),
     }
-    Ok(())
 }
 
-/// A store takes one value and refuses another.
-fn fill(alloc: Global, steps: &mut Vec<Wanted>) -> Result<(), AllocError> {
-    steps.push((Step::Create { id: Id::new(A) }, Ok(Outcome::Node(0))))?;
-    steps.push((Step::OpenCaller { window: 1 }, Ok(Outcome::Caller(0))))?;
-    steps.push((Step::OpenCaller { window: 1 }, Ok(Outcome::Caller(1))))?;
-    steps.push((insert(alloc, 0, b"x")?, Ok(Outcome::Message(0))))?;
-    deliver_each(steps, &[(0, Outcome::Told(1)), (1, Outcome::Fresh(0))])?;
-    steps.push((insert(alloc, 1, b"y")?, Ok(Outcome::Message(2))))?;
-    deliver_each(steps, &[(2, Outcome::Full(3)), (3, Outcome::HeardFull)])
-}
+const NO_PART: Refusal = Refusal::Step(StepFault::NoPart);
 
-/// The value is removed, so that there is room.
-fn make_room(alloc: Global, steps: &mut Vec<Wanted>) -> Result<(), AllocError> {
-    let full = Err(Refusal::Step(StepFault::WindowFull));
-    steps.push((remove(alloc, 1, b"y")?, full))?;
-    steps.push((remove(alloc, 0, b"x")?, Ok(Outcome::Message(4))))?;
-    deliver_each(steps, &[(4, Outcome::Told(5)), (5, Outcome::Fresh(0))])
-}
+/// A call that a full store refuses goes out again after there is room, and its caller shows what it knows.
+const FULL_STORE: &[Row] = &[
+    (Deed::Create(A), Ok(Outcome::Node(0))),
+    (Deed::Open(1), Ok(Outcome::Caller(0))),
+    (Deed::Open(1), Ok(Outcome::Caller(1))),
+    (Deed::Insert(0, b"a", b"x"), Ok(Outcome::Message(0))),
+    (Deed::Deliver(0), Ok(Outcome::Told(1))),
+    (Deed::Deliver(1), Ok(Outcome::Fresh(0))),
+    (Deed::Insert(1, b"a", b"y"), Ok(Outcome::Message(2))),
+    (Deed::Deliver(2), Ok(Outcome::Full(3))),
+    (Deed::Deliver(3), Ok(Outcome::HeardFull)),
+    (
+        Deed::Remove(1, b"a", b"y"),
+        Err(Refusal::Step(StepFault::WindowFull)),
+    ),
+    (Deed::Remove(0, b"a", b"x"), Ok(Outcome::Message(4))),
+    (Deed::Deliver(4), Ok(Outcome::Told(5))),
+    (Deed::Deliver(5), Ok(Outcome::Fresh(0))),
+    (Deed::Resend(1, None), Ok(Outcome::Message(6))),
+    (Deed::Deliver(6), Ok(Outcome::Told(7))),
+    (Deed::Deliver(7), Ok(Outcome::Fresh(1))),
+    (Deed::Show(1), Ok(Outcome::Message(8))),
+    (Deed::Meet(0, 8), Ok(Outcome::Met)),
+];
 
-/// The refused call goes out again, and its caller shows what it knows.
-fn retry(steps: &mut Vec<Wanted>) -> Result<(), AllocError> {
-    steps.push((resend(1, None), Ok(Outcome::Message(6))))?;
-    deliver_each(steps, &[(6, Outcome::Told(7)), (7, Outcome::Fresh(1))])?;
-    steps.push((Step::Show { caller: 1 }, Ok(Outcome::Message(8))))?;
-    let meet = Step::Meet {
-        caller: 0,
-        message: 8,
-    };
-    steps.push((meet, Ok(Outcome::Met)))?;
-    Ok(())
-}
-
-/// A call that a full store refuses goes out again after there is room, with what each step does.
-fn script(alloc: Global) -> Result<Vec<Wanted>, AllocError> {
-    let mut steps = Vec::new(alloc);
-    fill(alloc, &mut steps)?;
-    make_room(alloc, &mut steps)?;
-    retry(&mut steps)?;
-    Ok(steps)
-}
-
-/// Does all steps, and tells whether each did what it is to do.
-fn does_all<S: EntryStore>(world: &mut World<S>, stores: &mut Vec<S>, steps: &[Wanted]) -> bool
+/// Whether each step does what it is to do.
+fn does_all<S: EntryStore>(
+    alloc: Global,
+    world: &mut World<S>,
+    stores: &mut Vec<S>,
+    rows: &[Row],
+) -> Result<bool, AllocError>
     requires { All (λ s. S.content s ≡ []) stores.old.items }
     ensures { All (λ s. S.content s ≡ []) stores.new.items }
 {
-    for (step, wanted) in steps {
-        if at_last(world, stores, step) != *wanted {
-            return false;
+    for (deed, wanted) in rows {
+        let step = step_at_last(alloc, *deed)?;
+        let did = at_last(world, stores, &step);
+        drop(step);
+        if did != *wanted {
+            return Ok(false);
         }
     }
-    true
+    Ok(true)
+}
+
+/// Whether the call that the caller took last was answered Added.
+fn took_added_last<S: EntryStore>(world: &World<S>, caller: u64) -> bool {
+    let last = world.mine(caller).and_then(|mine| mine.last());
+    last.is_some_and(|done| matches!(done.reply, Reply::Added))
+}
+
+/// Whether a call that a full store refuses is done in the end, and its caller tells the other one of it.
+fn is_done_again<S: EntryStore>(
+    alloc: Global,
+    world: &mut World<S>,
+    stores: &mut Vec<S>,
+) -> Result<bool, AllocError>
+    requires { All (λ s. S.content s ≡ []) stores.old.items }
+{
+    let is_done = does_all(alloc, world, stores, FULL_STORE)?;
+    let told = world.told(0).map_or(0, |told| told.len());
+    Ok(is_done && world.history().len() == 3 && told == 1 && took_added_last(world, 1))
 }
 
 #[test]
 fn a_refused_step_is_done_again(rt: HostRuntime) -> Result<(), Fail> {
     let alloc = rt.alloc();
-    let steps = script(alloc).or_else(|_| script(alloc))?;
     let mut stores = match alone(alloc, CappedStore::new(alloc, 1)) {
         Ok(stores) => stores,
         Err(_) => alone(alloc, CappedStore::new(alloc, 1))?,
     };
-    let mut world = Box::new(alloc, World::new(alloc, 3))?;
-    assert!(rt; does_all(&mut world, &mut stores, &steps) && world.history().len() == 3);
-    let mine = world.mine(1).and_then(|mine| mine.last());
-    let told = world.told(0).map(|told| told.len());
-    assert!(rt; mine.is_some_and(|done| done.reply == Reply::Added) && told == Some(1));
+    let mut world = new_world(alloc)?;
+    let is_done = is_done_again(alloc, &mut world, &mut stores);
+    drop(world);
+    drop(stores);
+    assert!(rt; is_done == Ok(true));
     Ok(())
 }
 
@@ -149,109 +152,138 @@ fn does_each<S: EntryStore>(world: &mut World<S>, stores: &mut Vec<S>, steps: &[
     }
 }
 
-/// A key moves from node to node and back, whichever growth is refused.
+/// Whether a key moves from node to node and back.
+fn moves_a_key<S: EntryStore>(
+    alloc: Global,
+    world: &mut World<S>,
+    stores: &mut Vec<S>,
+) -> Result<bool, AllocError>
+    requires { All (λ s. S.content s ≡ []) stores.old.items }
+{
+    let steps = match steps_of(alloc, MOVING_KEY) {
+        Ok(steps) => steps,
+        Err(_) => steps_of(alloc, MOVING_KEY)?,
+    };
+    does_each(world, stores, &steps);
+    drop(steps);
+    let (last, first) = (world.holder(Id::new(C)), world.holder(Id::new(0)));
+    let taken = world.mine(0).map_or(0, |mine| mine.len());
+    let is_held = last == Some(Holder::Node(0)) && first == last;
+    Ok(is_held && world.history().len() == 4 && taken == 4)
+}
+
+/// A key moves, whichever growth is refused.
 #[test]
 fn a_key_moves_all_the_same(rt: HostRuntime) -> Result<(), Fail> {
     let alloc = rt.alloc();
-    let steps = moving_key(alloc).or_else(|_| moving_key(alloc))?;
     let mut stores = stores_at_last(alloc, 9)?;
-    let mut world = Box::new(alloc, World::new(alloc, 3))?;
-    does_each(&mut world, &mut stores, &steps);
-    let mine = world.mine(0).map(|mine| mine.len());
-    assert!(rt; world.history().len() == 4 && mine == Some(4));
-    let (last, first) = (world.holder(Id::new(C)), world.holder(Id::new(0)));
-    assert!(rt; last == Some(Holder::Node(0)) && first == last);
+    let mut world = new_world(alloc)?;
+    let moves = moves_a_key(alloc, &mut world, &mut stores);
+    drop(world);
+    drop(stores);
+    assert!(rt; moves == Ok(true));
     Ok(())
 }
 
-/// Node 0 takes 65 values of one key: one more than a part of a handover has.
-fn many_values(alloc: Global) -> Result<Vec<Wanted>, AllocError> {
-    let mut steps = Vec::new(alloc);
-    let id = Id::new(A);
-    steps.push((Step::Create { id }, Ok(Outcome::Node(0))))?;
-    steps.push((Step::OpenCaller { window: 1 }, Ok(Outcome::Caller(0))))?;
-    for value in 0..65u8 {
-        let message = 2 * u64::from(value);
-        let told = message + 1;
-        let sent = Ok(Outcome::Message(message));
-        steps.push((insert(alloc, 0, [value].as_slice())?, sent))?;
-        steps.push((Step::Deliver { message }, Ok(Outcome::Told(told))))?;
-        steps.push((Step::Deliver { message: told }, Ok(Outcome::Fresh(0))))?;
-    }
-    Ok(steps)
+/// A node and a caller.
+const BEGINNING: &[Row] = &[
+    (Deed::Create(A), Ok(Outcome::Node(0))),
+    (Deed::Open(1), Ok(Outcome::Caller(0))),
+];
+
+/// 65 values of one byte: one more than a part of a handover has.
+const VALUES: &[u8] = b"ABCDEFGHIJKLMNOPQRSTUVWXYZabcdefghijklmnopqrstuvwxyz0123456789+-*";
+
+/// Caller 0 inserts a value, after so many others.
+fn takes<S: EntryStore>(
+    alloc: Global,
+    world: &mut World<S>,
+    stores: &mut Vec<S>,
+    others: u8,
+    value: &'static [u8],
+) -> Result<bool, AllocError>
+    requires { All (λ s. S.content s ≡ []) stores.old.items }
+    ensures { All (λ s. S.content s ≡ []) stores.new.items }
+{
+    let message = 2 * u64::from(others);
+    let told = message + 1;
+    let rows = [
+        (Deed::Insert(0, b"a", value), Ok(Outcome::Message(message))),
+        (Deed::Deliver(message), Ok(Outcome::Told(told))),
+        (Deed::Deliver(told), Ok(Outcome::Fresh(0))),
+    ];
+    does_all(alloc, world, stores, &rows)
 }
 
-/// A part of the first handover of node 0, which goes to node 1.
-fn send_part(part: u64) -> Step {
-    Step::SendPart {
-        node: 0,
-        to: 1,
-        number: 1,
-        part,
+/// Caller 0 inserts each of the values.
+fn takes_each<S: EntryStore>(
+    alloc: Global,
+    world: &mut World<S>,
+    stores: &mut Vec<S>,
+) -> Result<bool, AllocError>
+    requires { All (λ s. S.content s ≡ []) stores.old.items }
+    ensures { All (λ s. S.content s ≡ []) stores.new.items }
+{
+    for (others, value) in (0..65u8).zip(VALUES.chunks(1)) {
+        if !takes(alloc, world, stores, others, value)? {
+            return Ok(false);
+        }
     }
+    Ok(true)
 }
 
 /// A new node is given half of the circle; the first part comes twice.
-fn first_part(alloc: Global) -> Result<Vec<Wanted>, AllocError> {
-    let mut steps = Vec::new(alloc);
-    let at = Id::new(C);
-    let join = Step::Join { id: at, behind: 0 };
-    steps.push((join, Ok(Outcome::Node(1))))?;
-    let cut = Step::Cut {
-        node: 0,
-        place: 0,
-        at,
-    };
-    steps.push((cut, Ok(Outcome::Done)))?;
-    let give = Step::Give {
-        node: 0,
-        place: 0,
-        to: 1,
-    };
-    steps.push((give, Ok(Outcome::Message(130))))?;
-    deliver_each(&mut steps, &[(130, Outcome::Noted), (130, Outcome::Noted)])?;
-    Ok(steps)
-}
+const FIRST_PART: &[Row] = &[
+    (Deed::Join(C, 0), Ok(Outcome::Node(1))),
+    (Deed::Cut(0, C), Ok(Outcome::Done)),
+    (Deed::Give(0, 1), Ok(Outcome::Message(130))),
+    (Deed::Deliver(130), Ok(Outcome::Noted)),
+    (Deed::Deliver(130), Ok(Outcome::Noted)),
+];
 
 /// The second part, which is the last one, comes, and the first one once more.
-fn second_part(alloc: Global) -> Result<Vec<Wanted>, AllocError> {
-    let mut steps = Vec::new(alloc);
-    let no_part = Err(Refusal::Step(StepFault::NoPart));
-    steps.push((send_part(3), no_part))?;
-    steps.push((send_part(2), Ok(Outcome::Message(131))))?;
-    deliver_each(
-        &mut steps,
-        &[(131, Outcome::Got(132)), (130, Outcome::Got(133))],
-    )?;
-    Ok(steps)
-}
+const SECOND_PART: &[Row] = &[
+    (Deed::SendPart(3), Err(NO_PART)),
+    (Deed::SendPart(2), Ok(Outcome::Message(131))),
+    (Deed::Deliver(131), Ok(Outcome::Got(132))),
+    (Deed::Deliver(130), Ok(Outcome::Got(133))),
+];
 
-/// Its sender hears that the handover was taken, and has no part of it any more.
-fn confirmation(alloc: Global) -> Result<Vec<Wanted>, AllocError> {
-    let mut steps = Vec::new(alloc);
-    steps.push((Step::Deliver { message: 132 }, Ok(Outcome::Freed)))?;
-    let no_part = Err(Refusal::Step(StepFault::NoPart));
-    steps.push((send_part(1), no_part))?;
-    Ok(steps)
-}
+/// The sender hears that the handover was taken, and has no part of it any more.
+const CONFIRMATION: &[Row] = &[
+    (Deed::Deliver(132), Ok(Outcome::Freed)),
+    (Deed::SendPart(1), Err(NO_PART)),
+];
 
-/// How far the handover has come.
-#[derive(Clone, Copy)]
-enum Stage {
-    Filled,
-    Begun,
-    Whole,
-    Confirmed,
-}
+const UNDER_WAY: Holder = Holder::UnderWay {
+    from: 0,
+    to: 1,
+    number: 1,
+};
 
-/// The steps that lead to the stage from the one before.
-fn steps_to(alloc: Global, stage: Stage) -> Result<Vec<Wanted>, AllocError> {
-    match stage {
-        Stage::Filled => many_values(alloc),
-        Stage::Begun => first_part(alloc),
-        Stage::Whole => second_part(alloc),
-        Stage::Confirmed => confirmation(alloc),
+/// Whether a node that holds all hands half of it over, and B with it, in two parts.
+fn hands_over<S: EntryStore>(
+    alloc: Global,
+    world: &mut World<S>,
+    stores: &mut Vec<S>,
+) -> Result<bool, AllocError>
+    requires { All (λ s. S.content s ≡ []) stores.old.items }
+{
+    let is_begun = does_all(alloc, world, stores, BEGINNING)? && takes_each(alloc, world, stores)?;
+    if !is_begun || world.holder(Id::new(B)) != Some(Holder::Node(0)) {
+        return Ok(false);
     }
+    for (rows, holder) in [
+        (FIRST_PART, UNDER_WAY),
+        (SECOND_PART, Holder::Node(1)),
+        (CONFIRMATION, Holder::Node(1)),
+    ] {
+        let is_done = does_all(alloc, world, stores, rows)?;
+        if !is_done || world.holder(Id::new(B)) != Some(holder) {
+            return Ok(false);
+        }
+    }
+    Ok(world.history().len() == 65)
 }
 
 /// A handover goes in two parts, whichever growth is refused.
@@ -259,22 +291,10 @@ fn steps_to(alloc: Global, stage: Stage) -> Result<Vec<Wanted>, AllocError> {
 fn a_handover_in_two_parts(rt: HostRuntime) -> Result<(), Fail> {
     let alloc = rt.alloc();
     let mut stores = stores_at_last(alloc, 65)?;
-    let mut world = Box::new(alloc, World::new(alloc, 3))?;
-    let under_way = Holder::UnderWay {
-        from: 0,
-        to: 1,
-        number: 1,
-    };
-    for (stage, holder) in [
-        (Stage::Filled, Holder::Node(0)),
-        (Stage::Begun, under_way),
-        (Stage::Whole, Holder::Node(1)),
-        (Stage::Confirmed, Holder::Node(1)),
-    ] {
-        let steps = steps_to(alloc, stage).or_else(|_| steps_to(alloc, stage))?;
-        let is_done = does_all(&mut world, &mut stores, &steps);
-        assert!(rt; is_done && world.holder(Id::new(B)) == Some(holder));
-    }
-    assert!(rt; world.history().len() == 65);
+    let mut world = new_world(alloc)?;
+    let handed = hands_over(alloc, &mut world, &mut stores);
+    drop(world);
+    drop(stores);
+    assert!(rt; handed == Ok(true));
     Ok(())
 }
