@@ -8,7 +8,6 @@ use chord_ident::{Id, Span};
 use chord_map::{Bytes, Pair};
 use chord_segment::Segment;
 use std::alloc::{AllocError, Global};
-use std::test::Fail;
 
 pub const A: u128 = 0x40000000000000000000000000000000;
 
@@ -19,17 +18,15 @@ pub fn empty_parcel(alloc: Global) -> Parcelled {
 }
 
 /// Puts in an empty parcel for node 1 and answers its number.
-fn give_one(alloc: Global, outbox: &mut Outbox) -> Result<u64, Fail> {
-    let number = outbox.give(1, empty_parcel(alloc)).ok().ok_or("not given")?;
-    Ok(number)
+fn give_one(alloc: Global, outbox: &mut Outbox) -> Option<u64> {
+    outbox.give(1, empty_parcel(alloc)).ok()
 }
 
 /// The outbox of this node with one empty parcel for node 1.
-fn outbox_of(alloc: Global, owner: u64) -> Result<Outbox, Fail> {
+fn outbox_of(alloc: Global, owner: u64) -> Option<Outbox> {
     let mut outbox = Outbox::new(alloc, owner);
-    outbox.reserve()?;
-    give_one(alloc, &mut outbox)?;
-    Ok(outbox)
+    let is_given = outbox.reserve().is_ok() && give_one(alloc, &mut outbox).is_some();
+    is_given.then_some(outbox)
 }
 
 /// Whether a copy of the first item is the whole circle with no pairs.
@@ -40,12 +37,17 @@ fn copy_is_empty(outbox: &Outbox) -> Option<bool> {
     Some(is_empty)
 }
 
+/// The first item, the next number for node 1, and whether a copy of the item is empty.
+fn shown(alloc: Global) -> Option<(Option<(u64, u64)>, Option<u64>, Option<bool>)> {
+    let outbox = outbox_of(alloc, 0)?;
+    let shown = (outbox.nth(0), outbox.next_number(1), copy_is_empty(&outbox));
+    drop(outbox);
+    Some(shown)
+}
+
 #[test]
-fn items_are_shown(rt: HostRuntime) -> Result<(), Fail> {
-    let mut outbox = outbox_of(rt.alloc(), 0)?;
-    assert!(rt; outbox.nth(0) == Some((1, 1)) && outbox.next_number(1) == Some(2));
-    assert!(rt; copy_is_empty(&outbox) == Some(true));
-    Ok(())
+fn items_are_shown(rt: HostRuntime) {
+    assert!(rt; shown(rt.alloc()) == Some((Some((1, 1)), Some(2), Some(true))));
 }
 
 /// Whether it is there.
@@ -53,14 +55,20 @@ fn is_there<T: Drop>(value: Option<T>) -> bool {
     value.is_some()
 }
 
+/// Whether an outbox is empty before its item is got and after it was got twice, and whether the item was there each time.
+fn got_twice(alloc: Global) -> Option<(bool, bool, bool, bool)> {
+    let mut outbox = outbox_of(alloc, 0)?;
+    let before = outbox.is_empty();
+    let first = is_there(outbox.got(1, 1));
+    let again = is_there(outbox.got(1, 1));
+    let after = outbox.is_empty();
+    drop(outbox);
+    Some((before, first, again, after))
+}
+
 #[test]
-fn items_stay_until_got(rt: HostRuntime) -> Result<(), Fail> {
-    let mut outbox = outbox_of(rt.alloc(), 0)?;
-    assert!(rt; !outbox.is_empty());
-    assert!(rt; is_there(outbox.got(1, 1)));
-    assert!(rt; !is_there(outbox.got(1, 1)));
-    assert!(rt; outbox.is_empty());
-    Ok(())
+fn items_stay_until_got(rt: HostRuntime) {
+    assert!(rt; got_twice(rt.alloc()) == Some((false, true, false, true)));
 }
 
 /// Whether the second item comes back, the whole circle with no pairs.
@@ -72,46 +80,81 @@ fn comes_back(outbox: &mut Outbox) -> Option<bool> {
     Some(is_empty)
 }
 
-#[test]
-fn a_declined_item_comes_back(rt: HostRuntime) -> Result<(), Fail> {
-    let mut outbox = outbox_of(rt.alloc(), 0)?;
-    assert!(rt; give_one(rt.alloc(), &mut outbox)? == 2);
-    assert!(rt; comes_back(&mut outbox) == Some(true));
-    assert!(rt; !outbox.is_empty());
-    Ok(())
-}
-
-#[test]
-fn an_item_without_pairs_has_one_part(rt: HostRuntime) -> Result<(), Fail> {
-    let outbox = outbox_of(rt.alloc(), 3)?;
-    let part = outbox.part(1, 1, 1);
+/// The number of a second item, whether that comes back, and whether the outbox is empty then.
+fn declined(alloc: Global) -> Option<(Option<u64>, Option<bool>, bool)> {
+    let mut outbox = outbox_of(alloc, 0)?;
+    let second = give_one(alloc, &mut outbox);
+    let back = comes_back(&mut outbox);
+    let is_empty = outbox.is_empty();
     drop(outbox);
-    let part = part?.ok_or("no part")?;
-    assert!(rt; (part.from, part.to, part.number) == (3, 1, 1));
-    assert!(rt; (part.place, part.of) == (1, 1));
-    assert!(rt; part.segment.is_some());
-    Ok(())
+    Some((second, back, is_empty))
 }
 
 #[test]
-fn there_is_no_further_part_or_item(rt: HostRuntime) -> Result<(), Fail> {
-    let outbox = outbox_of(rt.alloc(), 3)?;
-    assert!(rt; !is_there(outbox.part(1, 1, 2)?));
-    assert!(rt; !is_there(outbox.part(1, 2, 1)?));
-    Ok(())
+fn a_declined_item_comes_back(rt: HostRuntime) {
+    assert!(rt; declined(rt.alloc()) == Some((Some(2), Some(true), false)));
+}
+
+/// A part of the outbox of node 3.
+fn part_of_item(alloc: Global, number: u64, part: u64) -> Option<Option<Part>> {
+    let outbox = outbox_of(alloc, 3)?;
+    let part = outbox.part(1, number, part);
+    drop(outbox);
+    part.ok()
+}
+
+/// From whom the part goes to whom and in which handover, which one it is of how many, and whether it has a segment.
+fn names(part: Option<Part>) -> Option<((u64, u64, u64), (u64, u64), bool)> {
+    let part = part?;
+    let handover = (part.from, part.to, part.number);
+    let names = (handover, (part.place, part.of), part.segment.is_some());
+    drop(part);
+    Some(names)
 }
 
 #[test]
-fn numbers_are_taken_in_order(rt: HostRuntime) -> Result<(), Fail> {
-    let mut taken = Taken::new(rt.alloc());
-    assert!(rt; taken.judge(0, 2) == Verdict::Early);
-    assert!(rt; taken.judge(0, 1) == Verdict::Next);
-    taken.reserve()?;
-    taken.mark(0);
-    assert!(rt; taken.judge(0, 1) == Verdict::Again);
-    assert!(rt; taken.last(0) == 1);
-    assert!(rt; taken.last(1) == 0);
-    Ok(())
+fn an_item_without_pairs_has_one_part(rt: HostRuntime) {
+    let only = names(part_of_item(rt.alloc(), 1, 1).flatten());
+    assert!(rt; only == Some(((3, 1, 1), (1, 1), true)));
+}
+
+/// Whether there is such a part.
+fn has_part(alloc: Global, number: u64, part: u64) -> Option<bool> {
+    Some(is_there(part_of_item(alloc, number, part)?))
+}
+
+#[test]
+fn there_is_no_further_part_or_item(rt: HostRuntime) {
+    let further = (has_part(rt.alloc(), 1, 2), has_part(rt.alloc(), 2, 1));
+    assert!(rt; further == (Some(false), Some(false)));
+}
+
+/// Takes the first handover of node 0.
+fn take_first(taken: &mut Taken) {
+    if taken.reserve().is_ok() && taken.last(0) == 0 {
+        taken.mark(0);
+    }
+}
+
+/// What the second and the first handover of node 0 are before the first is taken, and what that is then.
+fn judged(taken: &mut Taken) -> (Verdict, Verdict, Verdict) {
+    let before = (taken.judge(0, 2), taken.judge(0, 1));
+    take_first(taken);
+    (before.0, before.1, taken.judge(0, 1))
+}
+
+/// The same, and the last handovers of nodes 0 and 1 that were taken then.
+fn in_order(mut taken: Taken) -> ((Verdict, Verdict, Verdict), (u64, u64)) {
+    let judged = judged(&mut taken);
+    let last = (taken.last(0), taken.last(1));
+    drop(taken);
+    (judged, last)
+}
+
+#[test]
+fn numbers_are_taken_in_order(rt: HostRuntime) {
+    let judged = (Verdict::Early, Verdict::Next, Verdict::Again);
+    assert!(rt; in_order(Taken::new(rt.alloc())) == (judged, (1, 0)));
 }
 
 /// Adds this value under one key.
@@ -189,11 +232,11 @@ pub fn note(taken: &mut Taken, part: &Part) -> Result<(), AllocError> {
     Ok(())
 }
 
-/// What it makes with what is noted, and that it is noted then.
-fn take_in(taken: &mut Taken, part: &Part) -> Result<&'static str, AllocError> {
-    let made = makes(taken, part)?;
-    note(taken, part)?;
-    Ok(made)
+/// The word for what it makes with what is noted, and that it is noted then.
+fn take_in(taken: &mut Taken, part: &Part) -> &'static str {
+    let made = makes(taken, part);
+    let noted = note(taken, part);
+    said(noted.and(made))
 }
 
 /// The two parts of a handover of 65 pairs.
@@ -206,30 +249,39 @@ pub fn two_parts(alloc: Global) -> Result<(Part, Part), AllocError> {
     Ok((part(alloc, 1, all), part(alloc, 2, rest)))
 }
 
-#[test]
-fn two_parts_make_it_whole(rt: HostRuntime) -> Result<(), Fail> {
-    let (first, second) = two_parts(rt.alloc())?;
-    let mut taken = Taken::new(rt.alloc());
-    for part in [&second, &second] {
-        assert!(rt; said(take_in(&mut taken, part)) == "more");
-    }
-    for part in [&first, &second] {
-        assert!(rt; said(take_in(&mut taken, part)) == "whole");
-    }
-    Ok(())
+/// What the second part makes with nothing noted, and once it is noted, and what the first and the second make then.
+fn made_in_turn(
+    alloc: Global,
+) -> Option<((&'static str, &'static str), (&'static str, &'static str))> {
+    let parts = two_parts(alloc).ok()?;
+    let mut taken = Taken::new(alloc);
+    let alone = (take_in(&mut taken, &parts.1), take_in(&mut taken, &parts.1));
+    let both = (take_in(&mut taken, &parts.0), take_in(&mut taken, &parts.1));
+    drop(taken);
+    drop(parts);
+    Some((alone, both))
 }
 
 #[test]
-fn a_part_of_a_handover_that_was_taken_is_not_next(rt: HostRuntime) -> Result<(), Fail> {
-    let (first, second) = two_parts(rt.alloc())?;
-    drop(first);
-    let mut taken = Taken::new(rt.alloc());
-    taken.reserve()?;
-    if taken.last(0) == 0 {
-        taken.mark(0);
-    }
-    assert!(rt; said(take_in(&mut taken, &second)) == "not next");
-    Ok(())
+fn two_parts_make_it_whole(rt: HostRuntime) {
+    let made = (("more", "more"), ("whole", "whole"));
+    assert!(rt; made_in_turn(rt.alloc()) == Some(made));
+}
+
+/// What the second part makes once the handover was taken.
+fn made_too_late(alloc: Global) -> Option<&'static str> {
+    let parts = two_parts(alloc).ok()?;
+    let mut taken = Taken::new(alloc);
+    take_first(&mut taken);
+    let made = take_in(&mut taken, &parts.1);
+    drop(taken);
+    drop(parts);
+    Some(made)
+}
+
+#[test]
+fn a_part_of_a_handover_that_was_taken_is_not_next(rt: HostRuntime) {
+    assert!(rt; made_too_late(rt.alloc()) == Some("not next"));
 }
 
 /// Whether it makes the whole circle with these pairs.
@@ -240,21 +292,28 @@ fn makes_whole(taken: &Taken, part: &Part, pairs: &[Pair]) -> bool {
     let circle = Span::new(Id::new(A), Id::new(A));
     let gather = taken.whole_with(part);
     let is_whole = match &gather {
-        Ok(Gather::Whole(whole)) => whole.segment().span() == circle && whole.pairs() == pairs,
+        Ok(Gather::Whole(whole)) => (whole.segment().span() == circle) & (whole.pairs() == pairs),
         _ => false,
     };
     drop(gather);
     is_whole
 }
 
+/// What the second part of 65 pairs makes, and whether the first makes the whole circle with all of them then.
+fn made_whole(alloc: Global) -> Option<(&'static str, bool)> {
+    let (all, parts) = pairs(alloc, 65).ok().zip(two_parts(alloc).ok())?;
+    let mut taken = Taken::new(alloc);
+    let second = take_in(&mut taken, &parts.1);
+    let is_whole = makes_whole(&taken, &parts.0, &all);
+    drop(taken);
+    drop(parts);
+    drop(all);
+    Some((second, is_whole))
+}
+
 #[test]
-fn what_is_whole_has_all_pairs(rt: HostRuntime) -> Result<(), Fail> {
-    let all = pairs(rt.alloc(), 65)?;
-    let (first, second) = two_parts(rt.alloc())?;
-    let mut taken = Taken::new(rt.alloc());
-    assert!(rt; said(take_in(&mut taken, &second)) == "more");
-    assert!(rt; makes_whole(&taken, &first, &all));
-    Ok(())
+fn what_is_whole_has_all_pairs(rt: HostRuntime) {
+    assert!(rt; made_whole(rt.alloc()) == Some(("more", true)));
 }
 
 /// What the part makes with what is noted, where it is there.
@@ -278,17 +337,31 @@ fn makes_with(taken: &Taken, alloc: Global, i: u64, of: u64, count: u8) -> &'sta
     }
 }
 
-#[test]
-fn parts_that_do_not_fit(rt: HostRuntime) -> Result<(), Fail> {
-    let alloc = rt.alloc();
-    let first = part(alloc, 1, pairs(alloc, 64)?);
+/// A receiver that was given the first of two parts, with 64 pairs, and what that made.
+fn given_first(alloc: Global) -> Option<(Taken, &'static str)> {
+    let first = part(alloc, 1, pairs(alloc, 64).ok()?);
     let mut taken = Taken::new(alloc);
-    assert!(rt; said(take_in(&mut taken, &first)) == "more");
-    assert!(rt; makes_with(&taken, alloc, 2, 3, 1) == "unfit");
-    assert!(rt; makes_with(&taken, alloc, 2, 2, 1) == "unfit");
-    assert!(rt; makes_with(&taken, alloc, 2, 2, 0) == "unfit");
-    assert!(rt; makes_with(&taken, alloc, 1, 1, 0) == "unfit");
-    Ok(())
+    let made = take_in(&mut taken, &first);
+    drop(first);
+    Some((taken, made))
+}
+
+/// What the first part makes, and what four others make then.
+fn misfits(alloc: Global) -> Option<(&'static str, [&'static str; 4])> {
+    let (taken, first) = given_first(alloc)?;
+    let others = [
+        makes_with(&taken, alloc, 2, 3, 1),
+        makes_with(&taken, alloc, 2, 2, 1),
+        makes_with(&taken, alloc, 2, 2, 0),
+        makes_with(&taken, alloc, 1, 1, 0),
+    ];
+    drop(taken);
+    Some((first, others))
+}
+
+#[test]
+fn parts_that_do_not_fit(rt: HostRuntime) {
+    assert!(rt; misfits(rt.alloc()) == Some(("more", ["unfit"; 4])));
 }
 
 /// So many pairs under one key, whose values rise from this one.
@@ -323,14 +396,28 @@ fn last_part(alloc: Global, count: u64) -> Result<Part, AllocError>
     Ok(part_of(alloc, 16, 16, pairs_from(alloc, 960, count)?))
 }
 
+/// Whether the last part with 40 pairs makes the whole circle with these.
+fn is_whole_with_forty(taken: &Taken, alloc: Global, all: &[Pair]) -> Option<bool> {
+    let last = last_part(alloc, 40).ok()?;
+    let is_whole = makes_whole(taken, &last, all);
+    drop(last);
+    Some(is_whole)
+}
+
+/// Whether it makes it whole with the thousand pairs, and what the last part makes with 41.
+fn made_of_a_thousand(alloc: Global) -> Option<(Option<bool>, &'static str)> {
+    let all = pairs_from(alloc, 0, 1000).ok();
+    let (all, taken) = all.zip(all_but_the_last(alloc).ok())?;
+    let fits = is_whole_with_forty(&taken, alloc, &all);
+    let over = makes_of(&taken, last_part(alloc, 41).ok());
+    drop(taken);
+    drop(all);
+    Some((fits, over))
+}
+
 #[test]
-fn a_set_of_a_parcel_has_at_most_a_thousand_values(rt: HostRuntime) -> Result<(), Fail> {
-    let all = pairs_from(rt.alloc(), 0, 1000)?;
-    let taken = all_but_the_last(rt.alloc())?;
-    let fits = last_part(rt.alloc(), 40)?;
-    assert!(rt; makes_whole(&taken, &fits, &all));
-    assert!(rt; makes_of(&taken, last_part(rt.alloc(), 41).ok()) == "unfit");
-    Ok(())
+fn a_set_of_a_parcel_has_at_most_a_thousand_values(rt: HostRuntime) {
+    assert!(rt; made_of_a_thousand(rt.alloc()) == Some((Some(true), "unfit")));
 }
 
 /// Whether it equals the other, where that is there.
@@ -350,32 +437,54 @@ fn equals_part(part: &Part, alloc: Global, i: u64, of: u64, count: u8) -> Option
     equals(part, Some(part_of(alloc, i, of, pairs)))
 }
 
-#[test]
-fn parts_are_compared(rt: HostRuntime) -> Result<(), Fail> {
-    let alloc = rt.alloc();
-    let first = part(alloc, 1, pairs(alloc, 64)?);
-    assert!(rt; equals(&first, first.try_copy().ok()) == Some(true));
-    assert!(rt; equals_part(&first, alloc, 1, 2, 64) == Some(true));
-    assert!(rt; equals_part(&first, alloc, 1, 2, 63) == Some(false));
-    assert!(rt; equals_part(&first, alloc, 2, 2, 64) == Some(false));
-    assert!(rt; equals_part(&first, alloc, 1, 3, 64) == Some(false));
-    Ok(())
+/// Whether a part equals its copy and one that is made alike, and whether three others.
+fn compared(alloc: Global) -> Option<([Option<bool>; 2], [Option<bool>; 3])> {
+    let first = part(alloc, 1, pairs(alloc, 64).ok()?);
+    let alike = [
+        equals(&first, first.try_copy().ok()),
+        equals_part(&first, alloc, 1, 2, 64),
+    ];
+    let others = [
+        equals_part(&first, alloc, 1, 2, 63),
+        equals_part(&first, alloc, 2, 2, 64),
+        equals_part(&first, alloc, 1, 3, 64),
+    ];
+    drop(first);
+    Some((alike, others))
 }
 
 #[test]
-fn parts_are_noted(rt: HostRuntime) -> Result<(), Fail> {
+fn parts_are_compared(rt: HostRuntime) {
+    assert!(rt; compared(rt.alloc()) == Some(([Some(true); 2], [Some(false); 3])));
+}
+
+/// The only part of a handover of node 0 to node 1.
+fn only_part(alloc: Global) -> Result<Part, AllocError> {
     let ticket = Ticket {
         from: 0,
         to: 1,
         number: 1,
     };
-    let parcel = empty_parcel(rt.alloc());
+    let parcel = empty_parcel(alloc);
     let part = parcel.part(ticket, 1);
     drop(parcel);
-    let part = part?;
-    let mut taken = Taken::new(rt.alloc());
-    note(&mut taken, &part)?;
+    part
+}
+
+/// What the part makes once it was noted and forgotten.
+fn made_when_forgotten(alloc: Global, part: Part) -> &'static str {
+    let mut taken = Taken::new(alloc);
+    let noted = note(&mut taken, &part);
     taken.forget_noted();
-    assert!(rt; said(makes(&taken, &part)) == "whole");
+    let made = makes(&taken, &part);
+    drop(taken);
+    drop(part);
+    said(noted.and(made))
+}
+
+#[test]
+fn parts_are_noted(rt: HostRuntime) -> Result<(), AllocError> {
+    let part = only_part(rt.alloc())?;
+    assert!(rt; made_when_forgotten(rt.alloc(), part) == "whole");
     Ok(())
 }

@@ -5,7 +5,7 @@ use std::cmp::Ordering;
 
 // How the two compare, and whether they are equal, where both are there.
 fn compared_all<T: Ord + Drop>(left: Option<T>, right: Option<T>) -> Option<(Ordering, bool)> {
-    let (left, right) = (left?, right?);
+    let (left, right) = left.zip(right)?;
     Some((left.cmp(&right), left == right))
 }
 
@@ -20,10 +20,15 @@ fn compared(alloc: Global, left: &[u8], right: &[u8]) -> Option<(Ordering, bool)
 #[test]
 fn bytes_compare_one_by_one(rt: HostRuntime) {
     let alloc = rt.alloc();
-    assert!(rt; compared(alloc, b"", b"") == Some((Ordering::Equal, true)));
-    assert!(rt; compared(alloc, b"a", b"aa") == Some((Ordering::Less, false)));
-    assert!(rt; compared(alloc, b"b", b"aa") == Some((Ordering::Greater, false)));
-    assert!(rt; compared(alloc, &[127], &[128]) == Some((Ordering::Less, false)));
+    let less = Some((Ordering::Less, false));
+    let found = [
+        compared(alloc, b"", b""),
+        compared(alloc, b"a", b"aa"),
+        compared(alloc, b"b", b"aa"),
+        compared(alloc, &[127], &[128]),
+    ];
+    let same = Some((Ordering::Equal, true));
+    assert!(rt; found == [same, less, Some((Ordering::Greater, false)), less]);
 }
 
 // Sixteen bytes stand in the value, seventeen are allocated.
@@ -31,9 +36,12 @@ fn bytes_compare_one_by_one(rt: HostRuntime) {
 fn short_and_long_bytes_compare(rt: HostRuntime) {
     let alloc = rt.alloc();
     let less = Some((Ordering::Less, false));
-    assert!(rt; compared(alloc, &[7; 16], &[7; 17]) == less);
-    assert!(rt; compared(alloc, &[7; 17], &[8; 16]) == less);
-    assert!(rt; compared(alloc, &[7; 17], &[7; 17]) == Some((Ordering::Equal, true)));
+    let found = [
+        compared(alloc, &[7; 16], &[7; 17]),
+        compared(alloc, &[7; 17], &[8; 16]),
+        compared(alloc, &[7; 17], &[7; 17]),
+    ];
+    assert!(rt; found == [less, less, Some((Ordering::Equal, true))]);
 }
 
 // Whether the copy is there and has these bytes.
@@ -50,12 +58,14 @@ fn are_all_equal(alloc: Global, bytes: &[u8]) -> Option<bool> {
     let copy = vector.try_copy().ok();
     let is_same = vector.as_slice() == bytes;
     let of_slice = Bytes::from_slice(alloc, bytes).ok();
-    Some(is_same && equal(of_slice, Some(vector))? && is_copy(copy, bytes)?)
+    let is_equal = equal(of_slice, Some(vector));
+    let is_copied = is_copy(copy, bytes);
+    Some(is_same & is_equal? & is_copied?)
 }
 
 #[test]
 fn bytes_are_the_same_wherever_they_stand(rt: HostRuntime) {
     let alloc = rt.alloc();
-    assert!(rt; are_all_equal(alloc, b"x") == Some(true));
-    assert!(rt; are_all_equal(alloc, &[7; 17]) == Some(true));
+    let are_equal = [are_all_equal(alloc, b"x"), are_all_equal(alloc, &[7; 17])];
+    assert!(rt; are_equal == [Some(true); 2]);
 }

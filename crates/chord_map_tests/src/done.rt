@@ -1,7 +1,6 @@
 use crate::samples::equal;
 use chord_map::{Done, Reply, Request, copy_dones, find_done};
 use std::alloc::{AllocError, Global};
-use std::test::Fail;
 
 /// The call of this caller and number, which added x under a.
 fn added(alloc: Global, caller: u64, number: u64) -> Result<Done, AllocError> {
@@ -13,35 +12,52 @@ fn added(alloc: Global, caller: u64, number: u64) -> Result<Done, AllocError> {
     })
 }
 
+/// Adds two calls of caller 1.
+fn add_two(alloc: Global, dones: &mut Vec<Done>) -> Result<(), AllocError> {
+    dones.push(added(alloc, 1, 1)?)?;
+    dones.push(added(alloc, 1, 2)?)?;
+    Ok(())
+}
+
 /// Two calls of caller 1.
 fn two(alloc: Global) -> Result<Vec<Done>, AllocError> {
     let mut dones = Vec::new(alloc);
-    dones.push(added(alloc, 1, 1)?)?;
-    dones.push(added(alloc, 1, 2)?)?;
-    Ok(dones)
+    match add_two(alloc, &mut dones) {
+        Ok(()) => Ok(dones),
+        Err(fault) => {
+            drop(dones);
+            Err(fault)
+        }
+    }
 }
 
 /// The number of the call that is found among the two.
 fn number_found(alloc: Global, caller: u64, number: u64) -> Option<u64> {
     let dones = two(alloc).ok()?;
-    let found = find_done(&dones, caller, number)?;
-    Some(found.number)
+    let found = match find_done(&dones, caller, number) {
+        Some(done) => Some(done.number),
+        None => None,
+    };
+    drop(dones);
+    found
 }
 
 #[test]
-fn a_call_is_found_by_caller_and_number(rt: HostRuntime) -> Result<(), Fail> {
+fn a_call_is_found_by_caller_and_number(rt: HostRuntime) {
     let alloc = rt.alloc();
-    assert!(rt; number_found(alloc, 1, 2) == Some(2));
-    assert!(rt; number_found(alloc, 1, 3) == None);
-    assert!(rt; number_found(alloc, 2, 1) == None);
-    Ok(())
+    let found = [
+        number_found(alloc, 1, 2),
+        number_found(alloc, 1, 3),
+        number_found(alloc, 2, 1),
+    ];
+    assert!(rt; found == [Some(2), None, None]);
 }
 
 /// Whether copies of the two are equal to them.
 fn copies_are_equal(alloc: Global) -> Option<bool> {
     let dones = two(alloc).ok()?;
-    let copies = copy_dones(alloc, &dones).ok()?;
-    Some(copies.as_slice() == dones.as_slice())
+    let copies = copy_dones(alloc, &dones).ok();
+    equal(copies, Some(dones))
 }
 
 /// Whether a copy of a call is equal to it.
@@ -57,10 +73,12 @@ fn others_are_equal(alloc: Global) -> Option<bool> {
 }
 
 #[test]
-fn calls_are_copied(rt: HostRuntime) -> Result<(), Fail> {
+fn calls_are_copied(rt: HostRuntime) {
     let alloc = rt.alloc();
-    assert!(rt; copies_are_equal(alloc) == Some(true));
-    assert!(rt; copy_is_equal(alloc) == Some(true));
-    assert!(rt; others_are_equal(alloc) == Some(false));
-    Ok(())
+    let are_equal = [
+        copies_are_equal(alloc),
+        copy_is_equal(alloc),
+        others_are_equal(alloc),
+    ];
+    assert!(rt; are_equal == [Some(true), Some(true), Some(false)]);
 }

@@ -1,14 +1,12 @@
-use chord_map::{Pair, PairList};
-use std::alloc::{AllocError, Global};
-use std::test::Fail;
+use chord_map::{Pair, PairList, Values};
+use std::alloc::AllocError;
 
-// The pairs (a, x), (a, y) and (b, x), put in from the last to the first.
-fn three(alloc: Global) -> Result<PairList, AllocError> {
-    let mut pairs = PairList::new(alloc);
+// Puts in the pairs (a, x), (a, y) and (b, x), from the last to the first.
+fn put_three(pairs: &mut PairList) -> Result<(), AllocError> {
     for (key, value) in [(b"b", b"x"), (b"a", b"y"), (b"a", b"x"), (b"a", b"x")] {
         pairs.insert(key, value)?;
     }
-    Ok(pairs)
+    Ok(())
 }
 
 fn is_of(pair: &Pair, key: &[u8], value: &[u8]) -> bool {
@@ -16,78 +14,116 @@ fn is_of(pair: &Pair, key: &[u8], value: &[u8]) -> bool {
 }
 
 #[test]
-fn keeps_a_pair_once(rt: HostRuntime) -> Result<(), Fail> {
-    let pairs = three(rt.alloc())?;
-    assert!(rt; pairs.len() == 3);
-    assert!(rt; pairs.count_under(b"a") == 2);
-    assert!(rt; pairs.contains(b"b", b"x"));
-    assert!(rt; !pairs.contains(b"b", b"y"));
-    Ok(())
+fn keeps_a_pair_once(rt: HostRuntime) {
+    let mut pairs = PairList::new(rt.alloc());
+    let are_put = put_three(&mut pairs).is_ok();
+    let are_counted = (pairs.len() == 3) & (pairs.count_under(b"a") == 2);
+    let has_one = pairs.contains(b"b", b"x") & !pairs.contains(b"b", b"y");
+    assert!(rt; are_put & are_counted & has_one);
+    drop(pairs);
 }
 
-#[test]
-fn keeps_pairs_in_order(rt: HostRuntime) -> Result<(), Fail> {
-    let pairs = three(rt.alloc())?;
-    let expected = [(b"a", b"x"), (b"a", b"y"), (b"b", b"x")];
-    assert!(rt; pairs.as_slice().len() == expected.len());
-    for (pair, (key, value)) in pairs.as_slice().iter().zip(expected) {
-        assert!(rt; is_of(pair, key, value));
-        assert!(rt; is_of(&pair.try_copy()?, key, value));
+// Whether the pair and a copy of it are of this key and value.
+fn is_of_as_copied(pair: &Pair, key: &[u8], value: &[u8]) -> bool {
+    let Ok(copy) = pair.try_copy() else {
+        return false;
+    };
+    let are_of = is_of(pair, key, value) & is_of(&copy, key, value);
+    drop(copy);
+    are_of
+}
+
+// Whether these and a copy of each are the three pairs in order.
+fn are_in_order(pairs: &[Pair]) -> bool {
+    match pairs {
+        [first, second, third] => {
+            is_of_as_copied(first, b"a", b"x")
+                & is_of_as_copied(second, b"a", b"y")
+                & is_of_as_copied(third, b"b", b"x")
+        }
+        _ => false,
     }
-    Ok(())
 }
 
 #[test]
-fn copies_the_values_of_a_key(rt: HostRuntime) -> Result<(), Fail> {
+fn keeps_pairs_in_order(rt: HostRuntime) {
+    let mut pairs = PairList::new(rt.alloc());
+    let are_put = put_three(&mut pairs).is_ok();
+    assert!(rt; are_put & are_in_order(pairs.as_slice()));
+    drop(pairs);
+}
+
+// Whether these are two values, the first of which is x.
+fn begin_with_x(values: Values) -> bool {
+    let begin_with_x = match values.as_slice() {
+        [first, _] => first.as_slice() == b"x".as_slice(),
+        _ => false,
+    };
+    drop(values);
+    begin_with_x
+}
+
+#[test]
+fn copies_the_values_of_a_key(rt: HostRuntime) {
     let alloc = rt.alloc();
-    let values = three(alloc)?.values(alloc, b"a")?;
-    assert!(rt; values.as_slice().len() == 2);
-    assert!(rt; values.as_slice()[0].as_slice() == b"x".as_slice());
-    Ok(())
+    let mut pairs = PairList::new(alloc);
+    let are_put = put_three(&mut pairs).is_ok();
+    let is_copied = match pairs.values(alloc, b"a") {
+        Ok(values) => begin_with_x(values),
+        Err(_) => false,
+    };
+    drop(pairs);
+    assert!(rt; are_put & is_copied);
 }
 
 #[test]
-fn removes_a_pair(rt: HostRuntime) -> Result<(), Fail> {
-    let mut pairs = three(rt.alloc())?;
-    assert!(rt; pairs.remove(b"a", b"y"));
-    assert!(rt; !pairs.remove(b"a", b"y"));
-    assert!(rt; pairs.len() == 2);
-    Ok(())
+fn removes_a_pair(rt: HostRuntime) {
+    let mut pairs = PairList::new(rt.alloc());
+    let are_put = put_three(&mut pairs).is_ok();
+    let was_there = pairs.remove(b"a", b"y");
+    let is_there = pairs.remove(b"a", b"y");
+    assert!(rt; are_put & was_there & !is_there & (pairs.len() == 2));
+    drop(pairs);
 }
 
 #[test]
-fn retains_pairs(rt: HostRuntime) -> Result<(), Fail> {
-    let mut pairs = three(rt.alloc())?;
+fn retains_pairs(rt: HostRuntime) {
+    let mut pairs = PairList::new(rt.alloc());
+    let are_put = put_three(&mut pairs).is_ok();
     pairs.retain(|pair| pair.key.as_slice() == b"b".as_slice());
-    assert!(rt; pairs.len() == 1);
-    assert!(rt; pairs.contains(b"b", b"x"));
-    Ok(())
+    assert!(rt; are_put & (pairs.len() == 1) & pairs.contains(b"b", b"x"));
+    drop(pairs);
+}
+
+// Whether this is the pair of the key [n].
+fn has_key(pair: &Pair, n: u8) -> bool {
+    pair.key.as_slice() == [n].as_slice()
 }
 
 // Whether these are the pairs of the keys [0], [1] and so on, below `end`.
 fn ends_at(pairs: &PairList, end: u8) -> bool {
     let mut rest = pairs.as_slice().iter();
     for n in 0..end {
-        if !rest
-            .next()
-            .is_some_and(|pair| pair.key.as_slice() == [n].as_slice())
-        {
-            return false;
+        match rest.next() {
+            Some(pair) if has_key(pair, n) => {}
+            _ => return false,
         }
     }
     rest.next().is_none()
 }
 
+// Whether the pair of [n] is put in; where there was no memory, the others have to be there, and it is put in then.
+fn adds_at_last(pairs: &mut PairList, n: u8) -> bool {
+    pairs.insert(&[n], b"x").is_ok() || (ends_at(pairs, n) && pairs.insert(&[n], b"x").is_ok())
+}
+
 // With ample memory no growth is refused.
 #[test]
 fn a_refused_growth_leaves_the_pairs(rt: HostRuntime) {
-    let alloc = rt.alloc();
-    let mut pairs = PairList::new(alloc);
+    let mut pairs = PairList::new(rt.alloc());
     for n in 0..12 {
-        if pairs.insert(&[n], b"x").is_err() {
-            assert!(rt; ends_at(&pairs, n), "at {n}");
-            assert!(rt; pairs.insert(&[n], b"x").is_ok(), "at {n}");
-        }
+        assert!(rt; adds_at_last(&mut pairs, n), "at {n}");
     }
     assert!(rt; ends_at(&pairs, 12));
+    drop(pairs);
 }

@@ -1,5 +1,5 @@
 use crate::samples::{equal, one_value};
-use chord_map::{PlainMap, Reply, Request, Values};
+use chord_map::{Bytes, PlainMap, Reply, Request, Values};
 use std::alloc::{AllocError, Global};
 
 // The reply to the request, where it is one and memory is there.
@@ -15,7 +15,10 @@ fn tells(map: &mut PlainMap, request: Result<Request, AllocError>, reply: &Reply
     let request = request.ok()?;
     let found = told(map, &request);
     drop(request);
-    let is_told = found.as_ref().map(|found| found == reply);
+    let is_told = match &found {
+        Some(found) => Some(found == reply),
+        None => None,
+    };
     drop(found);
     is_told
 }
@@ -36,7 +39,8 @@ fn finds_x(alloc: Global, map: &mut PlainMap) -> Option<bool> {
     let found = found?;
     let copy = found.try_copy().ok();
     let is_found = equal(one_value(alloc, b"x").ok(), Some(found));
-    Some(is_found? && equal(copy, one_value(alloc, b"x").ok())?)
+    let is_copied = equal(copy, one_value(alloc, b"x").ok());
+    Some(is_found? & is_copied?)
 }
 
 // Whether this is the reply to an insert of x under `abc`.
@@ -53,23 +57,33 @@ fn removes(alloc: Global, map: &mut PlainMap, reply: Reply) -> Option<bool> {
 fn inserts_retrieves_and_removes(rt: HostRuntime) {
     let alloc = rt.alloc();
     let mut map = PlainMap::new(alloc);
-    assert!(rt; finds(alloc, &mut map, Values::new(alloc)) == Some(true));
-    assert!(rt; inserts(alloc, &mut map, Reply::Added) == Some(true));
-    assert!(rt; inserts(alloc, &mut map, Reply::Present) == Some(true));
-    assert!(rt; finds_x(alloc, &mut map) == Some(true));
-    assert!(rt; removes(alloc, &mut map, Reply::Removed) == Some(true));
-    assert!(rt; removes(alloc, &mut map, Reply::Absent) == Some(true));
+    let are_told = [
+        finds(alloc, &mut map, Values::new(alloc)),
+        inserts(alloc, &mut map, Reply::Added),
+        inserts(alloc, &mut map, Reply::Present),
+        finds_x(alloc, &mut map),
+        removes(alloc, &mut map, Reply::Removed),
+        removes(alloc, &mut map, Reply::Absent),
+    ];
+    drop(map);
+    assert!(rt; are_told == [Some(true); 6]);
+}
+
+// Whether this is the reply to an insert of the value under `a`.
+fn inserts_into_set(
+    alloc: Global,
+    map: &mut PlainMap,
+    value: &[u8],
+    reply: &Reply,
+) -> Option<bool> {
+    tells(map, Request::insert(alloc, b"a", value), reply)
 }
 
 // Whether each of the values 0000 to 0999 is added under `a`.
 fn is_filled(alloc: Global, map: &mut PlainMap) -> Option<bool> {
     for n in 0..1000u32 {
         let value = format!(in alloc; "{n:04}").ok()?;
-        if !tells(
-            map,
-            Request::insert(alloc, b"a", value.as_bytes()),
-            &Reply::Added,
-        )? {
+        if !inserts_into_set(alloc, map, value.as_bytes(), &Reply::Added)? {
             return Some(false);
         }
     }
@@ -80,35 +94,19 @@ fn is_filled(alloc: Global, map: &mut PlainMap) -> Option<bool> {
 fn fills_a_set(rt: HostRuntime) {
     let alloc = rt.alloc();
     let mut map = PlainMap::new(alloc);
-    assert!(rt; is_filled(alloc, &mut map) == Some(true));
-    assert!(rt;
-        tells(
-            &mut map,
-            Request::insert(alloc, b"a", b"1000"),
-            &Reply::SetFull
-        ) == Some(true)
-    );
-    assert!(rt;
-        tells(
-            &mut map,
-            Request::insert(alloc, b"a", b"0999"),
-            &Reply::Present
-        ) == Some(true)
-    );
-    assert!(rt;
+    let are_told = [
+        is_filled(alloc, &mut map),
+        inserts_into_set(alloc, &mut map, b"1000", &Reply::SetFull),
+        inserts_into_set(alloc, &mut map, b"0999", &Reply::Present),
         tells(
             &mut map,
             Request::remove(alloc, b"a", b"0000"),
-            &Reply::Removed
-        ) == Some(true)
-    );
-    assert!(rt;
-        tells(
-            &mut map,
-            Request::insert(alloc, b"a", b"1000"),
-            &Reply::Added
-        ) == Some(true)
-    );
+            &Reply::Removed,
+        ),
+        inserts_into_set(alloc, &mut map, b"1000", &Reply::Added),
+    ];
+    drop(map);
+    assert!(rt; are_told == [Some(true); 5]);
 }
 
 // The request to add the value [n], made again where there was no memory.
@@ -119,31 +117,39 @@ fn insert_of(alloc: Global, n: u8) -> Result<Request, AllocError> {
     }
 }
 
+// Whether this is the value [n].
+fn is_number(value: &Bytes, n: u8) -> bool {
+    value.as_slice() == [n].as_slice()
+}
+
 // Whether these are [0], [1] and so on, below `end`.
 fn are_below(values: &Values, end: u8) -> bool {
     let mut rest = values.as_slice().iter();
     for n in 0..end {
-        if !rest
-            .next()
-            .is_some_and(|value| value.as_slice() == [n].as_slice())
-        {
-            return false;
+        match rest.next() {
+            Some(value) if is_number(value, n) => {}
+            _ => return false,
         }
     }
     rest.next().is_none()
 }
 
 // Whether the values under `a` are those below `end`, asked for again where there was no memory.
-fn ends_at(alloc: Global, map: &mut PlainMap, end: u8) -> Result<bool, AllocError> {
-    let request = Request::retrieve(alloc, b"a")?;
-    let found = told(map, &request).or_else(|| told(map, &request));
+fn ends_at(alloc: Global, map: &mut PlainMap, end: u8) -> bool {
+    let Ok(request) = Request::retrieve(alloc, b"a") else {
+        return false;
+    };
+    let found = match told(map, &request) {
+        Some(found) => Some(found),
+        None => told(map, &request),
+    };
     drop(request);
     let is_end = match &found {
         Some(Reply::Values(values)) => are_below(values, end),
         _ => false,
     };
     drop(found);
-    Ok(is_end)
+    is_end
 }
 
 // Whether Added is the reply, where memory is there.
@@ -152,14 +158,16 @@ fn adds(map: &mut PlainMap, request: &Request) -> Option<bool> {
 }
 
 // Whether [n] is added; where there was no memory, the values have to be those below it, and it is added then.
-fn adds_at_last(alloc: Global, map: &mut PlainMap, n: u8) -> Result<bool, AllocError> {
-    let request = insert_of(alloc, n)?;
-    let added = match adds(map, &request) {
-        Some(added) => Ok(added),
-        None => ends_at(alloc, map, n).map(|is_end| is_end && adds(map, &request) == Some(true)),
+fn adds_at_last(alloc: Global, map: &mut PlainMap, n: u8) -> bool {
+    let Ok(request) = insert_of(alloc, n) else {
+        return false;
+    };
+    let is_added = match adds(map, &request) {
+        Some(is_added) => is_added,
+        None => ends_at(alloc, map, n) && adds(map, &request) == Some(true),
     };
     drop(request);
-    added
+    is_added
 }
 
 // With ample memory no growth is refused.
@@ -168,8 +176,8 @@ fn a_refused_growth_leaves_the_map(rt: HostRuntime) {
     let alloc = rt.alloc();
     let mut map = PlainMap::new(alloc);
     for n in 0..12 {
-        let added = adds_at_last(alloc, &mut map, n);
-        assert!(rt; added.is_ok_and(|added| added), "at {n}");
+        assert!(rt; adds_at_last(alloc, &mut map, n), "at {n}");
     }
-    assert!(rt; ends_at(alloc, &mut map, 12).is_ok_and(|is_end| is_end));
+    assert!(rt; ends_at(alloc, &mut map, 12));
+    drop(map);
 }

@@ -14,21 +14,31 @@ fn checked(request: Result<Request, AllocError>) -> Option<Result<(), RequestFau
 fn keys_have_limits(rt: HostRuntime) {
     let alloc = rt.alloc();
     let long = [7u8; 256];
-    assert!(rt; checked(Request::retrieve(alloc, &[])) == Some(Err(RequestFault::KeyEmpty)));
-    assert!(rt; checked(Request::retrieve(alloc, &long[..1])) == Some(Ok(())));
-    assert!(rt; checked(Request::retrieve(alloc, &long[..255])) == Some(Ok(())));
-    assert!(rt; checked(Request::retrieve(alloc, &long)) == Some(Err(RequestFault::KeyLong)));
+    let found = [
+        checked(Request::retrieve(alloc, &[])),
+        checked(Request::retrieve(alloc, &long[..1])),
+        checked(Request::retrieve(alloc, &long[..255])),
+        checked(Request::retrieve(alloc, &long)),
+    ];
+    let empty = Some(Err(RequestFault::KeyEmpty));
+    let fits = Some(Ok(()));
+    assert!(rt; found == [empty, fits, fits, Some(Err(RequestFault::KeyLong))]);
 }
 
 #[test]
 fn values_have_limits(rt: HostRuntime) {
     let alloc = rt.alloc();
     let long = [7u8; 4097];
-    assert!(rt; checked(Request::insert(alloc, b"a", &[])) == Some(Ok(())));
-    assert!(rt; checked(Request::insert(alloc, b"a", &long[..4096])) == Some(Ok(())));
-    assert!(rt; checked(Request::insert(alloc, b"a", &long)) == Some(Err(RequestFault::ValueLong)));
-    assert!(rt; checked(Request::remove(alloc, b"a", &long)) == Some(Err(RequestFault::ValueLong)));
-    assert!(rt; checked(Request::remove(alloc, &[], &long)) == Some(Err(RequestFault::KeyEmpty)));
+    let found = [
+        checked(Request::insert(alloc, b"a", &[])),
+        checked(Request::insert(alloc, b"a", &long[..4096])),
+        checked(Request::insert(alloc, b"a", &long)),
+        checked(Request::remove(alloc, b"a", &long)),
+        checked(Request::remove(alloc, &[], &long)),
+    ];
+    let fits = Some(Ok(()));
+    let long = Some(Err(RequestFault::ValueLong));
+    assert!(rt; found == [fits, fits, long, long, Some(Err(RequestFault::KeyEmpty))]);
 }
 
 /// Whether the fault has this text.
@@ -58,18 +68,15 @@ fn is_its_copy(request: Result<Request, AllocError>) -> Option<bool> {
     equal(copy, Some(request))
 }
 
-/// Whether the requests are equal.
-fn are_equal(
-    first: Result<Request, AllocError>,
-    second: Result<Request, AllocError>,
-) -> Option<bool> {
-    equal(first.ok(), second.ok())
+/// Whether the request is equal to the one to insert x under `abc`.
+fn is_insert(alloc: Global, request: Result<Request, AllocError>) -> Option<bool> {
+    equal(Request::insert(alloc, b"abc", b"x").ok(), request.ok())
 }
 
 /// Whether the request names this key and this value.
 fn names(request: Result<Request, AllocError>, key: &[u8], value: &[u8]) -> Option<bool> {
     let request = request.ok()?;
-    let is_named = request.key() == key && request.value() == value;
+    let is_named = (request.key() == key) & (request.value() == value);
     drop(request);
     Some(is_named)
 }
@@ -77,33 +84,38 @@ fn names(request: Result<Request, AllocError>, key: &[u8], value: &[u8]) -> Opti
 #[test]
 fn copies(rt: HostRuntime) {
     let alloc = rt.alloc();
-    assert!(rt; is_its_copy(Request::insert(alloc, b"abc", b"x")) == Some(true));
-    assert!(rt; is_its_copy(Request::retrieve(alloc, b"abc")) == Some(true));
-    assert!(rt; is_its_copy(Request::remove(alloc, b"abc", b"x")) == Some(true));
+    let are_copies = [
+        is_its_copy(Request::insert(alloc, b"abc", b"x")),
+        is_its_copy(Request::retrieve(alloc, b"abc")),
+        is_its_copy(Request::remove(alloc, b"abc", b"x")),
+    ];
+    assert!(rt; are_copies == [Some(true); 3]);
 }
 
 #[test]
 fn compares(rt: HostRuntime) {
     let alloc = rt.alloc();
-    let insert_x = || Request::insert(alloc, b"abc", b"x");
-    assert!(rt; are_equal(insert_x(), insert_x()) == Some(true));
-    assert!(rt; are_equal(insert_x(), Request::insert(alloc, b"abc", b"y")) == Some(false));
-    assert!(rt; are_equal(insert_x(), Request::remove(alloc, b"abc", b"x")) == Some(false));
-    assert!(rt; are_equal(insert_x(), Request::retrieve(alloc, b"abc")) == Some(false));
-    assert!(rt;
-        are_equal(
-            Request::retrieve(alloc, b"abc"),
-            Request::retrieve(alloc, b"ab")
-        ) == Some(false)
-    );
+    let (is, is_not) = (Some(true), Some(false));
+    let retrieve = Request::retrieve(alloc, b"abc").ok();
+    let are_equal = [
+        is_insert(alloc, Request::insert(alloc, b"abc", b"x")),
+        is_insert(alloc, Request::insert(alloc, b"abc", b"y")),
+        is_insert(alloc, Request::remove(alloc, b"abc", b"x")),
+        is_insert(alloc, Request::retrieve(alloc, b"abc")),
+        equal(retrieve, Request::retrieve(alloc, b"ab").ok()),
+    ];
+    assert!(rt; are_equal == [is, is_not, is_not, is_not, is_not]);
 }
 
 #[test]
 fn names_its_key_and_value(rt: HostRuntime) {
     let alloc = rt.alloc();
-    assert!(rt; names(Request::insert(alloc, b"abc", b"x"), b"abc", b"x") == Some(true));
-    assert!(rt; names(Request::remove(alloc, b"abc", b"x"), b"abc", b"x") == Some(true));
-    assert!(rt; names(Request::retrieve(alloc, b"abc"), b"abc", b"") == Some(true));
+    let are_named = [
+        names(Request::insert(alloc, b"abc", b"x"), b"abc", b"x"),
+        names(Request::remove(alloc, b"abc", b"x"), b"abc", b"x"),
+        names(Request::retrieve(alloc, b"abc"), b"abc", b""),
+    ];
+    assert!(rt; are_named == [Some(true); 3]);
 }
 
 /// Whether the reply fits the request.
@@ -115,42 +127,50 @@ fn fits(reply: &Reply, request: Result<Request, AllocError>) -> Option<bool> {
 }
 
 /// Whether the reply fits an insert, a retrieve and a remove.
-fn fitting(alloc: Global, reply: Reply) -> Option<(bool, bool, bool)> {
-    let insert = fits(&reply, Request::insert(alloc, b"a", b"x"));
-    let retrieve = fits(&reply, Request::retrieve(alloc, b"a"));
-    let remove = fits(&reply, Request::remove(alloc, b"a", b"x"));
+fn fitting(alloc: Global, reply: Reply) -> [Option<bool>; 3] {
+    let fitting = [
+        fits(&reply, Request::insert(alloc, b"a", b"x")),
+        fits(&reply, Request::retrieve(alloc, b"a")),
+        fits(&reply, Request::remove(alloc, b"a", b"x")),
+    ];
     drop(reply);
-    Some((insert?, retrieve?, remove?))
+    fitting
 }
 
 /// The same of the reply with the value x.
-fn fitting_values(alloc: Global) -> Option<(bool, bool, bool)> {
-    fitting(alloc, one_value(alloc, b"x").ok()?)
+fn fitting_values(alloc: Global) -> Option<[Option<bool>; 3]> {
+    Some(fitting(alloc, one_value(alloc, b"x").ok()?))
 }
 
 #[test]
 fn knows_the_replies_of_its_kind(rt: HostRuntime) {
     let alloc = rt.alloc();
-    let of_insert = Some((true, false, false));
-    assert!(rt; fitting(alloc, Reply::Added) == of_insert);
-    assert!(rt; fitting(alloc, Reply::Present) == of_insert);
-    assert!(rt; fitting(alloc, Reply::SetFull) == of_insert);
-    let of_remove = Some((false, false, true));
-    assert!(rt; fitting(alloc, Reply::Removed) == of_remove);
-    assert!(rt; fitting(alloc, Reply::Absent) == of_remove);
-    assert!(rt; fitting_values(alloc) == Some((false, true, false)));
+    let (is, is_not) = (Some(true), Some(false));
+    let found = [
+        fitting(alloc, Reply::Added),
+        fitting(alloc, Reply::Present),
+        fitting(alloc, Reply::SetFull),
+        fitting(alloc, Reply::Removed),
+        fitting(alloc, Reply::Absent),
+    ];
+    let of_insert = [is, is_not, is_not];
+    let of_remove = [is_not, is_not, is];
+    assert!(rt; found == [of_insert, of_insert, of_insert, of_remove, of_remove]);
+    assert!(rt; fitting_values(alloc) == Some([is_not, is, is_not]));
 }
 
-/// Whether the reply with the value x is equal to itself, to the one with y, and to Added.
-fn equals(alloc: Global) -> Option<(bool, bool, bool)> {
-    let values = || one_value(alloc, b"x").ok();
-    let same = equal(values(), values());
-    let other = equal(values(), one_value(alloc, b"y").ok());
-    let added = equal(values(), Some(Reply::Added));
-    Some((same?, other?, added?))
+/// Whether the reply is equal to the one with the value x.
+fn is_x(alloc: Global, reply: Option<Reply>) -> Option<bool> {
+    equal(one_value(alloc, b"x").ok(), reply)
 }
 
 #[test]
 fn replies_are_compared(rt: HostRuntime) {
-    assert!(rt; equals(rt.alloc()) == Some((true, false, false)));
+    let alloc = rt.alloc();
+    let are_x = [
+        is_x(alloc, one_value(alloc, b"x").ok()),
+        is_x(alloc, one_value(alloc, b"y").ok()),
+        is_x(alloc, Some(Reply::Added)),
+    ];
+    assert!(rt; are_x == [Some(true), Some(false), Some(false)]);
 }

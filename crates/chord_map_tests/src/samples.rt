@@ -16,5 +16,6 @@ pub fn one_value(alloc: Global, value: &[u8]) -> Result<Reply, AllocError> {
 
 /// Whether the two are equal, where both are there.
 pub fn equal<T: PartialEq + Drop>(first: Option<T>, second: Option<T>) -> Option<bool> {
-    Some(first? == second?)
+    let (first, second) = first.zip(second)?;
+    Some(first == second)
 }

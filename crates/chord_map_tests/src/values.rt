@@ -10,52 +10,37 @@ fn fill(alloc: Global, values: &mut Values, letters: &[u8]) -> Result<(), AllocE
     Ok(())
 }
 
-// A value for each letter, in the order given.
-fn values_of(alloc: Global, letters: &[u8]) -> Result<Values, AllocError> {
-    let mut values = Values::new(alloc);
-    match fill(alloc, &mut values, letters) {
-        Ok(()) => Ok(values),
-        Err(fault) => {
-            drop(values);
-            Err(fault)
-        }
-    }
+// Whether this is the value of the letter.
+fn is_letter(value: &Bytes, letter: u8) -> bool {
+    value.as_slice() == [letter].as_slice()
 }
 
 // Whether there is a value for each letter, in the order given.
 fn are_of(values: &Values, letters: &[u8]) -> bool {
     let mut rest = values.as_slice().iter();
     for letter in letters {
-        if !rest
-            .next()
-            .is_some_and(|value| value.as_slice() == [*letter].as_slice())
-        {
-            return false;
+        match rest.next() {
+            Some(value) if is_letter(value, *letter) => {}
+            _ => return false,
         }
     }
     rest.next().is_none()
 }
 
-// Whether this is done to the values of some letters, and they are those of the others then.
-fn changes<F: FnOnce(&mut Values) -> bool>(
-    alloc: Global,
-    letters: &[u8],
-    act: F,
-    others: &[u8],
-) -> Option<bool>
-    requires { (values : _) → F.pre act values }
-{
-    let mut values = values_of(alloc, letters).ok()?;
-    let is_done = act(&mut values);
-    let are_others = are_of(&values, others);
+// Whether these values are those of the letters, in the order given.
+fn end_as(values: Values, letters: &[u8]) -> bool {
+    let are_of_letters = are_of(&values, letters);
     drop(values);
-    Some(is_done && are_others)
+    are_of_letters
 }
 
 #[test]
 fn holds_values_in_the_order_given(rt: HostRuntime) {
+    let alloc = rt.alloc();
     for letters in [b"".as_slice(), b"x", b"xyz"] {
-        assert!(rt; changes(rt.alloc(), letters, |_| true, letters) == Some(true));
+        let mut values = Values::new(alloc);
+        let is_filled = fill(alloc, &mut values, letters).is_ok();
+        assert!(rt; is_filled & end_as(values, letters));
     }
 }
 
@@ -70,15 +55,19 @@ fn put(values: &mut Values, place: usize, alloc: Global, letter: u8) -> Result<(
 #[test]
 fn a_value_goes_between_two(rt: HostRuntime) {
     let alloc = rt.alloc();
-    let put_y = |values: &mut Values| put(values, 1, alloc, b'y').is_ok();
-    assert!(rt; changes(alloc, b"xz", put_y, b"xyz") == Some(true));
+    let mut values = Values::new(alloc);
+    let is_filled = fill(alloc, &mut values, b"xz").is_ok();
+    let is_put = put(&mut values, 1, alloc, b'y').is_ok();
+    assert!(rt; is_filled & is_put & end_as(values, b"xyz"));
 }
 
 #[test]
 fn a_value_goes_before_the_only_one(rt: HostRuntime) {
     let alloc = rt.alloc();
-    let put_y = |values: &mut Values| put(values, 0, alloc, b'y').is_ok();
-    assert!(rt; changes(alloc, b"z", put_y, b"yz") == Some(true));
+    let mut values = Values::new(alloc);
+    let is_filled = fill(alloc, &mut values, b"z").is_ok();
+    let is_put = put(&mut values, 0, alloc, b'y').is_ok();
+    assert!(rt; is_filled & is_put & end_as(values, b"yz"));
 }
 
 // Takes the value at the place out, which is that of the letter.
@@ -87,49 +76,65 @@ fn takes(values: &mut Values, place: usize, letter: u8) -> bool {
         return false;
     }
     let value = values.remove(place);
-    let is_its = value.as_slice() == [letter].as_slice();
+    let is_its = is_letter(&value, letter);
     drop(value);
     is_its
 }
 
 #[test]
 fn a_value_is_taken_out(rt: HostRuntime) {
-    let take_y = |values: &mut Values| takes(values, 1, b'y');
-    assert!(rt; changes(rt.alloc(), b"xyz", take_y, b"xz") == Some(true));
+    let alloc = rt.alloc();
+    let mut values = Values::new(alloc);
+    let is_filled = fill(alloc, &mut values, b"xyz").is_ok();
+    let is_taken = takes(&mut values, 1, b'y');
+    assert!(rt; is_filled & is_taken & end_as(values, b"xz"));
 }
 
 #[test]
 fn the_last_of_two_comes_out(rt: HostRuntime) {
-    let take_both = |values: &mut Values| {
-        takes(values, 0, b'x') && are_of(values, b"y") && takes(values, 0, b'y')
-    };
-    assert!(rt; changes(rt.alloc(), b"xy", take_both, b"") == Some(true));
+    let alloc = rt.alloc();
+    let mut values = Values::new(alloc);
+    let is_filled = fill(alloc, &mut values, b"xy").is_ok();
+    let is_first_taken = takes(&mut values, 0, b'x') & are_of(&values, b"y");
+    let is_last_taken = takes(&mut values, 0, b'y');
+    assert!(rt; is_filled & is_first_taken & is_last_taken & end_as(values, b""));
 }
 
 #[test]
 fn the_only_value_comes_out(rt: HostRuntime) {
-    let take_x = |values: &mut Values| takes(values, 0, b'x');
-    assert!(rt; changes(rt.alloc(), b"x", take_x, b"") == Some(true));
+    let alloc = rt.alloc();
+    let mut values = Values::new(alloc);
+    let is_filled = fill(alloc, &mut values, b"x").is_ok();
+    let is_taken = takes(&mut values, 0, b'x');
+    assert!(rt; is_filled & is_taken & end_as(values, b""));
+}
+
+// A value for each letter, in the order given.
+fn values_of(alloc: Global, letters: &[u8]) -> Result<Values, AllocError> {
+    let mut values = Values::new(alloc);
+    match fill(alloc, &mut values, letters) {
+        Ok(()) => Ok(values),
+        Err(fault) => {
+            drop(values);
+            Err(fault)
+        }
+    }
 }
 
 // Whether a copy is equal to the values, and to those of the other letters.
-fn copy_equals(alloc: Global, letters: &[u8], others: &[u8]) -> Option<(bool, bool)> {
+fn copy_equals(alloc: Global, letters: &[u8], others: &[u8]) -> Option<[Option<bool>; 2]> {
     let values = values_of(alloc, letters).ok()?;
     let copy = values.try_copy().ok();
-    let other = values_of(alloc, others).ok();
-    let is_other = copy
-        .as_ref()
-        .zip(other.as_ref())
-        .map(|(copy, other)| copy == other);
-    drop(other);
-    Some((equal(copy, Some(values))?, is_other?))
+    let is_other = equal(values.try_copy().ok(), values_of(alloc, others).ok());
+    Some([equal(copy, Some(values)), is_other])
 }
 
 #[test]
 fn a_copy_is_equal(rt: HostRuntime) {
     let alloc = rt.alloc();
     for letters in [b"".as_slice(), b"x", b"xyz"] {
-        assert!(rt; copy_equals(alloc, letters, b"xz") == Some((true, false)));
+        let are_equal = copy_equals(alloc, letters, b"xz");
+        assert!(rt; are_equal == Some([Some(true), Some(false)]));
     }
 }
 
@@ -145,25 +150,24 @@ fn copies_bytes(rt: HostRuntime) {
     assert!(rt; bytes_are_copied(rt.alloc()) == Some(true));
 }
 
-// The value of the letter, asked for again where there was no memory.
-fn value(alloc: Global, letter: u8) -> Result<Bytes, AllocError> {
+// Adds the value of the letter, where memory is there.
+fn is_pushed(alloc: Global, values: &mut Values, letter: u8) -> bool {
     match Bytes::from_slice(alloc, &[letter]) {
-        Ok(bytes) => Ok(bytes),
-        Err(_) => Bytes::from_slice(alloc, &[letter]),
+        Ok(value) => values.push(value).is_ok(),
+        Err(_) => false,
     }
 }
 
-// Pushes each letter, again where there was no memory; whether the values were left as they were then.
-fn push_each(alloc: Global, values: &mut Values, letters: &[u8]) -> Result<bool, AllocError> {
+// Whether each letter is pushed; where there was no memory, the values have to be as they were, and it is pushed then.
+fn push_each(alloc: Global, values: &mut Values, letters: &[u8]) -> bool {
     for n in 0..letters.len() {
-        if values.push(value(alloc, letters[n])?).is_err() {
-            if !are_of(values, &letters[..n]) {
-                return Ok(false);
-            }
-            values.push(value(alloc, letters[n])?)?;
+        if !is_pushed(alloc, values, letters[n])
+            && !(are_of(values, &letters[..n]) && is_pushed(alloc, values, letters[n]))
+        {
+            return false;
         }
     }
-    Ok(true)
+    true
 }
 
 // With ample memory no growth is refused.
@@ -171,27 +175,28 @@ fn push_each(alloc: Global, values: &mut Values, letters: &[u8]) -> Result<bool,
 fn a_refused_push_leaves_the_values(rt: HostRuntime) {
     let letters = b"abcdefghijkl";
     let alloc = rt.alloc();
-    let push = |values: &mut Values| push_each(alloc, values, letters).is_ok_and(|left| left);
-    assert!(rt; changes(alloc, b"", push, letters) == Some(true));
+    let mut values = Values::new(alloc);
+    let are_pushed = push_each(alloc, &mut values, letters);
+    assert!(rt; are_pushed & end_as(values, letters));
 }
 
-// Puts each letter first, from the last on, again where there was no memory; whether the values were left then.
-fn put_each_first(alloc: Global, values: &mut Values, letters: &[u8]) -> Result<bool, AllocError> {
+// Whether each letter is put first, from the last on, as each is pushed above.
+fn put_each_first(alloc: Global, values: &mut Values, letters: &[u8]) -> bool {
     for n in (0..letters.len()).rev() {
-        if values.insert(0, value(alloc, letters[n])?).is_err() {
-            if !are_of(values, &letters[n + 1..]) {
-                return Ok(false);
-            }
-            values.insert(0, value(alloc, letters[n])?)?;
+        if put(values, 0, alloc, letters[n]).is_err()
+            && !(are_of(values, &letters[n + 1..]) && put(values, 0, alloc, letters[n]).is_ok())
+        {
+            return false;
         }
     }
-    Ok(true)
+    true
 }
 
 #[test]
 fn a_refused_insert_leaves_the_values(rt: HostRuntime) {
     let letters = b"abcdefghijkl";
     let alloc = rt.alloc();
-    let put = |values: &mut Values| put_each_first(alloc, values, letters).is_ok_and(|left| left);
-    assert!(rt; changes(alloc, b"", put, letters) == Some(true));
+    let mut values = Values::new(alloc);
+    let are_put = put_each_first(alloc, &mut values, letters);
+    assert!(rt; are_put & end_as(values, letters));
 }

@@ -12,7 +12,7 @@ use chord_caller::Ask;
 use chord_handover::{Declined, Got, Part, Ticket};
 use chord_ident::{Id, Span};
 use chord_links::{Links, Peer};
-use chord_map::{Bytes, Request};
+use chord_map::Request;
 use chord_model::laws;
 use chord_node::laws::no_delivery_clashes;
 use chord_node::{Answered, Back, Given, Node};
@@ -48,16 +48,10 @@ pub fn ask(number: u64, floor: u64, request: Request) -> Ask
     }
 }
 
-pub fn insert(alloc: Global, key: &[u8], value: &[u8]) -> Result<Request, AllocError> {
-    Ok(Request::Insert {
-        key: Bytes::from_slice(alloc, key)?,
-        value: Bytes::from_slice(alloc, value)?,
-    })
-}
-
 /// What the node answers to the call, where there is memory for it.
 pub fn answered<S: EntryStore>(node: &mut Node<S>, call: &Ask) -> Option<Answered> {
-    let (answered, _) = node.on_ask(call).ok()?;
+    let (answered, done) = node.on_ask(call).ok()?;
+    drop(done);
     Some(answered)
 }
 
@@ -72,11 +66,20 @@ pub fn inserted<S: EntryStore>(
     requires some { 0 < number }
     requires near { number ≤ 16 }
 {
-    let request = insert(alloc, key, value).ok()?;
+    let request = Request::insert(alloc, key, value).ok()?;
     let call = ask(number, 0, request);
     let told = answered(node, &call);
     drop(call);
     told
+}
+
+/// Puts x under this key, as this call of caller 0.
+pub fn put<S: EntryStore>(alloc: Global, node: &mut Node<S>, number: u64, key: &[u8]) -> Option<()>
+    requires some { 0 < number }
+    requires near { number ≤ 16 }
+{
+    drop(inserted(alloc, node, number, key, b"x")?);
+    Some(())
 }
 
 /// Node 0, at A, which holds the whole circle.
@@ -102,7 +105,7 @@ pub fn newborn(alloc: Global, limit: u64) -> Node<CappedStore> {
 
 /// The part of (A, C], with x under `abc`, that node 0, which holds the whole circle, gives to node 1.
 pub fn give_away(alloc: Global, node: &mut Node<CappedStore>) -> Option<Part> {
-    inserted(alloc, node, 1, b"abc", b"x")?;
+    put(alloc, node, 1, b"abc")?;
     node.cut_at(0, Id::new(C)).ok()?;
     node.give(0, 1).ok()
 }
@@ -110,8 +113,8 @@ pub fn give_away(alloc: Global, node: &mut Node<CappedStore>) -> Option<Part> {
 /// Node 0 at A with room for so many pairs, after it gave (A, C], with x under `abc`, to node 1; and the part of it.
 pub fn given_away(alloc: Global, limit: u64) -> Option<(Node<CappedStore>, Part)> {
     let mut node = found(alloc, CappedStore::new(alloc, limit))?;
-    let part = give_away(alloc, &mut node)?;
-    Some((node, part))
+    let part = give_away(alloc, &mut node);
+    Some(node).zip(part)
 }
 
 /// The only part of a handover of an empty segment.
@@ -139,12 +142,19 @@ pub fn handed<S: EntryStore>(node: &mut Node<S>, part: &Part) -> Result<Option<G
     if part.to != node.number() {
         return Ok(None);
     }
-    Ok(Some(node.on_give(part)?))
+    Some(node.on_give(part)).transpose()
 }
 
 /// What the node answers to a part, where there is memory for it.
 pub fn given<S: EntryStore>(node: &mut Node<S>, part: &Part) -> Option<Given> {
-    handed(node, part).ok()?
+    handed(node, part).ok().flatten()
+}
+
+/// The same of a part that does not come again.
+pub fn given_once<S: EntryStore>(node: &mut Node<S>, part: Part) -> Option<Given> {
+    let given = given(node, &part);
+    drop(part);
+    given
 }
 
 /// What the node answers to the only part of a handover of an empty segment.
@@ -154,7 +164,7 @@ pub fn given_empty(
     ticket: Ticket,
     span: Span,
 ) -> Option<Given> {
-    given(node, &empty_part(alloc, ticket, span))
+    given_once(node, empty_part(alloc, ticket, span))
 }
 
 /// Whether an item that the node gave left the outbox.
@@ -173,12 +183,12 @@ pub fn taken_back<S: EntryStore>(
     if declined.from != node.number() {
         return Ok(None);
     }
-    Ok(Some(node.on_declined(&declined)?))
+    Some(node.on_declined(&declined)).transpose()
 }
 
 /// The same where there is memory for it.
 pub fn back<S: EntryStore>(node: &mut Node<S>, declined: Declined) -> Option<Back> {
-    taken_back(node, declined).ok()?
+    taken_back(node, declined).ok().flatten()
 }
 
 #[test]

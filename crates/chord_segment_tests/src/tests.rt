@@ -59,29 +59,39 @@ pub fn keeps(segment: &Segment, caller: u64, number: u64) -> bool {
 /// A segment that keeps that call alone.
 pub fn one(alloc: Global, span: Span, key: &[u8]) -> Result<Segment, AllocError> {
     let mut segment = Segment::empty(alloc, span);
-    segment.reserve(0)?;
-    if !keep_added(&mut segment, alloc, 1, key, 0) {
-        return Err(AllocError);
+    let is_kept = segment.reserve(0).is_ok() && keep_added(&mut segment, alloc, 1, key, 0);
+    if is_kept {
+        Ok(segment)
+    } else {
+        Err(AllocError)
     }
-    Ok(segment)
 }
 
-/// Cuts at B.
-pub fn cut_at_b(segment: Segment) -> Result<(Segment, Segment), Fail> {
-    let parts = segment.cut(Id::new(B)).ok().ok_or("not cut")?;
-    Ok(parts)
+/// Its interval, and whether it keeps the first call of caller 0.
+fn shape(segment: &Segment) -> (Span, bool) {
+    (segment.span(), keeps(segment, 0, 1))
+}
+
+/// The same of what they make together.
+fn joined_shape(first: Segment, second: Segment) -> Option<(Span, bool)> {
+    let whole = first.join(second).ok()?;
+    let shape = shape(&whole);
+    drop(whole);
+    Some(shape)
+}
+
+/// The same of the parts that it is cut into at B, and of what they make together.
+fn shapes(segment: Segment) -> Option<((Span, bool), (Span, bool), Option<(Span, bool)>)> {
+    let (before, behind) = segment.cut(Id::new(B)).ok()?;
+    let (first, second) = (shape(&before), shape(&behind));
+    Some((first, second, joined_shape(before, behind)))
 }
 
 #[test]
 fn what_is_kept_goes_by_key(rt: HostRuntime) -> Result<(), Fail> {
-    let (before, behind) = cut_at_b(one(rt.alloc(), span(A, A), b"abc")?)?;
-    assert!(rt; before.span() == span(A, B));
-    assert!(rt; !keeps(&before, 0, 1));
-    assert!(rt; behind.span() == span(B, A));
-    assert!(rt; keeps(&behind, 0, 1));
-    let whole = before.join(behind).ok().ok_or("not joined")?;
-    assert!(rt; whole.span() == span(A, A));
-    assert!(rt; keeps(&whole, 0, 1));
+    let shapes = shapes(one(rt.alloc(), span(A, A), b"abc")?);
+    let (before, behind) = ((span(A, B), false), (span(B, A), true));
+    assert!(rt; shapes == Some((before, behind, Some((span(A, A), true)))));
     Ok(())
 }
 
@@ -107,7 +117,9 @@ fn is_copied(whole: &Segment) -> Option<bool> {
 #[test]
 fn a_copy_is_the_same(rt: HostRuntime) -> Result<(), Fail> {
     let whole = one(rt.alloc(), span(A, A), b"abc")?;
-    assert!(rt; is_copied(&whole) == Some(true));
+    let is_copied = is_copied(&whole);
+    drop(whole);
+    assert!(rt; is_copied == Some(true));
     Ok(())
 }
 
@@ -122,52 +134,59 @@ pub fn equals(segment: &Segment, other: Option<Segment>) -> Option<bool> {
 #[test]
 fn others_are_not_the_same(rt: HostRuntime) -> Result<(), Fail> {
     let whole = one(rt.alloc(), span(A, A), b"abc")?;
-    let other = one(rt.alloc(), span(A, A), b"abd").ok();
-    assert!(rt; equals(&whole, other) == Some(false));
-    let empty = Segment::empty(rt.alloc(), span(A, A));
-    assert!(rt; equals(&whole, Some(empty)) == Some(false));
+    let other = equals(&whole, one(rt.alloc(), span(A, A), b"abd").ok());
+    let empty = equals(&whole, Some(Segment::empty(rt.alloc(), span(A, A))));
+    drop(whole);
+    assert!(rt; (other, empty) == (Some(false), Some(false)));
     Ok(())
+}
+
+/// Why they are not joined, and whether each keeps the first call of caller 0 still.
+fn unjoined(alloc: Global) -> Option<(JoinFault, bool, bool)> {
+    let first = one(alloc, span(A, C), b"abc").ok();
+    let second = one(alloc, span(C, A), b"b").ok();
+    let (first, second) = first.zip(second)?;
+    let back = first.join(second).err()?;
+    let keep = (keeps(&back.first, 0, 1), keeps(&back.second, 0, 1));
+    let fault = back.fault;
+    drop(back);
+    Some((fault, keep.0, keep.1))
 }
 
 #[test]
-fn neighbours_keep_a_call_once(rt: HostRuntime) -> Result<(), Fail> {
-    let first = one(rt.alloc(), span(A, C), b"abc")?;
-    let second = one(rt.alloc(), span(C, A), b"b")?;
-    let refused = first.join(second).err().ok_or("joined")?;
-    assert!(rt; refused.fault == JoinFault::Twice);
-    assert!(rt; keeps(&refused.first, 0, 1));
-    assert!(rt; keeps(&refused.second, 0, 1));
-    Ok(())
+fn neighbours_keep_a_call_once(rt: HostRuntime) {
+    assert!(rt; unjoined(rt.alloc()) == Some((JoinFault::Twice, true, true)));
 }
 
-/// Why it cannot be cut there.
-fn cut_fault(segment: Segment, at: u128) -> Option<CutFault> {
-    let uncut = segment.cut(Id::new(at)).err()?;
+/// Why an empty segment of (A, B] cannot be cut there.
+fn cut_fault(alloc: Global, at: u128) -> Option<CutFault> {
+    let uncut = Segment::empty(alloc, span(A, B)).cut(Id::new(at)).err()?;
     let fault = uncut.fault;
     drop(uncut);
     Some(fault)
 }
 
-/// Why they cannot be joined.
-fn join_fault(first: Segment, second: Segment) -> Option<JoinFault> {
-    let unjoined = first.join(second).err()?;
+/// Why an empty segment of (A, B] cannot be joined with an empty one of this span.
+fn join_fault(alloc: Global, next: Span) -> Option<JoinFault> {
+    let first = Segment::empty(alloc, span(A, B));
+    let unjoined = first.join(Segment::empty(alloc, next)).err()?;
     let fault = unjoined.fault;
     drop(unjoined);
     Some(fault)
 }
 
 #[test]
-fn refused_cuts_and_joins(rt: HostRuntime) -> Result<(), Fail> {
+fn refused_cuts_and_joins(rt: HostRuntime) {
     let alloc = rt.alloc();
-    let segment = || Segment::empty(alloc, span(A, B));
-    for at in [A, B, C] {
-        assert!(rt; cut_fault(segment(), at) == Some(CutFault::NotInside));
-    }
-    let apart = Segment::empty(alloc, span(C, A));
-    assert!(rt; join_fault(segment(), apart) == Some(JoinFault::NotAdjacent));
-    let over = Segment::empty(alloc, span(B, B));
-    assert!(rt; join_fault(segment(), over) == Some(JoinFault::Overlap));
-    Ok(())
+    let outside = Some(CutFault::NotInside);
+    let cuts = (
+        cut_fault(alloc, A),
+        cut_fault(alloc, B),
+        cut_fault(alloc, C),
+    );
+    assert!(rt; cuts == (outside, outside, outside));
+    let joins = (join_fault(alloc, span(C, A)), join_fault(alloc, span(B, B)));
+    assert!(rt; joins == (Some(JoinFault::NotAdjacent), Some(JoinFault::Overlap)));
 }
 
 /// Keeps the call of caller 0 with this number and key.
@@ -178,17 +197,37 @@ fn keep_added(segment: &mut Segment, alloc: Global, number: u64, key: &[u8], flo
     }
 }
 
+/// Whether it keeps a second call beside the first at floor 0.
+fn keeps_two(segment: &mut Segment, alloc: Global) -> bool {
+    keep_added(segment, alloc, 2, b"b", 0) & keeps(segment, 0, 1) & keeps(segment, 0, 2)
+}
+
+/// Whether it keeps a third call, which raises the floor to 2, and the first is seen then.
+fn keeps_the_third(segment: &mut Segment, alloc: Global) -> bool {
+    let is_kept = keep_added(segment, alloc, 3, b"a", 2) & keeps(segment, 0, 3);
+    is_kept & (segment.floor(0) == 2) & matches!(segment.find(0, 1), Past::Seen)
+}
+
+/// The floors of caller 0 in the parts that it is cut into at B.
+fn floors_of_parts(segment: Segment) -> Option<(u64, u64)> {
+    let (before, behind) = segment.cut(Id::new(B)).ok()?;
+    let floors = (before.floor(0), behind.floor(0));
+    drop(before);
+    drop(behind);
+    Some(floors)
+}
+
+/// Whether it keeps the two calls, whether it keeps the third, and the floors of its parts then.
+fn raised(mut segment: Segment, alloc: Global) -> (bool, bool, Option<(u64, u64)>) {
+    let two = keeps_two(&mut segment, alloc);
+    let third = keeps_the_third(&mut segment, alloc);
+    (two, third, floors_of_parts(segment))
+}
+
 #[test]
 fn floors_drop_what_was_taken(rt: HostRuntime) -> Result<(), Fail> {
-    let mut segment = one(rt.alloc(), span(A, A), b"abc")?;
-    assert!(rt; keep_added(&mut segment, rt.alloc(), 2, b"b", 0));
-    assert!(rt; keeps(&segment, 0, 1) & keeps(&segment, 0, 2));
-    assert!(rt; keep_added(&mut segment, rt.alloc(), 3, b"a", 2));
-    assert!(rt; segment.floor(0) == 2);
-    assert!(rt; keeps(&segment, 0, 3));
-    assert!(rt; matches!(segment.find(0, 1), Past::Seen));
-    let (before, behind) = cut_at_b(segment)?;
-    assert!(rt; (before.floor(0), behind.floor(0)) == (2, 2));
+    let segment = one(rt.alloc(), span(A, A), b"abc")?;
+    assert!(rt; raised(segment, rt.alloc()) == (true, true, Some((2, 2))));
     Ok(())
 }
 
@@ -209,15 +248,22 @@ fn keeps_of(segment: &Segment, alloc: Global, callers: &[u64]) -> Option<bool> {
     equals(segment, kept_of(alloc, span(A, A), callers, b"abc").ok())
 }
 
+/// Whether it keeps each of three callers, whether one of three others, and whether it equals one that keeps the three in
+/// another order, and one that keeps two of them.
+fn keeps_apart(segment: Segment, alloc: Global) -> (bool, bool, Option<bool>, Option<bool>) {
+    let each = keeps(&segment, 3, 1) & keeps(&segment, 5, 1) & keeps(&segment, 9, 1);
+    let any = keeps(&segment, 4, 1) | keeps(&segment, 6, 1) | keeps(&segment, 10, 1);
+    let same = keeps_of(&segment, alloc, &[9, 5, 3]);
+    let fewer = keeps_of(&segment, alloc, &[3, 5]);
+    drop(segment);
+    (each, any, same, fewer)
+}
+
 #[test]
 fn callers_are_kept_apart(rt: HostRuntime) -> Result<(), Fail> {
     let segment = kept_of(rt.alloc(), span(A, A), &[5, 3, 9], b"abc")?;
-    for caller in [3, 5, 9] {
-        assert!(rt; keeps(&segment, caller, 1));
-        assert!(rt; !keeps(&segment, caller + 1, 1));
-    }
-    assert!(rt; keeps_of(&segment, rt.alloc(), &[9, 5, 3]) == Some(true));
-    assert!(rt; keeps_of(&segment, rt.alloc(), &[3, 5]) == Some(false));
+    let apart = (true, false, Some(true), Some(false));
+    assert!(rt; keeps_apart(segment, rt.alloc()) == apart);
     Ok(())
 }
 
@@ -234,17 +280,25 @@ fn is_readied_unseen(before: &Segment) -> Option<bool> {
 #[test]
 fn a_readied_caller_is_not_seen(rt: HostRuntime) -> Result<(), Fail> {
     let before = kept_of(rt.alloc(), span(A, A), &[5, 9], b"abc")?;
-    assert!(rt; is_readied_unseen(&before) == Some(true));
+    let is_unseen = is_readied_unseen(&before);
+    drop(before);
+    assert!(rt; is_unseen == Some(true));
     Ok(())
 }
 
+/// Whether two parts with two callers each keep all four when they are joined.
+fn keeps_all_four(alloc: Global) -> Option<bool> {
+    let first = kept_of(alloc, span(A, C), &[5, 3], b"abc").ok();
+    let second = kept_of(alloc, span(C, A), &[4, 7], b"b").ok();
+    let (first, second) = first.zip(second)?;
+    let whole = first.join(second).ok()?;
+    let first = keeps(&whole, 3, 1) & keeps(&whole, 5, 1);
+    let second = keeps(&whole, 4, 1) & keeps(&whole, 7, 1);
+    drop(whole);
+    Some(first & second)
+}
+
 #[test]
-fn joined_callers_keep_both_parts(rt: HostRuntime) -> Result<(), Fail> {
-    let first = kept_of(rt.alloc(), span(A, C), &[5, 3], b"abc")?;
-    let second = kept_of(rt.alloc(), span(C, A), &[4, 7], b"b")?;
-    let whole = first.join(second).ok().ok_or("not joined")?;
-    for caller in [3, 4, 5, 7] {
-        assert!(rt; keeps(&whole, caller, 1));
-    }
-    Ok(())
+fn joined_callers_keep_both_parts(rt: HostRuntime) {
+    assert!(rt; keeps_all_four(rt.alloc()) == Some(true));
 }

@@ -1,12 +1,12 @@
 //! Each kind of store answers the same.
-ghost use Rattle.std.specs.Prelude.{◌≡◌, [], OnErr};
+ghost use Rattle.std.specs.Prelude.{◌≡◌, [], IfOk, OnErr};
 
 use chord_ident::{Id, Span};
-use chord_map::{Bytes, Pair, PairList};
+use chord_map::{Bytes, Pair, PairList, Values};
 use chord_store::{
     CappedStore, EntryStore, Inserted, ListStore, NotedStore, StoreFault, TreeStore,
 };
-use std::alloc::Global;
+use std::alloc::{AllocError, Global};
 use std::process::Abort;
 use std::sync::{Arc, OnceLock};
 use std::test::Fail;
@@ -24,40 +24,79 @@ fn key(alloc: Global, bytes: &[u8]) -> Bytes {
 // Inserts the pair and compares the answer.
 fn insert<S: EntryStore>(
     rt: &impl Abort,
+    alloc: Global,
     store: &mut S,
-    key: &Bytes,
+    bytes: &[u8],
     value: &[u8],
     expected: Result<Inserted, StoreFault>,
 ) {
-    assert!(rt; store.insert(key, value) == expected);
+    let key = key(alloc, bytes);
+    let answer = store.insert(&key, value);
+    drop(key);
+    assert!(rt; answer == expected);
+}
+
+// Takes the value out from under the key, and says whether it was there.
+fn remove<S: EntryStore>(alloc: Global, store: &mut S, bytes: &[u8], value: &[u8]) -> bool {
+    let key = key(alloc, bytes);
+    let is_there = store.remove(&key, value);
+    drop(key);
+    is_there
+}
+
+// The values under the key.
+fn values_under<S: EntryStore>(
+    alloc: Global,
+    store: &S,
+    bytes: &[u8],
+) -> Result<Values, AllocError> {
+    let key = key(alloc, bytes);
+    let values = store.values(alloc, &key);
+    drop(key);
+    values
 }
 
 // Puts a set of 1,000 values under `a`.
-fn fill<S: EntryStore>(rt: &impl Abort, alloc: Global, store: &mut S) -> Result<(), Fail> {
-    let a = key(alloc, b"a");
+fn fill<S: EntryStore>(rt: &impl Abort, alloc: Global, store: &mut S) -> Option<()> {
     for n in 0..1000u32 {
-        let value = format!(in alloc; "{n:04}")?;
-        insert(rt, store, &a, value.as_bytes(), Ok(Inserted::Added));
+        let value = format!(in alloc; "{n:04}").ok()?;
+        insert(
+            rt,
+            alloc,
+            store,
+            b"a",
+            value.as_bytes(),
+            Ok(Inserted::Added),
+        );
     }
-    Ok(())
+    Some(())
+}
+
+// Whether these are 1,000 values, from 0001 to 1000.
+fn are_from_one(values: Values) -> bool {
+    let all = values.as_slice();
+    let are_from_one = all.len() == 1000
+        && all[0].as_slice() == b"0001".as_slice()
+        && all[999].as_slice() == b"1000".as_slice();
+    drop(values);
+    are_from_one
 }
 
 // A set of 1,000 values takes no more, and takes one again after one was removed.
-fn fill_a_set<S: EntryStore>(rt: &impl Abort, alloc: Global, store: &mut S) -> Result<(), Fail> {
-    fill(rt, alloc, store)?;
-    let a = key(alloc, b"a");
-    insert(rt, store, &a, b"1000", Ok(Inserted::SetFull));
-    insert(rt, store, &a, b"0999", Ok(Inserted::Present));
-    for is_there in [true, false] {
-        assert!(rt; store.remove(&a, b"0000") == is_there);
-    }
-    insert(rt, store, &a, b"1000", Ok(Inserted::Added));
-    assert!(rt; store.count() == 1000);
-    let values = store.values(alloc, &a)?;
-    assert!(rt; values.as_slice().len() == 1000);
-    assert!(rt; values.as_slice()[0].as_slice() == b"0001".as_slice());
-    assert!(rt; values.as_slice()[999].as_slice() == b"1000".as_slice());
-    Ok(())
+fn fill_a_set<S: EntryStore>(rt: &impl Abort, alloc: Global, store: S) {
+    let mut store = store;
+    assert!(rt; fill(rt, alloc, &mut store).is_some());
+    insert(rt, alloc, &mut store, b"a", b"1000", Ok(Inserted::SetFull));
+    insert(rt, alloc, &mut store, b"a", b"0999", Ok(Inserted::Present));
+    let was_there = remove(alloc, &mut store, b"a", b"0000");
+    let is_there = remove(alloc, &mut store, b"a", b"0000");
+    insert(rt, alloc, &mut store, b"a", b"1000", Ok(Inserted::Added));
+    let are_there = match values_under(alloc, &store, b"a") {
+        Ok(values) => are_from_one(values),
+        Err(_) => false,
+    };
+    assert!(rt; was_there & !is_there & are_there & (store.count() == 1000));
+    drop(store);
 }
 
 // The identifiers of `a` and `abc` lie in it, that of `b` does not.
@@ -73,53 +112,83 @@ fn put_four<S: EntryStore>(rt: &impl Abort, alloc: Global, store: &mut S) {
         (b"a", b"y"),
         (b"a", b"x"),
     ] {
-        insert(rt, store, &key(alloc, bytes), value, Ok(Inserted::Added));
+        insert(rt, alloc, store, bytes, value, Ok(Inserted::Added));
     }
 }
 
 // How many values stand under the key.
-fn values_under<S: EntryStore>(alloc: Global, store: &S, bytes: &[u8]) -> Option<usize> {
-    let key = key(alloc, bytes);
-    Some(store.values(alloc, &key).ok()?.as_slice().len())
+fn count_under<S: EntryStore>(alloc: Global, store: &S, bytes: &[u8]) -> Option<u64> {
+    let values = values_under(alloc, store, bytes).ok()?;
+    let count = values.as_slice().len();
+    drop(values);
+    Some(count as u64)
+}
+
+// How many pairs lie in the half.
+fn count_inside<S: EntryStore>(alloc: Global, store: &S) -> Option<u64> {
+    let pairs = store.copy_span(alloc, &half()).ok()?;
+    let count = pairs.len();
+    drop(pairs);
+    Some(count as u64)
 }
 
 // Of the four the one beside the half is there.
-fn has_one<S: EntryStore>(rt: &impl Abort, alloc: Global, store: &S) -> Result<(), Fail> {
-    assert!(rt; store.count() == 1);
-    assert!(rt; store.copy_span(alloc, &half())?.len() == 0);
-    assert!(rt; values_under(alloc, store, b"a") == Some(0));
-    assert!(rt; values_under(alloc, store, b"b") == Some(1));
-    Ok(())
+fn has_one<S: EntryStore>(rt: &impl Abort, alloc: Global, store: S) {
+    let counts = [
+        Some(store.count()),
+        count_inside(alloc, &store),
+        count_under(alloc, &store, b"a"),
+        count_under(alloc, &store, b"b"),
+    ];
+    drop(store);
+    assert!(rt; counts == [Some(1), Some(0), Some(0), Some(1)]);
 }
 
 fn is_of(pair: &Pair, key: &[u8], value: &[u8]) -> bool {
     pair.key.as_slice() == key && pair.value.as_slice() == value
 }
 
+// Whether these are the three pairs of the half in order.
+fn are_of_half(pairs: Vec<Pair>) -> bool {
+    let are_of_half = match pairs.as_slice() {
+        [first, second, third] => {
+            is_of(first, b"a", b"x") & is_of(second, b"a", b"y") & is_of(third, b"abc", b"x")
+        }
+        _ => false,
+    };
+    drop(pairs);
+    are_of_half
+}
+
 // What lies in the half is copied in order, and leaves the store.
-fn move_a_span<S: EntryStore>(rt: &impl Abort, alloc: Global, store: &mut S) -> Result<(), Fail> {
-    put_four(rt, alloc, store);
-    let pairs = store.copy_span(alloc, &half())?;
-    assert!(rt; pairs.len() == 3);
-    assert!(rt; is_of(&pairs[0], b"a", b"x"));
-    assert!(rt; is_of(&pairs[1], b"a", b"y"));
-    assert!(rt; is_of(&pairs[2], b"abc", b"x"));
+fn move_a_span<S: EntryStore>(rt: &impl Abort, alloc: Global, store: S) {
+    let mut store = store;
+    put_four(rt, alloc, &mut store);
+    let are_copied = match store.copy_span(alloc, &half()) {
+        Ok(pairs) => are_of_half(pairs),
+        Err(_) => false,
+    };
+    assert!(rt; are_copied);
     store.take_out(&half());
-    has_one(rt, alloc, store)
+    has_one(rt, alloc, store);
+}
+
+// Takes out what was copied of the half, and says how many pairs that was.
+fn drop_half<S: EntryStore>(alloc: Global, store: &mut S) -> Option<usize> {
+    let half = half();
+    let copies = store.copy_span(alloc, &half).ok()?;
+    store.drop_copied(&half, &copies);
+    let count = copies.len();
+    drop(copies);
+    Some(count)
 }
 
 // What was copied of half of the circle leaves the store.
-fn drop_what_was_copied<S: EntryStore>(
-    rt: &impl Abort,
-    alloc: Global,
-    store: &mut S,
-) -> Result<(), Fail> {
-    put_four(rt, alloc, store);
-    let half = half();
-    let copies = store.copy_span(alloc, &half)?;
-    assert!(rt; copies.len() == 3);
-    store.drop_copied(&half, &copies);
-    has_one(rt, alloc, store)
+fn drop_what_was_copied<S: EntryStore>(rt: &impl Abort, alloc: Global, store: S) {
+    let mut store = store;
+    put_four(rt, alloc, &mut store);
+    assert!(rt; drop_half(alloc, &mut store) == Some(3));
+    has_one(rt, alloc, store);
 }
 
 // The pairs come into an empty store.
@@ -135,90 +204,101 @@ fn put_list<S: EntryStore>(store: &mut S, list: &PairList) -> Result<(), StoreFa
     store.put_all(&circle, list.as_slice())
 }
 
-#[test]
-fn a_list_fills_a_set(rt: HostRuntime) -> Result<(), Fail> {
-    let alloc = rt.alloc();
-    let mut store = ListStore::new(alloc);
-    fill_a_set(&rt, alloc, &mut store)
+// An empty store, with a note that nobody looks at.
+fn noted(alloc: Global) -> Result<NotedStore, AllocError>
+    ensures { IfOk result (λ store. store ≡ []) }
+{
+    Ok(NotedStore::new(alloc, Arc::new(alloc, OnceLock::new())?))
 }
 
 #[test]
-fn a_tree_fills_a_set(rt: HostRuntime) -> Result<(), Fail> {
+fn a_list_fills_a_set(rt: HostRuntime) {
     let alloc = rt.alloc();
-    let mut store = TreeStore::new(alloc);
-    fill_a_set(&rt, alloc, &mut store)
+    fill_a_set(&rt, alloc, ListStore::new(alloc));
+}
+
+#[test]
+fn a_tree_fills_a_set(rt: HostRuntime) {
+    let alloc = rt.alloc();
+    fill_a_set(&rt, alloc, TreeStore::new(alloc));
 }
 
 #[test]
 fn a_box_fills_a_set(rt: HostRuntime) -> Result<(), Fail> {
     let alloc = rt.alloc();
-    let mut store: Box<dyn EntryStore + Send> = Box::new(alloc, CappedStore::new(alloc, 1000))?;
-    fill_a_set(&rt, alloc, &mut store)
+    let store: Box<dyn EntryStore + Send> = Box::new(alloc, CappedStore::new(alloc, 1000))?;
+    fill_a_set(&rt, alloc, store);
+    Ok(())
 }
 
 #[test]
 fn each_kind_moves_a_span(rt: HostRuntime) -> Result<(), Fail> {
     let alloc = rt.alloc();
-    move_a_span(&rt, alloc, &mut ListStore::new(alloc))?;
-    move_a_span(&rt, alloc, &mut TreeStore::new(alloc))?;
-    move_a_span(&rt, alloc, &mut CappedStore::new(alloc, 4))?;
-    let note = Arc::new(alloc, OnceLock::new())?;
-    let mut store: Box<dyn EntryStore + Send> = Box::new(alloc, NotedStore::new(alloc, note))?;
-    move_a_span(&rt, alloc, &mut store)
+    move_a_span(&rt, alloc, ListStore::new(alloc));
+    move_a_span(&rt, alloc, TreeStore::new(alloc));
+    move_a_span(&rt, alloc, CappedStore::new(alloc, 4));
+    let store: Box<dyn EntryStore + Send> = Box::new(alloc, noted(alloc)?)?;
+    move_a_span(&rt, alloc, store);
+    Ok(())
 }
 
 #[test]
 fn each_kind_drops_what_was_copied(rt: HostRuntime) -> Result<(), Fail> {
     let alloc = rt.alloc();
-    drop_what_was_copied(&rt, alloc, &mut ListStore::new(alloc))?;
-    drop_what_was_copied(&rt, alloc, &mut TreeStore::new(alloc))?;
-    drop_what_was_copied(&rt, alloc, &mut CappedStore::new(alloc, 4))?;
-    let note = Arc::new(alloc, OnceLock::new())?;
-    let mut store: Box<dyn EntryStore + Send> = Box::new(alloc, NotedStore::new(alloc, note))?;
-    drop_what_was_copied(&rt, alloc, &mut store)
+    drop_what_was_copied(&rt, alloc, ListStore::new(alloc));
+    drop_what_was_copied(&rt, alloc, TreeStore::new(alloc));
+    drop_what_was_copied(&rt, alloc, CappedStore::new(alloc, 4));
+    let store: Box<dyn EntryStore + Send> = Box::new(alloc, noted(alloc)?)?;
+    drop_what_was_copied(&rt, alloc, store);
+    Ok(())
 }
 
-// Puts the pairs into an empty store, and counts what is there then.
-fn put_into<S: EntryStore>(store: S, list: &PairList) -> (Result<(), StoreFault>, u64)
+// Adds the pairs (a, x) and (b, x).
+fn add_two(pairs: &mut PairList) -> Result<(), AllocError> {
+    pairs.insert(b"a", b"x")?;
+    pairs.insert(b"b", b"x")
+}
+
+// Puts the two pairs into an empty store, and counts what is there then.
+fn put_into<S: EntryStore>(alloc: Global, store: S) -> Option<(Result<(), StoreFault>, u64)>
     requires { S.content store ≡ [] }
 {
     let mut store = store;
-    let put = put_list(&mut store, list);
-    (put, store.count())
+    let mut pairs = PairList::new(alloc);
+    let added = add_two(&mut pairs);
+    let put = put_list(&mut store, &pairs);
+    drop(pairs);
+    let count = store.count();
+    drop(store);
+    added.ok()?;
+    Some((put, count))
 }
 
 #[test]
-fn puts_all_pairs(rt: HostRuntime) -> Result<(), Fail> {
+fn puts_all_pairs(rt: HostRuntime) {
     let alloc = rt.alloc();
-    let mut pairs = PairList::new(alloc);
-    pairs.insert(b"a", b"x")?;
-    pairs.insert(b"b", b"x")?;
-    assert!(rt; put_into(ListStore::new(alloc), &pairs) == (Ok(()), 2));
-    assert!(rt; put_into(TreeStore::new(alloc), &pairs) == (Ok(()), 2));
-    Ok(())
+    assert!(rt; put_into(alloc, ListStore::new(alloc)) == Some((Ok(()), 2)));
+    assert!(rt; put_into(alloc, TreeStore::new(alloc)) == Some((Ok(()), 2)));
 }
 
 #[test]
-fn puts_all_pairs_or_none(rt: HostRuntime) -> Result<(), Fail> {
+fn puts_all_pairs_or_none(rt: HostRuntime) {
     let alloc = rt.alloc();
-    let mut pairs = PairList::new(alloc);
-    pairs.insert(b"a", b"x")?;
-    pairs.insert(b"b", b"x")?;
     let full = Err(StoreFault::Full);
-    assert!(rt; put_into(CappedStore::new(alloc, 1), &pairs) == (full, 0));
-    assert!(rt; put_into(CappedStore::new(alloc, 2), &pairs) == (Ok(()), 2));
-    Ok(())
+    assert!(rt; put_into(alloc, CappedStore::new(alloc, 1)) == Some((full, 0)));
+    assert!(rt; put_into(alloc, CappedStore::new(alloc, 2)) == Some((Ok(()), 2)));
 }
 
 #[test]
 fn a_full_store_takes_what_it_has(rt: HostRuntime) {
-    let mut store = CappedStore::new(rt.alloc(), 1);
-    let a = key(rt.alloc(), b"a");
-    insert(&rt, &mut store, &a, b"x", Ok(Inserted::Added));
-    insert(&rt, &mut store, &a, b"y", Err(StoreFault::Full));
-    insert(&rt, &mut store, &a, b"x", Ok(Inserted::Present));
-    assert!(rt; store.remove(&a, b"x"));
-    insert(&rt, &mut store, &a, b"y", Ok(Inserted::Added));
+    let alloc = rt.alloc();
+    let mut store = CappedStore::new(alloc, 1);
+    insert(&rt, alloc, &mut store, b"a", b"x", Ok(Inserted::Added));
+    insert(&rt, alloc, &mut store, b"a", b"y", Err(StoreFault::Full));
+    insert(&rt, alloc, &mut store, b"a", b"x", Ok(Inserted::Present));
+    assert!(rt; remove(alloc, &mut store, b"a", b"x"));
+    insert(&rt, alloc, &mut store, b"a", b"y", Ok(Inserted::Added));
+    drop(store);
 }
 
 #[test]
@@ -228,44 +308,58 @@ fn faults_say_what_is_wrong(rt: HostRuntime) -> Result<(), Fail> {
     Ok(())
 }
 
+// The store notes its count, of three pairs, when it is dropped, and nothing before.
+fn notes_three<S: EntryStore>(rt: &impl Abort, alloc: Global, store: S, note: &Arc<OnceLock<u64>>) {
+    let mut store = store;
+    for value in [b"x", b"y", b"z"] {
+        insert(rt, alloc, &mut store, b"a", value, Ok(Inserted::Added));
+    }
+    let before = note.get().copied();
+    drop(store);
+    assert!(rt; [before, note.get().copied()] == [None, Some(3)]);
+}
+
+// The same of a store in a box.
+fn box_notes_three(rt: &impl Abort, alloc: Global, note: &Arc<OnceLock<u64>>) -> Result<(), Fail> {
+    let list = NotedStore::new(alloc, note.clone()?);
+    let store: Box<dyn EntryStore + Send> = Box::new(alloc, list)?;
+    notes_three(rt, alloc, store, note);
+    Ok(())
+}
+
 #[test]
 fn a_dropped_store_notes_its_count(rt: HostRuntime) -> Result<(), Fail> {
     let alloc = rt.alloc();
     let note = Arc::new(alloc, OnceLock::new())?;
-    let mut store: Box<dyn EntryStore + Send> = Box::new(
-        alloc,
-        NotedStore::new(alloc, note.clone()?),
-    )?;
-    for value in [b"x", b"y", b"z"] {
-        insert(
-            &rt,
-            &mut store,
-            &key(alloc, b"a"),
-            value,
-            Ok(Inserted::Added),
-        );
+    let noted = box_notes_three(&rt, alloc, &note);
+    drop(note);
+    noted
+}
+
+// What the note says when a store with these values under `a` was dropped.
+fn noted_after(
+    rt: &impl Abort,
+    alloc: Global,
+    note: &Arc<OnceLock<u64>>,
+    values: &[&[u8]],
+) -> Option<u64> {
+    let mut store = NotedStore::new(alloc, note.clone().ok()?);
+    for value in values {
+        insert(rt, alloc, &mut store, b"a", value, Ok(Inserted::Added));
     }
-    assert!(rt; note.get().copied() == None);
     drop(store);
-    assert!(rt; note.get().copied() == Some(3));
-    Ok(())
+    note.get().copied()
 }
 
 #[test]
 fn the_first_dropped_store_notes_its_count(rt: HostRuntime) -> Result<(), Fail> {
     let alloc = rt.alloc();
     let note = Arc::new(alloc, OnceLock::new())?;
-    drop(NotedStore::new(alloc, note.clone()?));
-    assert!(rt; note.get().copied() == Some(0));
-    let mut store = NotedStore::new(alloc, note.clone()?);
-    insert(
-        &rt,
-        &mut store,
-        &key(alloc, b"a"),
-        b"x",
-        Ok(Inserted::Added),
-    );
-    drop(store);
-    assert!(rt; note.get().copied() == Some(0));
+    let counts = [
+        noted_after(&rt, alloc, &note, &[]),
+        noted_after(&rt, alloc, &note, &[b"x"]),
+    ];
+    drop(note);
+    assert!(rt; counts == [Some(0); 2]);
     Ok(())
 }

@@ -8,6 +8,7 @@ use chord_wire::{
     write_reply, write_request, write_request_2,
 };
 use std::alloc::{AllocError, Global};
+use std::fmt::Display;
 
 // Insert x under a, number 1.
 const INSERT: [u8; 19] = [
@@ -54,12 +55,15 @@ fn values(alloc: Global, all: &[&[u8]]) -> Result<Reply, AllocError> {
 
 /// Whether the two are equal, where both are there.
 fn equal<T: PartialEq + Drop>(first: Option<T>, second: Option<T>) -> Option<bool> {
-    Some(first? == second?)
+    let (first, second) = first.zip(second)?;
+    Some(first == second)
 }
 
 /// Whether nothing is there yet, and no fault.
 fn is_nothing<T: Drop>(next: Result<Option<T>, WireFault>) -> bool {
-    matches!(&next, Ok(None))
+    let is_nothing = matches!(&next, Ok(None));
+    drop(next);
+    is_nothing
 }
 
 /// What a fresh stream of these bytes gives.
@@ -86,15 +90,13 @@ fn keeps_pieces(frames: &mut Frames, bytes: &[u8]) -> Result<bool, WireFault> {
     Ok(true)
 }
 
-/// Answers that were fed whole, byte by byte, and whole again.
-fn answers_in_pieces(alloc: Global) -> Result<Answers, WireFault> {
-    let mut answers = Answers::new(alloc);
+/// Feeds answers whole, byte by byte, and whole again.
+fn feed_in_pieces(answers: &mut Answers) -> Result<(), WireFault> {
     answers.feed(&ADDED)?;
     for byte in &ONE_VALUE {
         answers.feed(&[*byte])?;
     }
-    answers.feed(&TWO_VALUES)?;
-    Ok(answers)
+    answers.feed(&TWO_VALUES)
 }
 
 /// The bytes with another byte at a place.
@@ -115,9 +117,9 @@ fn fault_frame(alloc: Global, code: u8) -> Result<Vec<u8>, AllocError> {
 /// Whether the request is the insert in this version.
 fn is_insert(alloc: Global, wire: Option<WireRequest>, version: u8) -> Option<bool> {
     let wire = wire?;
-    let is_first = wire.version == version && wire.number == 1 && wire.floor == 0;
+    let is_first = (wire.version == version) & (wire.number == 1) & (wire.floor == 0);
     let is_same = equal(Some(wire.request), Request::insert(alloc, b"a", b"x").ok());
-    Some(is_same? && is_first)
+    Some(is_same? & is_first)
 }
 
 /// The reply in the answer, where it has this number.
@@ -162,18 +164,30 @@ fn request_frame(alloc: Global, version: u8, request: &Request) -> Option<Vec<u8
     }
 }
 
+/// Whether these bytes are there, and are this frame.
+fn is_frame(written: Option<Vec<u8>>, frame: &[u8]) -> Option<bool> {
+    let written = written?;
+    let is_same = written.as_slice() == frame;
+    drop(written);
+    Some(is_same)
+}
+
 /// Whether the insert is written as this frame in this version.
 fn is_written(alloc: Global, version: u8, frame: &[u8]) -> Option<bool> {
     let request = Request::insert(alloc, b"a", b"x").ok()?;
     let written = request_frame(alloc, version, &request);
     drop(request);
-    Some(written?.as_slice() == frame)
+    is_frame(written, frame)
 }
 
 #[test]
 fn writes_requests(rt: HostRuntime) {
-    assert!(rt; is_written(rt.alloc(), 1, &INSERT) == Some(true));
-    assert!(rt; is_written(rt.alloc(), 2, &INSERT_2) == Some(true));
+    let alloc = rt.alloc();
+    let are_written = [
+        is_written(alloc, 1, &INSERT),
+        is_written(alloc, 2, &INSERT_2),
+    ];
+    assert!(rt; are_written == [Some(true); 2]);
 }
 
 fn reply_frame(alloc: Global, number: u64, reply: &Reply) -> Option<Vec<u8>> {
@@ -193,15 +207,17 @@ fn is_reply_written(
     let reply = reply.ok()?;
     let written = reply_frame(alloc, number, &reply);
     drop(reply);
-    Some(written?.as_slice() == frame)
+    is_frame(written, frame)
 }
 
 #[test]
 fn writes_replies(rt: HostRuntime) {
     let alloc = rt.alloc();
-    assert!(rt; is_reply_written(alloc, 1, Ok(Reply::Added), &ADDED) == Some(true));
-    let found = values(alloc, &[b"x"]);
-    assert!(rt; is_reply_written(alloc, 2, found, &ONE_VALUE) == Some(true));
+    let are_written = [
+        is_reply_written(alloc, 1, Ok(Reply::Added), &ADDED),
+        is_reply_written(alloc, 2, values(alloc, &[b"x"]), &ONE_VALUE),
+    ];
+    assert!(rt; are_written == [Some(true); 2]);
 }
 
 /// Whether a fault is written as this frame.
@@ -209,8 +225,7 @@ fn is_fault_written(alloc: Global, number: u64, code: FaultCode, frame: &[u8]) -
     if code == FaultCode::Memory {
         return None;
     }
-    let written = write_fault(alloc, number, code).ok()?;
-    Some(written.as_slice() == frame)
+    is_frame(write_fault(alloc, number, code).ok(), frame)
 }
 
 #[test]
@@ -231,12 +246,16 @@ fn has_frame(reply: Result<Reply, AllocError>) -> Option<bool> {
 fn tells_what_has_a_frame(rt: HostRuntime) {
     let alloc = rt.alloc();
     let long = [7u8; 4097];
-    assert!(rt; has_frame(Ok(Reply::Absent)) == Some(true));
-    assert!(rt; has_frame(values(alloc, &[])) == Some(true));
-    assert!(rt; has_frame(values(alloc, &[&long[..4096]])) == Some(true));
-    assert!(rt; has_frame(values(alloc, &[&long])) == Some(false));
-    assert!(rt; has_frame(values(alloc, &[b"x", b"x"])) == Some(false));
-    assert!(rt; has_frame(values(alloc, &[b"y", b"x"])) == Some(false));
+    let have_frames = [
+        has_frame(Ok(Reply::Absent)),
+        has_frame(values(alloc, &[])),
+        has_frame(values(alloc, &[&long[..4096]])),
+        has_frame(values(alloc, &[&long])),
+        has_frame(values(alloc, &[b"x", b"x"])),
+        has_frame(values(alloc, &[b"y", b"x"])),
+    ];
+    let (has, has_none) = (Some(true), Some(false));
+    assert!(rt; have_frames == [has, has, has, has_none, has_none, has_none]);
 }
 
 /// Whether these bytes are the insert in this version.
@@ -246,8 +265,12 @@ fn reads_insert(alloc: Global, bytes: &[u8], version: u8) -> Option<bool> {
 
 #[test]
 fn reads_whole_requests(rt: HostRuntime) {
-    assert!(rt; reads_insert(rt.alloc(), &INSERT, 1) == Some(true));
-    assert!(rt; reads_insert(rt.alloc(), &INSERT_2, 2) == Some(true));
+    let alloc = rt.alloc();
+    let are_read = [
+        reads_insert(alloc, &INSERT, 1),
+        reads_insert(alloc, &INSERT_2, 2),
+    ];
+    assert!(rt; are_read == [Some(true); 2]);
 }
 
 /// Whether the next request is the insert in this version.
@@ -256,19 +279,23 @@ fn next_is_insert(alloc: Global, frames: &mut Frames, version: u8) -> Option<boo
 }
 
 /// Whether these bytes, fed one at a time, are the insert in this version, and how many are left then.
-fn reads_pieces(alloc: Global, bytes: &[u8], version: u8) -> Option<(bool, usize)> {
+fn reads_pieces(alloc: Global, bytes: &[u8], version: u8) -> (bool, usize) {
     let mut frames = Frames::new(alloc);
-    if !matches!(keeps_pieces(&mut frames, bytes), Ok(true)) {
-        return None;
-    }
+    let are_kept = matches!(keeps_pieces(&mut frames, bytes), Ok(true));
     let is_insert = next_is_insert(alloc, &mut frames, version) == Some(true);
-    Some((is_insert, frames.left()))
+    let left = frames.left();
+    drop(frames);
+    (are_kept & is_insert, left)
 }
 
 #[test]
 fn reads_requests_in_any_pieces(rt: HostRuntime) {
-    assert!(rt; reads_pieces(rt.alloc(), &INSERT, 1) == Some((true, 0)));
-    assert!(rt; reads_pieces(rt.alloc(), &INSERT_2, 2) == Some((true, 0)));
+    let alloc = rt.alloc();
+    let are_read = [
+        reads_pieces(alloc, &INSERT, 1),
+        reads_pieces(alloc, &INSERT_2, 2),
+    ];
+    assert!(rt; are_read == [(true, 0); 2]);
 }
 
 fn next_of(answers: &mut Answers) -> Option<Answer> {
@@ -280,32 +307,31 @@ fn gives(answers: &mut Answers, number: u64, reply: Result<Reply, AllocError>) -
     is_reply(next_of(answers), number, reply.ok())
 }
 
-/// How many bytes of answers there are, whether the first one is read, and how many are left then.
-fn first_in_pieces(alloc: Global) -> Option<(usize, bool, usize)> {
-    let mut answers = answers_in_pieces(alloc).ok()?;
-    let before = answers.left();
-    let is_first = gives(&mut answers, 1, Ok(Reply::Added))?;
-    Some((before, is_first, answers.left()))
-}
-
 #[test]
 fn reads_answers_in_any_pieces(rt: HostRuntime) {
-    assert!(rt; first_in_pieces(rt.alloc()) == Some((60, true, 45)));
+    let mut answers = Answers::new(rt.alloc());
+    let are_fed = feed_in_pieces(&mut answers).is_ok();
+    let before = answers.left();
+    let is_first = gives(&mut answers, 1, Ok(Reply::Added));
+    let left = answers.left();
+    drop(answers);
+    assert!(rt; are_fed);
+    assert!(rt; (before, is_first, left) == (60, Some(true), 45));
 }
 
 #[test]
 fn reads_values_in_any_pieces(rt: HostRuntime) {
     let alloc = rt.alloc();
-    let mut answers = match answers_in_pieces(alloc) {
-        Ok(answers) => answers,
-        Err(_) => Answers::new(alloc),
-    };
-    assert!(rt; gives(&mut answers, 1, Ok(Reply::Added)) == Some(true));
-    assert!(rt; gives(&mut answers, 2, values(alloc, &[b"x"])) == Some(true));
-    assert!(rt; answers.left() == 24);
-    assert!(rt; gives(&mut answers, 2, values(alloc, &[b"x", b"y"])) == Some(true));
-    assert!(rt; answers.left() == 0);
-    assert!(rt; is_nothing(answers.next()));
+    let mut answers = Answers::new(alloc);
+    let are_fed = feed_in_pieces(&mut answers).is_ok();
+    let first = gives(&mut answers, 1, Ok(Reply::Added));
+    let second = gives(&mut answers, 2, values(alloc, &[b"x"]));
+    let is_third_left = answers.left() == 24;
+    let third = gives(&mut answers, 2, values(alloc, &[b"x", b"y"]));
+    let is_end = (answers.left() == 0) & is_nothing(answers.next());
+    drop(answers);
+    assert!(rt; are_fed & is_third_left & is_end);
+    assert!(rt; [first, second, third] == [Some(true); 3]);
 }
 
 /// The fault of these bytes.
@@ -313,50 +339,61 @@ fn fault_of(alloc: Global, bytes: &[u8]) -> Option<WireFault> {
     request_of(alloc, bytes).err()
 }
 
+// Bytes, and the code and the number of their fault.
+const ROWS: [(&[u8], FaultCode, u64); 6] = [
+    (&[0; 4], FaultCode::BadLength, 0),
+    (&[0, 0, 0x11, 0x15], FaultCode::BadLength, 0),
+    (
+        &[0, 0, 0, 0x0c, 9, 2, 0, 0, 0, 0, 0, 0, 0, 1, 1, 0x61],
+        FaultCode::BadVersion,
+        0,
+    ),
+    (
+        &[0, 0, 0, 0x0c, 1, 2, 0, 0, 0, 0, 0, 0, 0, 1, 0, 0x61],
+        FaultCode::BadKey,
+        1,
+    ),
+    (
+        &[0, 0, 0, 0x0d, 1, 2, 0, 0, 0, 0, 0, 0, 0, 1, 1, 0x61, 0],
+        FaultCode::Trailing,
+        1,
+    ),
+    // The floor is not whole.
+    (
+        &[0, 0, 0, 0x0c, 2, 2, 0, 0, 0, 0, 0, 0, 0, 1, 1, 0x61],
+        FaultCode::BadFloor,
+        1,
+    ),
+];
+
 #[test]
 fn tells_the_faults_of_the_rows(rt: HostRuntime) {
-    for (bytes, code, number) in [
-        ([0u8; 4].as_slice(), FaultCode::BadLength, 0),
-        ([0, 0, 0x11, 0x15].as_slice(), FaultCode::BadLength, 0),
-        (
-            [0, 0, 0, 0x0c, 9, 2, 0, 0, 0, 0, 0, 0, 0, 1, 1, 0x61].as_slice(),
-            FaultCode::BadVersion,
-            0,
-        ),
-        (
-            [0, 0, 0, 0x0c, 1, 2, 0, 0, 0, 0, 0, 0, 0, 1, 0, 0x61].as_slice(),
-            FaultCode::BadKey,
-            1,
-        ),
-        (
-            [0, 0, 0, 0x0d, 1, 2, 0, 0, 0, 0, 0, 0, 0, 1, 1, 0x61, 0].as_slice(),
-            FaultCode::Trailing,
-            1,
-        ),
-        // The floor is not whole.
-        (
-            [0, 0, 0, 0x0c, 2, 2, 0, 0, 0, 0, 0, 0, 0, 1, 1, 0x61].as_slice(),
-            FaultCode::BadFloor,
-            1,
-        ),
-    ] {
+    for (bytes, code, number) in &ROWS {
+        let (code, number) = (*code, *number);
         let fault = fault_of(rt.alloc(), bytes);
         assert!(rt; fault == Some(WireFault { code, number }));
     }
 }
 
-/// The fault of a request with another byte at a place, where it is told again and nothing is consumed.
-fn request_fault(alloc: Global, frame: &[u8], place: usize, byte: u8) -> Option<WireFault> {
-    let bytes = changed(alloc, frame, place, byte).ok()?;
-    let mut frames = Frames::new(alloc);
-    frames.feed(&bytes).ok()?;
+/// The fault of these bytes, where it is told again and nothing is consumed.
+fn fault_told_again(frames: &mut Frames, bytes: &[u8]) -> Option<WireFault> {
+    frames.feed(bytes).ok()?;
     let fault = frames.next().err()?;
     let again = frames.next().err()?;
-    if again == fault && frames.left() == bytes.len() {
+    if (again == fault) & (frames.left() == bytes.len()) {
         Some(fault)
     } else {
         None
     }
+}
+
+/// The fault of a request with another byte at a place.
+fn request_fault(alloc: Global, frame: &[u8], place: usize, byte: u8) -> Option<WireFault> {
+    let bytes = changed(alloc, frame, place, byte).ok()?;
+    let mut frames = Frames::new(alloc);
+    let fault = fault_told_again(&mut frames, &bytes);
+    drop(frames);
+    fault
 }
 
 /// The first place where a request with another byte has another fault than its row says.
@@ -375,45 +412,52 @@ fn other_request_fault(
     None
 }
 
+// A place, the byte put there, and the code and the number of the fault.
+const INSERT_FAULTS: [(usize, u8, FaultCode, u64); 12] = [
+    (3, 0x0b, FaultCode::BadLength, 0),
+    (2, 0x12, FaultCode::BadLength, 0),
+    (4, 9, FaultCode::BadVersion, 0),
+    (4, 0, FaultCode::BadVersion, 0),
+    (5, 4, FaultCode::BadOperation, 0),
+    (5, 0, FaultCode::BadOperation, 0),
+    (14, 0, FaultCode::BadKey, 1),
+    (14, 5, FaultCode::BadKey, 1),
+    (14, 4, FaultCode::BadValue, 1),
+    (17, 2, FaultCode::BadValue, 1),
+    (16, 0x10, FaultCode::BadValue, 1),
+    (17, 0, FaultCode::Trailing, 1),
+];
+
+const RETRIEVE_FAULTS: [(usize, u8, FaultCode, u64); 5] = [
+    (4, 9, FaultCode::BadVersion, 0),
+    (5, 4, FaultCode::BadOperation, 0),
+    (5, 1, FaultCode::BadValue, 1),
+    (14, 0, FaultCode::BadKey, 1),
+    (14, 2, FaultCode::BadKey, 1),
+];
+
+const INSERT_2_FAULTS: [(usize, u8, FaultCode, u64); 10] = [
+    (3, 0x0b, FaultCode::BadLength, 0),
+    (4, 3, FaultCode::BadVersion, 0),
+    (4, 1, FaultCode::BadKey, 1),
+    (5, 4, FaultCode::BadOperation, 0),
+    (13, 0, FaultCode::BadFloor, 0),
+    (13, 17, FaultCode::BadFloor, 17),
+    (21, 1, FaultCode::BadFloor, 1),
+    (22, 0, FaultCode::BadKey, 1),
+    (25, 2, FaultCode::BadValue, 1),
+    (25, 0, FaultCode::Trailing, 1),
+];
+
 #[test]
 fn each_field_of_a_request_has_its_faults(rt: HostRuntime) {
     let alloc = rt.alloc();
-    let rows = [
-        (3, 0x0b, FaultCode::BadLength, 0),
-        (2, 0x12, FaultCode::BadLength, 0),
-        (4, 9, FaultCode::BadVersion, 0),
-        (4, 0, FaultCode::BadVersion, 0),
-        (5, 4, FaultCode::BadOperation, 0),
-        (5, 0, FaultCode::BadOperation, 0),
-        (14, 0, FaultCode::BadKey, 1),
-        (14, 5, FaultCode::BadKey, 1),
-        (14, 4, FaultCode::BadValue, 1),
-        (17, 2, FaultCode::BadValue, 1),
-        (16, 0x10, FaultCode::BadValue, 1),
-        (17, 0, FaultCode::Trailing, 1),
+    let others = [
+        other_request_fault(alloc, &INSERT, &INSERT_FAULTS),
+        other_request_fault(alloc, &RETRIEVE, &RETRIEVE_FAULTS),
+        other_request_fault(alloc, &INSERT_2, &INSERT_2_FAULTS),
     ];
-    assert!(rt; other_request_fault(alloc, &INSERT, &rows) == None);
-    let rows = [
-        (4, 9, FaultCode::BadVersion, 0),
-        (5, 4, FaultCode::BadOperation, 0),
-        (5, 1, FaultCode::BadValue, 1),
-        (14, 0, FaultCode::BadKey, 1),
-        (14, 2, FaultCode::BadKey, 1),
-    ];
-    assert!(rt; other_request_fault(alloc, &RETRIEVE, &rows) == None);
-    let rows = [
-        (3, 0x0b, FaultCode::BadLength, 0),
-        (4, 3, FaultCode::BadVersion, 0),
-        (4, 1, FaultCode::BadKey, 1),
-        (5, 4, FaultCode::BadOperation, 0),
-        (13, 0, FaultCode::BadFloor, 0),
-        (13, 17, FaultCode::BadFloor, 17),
-        (21, 1, FaultCode::BadFloor, 1),
-        (22, 0, FaultCode::BadKey, 1),
-        (25, 2, FaultCode::BadValue, 1),
-        (25, 0, FaultCode::Trailing, 1),
-    ];
-    assert!(rt; other_request_fault(alloc, &INSERT_2, &rows) == None);
+    assert!(rt; others == [None; 3]);
 }
 
 /// The fault of an answer with another byte at a place.
@@ -438,49 +482,63 @@ fn other_answer_fault(
     None
 }
 
+const ADDED_FAULTS: [(usize, u8, FaultCode, u64); 7] = [
+    (3, 0x0a, FaultCode::BadLength, 0),
+    (1, 0x3f, FaultCode::BadLength, 0),
+    (4, 2, FaultCode::BadVersion, 0),
+    (5, 1, FaultCode::BadOperation, 0),
+    (5, 0x84, FaultCode::BadOperation, 0),
+    (14, 3, FaultCode::BadValue, 1),
+    (5, 0x82, FaultCode::BadValue, 1),
+];
+
+const ONE_VALUE_FAULTS: [(usize, u8, FaultCode, u64); 7] = [
+    (5, 0x83, FaultCode::Trailing, 2),
+    (17, 0, FaultCode::Trailing, 2),
+    (17, 2, FaultCode::BadValue, 2),
+    (14, 1, FaultCode::BadValue, 2),
+    (19, 2, FaultCode::BadValue, 2),
+    (18, 0x10, FaultCode::BadValue, 2),
+    (19, 0, FaultCode::Trailing, 2),
+];
+
+const TWO_VALUES_FAULTS: [(usize, u8, FaultCode, u64); 2] = [
+    (23, 0x78, FaultCode::BadValue, 2),
+    (23, 0x77, FaultCode::BadValue, 2),
+];
+
 #[test]
 fn each_field_of_an_answer_has_its_faults(rt: HostRuntime) {
     let alloc = rt.alloc();
-    let rows = [
-        (3, 0x0a, FaultCode::BadLength, 0),
-        (1, 0x3f, FaultCode::BadLength, 0),
-        (4, 2, FaultCode::BadVersion, 0),
-        (5, 1, FaultCode::BadOperation, 0),
-        (5, 0x84, FaultCode::BadOperation, 0),
-        (14, 3, FaultCode::BadValue, 1),
-        (5, 0x82, FaultCode::BadValue, 1),
+    let others = [
+        other_answer_fault(alloc, &ADDED, &ADDED_FAULTS),
+        other_answer_fault(alloc, &ONE_VALUE, &ONE_VALUE_FAULTS),
+        other_answer_fault(alloc, &TWO_VALUES, &TWO_VALUES_FAULTS),
     ];
-    assert!(rt; other_answer_fault(alloc, &ADDED, &rows) == None);
-    let rows = [
-        (5, 0x83, FaultCode::Trailing, 2),
-        (17, 0, FaultCode::Trailing, 2),
-        (17, 2, FaultCode::BadValue, 2),
-        (14, 1, FaultCode::BadValue, 2),
-        (19, 2, FaultCode::BadValue, 2),
-        (18, 0x10, FaultCode::BadValue, 2),
-        (19, 0, FaultCode::Trailing, 2),
-    ];
-    assert!(rt; other_answer_fault(alloc, &ONE_VALUE, &rows) == None);
-    let rows = [
-        (23, 0x78, FaultCode::BadValue, 2),
-        (23, 0x77, FaultCode::BadValue, 2),
-    ];
-    assert!(rt; other_answer_fault(alloc, &TWO_VALUES, &rows) == None);
+    assert!(rt; others == [None; 3]);
+}
+
+/// The number and the code in the frame of a fault of this number.
+fn fault_read(alloc: Global, number: u8) -> Option<(u64, FaultCode)> {
+    let frame = fault_frame(alloc, number).ok()?;
+    let answer = answer_of(alloc, &frame);
+    drop(frame);
+    fault_in(answer.ok()?)
 }
 
 /// Whether the code of this number has it, is one of the protocol, and is read from its frame.
-fn is_read_back(alloc: Global, number: u8) -> Option<bool> {
-    let code = FaultCode::from_number(number)?;
-    let frame = fault_frame(alloc, number).ok()?;
-    let answer = answer_of(alloc, &frame).ok()?;
-    let is_read = fault_in(answer)? == (1, code);
-    Some(is_read && code.to_number() == number && code != FaultCode::Memory)
+fn is_read_back(alloc: Global, number: u8) -> bool {
+    let Some(code) = FaultCode::from_number(number) else {
+        return false;
+    };
+    let is_its = (code.to_number() == number) & (code != FaultCode::Memory);
+    is_its & (fault_read(alloc, number) == Some((1, code)))
 }
 
 #[test]
 fn faults_are_read_back(rt: HostRuntime) {
     for number in [1, 2, 3, 4, 5, 6, 8, 9, 10, 11, 12] {
-        assert!(rt; is_read_back(rt.alloc(), number) == Some(true), "{number}");
+        assert!(rt; is_read_back(rt.alloc(), number), "{number}");
     }
 }
 
@@ -502,7 +560,9 @@ fn faults_are_written(rt: HostRuntime) {
 /// The fault of an answer with the fault of this number.
 fn fault_of_number(alloc: Global, number: u8) -> Option<FaultCode> {
     let frame = fault_frame(alloc, number).ok()?;
-    Some(answer_of(alloc, &frame).err()?.code)
+    let answer = answer_of(alloc, &frame);
+    drop(frame);
+    Some(answer.err()?.code)
 }
 
 #[test]
@@ -551,33 +611,30 @@ fn laws_are_called() {
     laws::faults_are_those_of_the_table();
 }
 
-/// Whether the code has this text.
-fn says(alloc: Global, code: FaultCode, wanted: &str) -> Option<bool> {
-    let text = format!(in alloc; "{code}").ok()?;
-    Some(text.as_str() == wanted)
-}
-
-/// Whether the fault has this text.
-fn tells(alloc: Global, fault: WireFault, wanted: &str) -> Option<bool> {
+/// Whether the code or the fault has this text.
+fn says<T: Display>(alloc: Global, fault: &T, wanted: &str) -> Option<bool> {
     let text = format!(in alloc; "{fault}").ok()?;
     Some(text.as_str() == wanted)
 }
 
+const TEXTS: [(FaultCode, &str); 5] = [
+    (FaultCode::BadLength, "bad length"),
+    (FaultCode::BadFloor, "bad floor"),
+    (FaultCode::NumberReused, "the number was another request's"),
+    (FaultCode::Full, "the store is full"),
+    (FaultCode::NoAnswer, "no answer came in time"),
+];
+
 #[test]
 fn faults_say_what_is_wrong(rt: HostRuntime) {
-    for (code, wanted) in [
-        (FaultCode::BadLength, "bad length"),
-        (FaultCode::BadFloor, "bad floor"),
-        (FaultCode::NumberReused, "the number was another request's"),
-        (FaultCode::Full, "the store is full"),
-        (FaultCode::NoAnswer, "no answer came in time"),
-    ] {
-        assert!(rt; says(rt.alloc(), code, wanted) == Some(true));
+    let alloc = rt.alloc();
+    for (code, wanted) in &TEXTS {
+        assert!(rt; says(alloc, code, wanted) == Some(true));
     }
     let fault = WireFault {
         code: FaultCode::Trailing,
         number: 7,
     };
     let wanted = "request 7: bytes behind the last field";
-    assert!(rt; tells(rt.alloc(), fault, wanted) == Some(true));
+    assert!(rt; says(alloc, &fault, wanted) == Some(true));
 }

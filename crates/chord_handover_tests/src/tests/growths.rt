@@ -2,10 +2,9 @@
 //! run with each growth refused in turn too.
 
 use super::{A, empty_parcel, makes, note, part, said, two_parts};
-use chord_handover::{GiveFault, Outbox, Part, Taken};
+use chord_handover::{GiveFault, Outbox, Part, Taken, Ungiven};
 use chord_ident::{Id, Span};
 use std::alloc::{AllocError, Global};
-use std::test::Fail;
 
 /// The two parts of a handover, at the second try where the first was refused.
 fn parts(alloc: Global) -> Result<(Part, Part), AllocError> {
@@ -24,61 +23,78 @@ fn made(taken: &Taken, part: &Part) -> Result<&'static str, AllocError> {
 }
 
 /// Notes the second part, at the second try where the first was refused. Answers whether a refused one left nothing noted.
-fn note_the_second(taken: &mut Taken, (first, second): &(Part, Part)) -> Result<bool, AllocError> {
+fn note_the_second(taken: &mut Taken, (first, second): &(Part, Part)) -> bool {
     if note(taken, second).is_ok() {
-        return Ok(true);
+        return true;
     }
-    let is_as_before = made(taken, first)? == "more";
-    note(taken, second)?;
-    Ok(is_as_before)
+    said(made(taken, first)) == "more" && note(taken, second).is_ok()
+}
+
+/// What the second part makes, whether it is noted, and what the first makes then.
+fn noted_in_turn(alloc: Global) -> Option<(&'static str, bool, &'static str)> {
+    let parts = parts(alloc).ok()?;
+    let mut taken = Taken::new(alloc);
+    let second = said(made(&taken, &parts.1));
+    let is_noted = note_the_second(&mut taken, &parts);
+    let first = said(made(&taken, &parts.0));
+    drop(taken);
+    drop(parts);
+    Some((second, is_noted, first))
 }
 
 #[test]
-fn refused_notes_and_gathers(rt: HostRuntime) -> Result<(), Fail> {
-    let parts = parts(rt.alloc())?;
-    let mut taken = Taken::new(rt.alloc());
-    assert!(rt; said(made(&taken, &parts.1)) == "more");
-    assert!(rt; matches!(note_the_second(&mut taken, &parts), Ok(true)));
-    assert!(rt; said(made(&taken, &parts.0)) == "whole");
-    Ok(())
+fn refused_notes_and_gathers(rt: HostRuntime) {
+    assert!(rt; noted_in_turn(rt.alloc()) == Some(("more", true, "whole")));
+}
+
+/// Makes room, at the second try where the first was refused. Answers whether nothing of node 0 is taken after each.
+fn takes_nothing(mut taken: Taken) -> bool {
+    let is_ready = taken.reserve().is_ok() || (taken.last(0) == 0 && taken.reserve().is_ok());
+    let is_nothing = taken.last(0) == 0;
+    drop(taken);
+    is_ready & is_nothing
 }
 
 #[test]
-fn a_refused_reserve_takes_nothing(rt: HostRuntime) -> Result<(), Fail> {
-    let mut taken = Taken::new(rt.alloc());
-    if taken.reserve().is_err() {
-        assert!(rt; taken.last(0) == 0);
-        taken.reserve()?;
-    }
-    assert!(rt; taken.last(0) == 0);
-    Ok(())
+fn a_refused_reserve_takes_nothing(rt: HostRuntime) {
+    assert!(rt; takes_nothing(Taken::new(rt.alloc())));
 }
 
-/// Gives an empty parcel to node 1, at the second try where the first was refused, and answers its number. It is none where
-/// the refused one did not hand the parcel back, or left something in the outbox.
-fn give(outbox: &mut Outbox, alloc: Global) -> Option<u64> {
-    let ungiven = match outbox.give(1, empty_parcel(alloc)) {
-        Ok(number) => return Some(number),
-        Err(ungiven) => ungiven,
-    };
+/// Gives again what a refused give handed back, where it left nothing in the outbox.
+fn give_again(outbox: &mut Outbox, ungiven: Ungiven) -> Option<u64> {
     let span = Span::new(Id::new(A), Id::new(A));
-    let is_back = ungiven.fault == GiveFault::Memory
-        && outbox.is_empty()
-        && ungiven.parcelled.segment().span() == span;
+    let is_same = ungiven.parcelled.segment().span() == span;
+    let is_back = is_same & (ungiven.fault == GiveFault::Memory) & outbox.is_empty();
     let number = outbox.give(1, ungiven.parcelled).ok();
     if is_back { number } else { None }
 }
 
-#[test]
-fn a_refused_give_hands_the_parcel_back(rt: HostRuntime) -> Result<(), Fail> {
-    let mut outbox = Outbox::new(rt.alloc(), 0);
-    assert!(rt; give(&mut outbox, rt.alloc()) == Some(1));
-    if outbox.reserve().is_err() {
-        assert!(rt; outbox.nth(0) == Some((1, 1)));
-        outbox.reserve()?;
+/// Gives an empty parcel to node 1, at the second try where the first was refused, and answers its number.
+fn give(outbox: &mut Outbox, alloc: Global) -> Option<u64> {
+    match outbox.give(1, empty_parcel(alloc)) {
+        Ok(number) => Some(number),
+        Err(ungiven) => give_again(outbox, ungiven),
     }
-    assert!(rt; outbox.nth(0) == Some((1, 1)));
-    Ok(())
+}
+
+/// Whether its first item is the first one for node 1.
+fn has_the_item(outbox: &Outbox) -> bool {
+    outbox.nth(0) == Some((1, 1))
+}
+
+/// The number that was given, and whether the item stays when room is made, at the second try where the first was refused.
+fn given_and_kept(mut outbox: Outbox, alloc: Global) -> (Option<u64>, bool) {
+    let number = give(&mut outbox, alloc);
+    let is_ready = outbox.reserve().is_ok() || (has_the_item(&outbox) && outbox.reserve().is_ok());
+    let is_kept = is_ready & has_the_item(&outbox);
+    drop(outbox);
+    (number, is_kept)
+}
+
+#[test]
+fn a_refused_give_hands_the_parcel_back(rt: HostRuntime) {
+    let outbox = Outbox::new(rt.alloc(), 0);
+    assert!(rt; given_and_kept(outbox, rt.alloc()) == (Some(1), true));
 }
 
 /// The first part of a handover.
@@ -96,23 +112,45 @@ fn copied(part: &Part) -> Result<Part, AllocError> {
     }
 }
 
+/// Whether a copy has the same pairs, and whether it has a segment.
+fn has_the_same(part: &Part) -> Option<(bool, bool)> {
+    let copy = copied(part).ok()?;
+    let same = copy.pairs == part.pairs;
+    let has_segment = copy.segment.is_some();
+    drop(copy);
+    Some((same, has_segment))
+}
+
 #[test]
-fn refused_parts_and_copies(rt: HostRuntime) -> Result<(), Fail> {
+fn refused_parts_and_copies(rt: HostRuntime) -> Result<(), AllocError> {
     let first = first_part(rt.alloc())?;
-    let copy = copied(&first)?;
-    assert!(rt; copy.pairs.as_slice() == first.pairs.as_slice());
-    assert!(rt; copy.segment.is_some());
+    let same = has_the_same(&first);
+    drop(first);
+    assert!(rt; same == Some((true, true)));
     Ok(())
+}
+
+/// A receiver that noted the first part.
+fn noted_first(alloc: Global) -> Option<Taken> {
+    let first = first_part(alloc).ok()?;
+    let mut taken = Taken::new(alloc);
+    let is_noted = note(&mut taken, &first).is_ok() || note(&mut taken, &first).is_ok();
+    drop(first);
+    is_noted.then_some(taken)
+}
+
+/// What a second part with the pairs of the first makes with it.
+fn made_again(alloc: Global) -> Option<&'static str> {
+    let (taken, first) = noted_first(alloc).zip(first_part(alloc).ok())?;
+    let second = part(alloc, 2, first.pairs);
+    let made = said(makes(&taken, &second));
+    drop(taken);
+    drop(second);
+    Some(made)
 }
 
 /// Parts that are all there and make no parcel take no memory.
 #[test]
-fn parts_of_no_parcel_are_unfit(rt: HostRuntime) -> Result<(), Fail> {
-    let again = first_part(rt.alloc())?;
-    let second = part(rt.alloc(), 2, again.pairs);
-    let first = first_part(rt.alloc())?;
-    let mut taken = Taken::new(rt.alloc());
-    assert!(rt; note(&mut taken, &first).is_ok() || note(&mut taken, &first).is_ok());
-    assert!(rt; said(makes(&taken, &second)) == "unfit");
-    Ok(())
+fn parts_of_no_parcel_are_unfit(rt: HostRuntime) {
+    assert!(rt; made_again(rt.alloc()) == Some("unfit"));
 }

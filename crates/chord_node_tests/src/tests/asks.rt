@@ -1,7 +1,7 @@
 //! Calls.
 ghost use Rattle.std.specs.Prelude.{◌<◌, ◌≤◌};
 
-use super::{A, C, answered, ask, found, insert, inserted, newborn};
+use super::{A, C, answered, ask, found, inserted, newborn};
 use chord_caller::Ask;
 use chord_ident::Id;
 use chord_links::{Links, Peer, SuccList};
@@ -21,44 +21,48 @@ const OTHER: Peer = Peer {
     id: Id { number: A },
 };
 
-fn is_told(answered: Answered, number: u64, reply: &Reply) -> bool {
+/// Whether this call is told this reply, where there was memory to answer it.
+fn is_told(answered: Option<Answered>, number: u64, reply: &Reply) -> Option<bool> {
+    let answered = answered?;
     let is_told = match &answered {
         Answered::Told(told) => told.number == number && told.reply == *reply,
         _ => false,
     };
     drop(answered);
-    is_told
+    Some(is_told)
 }
 
-fn is_full(answered: Answered) -> bool {
+fn is_full(answered: Option<Answered>) -> Option<bool> {
+    let answered = answered?;
     let is_full = matches!(&answered, Answered::Full);
     drop(answered);
-    is_full
+    Some(is_full)
 }
 
-fn is_dropped(answered: Answered) -> bool {
+fn is_dropped(answered: Option<Answered>) -> Option<bool> {
+    let answered = answered?;
     let is_dropped = matches!(&answered, Answered::Dropped);
     drop(answered);
-    is_dropped
+    Some(is_dropped)
 }
 
 /// Whether the insert of x under `abc`, as call 1, is told Added.
 fn adds_x(alloc: Global, node: &mut Node<CappedStore>) -> Option<bool> {
-    let told = inserted(alloc, node, 1, b"abc", b"x")?;
-    Some(is_told(told, 1, &Reply::Added))
+    is_told(inserted(alloc, node, 1, b"abc", b"x"), 1, &Reply::Added)
 }
 
 /// Whether that call is dropped.
 fn drops_x(alloc: Global, node: &mut Node<CappedStore>) -> Option<bool> {
-    let dropped = inserted(alloc, node, 1, b"abc", b"x")?;
-    Some(is_dropped(dropped))
+    is_dropped(inserted(alloc, node, 1, b"abc", b"x"))
 }
 
 /// Whether the first call is told Added, and when it comes again.
 fn acts_once(alloc: Global) -> Option<(Option<bool>, Option<bool>)> {
     let mut node = found(alloc, CappedStore::new(alloc, 1))?;
     let first = adds_x(alloc, &mut node);
-    Some((first, adds_x(alloc, &mut node)))
+    let again = adds_x(alloc, &mut node);
+    drop(node);
+    Some((first, again))
 }
 
 /// A call acts once however often it comes.
@@ -68,65 +72,72 @@ fn a_call_acts_once(rt: HostRuntime) {
 }
 
 /// Whether it is the third call, which was told Present.
-fn is_third(done: &Option<Done>) -> bool {
-    match done {
-        Some(done) => done.number == 3 && done.reply == Reply::Present,
-        None => false,
-    }
+fn is_third(done: Option<Done>) -> Option<bool> {
+    let done = done?;
+    let is_third = done.number == 3 && done.reply == Reply::Present;
+    drop(done);
+    Some(is_third)
 }
 
-/// Whether the insert of y under `abc`, as call 2, is refused.
-fn refuses_y(alloc: Global, node: &mut Node<CappedStore>) -> Option<bool> {
-    let full = inserted(alloc, node, 2, b"abc", b"y")?;
-    Some(is_full(full))
+/// Whether a call, the third, is told Present, and whether it is noted so.
+type Present = (Option<bool>, Option<bool>);
+
+fn is_present(node: &mut Node<CappedStore>, call: &Ask) -> Option<Present> {
+    let (answered, done) = node.on_ask(call).ok()?;
+    let told = is_told(Some(answered), 3, &Reply::Present);
+    Some((told, is_third(done)))
 }
 
-/// Whether this call, the third, is told Present and noted so.
-fn is_present(node: &mut Node<CappedStore>, call: &Ask) -> Option<(bool, bool)> {
-    let (present, done) = node.on_ask(call).ok()?;
-    Some((is_told(present, 3, &Reply::Present), is_third(&done)))
-}
-
-/// Whether the insert of x under `abc`, as call 3, is told Present and noted so.
-fn has_x(alloc: Global, node: &mut Node<CappedStore>) -> Option<(bool, bool)> {
-    let request = insert(alloc, b"abc", b"x").ok()?;
-    is_present(node, &ask(3, 0, request))
+/// The same of the insert of x under `abc`.
+fn has_x(alloc: Global, node: &mut Node<CappedStore>) -> Option<Present> {
+    let call = ask(3, 0, Request::insert(alloc, b"abc", b"x").ok()?);
+    let present = is_present(node, &call);
+    drop(call);
+    present
 }
 
 /// At a node with room for one pair: whether it is added, whether another pair is refused, and whether the same one is
 /// told Present and noted so.
-fn fills_up(alloc: Global) -> Option<(Option<bool>, Option<bool>, Option<(bool, bool)>)> {
+fn fills_up(alloc: Global) -> Option<(Option<bool>, Option<bool>, Option<Present>)> {
     let mut node = found(alloc, CappedStore::new(alloc, 1))?;
     let added = adds_x(alloc, &mut node);
-    let full = refuses_y(alloc, &mut node);
-    Some((added, full, has_x(alloc, &mut node)))
+    let full = is_full(inserted(alloc, &mut node, 2, b"abc", b"y"));
+    let present = has_x(alloc, &mut node);
+    drop(node);
+    Some((added, full, present))
 }
 
 /// A full store refuses what it would add.
 #[test]
 fn a_full_store_adds_nothing(rt: HostRuntime) {
-    let full = (Some(true), Some(true), Some((true, true)));
+    let present = (Some(true), Some(true));
+    let full = (Some(true), Some(true), Some(present));
     assert!(rt; fills_up(rt.alloc()) == Some(full));
 }
 
 /// What a node answers to the retrieve of `abc` as call 2, at a floor of 1.
 fn retrieved(alloc: Global, node: &mut Node<CappedStore>) -> Option<Answered> {
     let key = Bytes::from_slice(alloc, b"abc").ok()?;
-    answered(node, &ask(2, 1, Request::Retrieve { key }))
+    let call = ask(2, 1, Request::Retrieve { key });
+    let told = answered(node, &call);
+    drop(call);
+    told
 }
 
 /// The set of x alone.
 fn only_x(alloc: Global) -> Option<Reply> {
+    let value = Bytes::from_slice(alloc, b"x").ok()?;
     let mut values = Values::new(alloc);
-    values.push(Bytes::from_slice(alloc, b"x").ok()?).ok()?;
-    Some(Reply::Values(values))
+    let is_there = values.push(value).is_ok();
+    is_there.then_some(Reply::Values(values))
 }
 
 /// Whether that retrieve is told x alone.
 fn tells_x(alloc: Global, node: &mut Node<CappedStore>) -> Option<bool> {
-    let told = retrieved(alloc, node)?;
     let values = only_x(alloc)?;
-    Some(is_told(told, 2, &values))
+    let told = is_told(retrieved(alloc, node), 2, &values);
+    drop(values);
+    told
 }
 
 /// Whether an insert is told Added, a retrieve the value, and the first call, which is seen then, nothing.
@@ -134,7 +145,9 @@ fn tells_values(alloc: Global) -> Option<(Option<bool>, Option<bool>, Option<boo
     let mut node = found(alloc, CappedStore::new(alloc, 1))?;
     let first = adds_x(alloc, &mut node);
     let told = tells_x(alloc, &mut node);
-    Some((first, told, drops_x(alloc, &mut node)))
+    let dropped = drops_x(alloc, &mut node);
+    drop(node);
+    Some((first, told, dropped))
 }
 
 /// A retrieve is told the values, and a call at or below its caller's floor is dropped.
@@ -148,7 +161,9 @@ fn values_are_told_and_seen_calls_dropped(rt: HostRuntime) {
 fn drops(alloc: Global) -> (Phase, u64, Option<bool>) {
     let mut node = newborn(alloc, 1);
     let (phase, number) = (node.phase(), node.number());
-    (phase, number, drops_x(alloc, &mut node))
+    let dropped = drops_x(alloc, &mut node);
+    drop(node);
+    (phase, number, dropped)
 }
 
 /// A node that holds nothing and knows no other drops a call.
@@ -168,37 +183,30 @@ fn neighbour(alloc: Global) -> Node<CappedStore> {
 }
 
 /// Whether it is a call that goes on to node 0 with one hop less than there can be.
-fn is_passed(answered: Answered) -> bool {
+fn is_passed(answered: Option<Answered>) -> Option<bool> {
+    let answered = answered?;
     let is_passed = matches!(&answered, Answered::Forward(0, passed) if passed.hops == 254);
     drop(answered);
-    is_passed
-}
-
-/// Whether the insert of x under `abc` goes on.
-fn passes_x(alloc: Global, node: &mut Node<CappedStore>) -> Option<bool> {
-    let passed = inserted(alloc, node, 1, b"abc", b"x")?;
-    Some(is_passed(passed))
-}
-
-/// Whether this call is dropped.
-fn is_call_dropped(node: &mut Node<CappedStore>, call: &Ask) -> Option<bool> {
-    let dropped = answered(node, call)?;
-    Some(is_dropped(dropped))
+    Some(is_passed)
 }
 
 /// Whether the insert of x under `abc` is dropped where its hops are spent.
 fn drops_spent(alloc: Global, node: &mut Node<CappedStore>) -> Option<bool> {
-    let mut spent = ask(1, 0, insert(alloc, b"abc", b"x").ok()?);
+    let mut spent = ask(1, 0, Request::insert(alloc, b"abc", b"x").ok()?);
     spent.hops = 0;
-    is_call_dropped(node, &spent)
+    let dropped = answered(node, &spent);
+    drop(spent);
+    is_dropped(dropped)
 }
 
 /// The first of the list, whether a call goes on to it, and whether one with no hop is dropped.
 fn passes_on(alloc: Global) -> (Peer, Option<bool>, Option<bool>) {
     let mut node = neighbour(alloc);
     let first = node.links().first();
-    let passed = passes_x(alloc, &mut node);
-    (first, passed, drops_spent(alloc, &mut node))
+    let passed = is_passed(inserted(alloc, &mut node, 1, b"abc", b"x"));
+    let dropped = drops_spent(alloc, &mut node);
+    drop(node);
+    (first, passed, dropped)
 }
 
 /// With another node in its list it passes a call on to it with one hop less, and drops it where its hops are spent.
@@ -212,21 +220,14 @@ fn taken(alloc: Global, node: &mut Node<CappedStore>, number: u64, value: &[u8])
     requires some { 0 < number }
     requires near { number ≤ 16 }
 {
-    let call = ask(number, 0, insert(alloc, b"abc", value).ok()?);
+    let call = ask(number, 0, Request::insert(alloc, b"abc", value).ok()?);
     let id = Id::of_bytes(call.request.key());
     node.take_ask(id, call).ok()
 }
 
 /// Whether x, as call 1 that is handed over, is told Added.
 fn takes_x(alloc: Global, node: &mut Node<CappedStore>) -> Option<bool> {
-    let told = taken(alloc, node, 1, b"x")?;
-    Some(is_told(told, 1, &Reply::Added))
-}
-
-/// Whether y, as call 2 that is handed over, is refused.
-fn takes_no_y(alloc: Global, node: &mut Node<CappedStore>) -> Option<bool> {
-    let full = taken(alloc, node, 2, b"y")?;
-    Some(is_full(full))
+    is_told(taken(alloc, node, 1, b"x"), 1, &Reply::Added)
 }
 
 /// At a node with room for one pair: whether a call that is handed over is told Added, and when it comes again, and
@@ -235,7 +236,9 @@ fn takes_calls(alloc: Global) -> Option<(Option<bool>, Option<bool>, Option<bool
     let mut node = found(alloc, CappedStore::new(alloc, 1))?;
     let first = takes_x(alloc, &mut node);
     let again = takes_x(alloc, &mut node);
-    Some((first, again, takes_no_y(alloc, &mut node)))
+    let full = is_full(taken(alloc, &mut node, 2, b"y"));
+    drop(node);
+    Some((first, again, full))
 }
 
 /// A call that is handed over is answered as any other.
@@ -245,22 +248,17 @@ fn a_call_is_taken(rt: HostRuntime) {
     assert!(rt; takes_calls(rt.alloc()) == Some(taken));
 }
 
-/// Whether a call that is handed over goes on with one hop less.
-fn passes_taken(alloc: Global, node: &mut Node<CappedStore>) -> Option<bool> {
-    let passed = taken(alloc, node, 1, b"x")?;
-    Some(is_passed(passed))
-}
-
-/// Whether it is dropped.
-fn drops_taken(alloc: Global, node: &mut Node<CappedStore>) -> Option<bool> {
-    let dropped = taken(alloc, node, 1, b"x")?;
-    Some(is_dropped(dropped))
+/// What the node answers to the insert of x under `abc` that is handed over. The node is let go then.
+fn taken_astray(alloc: Global, mut node: Node<CappedStore>) -> Option<Answered> {
+    let answered = taken(alloc, &mut node, 1, b"x");
+    drop(node);
+    answered
 }
 
 /// Whether a call that is handed over goes on with one hop less, and is dropped where no other node is known.
 fn takes_calls_astray(alloc: Global) -> (Option<bool>, Option<bool>) {
-    let passed = passes_taken(alloc, &mut neighbour(alloc));
-    (passed, drops_taken(alloc, &mut newborn(alloc, 1)))
+    let passed = is_passed(taken_astray(alloc, neighbour(alloc)));
+    (passed, is_dropped(taken_astray(alloc, newborn(alloc, 1))))
 }
 
 /// A call that is handed over goes on where the node does not hold its key.

@@ -2,13 +2,13 @@
 //! are run with each growth refused in turn too.
 
 use super::{
-    A, B, C, ask, back, first_part, found, given, given_away, handed, insert, newborn, span,
+    A, B, C, answered, ask, back, first_part, found, given, given_away, handed, newborn, span,
     taken_back, ticket,
 };
 use chord_caller::Ask;
 use chord_handover::Part;
 use chord_ident::{Id, Span};
-use chord_map::Reply;
+use chord_map::{Reply, Request};
 use chord_node::{Answered, Back, CutAtFault, GiveFault, Given, MergeFault, Node, ResendFault};
 use chord_store::CappedStore;
 use std::alloc::{AllocError, Global};
@@ -29,38 +29,43 @@ fn giver(alloc: Global) -> Option<(Node<CappedStore>, Part)> {
     }
 }
 
-/// The call that puts x under `abc`.
-fn insert_x(alloc: Global) -> Result<Ask, AllocError> {
-    match insert(alloc, b"abc", b"x") {
-        Ok(request) => Ok(ask(1, 0, request)),
-        Err(_) => Ok(ask(1, 0, insert(alloc, b"abc", b"x")?)),
+/// The insert of x under `abc`, made again where there was no memory.
+fn insert_x(alloc: Global) -> Result<Request, AllocError> {
+    match Request::insert(alloc, b"abc", b"x") {
+        Ok(request) => Ok(request),
+        Err(_) => Request::insert(alloc, b"abc", b"x"),
     }
 }
 
 /// What the node answers to the call, which comes again where there was no memory.
-fn answered(node: &mut Node<CappedStore>, call: &Ask) -> Result<Answered, AllocError> {
-    match node.on_ask(call) {
-        Ok((answered, _)) => Ok(answered),
-        Err(_) => Ok(node.on_ask(call)?.0),
+fn told(node: &mut Node<CappedStore>, call: &Ask) -> Option<Answered> {
+    match answered(node, call) {
+        Some(answered) => Some(answered),
+        None => answered(node, call),
     }
 }
 
-/// Whether the node tells Added to this call.
-fn tells_added(node: &mut Node<CappedStore>, call: &Ask) -> Option<bool> {
-    let answered = answered(node, call).ok()?;
-    Some(matches!(&answered, Answered::Told(told) if told.reply == Reply::Added))
+fn is_added(answered: Option<Answered>) -> Option<bool> {
+    let answered = answered?;
+    let is_added = matches!(&answered, Answered::Told(told) if told.reply == Reply::Added);
+    drop(answered);
+    Some(is_added)
 }
 
 /// Whether the node tells Added to the call that puts x under `abc`.
 fn adds_x(alloc: Global, node: &mut Node<CappedStore>) -> Option<bool> {
-    let call = insert_x(alloc).ok()?;
-    tells_added(node, &call)
+    let call = ask(1, 0, insert_x(alloc).ok()?);
+    let told = told(node, &call);
+    drop(call);
+    is_added(told)
 }
 
 /// Whether a call is told Added.
 fn executes(alloc: Global) -> Option<bool> {
     let mut node = founder(alloc)?;
-    adds_x(alloc, &mut node)
+    let is_added = adds_x(alloc, &mut node);
+    drop(node);
+    is_added
 }
 
 #[test]
@@ -89,7 +94,9 @@ fn merge(node: &mut Node<CappedStore>) -> Result<(), MergeFault> {
 fn cuts_and_merges(alloc: Global) -> Option<(Result<(), CutAtFault>, Result<(), MergeFault>)> {
     let mut node = founder(alloc)?;
     let cut = cut(&mut node);
-    Some((cut, merge(&mut node)))
+    let merged = merge(&mut node);
+    drop(node);
+    Some((cut, merged))
 }
 
 #[test]
@@ -112,14 +119,19 @@ fn give(node: &mut Node<CappedStore>) -> Result<Part, GiveFault> {
 
 /// The number of a part that was given.
 fn given_number(node: &mut Node<CappedStore>) -> Option<u64> {
-    Some(give(node).ok()?.number)
+    let part = give(node).ok()?;
+    let number = part.number;
+    drop(part);
+    Some(number)
 }
 
 /// The number of a part that was given, and the item that is kept.
 fn gives(alloc: Global) -> Option<(Option<u64>, Option<(u64, u64, Span)>)> {
     let mut node = founder(alloc)?;
     let number = given_number(&mut node);
-    Some((number, node.kept(0)))
+    let kept = node.kept(0);
+    drop(node);
+    Some((number, kept))
 }
 
 #[test]
@@ -138,13 +150,18 @@ fn resent(node: &Node<CappedStore>) -> Result<Part, ResendFault> {
 /// Whether the part goes again with the same pairs.
 fn goes_again(node: &Node<CappedStore>, first: &Part) -> Option<bool> {
     let again = resent(node).ok()?;
-    Some(again.pairs.as_slice() == first.pairs.as_slice())
+    let has_the_same = again.pairs == first.pairs;
+    drop(again);
+    Some(has_the_same)
 }
 
 /// Whether a part that goes again has the same pairs.
 fn resends(alloc: Global) -> Option<bool> {
     let (node, first) = giver(alloc)?;
-    goes_again(&node, &first)
+    let has_the_same = goes_again(&node, &first);
+    drop(node);
+    drop(first);
+    has_the_same
 }
 
 #[test]
@@ -163,10 +180,14 @@ fn taken(node: &mut Node<CappedStore>, part: &Part) -> Option<Given> {
 
 /// What node 1 answers to a handover, and what it holds.
 fn holds(alloc: Global) -> Option<(Option<Given>, Option<Span>)> {
-    let (_, part) = giver(alloc)?;
+    let (node, part) = giver(alloc)?;
+    drop(node);
     let mut next = newborn(alloc, 1);
     let given = taken(&mut next, &part);
-    Some((given, next.span(0)))
+    let held = next.span(0);
+    drop(next);
+    drop(part);
+    Some((given, held))
 }
 
 #[test]
@@ -180,7 +201,10 @@ fn notes(alloc: Global) -> (Option<Given>, usize) {
     let part = first_part(alloc, ticket(0, 1, 1), span(A, C), 2);
     let mut node = newborn(alloc, 1);
     let given = taken(&mut node, &part);
-    (given, node.held_count())
+    let held = node.held_count();
+    drop(node);
+    drop(part);
+    (given, held)
 }
 
 #[test]
@@ -204,9 +228,12 @@ fn returned(node: &mut Node<CappedStore>) -> Option<Back> {
 
 /// What comes of it, and how many items are kept.
 fn takes_back(alloc: Global) -> Option<(Option<Back>, usize)> {
-    let (mut node, _) = giver(alloc)?;
+    let (mut node, part) = giver(alloc)?;
+    drop(part);
     let back = returned(&mut node);
-    Some((back, node.kept_count()))
+    let kept = node.kept_count();
+    drop(node);
+    Some((back, kept))
 }
 
 #[test]

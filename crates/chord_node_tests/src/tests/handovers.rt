@@ -1,6 +1,6 @@
 //! What a node cuts, merges, gives and takes back.
 
-use super::{A, B, C, back, found, given_away, given_empty, inserted, newborn, span, ticket};
+use super::{A, B, C, back, found, given_away, given_empty, newborn, put, span, ticket};
 use chord_handover::Part;
 use chord_ident::{Id, Span};
 use chord_map::Bytes;
@@ -15,7 +15,8 @@ fn founder(alloc: Global) -> Option<Node<CappedStore>> {
 
 /// The same node after it gave (A, C], with x under `abc`, to node 1.
 fn giver(alloc: Global) -> Option<Node<CappedStore>> {
-    let (node, _) = given_away(alloc, 1)?;
+    let (node, part) = given_away(alloc, 1)?;
+    drop(part);
     Some(node)
 }
 
@@ -37,7 +38,9 @@ fn cut_and_merge(node: &mut Node<CappedStore>) -> Option<(Spans, Spans)> {
 /// What node 0 holds after both.
 fn cut_and_merged(alloc: Global) -> Option<(Spans, Spans)> {
     let mut node = founder(alloc)?;
-    cut_and_merge(&mut node)
+    let spans = cut_and_merge(&mut node);
+    drop(node);
+    spans
 }
 
 #[test]
@@ -52,7 +55,9 @@ fn refused_cuts(alloc: Global) -> Option<(Result<(), CutAtFault>, Result<(), Cut
     let mut node = founder(alloc)?;
     let nothing = node.cut_at(1, Id::new(B));
     let outside = node.cut_at(0, Id::new(A));
-    Some((nothing, outside, node.held_count()))
+    let held = node.held_count();
+    drop(node);
+    Some((nothing, outside, held))
 }
 
 #[test]
@@ -72,7 +77,9 @@ fn cut_twice(node: &mut Node<CappedStore>, other: usize) -> Option<Result<(), Me
 fn refused_merge(alloc: Global, other: usize) -> Option<(Option<Result<(), MergeFault>>, usize)> {
     let mut node = founder(alloc)?;
     let merged = cut_twice(&mut node, other);
-    Some((merged, node.held_count()))
+    let held = node.held_count();
+    drop(node);
+    Some((merged, held))
 }
 
 #[test]
@@ -87,17 +94,11 @@ fn refuses_merges(rt: HostRuntime) {
     }
 }
 
-/// Puts x under this key, as call 1.
-fn put(alloc: Global, node: &mut Node<CappedStore>, key: &[u8]) -> Option<()> {
-    inserted(alloc, node, 1, key, b"x")?;
-    Some(())
-}
-
 /// Cuts at C and merges the two segments, with the same call in each.
 fn keep_twice(alloc: Global, node: &mut Node<CappedStore>) -> Option<Result<(), MergeFault>> {
     node.cut_at(0, Id::new(C)).ok()?;
-    put(alloc, node, b"abc")?;
-    put(alloc, node, b"b")?;
+    put(alloc, node, 1, b"abc")?;
+    put(alloc, node, 1, b"b")?;
     Some(node.merge(0, 1))
 }
 
@@ -105,7 +106,9 @@ fn keep_twice(alloc: Global, node: &mut Node<CappedStore>) -> Option<Result<(), 
 fn kept_twice(alloc: Global) -> Option<(Option<Result<(), MergeFault>>, Option<Span>)> {
     let mut node = found(alloc, CappedStore::new(alloc, 2))?;
     let merged = keep_twice(alloc, &mut node);
-    Some((merged, node.span(1)))
+    let second = node.span(1);
+    drop(node);
+    Some((merged, second))
 }
 
 /// The same call under two keys, each in a segment of its own.
@@ -118,7 +121,9 @@ fn no_call_is_kept_twice(rt: HostRuntime) {
 /// How the giving of a segment that is not held is refused.
 fn gives_nothing(alloc: Global) -> Option<(Result<(), GiveFault>, Option<GiveFault>)> {
     let mut node = founder(alloc)?;
-    Some((node.may_give(1, 1), node.give(1, 1).err()))
+    let faults = (node.may_give(1, 1), node.give(1, 1).err());
+    drop(node);
+    Some(faults)
 }
 
 #[test]
@@ -144,7 +149,9 @@ fn names(part: &Part) -> Names {
 /// The names of the part that is given.
 fn given_names(node: &mut Node<CappedStore>) -> Option<Names> {
     let part = node.give(0, 1).ok()?;
-    Some(names(&part))
+    let names = names(&part);
+    drop(part);
+    Some(names)
 }
 
 /// What node 0 says before it gives all, the names of the part, and whether it holds identifier 0 then.
@@ -152,7 +159,9 @@ fn gives(alloc: Global) -> Option<(Before, Option<Names>, bool)> {
     let mut node = founder(alloc)?;
     let before = may_give(&node);
     let names = given_names(&mut node);
-    Some((before, names, node.holds(Id::new(0))))
+    let holds = node.holds(Id::new(0));
+    drop(node);
+    Some((before, names, holds))
 }
 
 #[test]
@@ -164,7 +173,9 @@ fn gives_what_it_holds(rt: HostRuntime) {
 /// The first item that is kept of what was given, and a second one.
 fn kept(alloc: Global) -> Option<(Option<(u64, u64, Span)>, Option<(u64, u64, Span)>)> {
     let node = giver(alloc)?;
-    Some((node.kept(0), node.kept(1)))
+    let kept = (node.kept(0), node.kept(1));
+    drop(node);
+    Some(kept)
 }
 
 #[test]
@@ -175,8 +186,9 @@ fn what_is_given_is_kept(rt: HostRuntime) {
 
 /// Whether the parts have the same segment and the same pairs, of which there is one.
 fn have_the_same(part: &Part, other: &Part) -> Option<(bool, usize, bool)> {
-    let segment = part.segment.as_ref()?.equals(other.segment.as_ref()?);
-    let pairs = part.pairs.as_slice() == other.pairs.as_slice();
+    let (first, second) = part.segment.as_ref().zip(other.segment.as_ref())?;
+    let segment = first.equals(second);
+    let pairs = part.pairs == other.pairs;
     Some((segment, part.pairs.len(), pairs))
 }
 
@@ -184,13 +196,18 @@ fn have_the_same(part: &Part, other: &Part) -> Option<(bool, usize, bool)> {
 type Again = (Names, Option<(bool, usize, bool)>);
 
 fn sent_again(node: &Node<CappedStore>, first: &Part) -> Option<Again> {
-    let again = node.resend_part(1, 1, 1).ok()?;
-    Some((names(&again), have_the_same(&again, first)))
+    let part = node.resend_part(1, 1, 1).ok()?;
+    let again = (names(&part), have_the_same(&part, first));
+    drop(part);
+    Some(again)
 }
 
 fn resent(alloc: Global) -> Option<Again> {
     let (node, first) = given_away(alloc, 1)?;
-    sent_again(&node, &first)
+    let again = sent_again(&node, &first);
+    drop(node);
+    drop(first);
+    again
 }
 
 #[test]
@@ -202,7 +219,9 @@ fn a_part_goes_again(rt: HostRuntime) {
 /// How a part that was not given is refused.
 fn unsent(alloc: Global, to: u64, number: u64, part: u64) -> Option<ResendFault> {
     let node = giver(alloc)?;
-    node.resend_part(to, number, part).err()
+    let fault = node.resend_part(to, number, part).err();
+    drop(node);
+    fault
 }
 
 #[test]
@@ -227,7 +246,9 @@ fn held_again(alloc: Global) -> Option<(Unknown, Option<Back>, Option<Span>, usi
     let before = counts(&node);
     let unknown = back(&mut node, ticket(0, 1, 2));
     let held = back(&mut node, ticket(0, 1, 1));
-    Some(((before, unknown), held, node.span(1), node.kept_count()))
+    let (place, kept) = (node.span(1), node.kept_count());
+    drop(node);
+    Some(((before, unknown), held, place, kept))
 }
 
 #[test]
@@ -239,7 +260,7 @@ fn what_is_declined_is_held_again(rt: HostRuntime) {
 
 /// What comes of an item that is declined once x came under `b`.
 fn back_after_b(alloc: Global, node: &mut Node<CappedStore>) -> Option<Back> {
-    inserted(alloc, node, 2, b"b", b"x")?;
+    put(alloc, node, 2, b"b")?;
     back(node, ticket(0, 1, 1))
 }
 
@@ -247,7 +268,9 @@ fn back_after_b(alloc: Global, node: &mut Node<CappedStore>) -> Option<Back> {
 fn back_to_a_full_store(alloc: Global) -> Option<(Option<Back>, Option<(u64, u64, Span)>, usize)> {
     let mut node = giver(alloc)?;
     let full = back_after_b(alloc, &mut node);
-    Some((full, node.kept(0), node.held_count()))
+    let (kept, held) = (node.kept(0), node.held_count());
+    drop(node);
+    Some((full, kept, held))
 }
 
 /// What is declined comes to a full store: the item stays.
@@ -264,7 +287,9 @@ fn back_to_another(
     let mut node = giver(alloc)?;
     let got = given_empty(alloc, &mut node, ticket(2, 0, 1), span(A, B));
     let clash = back(&mut node, ticket(0, 1, 1));
-    Some((got, clash, node.kept(0)))
+    let kept = node.kept(0);
+    drop(node);
+    Some((got, clash, kept))
 }
 
 /// A handover made by hand meets what was given away.
@@ -279,20 +304,24 @@ fn what_is_held_again_meets_nothing(rt: HostRuntime) {
 type Put = Result<Inserted, StoreFault>;
 
 /// How many pairs a store has, and how the insert of a pair and of another one end.
-fn stores(key: &Bytes, mut store: CappedStore) -> (u64, Put, Put) {
+fn stores(mut store: CappedStore, key: Bytes) -> (u64, Put, Put) {
     let count = store.count();
-    let first = store.insert(key, b"x");
-    (count, first, store.insert(key, b"y"))
+    let first = store.insert(&key, b"x");
+    let second = store.insert(&key, b"y");
+    drop(store);
+    drop(key);
+    (count, first, second)
 }
 
 /// The same of the store that a newborn node with room for one pair gives back.
 fn given_back(alloc: Global) -> Option<(u64, Put, Put)> {
+    let key = Bytes::from_slice(alloc, b"a").ok()?;
     let node = newborn(alloc, 1);
     if node.phase() == Phase::Gone {
+        drop(node);
         return None;
     }
-    let key = Bytes::from_slice(alloc, b"a").ok()?;
-    Some(stores(&key, node.into_store()))
+    Some(stores(node.into_store(), key))
 }
 
 /// A node that was not admitted gives its store back, with its limit.

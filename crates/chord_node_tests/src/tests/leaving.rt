@@ -1,6 +1,6 @@
 //! Nodes that leave.
 
-use super::{A, B, C, found, freed, given_empty, inserted, newborn, span, ticket};
+use super::{A, B, C, found, freed, given_empty, newborn, put, span, ticket};
 use chord_node::{Given, Node, NotStaying, Phase, RetireFault};
 use chord_store::{CappedStore, NotedStore};
 use std::alloc::{AllocError, Global};
@@ -21,7 +21,9 @@ fn leaves(
     let early = node.retire();
     let first = node.begin_leave();
     let again = node.begin_leave();
-    Some((early, first, again, node.phase()))
+    let phase = node.phase();
+    drop(node);
+    Some((early, first, again, phase))
 }
 
 #[test]
@@ -35,7 +37,9 @@ fn leaves_once(rt: HostRuntime) {
 fn retires_early(alloc: Global) -> Option<(Result<(), NotStaying>, Result<(), RetireFault>)> {
     let mut node = found(alloc, CappedStore::new(alloc, 1))?;
     let leaving = node.begin_leave();
-    Some((leaving, node.retire()))
+    let early = node.retire();
+    drop(node);
+    Some((leaving, early))
 }
 
 #[test]
@@ -53,17 +57,17 @@ fn says_that_it_does_not_stay(rt: HostRuntime) -> Result<(), AllocError> {
 
 /// Puts x under `abc`, begins to leave and gives all to node 1.
 fn leave(alloc: Global, node: &mut Node<NotedStore>) -> Option<()> {
-    inserted(alloc, node, 1, b"abc", b"x")?;
+    put(alloc, node, 1, b"abc")?;
     node.begin_leave().ok()?;
-    node.give(0, 1).ok()?;
+    drop(node.give(0, 1).ok()?);
     Some(())
 }
 
 /// Node 0 with a store that notes here, after x came under `abc`, all was given to node 1, and it began to leave.
 fn left(alloc: Global, note: &Arc<OnceLock<u64>>) -> Option<Node<NotedStore>> {
     let mut node = found(alloc, NotedStore::new(alloc, note.clone().ok()?))?;
-    leave(alloc, &mut node)?;
-    Some(node)
+    let is_left = leave(alloc, &mut node).is_some();
+    is_left.then_some(node)
 }
 
 /// How a node retires before node 1 has what it gave, and whether that leaves the outbox, once and twice.
@@ -84,6 +88,7 @@ fn retires(alloc: Global) -> Option<(Handover, Retirement)> {
     let handover = hands_over(&mut node);
     let before = note.get().copied();
     let retired = node.retire();
+    drop(node);
     Some((handover, (before, retired, note.get().copied())))
 }
 
@@ -98,7 +103,7 @@ fn a_store_is_dropped_at_retirement(rt: HostRuntime) {
 /// Takes a handover of node 0 and gives it on to node 2, which has it then: whether that leaves the outbox.
 fn give_on(alloc: Global, node: &mut Node<CappedStore>) -> Option<bool> {
     given_empty(alloc, node, ticket(0, 1, 1), span(A, B))?;
-    node.give(0, 2).ok()?;
+    drop(node.give(0, 2).ok()?);
     freed(node, ticket(1, 2, 1))
 }
 
@@ -120,6 +125,7 @@ fn answers(alloc: Global) -> (Option<bool>, Option<Phase>, Answers) {
     let taken = given_empty(alloc, &mut node, ticket(0, 1, 1), span(A, B));
     let next = given_empty(alloc, &mut node, ticket(0, 1, 2), span(B, C));
     let later = given_empty(alloc, &mut node, ticket(0, 1, 3), span(B, C));
+    drop(node);
     (given, phase, (taken, next, later))
 }
 

@@ -2,7 +2,9 @@
 
 ghost use Rattle.std.specs.Prelude.{◌<◌, ◌≤◌};
 
-use super::{A, B, C, first_part, found, give_away, given, given_empty, newborn, span, ticket};
+use super::{
+    A, B, C, first_part, found, give_away, given, given_empty, given_once, newborn, span, ticket,
+};
 use chord_handover::{Part, Ticket};
 use chord_ident::Span;
 use chord_node::{Given, Node};
@@ -17,7 +19,9 @@ fn taken(node: &Node<CappedStore>) -> (u64, usize) {
 /// The part with one pair that node 0 gives to node 1.
 fn one_pair(alloc: Global) -> Option<Part> {
     let mut node = found(alloc, CappedStore::new(alloc, 1))?;
-    give_away(alloc, &mut node)
+    let part = give_away(alloc, &mut node);
+    drop(node);
+    part
 }
 
 /// What a node answers to two parts, each where there is memory for it.
@@ -36,7 +40,11 @@ fn take_twice(node: &mut Node<CappedStore>, part: &Part) -> Taking {
 /// The same of node 1, with room for so many pairs, and a part with one pair.
 fn twice(alloc: Global, limit: u64) -> Option<Taking> {
     let part = one_pair(alloc)?;
-    Some(take_twice(&mut newborn(alloc, limit), &part))
+    let mut node = newborn(alloc, limit);
+    let taking = take_twice(&mut node, &part);
+    drop(node);
+    drop(part);
+    Some(taking)
 }
 
 #[test]
@@ -59,7 +67,9 @@ fn in_order(alloc: Global) -> (Option<Given>, Answers, u64) {
     let early = given_empty(alloc, &mut node, ticket(0, 1, 2), span(B, C));
     let first = given_empty(alloc, &mut node, ticket(0, 1, 1), span(A, B));
     let again = given_empty(alloc, &mut node, ticket(0, 1, 2), span(B, C));
-    (early, (first, again), node.last_taken(0))
+    let last = node.last_taken(0);
+    drop(node);
+    (early, (first, again), last)
 }
 
 #[test]
@@ -72,7 +82,9 @@ fn handovers_come_in_order(rt: HostRuntime) {
 fn meets(alloc: Global) -> Option<(Option<Given>, u64, usize)> {
     let mut node = found(alloc, CappedStore::new(alloc, 1))?;
     let given = given_empty(alloc, &mut node, ticket(1, 0, 1), span(A, B));
-    Some((given, node.last_taken(1), node.held_count()))
+    let (last, held) = (node.last_taken(1), node.held_count());
+    drop(node);
+    Some((given, last, held))
 }
 
 #[test]
@@ -98,14 +110,14 @@ fn later_part(alloc: Global, ticket: Ticket, part: u64, of: u64) -> Part
 
 /// What a node answers to the first part of two.
 fn given_first(alloc: Global, node: &mut Node<CappedStore>) -> Option<Given> {
-    given(node, &first_part(alloc, ticket(0, 1, 1), span(A, B), 2))
+    given_once(node, first_part(alloc, ticket(0, 1, 1), span(A, B), 2))
 }
 
 /// What a node answers to the second part of so many.
 fn given_second(alloc: Global, node: &mut Node<CappedStore>, of: u64) -> Option<Given>
     requires { 2 ≤ of }
 {
-    given(node, &later_part(alloc, ticket(0, 1, 1), 2, of))
+    given_once(node, later_part(alloc, ticket(0, 1, 1), 2, of))
 }
 
 /// What node 1 answers to the first part of two and to three others, the last of which is alone, and what it took and
@@ -116,7 +128,9 @@ fn unfit(alloc: Global) -> (Answers, Answers, (u64, usize)) {
     let other_count = given_second(alloc, &mut node, 3);
     let no_pairs = given_second(alloc, &mut node, 2);
     let alone = given_empty(alloc, &mut node, ticket(0, 1, 1), span(A, B));
-    ((first, other_count), (no_pairs, alone), taken(&node))
+    let taken = taken(&node);
+    drop(node);
+    ((first, other_count), (no_pairs, alone), taken)
 }
 
 /// Parts that make no handover together are not taken, and what was noted stays.

@@ -1,9 +1,9 @@
 //! A refused growth leaves all as it was, and a second try succeeds. With ample memory nothing is refused; the tests are
 //! run with each growth refused in turn too.
 
-use super::{A, B, added, cut_at_b, equals, keep, keeps, kept, one, span};
+use super::{A, B, added, equals, keep, keeps, kept, one, span};
 use chord_ident::Id;
-use chord_segment::{CutFault, Done, JoinFault, Segment, Unjoined};
+use chord_segment::{CutFault, Done, JoinFault, Segment, Uncut, Unjoined};
 use std::alloc::{AllocError, Global};
 use std::test::Fail;
 
@@ -22,18 +22,23 @@ fn copied(segment: &Segment) -> Result<Segment, AllocError> {
     }
 }
 
-/// Readies a caller, at the second try where the first was refused. Answers whether it stays the same.
-fn stays_the_same(segment: &mut Segment, before: &Segment) -> bool {
+/// Readies a caller in a copy, at the second try where the first was refused. Answers whether that stays the same.
+fn stays_the_same(before: &Segment) -> Option<bool> {
+    let mut segment = copied(before).ok()?;
     let is_ready = segment.reserve(7).is_ok();
     let is_same = segment.equals(before);
-    (is_ready || segment.reserve(7).is_ok()) & is_same & segment.equals(before)
+    let is_ready = is_ready || segment.reserve(7).is_ok();
+    let is_same = is_same & segment.equals(before);
+    drop(segment);
+    Some(is_ready & is_same)
 }
 
 #[test]
 fn a_refused_reserve_or_copy(rt: HostRuntime) -> Result<(), Fail> {
-    let mut segment = kept_one(rt.alloc())?;
-    let before = copied(&segment)?;
-    assert!(rt; stays_the_same(&mut segment, &before));
+    let before = kept_one(rt.alloc())?;
+    let is_same = stays_the_same(&before);
+    drop(before);
+    assert!(rt; is_same == Some(true));
     Ok(())
 }
 
@@ -51,65 +56,82 @@ fn keeps_what_came_back(segment: &mut Segment, back: Done) -> bool {
     keep(segment, back, 0) && is_new
 }
 
+/// Keeps the call, at the second try where the first was refused and handed it back. Answers whether it is kept then.
+fn keeps_in_the_end(segment: &mut Segment, done: Done) -> bool {
+    let is_kept = match kept(segment, done, 0) {
+        Ok(is_kept) => is_kept,
+        Err(back) => keeps_what_came_back(segment, back),
+    };
+    is_kept & keeps(segment, 0, 1)
+}
+
 #[test]
 fn a_refused_append_hands_the_call_back(rt: HostRuntime) -> Result<(), Fail> {
-    let mut segment = Segment::empty(rt.alloc(), span(A, A));
     let done = first_call(rt.alloc())?;
-    if let Err(back) = kept(&mut segment, done, 0) {
-        assert!(rt; keeps_what_came_back(&mut segment, back));
-    }
-    assert!(rt; keeps(&segment, 0, 1));
+    let mut segment = Segment::empty(rt.alloc(), span(A, A));
+    let is_kept = keeps_in_the_end(&mut segment, done);
+    drop(segment);
+    assert!(rt; is_kept);
     Ok(())
 }
 
-/// Cuts at B, at the second try where the first was refused for memory and handed the segment back.
-fn cut(segment: Segment) -> Result<(Segment, Segment), Fail> {
-    let before = copied(&segment)?;
-    let parts = match segment.cut(Id::new(B)) {
-        Ok(parts) => Ok(parts),
-        Err(uncut) if uncut.fault == CutFault::Memory && uncut.segment.equals(&before) => {
-            cut_at_b(uncut.segment)
-        }
-        Err(_) => Err(Fail::from("not handed back")),
-    };
-    drop(before);
-    parts
+/// A segment cut at B.
+type Parts = (Segment, Segment);
+
+/// Cuts again at B what a refused cut handed back as it was before.
+fn cut_again(uncut: Uncut, before: &Segment) -> Option<Parts> {
+    if (uncut.fault != CutFault::Memory) | !uncut.segment.equals(before) {
+        drop(uncut);
+        return None;
+    }
+    uncut.segment.cut(Id::new(B)).ok()
 }
 
-/// Whether these were refused for memory and handed back.
-fn are_back(unjoined: &Unjoined, first: &Segment, second: &Segment) -> bool {
-    unjoined.fault == JoinFault::Memory
-        && unjoined.first.equals(first)
-        && unjoined.second.equals(second)
+/// Cuts a copy at B, at the second try where the first was refused for memory and handed the copy back.
+fn cut(segment: &Segment) -> Option<Parts> {
+    match copied(segment).ok()?.cut(Id::new(B)) {
+        Ok(parts) => Some(parts),
+        Err(uncut) => cut_again(uncut, segment),
+    }
 }
 
-/// Joins, at the second try where the first was refused for memory and handed both back.
-fn joined(first: Segment, second: Segment) -> Option<Segment> {
-    let (front, rear) = (copied(&first).ok()?, copied(&second).ok()?);
-    let whole = match first.join(second) {
+/// Copies of both.
+fn copies(parts: &Parts) -> Option<Parts> {
+    copied(&parts.0).ok().zip(copied(&parts.1).ok())
+}
+
+/// Joins again what a refused join handed back as it was before.
+fn join_again(unjoined: Unjoined, parts: &Parts) -> Option<Segment> {
+    let are_same = unjoined.first.equals(&parts.0) & unjoined.second.equals(&parts.1);
+    if (unjoined.fault != JoinFault::Memory) | !are_same {
+        drop(unjoined);
+        return None;
+    }
+    unjoined.first.join(unjoined.second).ok()
+}
+
+/// Joins copies, at the second try where the first was refused for memory and handed both back.
+fn joined(parts: &Parts) -> Option<Segment> {
+    let (first, second) = copies(parts)?;
+    match first.join(second) {
         Ok(whole) => Some(whole),
-        Err(unjoined) if are_back(&unjoined, &front, &rear) => {
-            unjoined.first.join(unjoined.second).ok()
-        }
-        Err(_) => None,
-    };
-    drop(front);
-    drop(rear);
-    whole
+        Err(unjoined) => join_again(unjoined, parts),
+    }
 }
 
-/// What is cut and joined again.
-fn cut_and_joined(segment: Segment) -> Result<Segment, Fail> {
-    let (first, second) = cut(segment)?;
-    let whole = joined(first, second).ok_or("not joined")?;
-    Ok(whole)
+/// Whether it equals what it is cut into and joined again.
+fn is_the_same_when_joined(segment: &Segment) -> Option<bool> {
+    let parts = cut(segment)?;
+    let whole = joined(&parts);
+    drop(parts);
+    equals(segment, whole)
 }
 
 #[test]
 fn a_refused_cut_or_join_hands_all_back(rt: HostRuntime) -> Result<(), Fail> {
     let segment = kept_one(rt.alloc())?;
-    let before = copied(&segment)?;
-    let whole = cut_and_joined(segment)?;
-    assert!(rt; equals(&before, Some(whole)) == Some(true));
+    let is_same = is_the_same_when_joined(&segment);
+    drop(segment);
+    assert!(rt; is_same == Some(true));
     Ok(())
 }

@@ -2,15 +2,12 @@
 // With ample memory nothing is refused. A call that was refused is made again, with room for it.
 ghost use Rattle.std.specs.Prelude.{◌≡◌, []};
 
-use super::put_list;
+use super::{noted, put_list};
 use chord_ident::{Id, Span};
 use chord_map::{Bytes, Pair, PairList, Values};
-use chord_store::{
-    CappedStore, EntryStore, Inserted, ListStore, NotedStore, StoreFault, TreeStore,
-};
+use chord_store::{CappedStore, EntryStore, Inserted, ListStore, StoreFault, TreeStore};
 use std::alloc::{AllocError, Global};
 use std::process::Abort;
-use std::sync::{Arc, OnceLock};
 use std::test::Fail;
 
 // The n-th pair is a value of n alone under a key of n / 3 alone, so pairs are in the order of their numbers.
@@ -57,11 +54,8 @@ fn is_pair(pair: &Pair, n: u8) -> bool {
     is_byte(pair.key.as_slice(), n / 3) && is_byte(pair.value.as_slice(), n)
 }
 
-// Whether the store has these pairs and no others.
-fn has_these<S: EntryStore>(alloc: Global, store: &S, there: There) -> bool {
-    let Ok(pairs) = all_pairs(alloc, store) else {
-        return false;
-    };
+// Whether these pairs are there and no others.
+fn are_these(pairs: &[Pair], there: There) -> bool {
     let mut rest = pairs.iter();
     for n in 0..COUNT {
         let end = if n % 2 == 0 { there.even } else { there.odd };
@@ -72,7 +66,28 @@ fn has_these<S: EntryStore>(alloc: Global, store: &S, there: There) -> bool {
     rest.next().is_none()
 }
 
-// Puts in a pair, and once more where there was no memory and the store has what it had.
+// Whether the store has these pairs and no others.
+fn has_these<S: EntryStore>(alloc: Global, store: &S, there: There) -> bool {
+    let Ok(pairs) = all_pairs(alloc, store) else {
+        return false;
+    };
+    let are_these = are_these(&pairs, there);
+    drop(pairs);
+    are_these
+}
+
+// Whether the pair is put in: where there was no memory, the store has to have what it had, and it is put in then.
+fn is_put<S: EntryStore>(alloc: Global, store: &mut S, key: &Bytes, n: u8, there: There) -> bool {
+    match store.insert(key, &[n; LONG]) {
+        Ok(_) => true,
+        Err(StoreFault::Full) => false,
+        Err(StoreFault::Memory) => {
+            has_these(alloc, store, there) && store.insert(key, &[n; LONG]) == Ok(Inserted::Added)
+        }
+    }
+}
+
+// Puts in a pair.
 fn put<S: EntryStore>(
     rt: &impl Abort,
     alloc: Global,
@@ -81,12 +96,9 @@ fn put<S: EntryStore>(
     there: There,
 ) -> Result<(), AllocError> {
     let key = long(alloc, n / 3)?;
-    if let Err(fault) = store.insert(&key, &[n; LONG]) {
-        assert!(rt; fault == StoreFault::Memory, "at {n}");
-        assert!(rt; has_these(alloc, store, there), "at {n}");
-        let again = store.insert(&key, &[n; LONG]);
-        assert!(rt; again == Ok(Inserted::Added), "at {n}");
-    }
+    let is_put = is_put(alloc, store, &key, n, there);
+    drop(key);
+    assert!(rt; is_put, "at {n}");
     Ok(())
 }
 
@@ -111,26 +123,29 @@ fn put_all_in_turn<S: EntryStore>(
 // The values under the fifth key, asked for again where there was no memory.
 fn values<S: EntryStore>(alloc: Global, store: &S) -> Result<Values, AllocError> {
     let key = long(alloc, 5)?;
-    match store.values(alloc, &key) {
+    let values = match store.values(alloc, &key) {
         Ok(values) => Ok(values),
         Err(_) => store.values(alloc, &key),
-    }
+    };
+    drop(key);
+    values
 }
 
+// Whether the three values of the fifth key are there, and no others.
 fn has_values<S: EntryStore>(alloc: Global, store: &S) -> bool {
     let Ok(values) = values(alloc, store) else {
         return false;
     };
-    let mut rest = values.as_slice().iter();
-    for n in 15..18 {
-        if !rest
-            .next()
-            .is_some_and(|value| is_byte(value.as_slice(), n))
-        {
-            return false;
+    let are_there = match values.as_slice() {
+        [first, second, third] => {
+            is_byte(first.as_slice(), 15)
+                && is_byte(second.as_slice(), 16)
+                && is_byte(third.as_slice(), 17)
         }
-    }
-    rest.next().is_none()
+        _ => false,
+    };
+    drop(values);
+    are_there
 }
 
 // A list of all pairs, each put in again where there was no memory.
@@ -159,43 +174,53 @@ fn put_all_or_none<S: EntryStore>(alloc: Global, store: &mut S, list: &PairList)
     }
 }
 
-// What any store does where a growth is refused.
-fn refuses_growths<S: EntryStore>(rt: &impl Abort, alloc: Global, store: &mut S) -> Result<(), Fail>
+// Whether all pairs of a list come into the store at once.
+fn takes_list<S: EntryStore>(alloc: Global, store: &mut S) -> bool
     requires { S.content store.old ≡ [] }
 {
-    let list = pair_list(alloc)?;
-    assert!(rt; put_all_or_none(alloc, store, &list));
-    assert!(rt; has_these(alloc, store, ALL));
+    let Ok(list) = pair_list(alloc) else {
+        return false;
+    };
+    let is_put = put_all_or_none(alloc, store, &list);
+    drop(list);
+    is_put
+}
+
+// What any store does where a growth is refused.
+fn refuses_growths<S: EntryStore>(rt: &impl Abort, alloc: Global, store: S)
+    requires { S.content store ≡ [] }
+{
+    let mut store = store;
+    assert!(rt; takes_list(alloc, &mut store) & has_these(alloc, &store, ALL));
     let id = Id::new(7);
     store.take_out(&Span::new(id, id));
-    put_all_in_turn(rt, alloc, store)?;
-    assert!(rt; has_these(alloc, store, ALL));
-    assert!(rt; has_values(alloc, store));
-    Ok(())
+    let are_put = put_all_in_turn(rt, alloc, &mut store).is_ok();
+    assert!(rt; are_put & has_these(alloc, &store, ALL) & has_values(alloc, &store));
+    drop(store);
 }
 
 #[test]
-fn a_list_refuses_growths(rt: HostRuntime) -> Result<(), Fail> {
+fn a_list_refuses_growths(rt: HostRuntime) {
     let alloc = rt.alloc();
-    refuses_growths(&rt, alloc, &mut ListStore::new(alloc))
+    refuses_growths(&rt, alloc, ListStore::new(alloc));
 }
 
 #[test]
-fn a_tree_refuses_growths(rt: HostRuntime) -> Result<(), Fail> {
+fn a_tree_refuses_growths(rt: HostRuntime) {
     let alloc = rt.alloc();
-    refuses_growths(&rt, alloc, &mut TreeStore::new(alloc))
+    refuses_growths(&rt, alloc, TreeStore::new(alloc));
 }
 
 #[test]
-fn a_capped_store_refuses_growths(rt: HostRuntime) -> Result<(), Fail> {
+fn a_capped_store_refuses_growths(rt: HostRuntime) {
     let alloc = rt.alloc();
-    refuses_growths(&rt, alloc, &mut CappedStore::new(alloc, COUNT as u64))
+    refuses_growths(&rt, alloc, CappedStore::new(alloc, COUNT as u64));
 }
 
 #[test]
 fn a_box_refuses_growths(rt: HostRuntime) -> Result<(), Fail> {
     let alloc = rt.alloc();
-    let note = Arc::new(alloc, OnceLock::new())?;
-    let mut store: Box<dyn EntryStore + Send> = Box::new(alloc, NotedStore::new(alloc, note))?;
-    refuses_growths(&rt, alloc, &mut store)
+    let store: Box<dyn EntryStore + Send> = Box::new(alloc, noted(alloc)?)?;
+    refuses_growths(&rt, alloc, store);
+    Ok(())
 }

@@ -2,7 +2,7 @@
 // With ample memory nothing is refused. A call that was refused is made again, with room for it.
 
 use super::{
-    ADDED, INSERT, INSERT_2, ONE_VALUE, TWO_VALUES, is_nothing, is_reply, reply_frame,
+    ADDED, INSERT, INSERT_2, ONE_VALUE, TWO_VALUES, is_frame, is_nothing, is_reply, reply_frame,
     request_frame, values,
 };
 use chord_map::{Reply, Request};
@@ -93,38 +93,39 @@ fn reads_pieces(
         feeds_frames(frames, &[*byte])?;
     }
     let wire = next_request(frames)?;
-    let is_wanted = wire.request == *wanted && wire.version == version;
+    let is_wanted = (wire.request == *wanted) & (wire.version == version);
     drop(wire);
     Some((is_wanted, frames.left()))
 }
 
 /// The same of the insert in version 1 and then in version 2.
-fn inserts_in_pieces(alloc: Global) -> Option<((bool, usize), (bool, usize))> {
+fn inserts_in_pieces(alloc: Global) -> Option<[Option<(bool, usize)>; 2]> {
     let wanted = request(alloc).ok()?;
     let mut frames = Frames::new(alloc);
-    let first = reads_pieces(&mut frames, &INSERT, &wanted, 1);
-    let second = reads_pieces(&mut frames, &INSERT_2, &wanted, 2);
+    let are_read = [
+        reads_pieces(&mut frames, &INSERT, &wanted, 1),
+        reads_pieces(&mut frames, &INSERT_2, &wanted, 2),
+    ];
     drop(wanted);
-    Some((first?, second?))
+    drop(frames);
+    Some(are_read)
 }
 
 #[test]
 fn requests_are_read_where_growths_are_refused(rt: HostRuntime) {
-    let wanted = ((true, 0), (true, 0));
-    assert!(rt; inserts_in_pieces(rt.alloc()) == Some(wanted));
+    let are_read = inserts_in_pieces(rt.alloc());
+    assert!(rt; are_read == Some([Some((true, 0)); 2]));
 }
 
-/// Answers of which the first was fed byte by byte and the second whole.
-fn fed_answers(alloc: Global) -> Option<Answers> {
-    let mut answers = Answers::new(alloc);
+/// Feeds two answers, the first byte by byte and the second whole.
+fn feeds_both(answers: &mut Answers) -> Option<()> {
     for byte in &ONE_VALUE {
         if !is_nothing(answers.next()) {
             return None;
         }
-        feeds_answers(&mut answers, &[*byte])?;
+        feeds_answers(answers, &[*byte])?;
     }
-    feeds_answers(&mut answers, &TWO_VALUES)?;
-    Some(answers)
+    feeds_answers(answers, &TWO_VALUES)
 }
 
 /// Whether the next answer is reply 2 with these values.
@@ -133,17 +134,19 @@ fn next_is(alloc: Global, answers: &mut Answers, all: &[&[u8]]) -> Option<bool> 
     is_reply(next_answer(answers), 2, wanted)
 }
 
-/// The same of both answers, and how many bytes are left then.
-fn both_answers(alloc: Global) -> Option<(bool, bool, usize)> {
-    let mut answers = fed_answers(alloc)?;
-    let first = next_is(alloc, &mut answers, &[b"x"])?;
-    let second = next_is(alloc, &mut answers, &[b"x", b"y"])?;
-    Some((first, second, answers.left()))
-}
-
 #[test]
 fn answers_are_read_where_growths_are_refused(rt: HostRuntime) {
-    assert!(rt; both_answers(rt.alloc()) == Some((true, true, 0)));
+    let alloc = rt.alloc();
+    let mut answers = Answers::new(alloc);
+    let are_fed = feeds_both(&mut answers).is_some();
+    let are_read = [
+        next_is(alloc, &mut answers, &[b"x"]),
+        next_is(alloc, &mut answers, &[b"x", b"y"]),
+    ];
+    let left = answers.left();
+    drop(answers);
+    assert!(rt; are_fed & (left == 0));
+    assert!(rt; are_read == [Some(true); 2]);
 }
 
 /// Whether the request is written as this frame in this version.
@@ -154,13 +157,17 @@ fn is_written(alloc: Global, version: u8, wanted: &[u8]) -> Option<bool> {
         None => request_frame(alloc, version, &asked),
     };
     drop(asked);
-    Some(frame?.as_slice() == wanted)
+    is_frame(frame, wanted)
 }
 
 #[test]
 fn requests_are_written_where_growths_are_refused(rt: HostRuntime) {
-    assert!(rt; is_written(rt.alloc(), 1, &INSERT) == Some(true));
-    assert!(rt; is_written(rt.alloc(), 2, &INSERT_2) == Some(true));
+    let alloc = rt.alloc();
+    let are_written = [
+        is_written(alloc, 1, &INSERT),
+        is_written(alloc, 2, &INSERT_2),
+    ];
+    assert!(rt; are_written == [Some(true); 2]);
 }
 
 fn is_reply_written(alloc: Global) -> Option<bool> {
@@ -170,7 +177,7 @@ fn is_reply_written(alloc: Global) -> Option<bool> {
         None => reply_frame(alloc, 2, &told),
     };
     drop(told);
-    Some(frame?.as_slice() == ONE_VALUE.as_slice())
+    is_frame(frame, &ONE_VALUE)
 }
 
 #[test]
@@ -183,10 +190,10 @@ fn is_fault_written(alloc: Global) -> Option<bool> {
     full[5] = 0xff;
     full[14] = 10;
     let frame = match write_fault(alloc, 1, FaultCode::Full) {
-        Ok(frame) => frame,
-        Err(_) => write_fault(alloc, 1, FaultCode::Full).ok()?,
+        Ok(frame) => Some(frame),
+        Err(_) => write_fault(alloc, 1, FaultCode::Full).ok(),
     };
-    Some(frame.as_slice() == full.as_slice())
+    is_frame(frame, &full)
 }
 
 #[test]
