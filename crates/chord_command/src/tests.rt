@@ -5,16 +5,18 @@ use chord_ident::Id;
 use chord_map::{Bytes, Reply, Values};
 use std::alloc::Global;
 
+const STATUSES: &[(Finish, u8)] = &[
+    (Finish::Done, 0),
+    (Finish::Fault(Fault::Read), 1),
+    (Finish::BadPlan, 1),
+    (Finish::BadCommandLine, 2),
+    (Finish::OutOfMemory, 3),
+];
+
 #[test]
 fn statuses(rt: HostRuntime) {
-    for (finish, status) in [
-        (Finish::Done, 0),
-        (Finish::Fault(Fault::Read), 1),
-        (Finish::BadPlan, 1),
-        (Finish::BadCommandLine, 2),
-        (Finish::OutOfMemory, 3),
-    ] {
-        assert!(rt; finish.status() == status);
+    for (finish, status) in STATUSES {
+        assert!(rt; finish.status() == *status);
     }
 }
 
@@ -24,19 +26,21 @@ fn tells(alloc: Global, fault: Fault, wanted: &str) -> Option<(u8, bool)> {
     Some((Finish::Fault(fault).status(), text.as_str() == wanted))
 }
 
+const TEXTS: &[(Fault, &str)] = &[
+    (Fault::Line(7), "fault line 7"),
+    (Fault::Read, "fault read"),
+    (Fault::Write, "fault write"),
+    (Fault::Listen, "fault listen"),
+    (Fault::Node(1), "fault plan\nnode 1: the ring refuses it"),
+    (Fault::Connect, "fault connect"),
+    (Fault::Unanswered(3), "fault unanswered 3"),
+    (Fault::Clock, "fault clock"),
+];
+
 #[test]
 fn texts_of_faults(rt: HostRuntime) {
-    for (fault, wanted) in [
-        (Fault::Line(7), "fault line 7"),
-        (Fault::Read, "fault read"),
-        (Fault::Write, "fault write"),
-        (Fault::Listen, "fault listen"),
-        (Fault::Node(1), "fault plan\nnode 1: the ring refuses it"),
-        (Fault::Connect, "fault connect"),
-        (Fault::Unanswered(3), "fault unanswered 3"),
-        (Fault::Clock, "fault clock"),
-    ] {
-        assert!(rt; tells(rt.alloc(), fault, wanted) == Some((1, true)));
+    for (fault, wanted) in TEXTS {
+        assert!(rt; tells(rt.alloc(), *fault, wanted) == Some((1, true)));
     }
 }
 
@@ -52,29 +56,40 @@ fn words_of_a_line(rt: HostRuntime) {
     assert!(rt; (more.has_more(), more.end()) == (true, Err(LineFault::Grammar)));
 }
 
+const NUMBERS: &[(&str, Result<u64, LineFault>)] = &[
+    ("0", Ok(0)),
+    ("70", Ok(70)),
+    ("18446744073709551615", Ok(u64::MAX)),
+    ("18446744073709551616", Err(LineFault::Grammar)),
+    ("07", Err(LineFault::Grammar)),
+    ("+7", Err(LineFault::Grammar)),
+    ("", Err(LineFault::Grammar)),
+];
+
 #[test]
 fn numbers(rt: HostRuntime) {
-    for (line, number) in [
-        ("0", Ok(0)),
-        ("70", Ok(70)),
-        ("18446744073709551615", Ok(u64::MAX)),
-        ("18446744073709551616", Err(LineFault::Grammar)),
-        ("07", Err(LineFault::Grammar)),
-        ("+7", Err(LineFault::Grammar)),
-        ("", Err(LineFault::Grammar)),
-    ] {
-        assert!(rt; Words::new(line).number() == number, "{line}");
+    for (line, number) in NUMBERS {
+        assert!(rt; Words::new(line).number() == *number, "{line}");
     }
 }
 
+/// Digits, and the number of their identifier.
+const IDENTIFIERS: &[(&str, Option<u128>)] = &[
+    (
+        "C00000000000000000000000000000ab",
+        Some(0xc000_0000_0000_0000_0000_0000_0000_00ab),
+    ),
+    ("c00000000000000000000000000000a", None),
+    ("c00000000000000000000000000000ag", None),
+];
+
 #[test]
 fn identifiers(rt: HostRuntime) {
-    let id = Id::new(0xc000_0000_0000_0000_0000_0000_0000_00ab);
-    for (line, read) in [
-        ("C00000000000000000000000000000ab", Ok(id)),
-        ("c00000000000000000000000000000a", Err(LineFault::Grammar)),
-        ("c00000000000000000000000000000ag", Err(LineFault::Grammar)),
-    ] {
+    for (line, number) in IDENTIFIERS {
+        let read = match number {
+            Some(number) => Ok(Id::new(*number)),
+            None => Err(LineFault::Grammar),
+        };
         assert!(rt; Words::new(line).id() == read, "{line}");
     }
 }
@@ -85,16 +100,19 @@ fn are_bytes(alloc: Global, line: &str, wanted: &[u8]) -> Option<bool> {
     Some(bytes.as_slice() == wanted)
 }
 
+/// Lines, and their bytes where they are some.
+const BYTES: &[(&str, Option<&[u8]>)] = &[
+    ("0aFF", Some(&[10, 255])),
+    ("-", Some(&[])),
+    ("", None),
+    ("0", None),
+    ("0g", None),
+    ("--", None),
+];
+
 #[test]
 fn bytes_of_digits(rt: HostRuntime) {
-    for (line, wanted) in [
-        ("0aFF", Some([10, 255].as_slice())),
-        ("-", Some([].as_slice())),
-        ("", None),
-        ("0", None),
-        ("0g", None),
-        ("--", None),
-    ] {
+    for (line, wanted) in BYTES {
         let same = are_bytes(rt.alloc(), line, wanted.unwrap_or(&[]));
         assert!(rt; same == wanted.map(|_| true), "{line}");
     }

@@ -114,34 +114,38 @@ const FULL_STORE_WRITES: &str = concat!(
     "refused 9 WindowFull\nfull 4\n",
 );
 
-/// Each session over one list is done, and writes its lines.
+/// Sessions over one list.
+const OVER_A_LIST: &[(&str, &str)] = &[
+    (FIRST_RUN, FIRST_RUN_WRITES),
+    (ONE_NODE_WORLD, ONE_NODE_WORLD_WRITES),
+    (REPEATS_AFTER_A_REMOVE, REPEATS_AFTER_A_REMOVE_WRITES),
+    (WORLD_REFUSALS, WORLD_REFUSALS_WRITES),
+    (WINDOW_OF_TWO, WINDOW_OF_TWO_WRITES),
+    (SHOW_AND_MEET, SHOW_AND_MEET_WRITES),
+    (FINGERS_AND_LISTS, FINGERS_AND_LISTS_WRITES),
+    (MORE_REFUSALS, MORE_REFUSALS_WRITES),
+];
+
+/// Each session is done, and writes its lines.
 #[test]
 fn sessions_over_a_list(rt: HostRuntime) {
-    for (script, wanted) in [
-        (FIRST_RUN, FIRST_RUN_WRITES),
-        (ONE_NODE_WORLD, ONE_NODE_WORLD_WRITES),
-        (REPEATS_AFTER_A_REMOVE, REPEATS_AFTER_A_REMOVE_WRITES),
-        (WORLD_REFUSALS, WORLD_REFUSALS_WRITES),
-        (WINDOW_OF_TWO, WINDOW_OF_TWO_WRITES),
-        (SHOW_AND_MEET, SHOW_AND_MEET_WRITES),
-        (FINGERS_AND_LISTS, FINGERS_AND_LISTS_WRITES),
-        (MORE_REFUSALS, MORE_REFUSALS_WRITES),
-    ] {
+    for (script, wanted) in OVER_A_LIST {
         assert!(rt; over_a_list(rt.alloc(), script, wanted) == DONE, "{script}");
     }
 }
 
-/// Each session over a store of one pair is done, and writes its lines: calls that a full store refuses come again.
+/// Sessions over a store of one pair: calls that a full store refuses come again.
+const OVER_ONE_PAIR: &[(&str, &str)] = &[
+    (FULL_STORE, FULL_STORE_WRITES),
+    (FULL_STORE_RETRY, FULL_STORE_RETRY_WRITES),
+];
+
+/// Each session is done, and writes its lines.
 #[test]
 fn sessions_over_one_pair(rt: HostRuntime) {
-    for (script, wanted) in [
-        (FULL_STORE, FULL_STORE_WRITES),
-        (FULL_STORE_RETRY, FULL_STORE_RETRY_WRITES),
-    ] {
-        assert!(rt;
-            over_one_pair(rt.alloc(), script, wanted) == DONE,
-            "{script}"
-        );
+    for (script, wanted) in OVER_ONE_PAIR {
+        let ran = over_one_pair(rt.alloc(), script, wanted);
+        assert!(rt; ran == DONE, "{script}");
     }
 }
 
@@ -153,29 +157,29 @@ fn bad_line(rt: HostRuntime) {
     assert!(rt; ran == Some((Finish::Fault(Fault::Line(2)), true)));
 }
 
-/// Lines outside the grammar, each the first of its script.
+/// Lines outside the grammar.
+const NO_LINES: &[&str] = &[
+    "\n",
+    "create\n",
+    "history \n",
+    " history\n",
+    "caller 01\n",
+    "caller +1\n",
+    "deliver 18446744073709551616\n",
+    "retrieve 0 0 6\n",
+    "retrieve 0 0 6g\n",
+    "retrieve 0 0\n",
+    "history\r\n",
+    "create 4000000000000000000000000000000\n",
+];
+
+/// Each is the first line of its script.
 #[test]
 fn lines_outside_the_grammar(rt: HostRuntime) {
-    let lines = [
-        "\n",
-        "create\n",
-        "history \n",
-        " history\n",
-        "caller 01\n",
-        "caller +1\n",
-        "deliver 18446744073709551616\n",
-        "retrieve 0 0 6\n",
-        "retrieve 0 0 6g\n",
-        "retrieve 0 0\n",
-        "history\r\n",
-        "create 4000000000000000000000000000000\n",
-    ];
-    for line in lines {
+    let fault = Finish::Fault(Fault::Line(1));
+    for line in NO_LINES {
         let ran = over_a_list(rt.alloc(), line, "");
-        assert!(rt;
-            ran == Some((Finish::Fault(Fault::Line(1)), true)),
-            "{line}"
-        );
+        assert!(rt; ran == Some((fault, true)), "{line}");
     }
 }
 

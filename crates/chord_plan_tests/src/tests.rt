@@ -193,29 +193,33 @@ const ONE_NODE: &str = "[[node]]\nid = \"40000000000000000000000000000000\"\nsto
 
 const NO_NODES: &str = "slots = 1\ncallers = 0\nsuccessors = 3\ntries = 100\nwait = 100\n";
 
+const LIST: &str = "store = \"list\"";
+
+const NO_HEX: &str = "node 1: id: not 32 hexadecimal digits";
+
+const FAULTS_OF_NODES: &[(&str, &str, &str)] = &[
+    ("slots = 2", "slots = 1", "node: not from 1 to 1 tables"),
+    ("id = \"4", "name = \"4", "node 0: id: missing"),
+    ("id = \"4", "id = 4 # \"", "node 0: id: no text"),
+    ("id = \"c0", "id = \"c", NO_HEX),
+    ("id = \"c0", "id = \"g0", NO_HEX),
+    (LIST, "", "node 1: store: missing"),
+    (
+        LIST,
+        "store = \"tre\"",
+        "node 1: store: unknown kind \"tre\"",
+    ),
+    (LIST, "store = \"capped\"", "node 1: limit: missing"),
+    (
+        LIST,
+        "store = \"capped\"\nlimit = -1",
+        "node 1: limit: not from 0 to 9223372036854775807",
+    ),
+];
+
 #[test]
 fn faults_of_nodes(rt: HostRuntime) {
-    let list = "store = \"list\"";
-    let no_hex = "node 1: id: not 32 hexadecimal digits";
-    for (old, new, text) in [
-        ("slots = 2", "slots = 1", "node: not from 1 to 1 tables"),
-        ("id = \"4", "name = \"4", "node 0: id: missing"),
-        ("id = \"4", "id = 4 # \"", "node 0: id: no text"),
-        ("id = \"c0", "id = \"c", no_hex),
-        ("id = \"c0", "id = \"g0", no_hex),
-        (list, "", "node 1: store: missing"),
-        (
-            list,
-            "store = \"tre\"",
-            "node 1: store: unknown kind \"tre\"",
-        ),
-        (list, "store = \"capped\"", "node 1: limit: missing"),
-        (
-            list,
-            "store = \"capped\"\nlimit = -1",
-            "node 1: limit: not from 0 to 9223372036854775807",
-        ),
-    ] {
+    for (old, new, text) in FAULTS_OF_NODES {
         let refused = is_refused(rt.alloc(), old, new, text);
         assert!(rt; refused == Some(true), "{new}: {text}");
     }
@@ -228,40 +232,45 @@ fn is_no_plan(alloc: Global, rest: &str, nodes: &str, wanted: &str) -> Option<bo
 }
 
 /// Documents with no tables where some are to be.
+const FAULTS_OF_TABLES: &[(&str, &str, &str)] = &[
+    ("", "", "fault plan\nnode: not from 1 to 1 tables"),
+    ("node = []", "", "fault plan\nnode: not from 1 to 1 tables"),
+    ("node = 3", "", "fault plan\nnode: no tables"),
+    ("node = [3]", "", "fault plan\nnode: no tables"),
+    ("ask = 3\n", ONE_NODE, "fault plan\nask: no tables"),
+    ("ask = [3]\n", ONE_NODE, "fault plan\nask: no tables"),
+];
+
 #[test]
 fn faults_of_tables(rt: HostRuntime) {
-    for (rest, nodes, wanted) in [
-        ("", "", "fault plan\nnode: not from 1 to 1 tables"),
-        ("node = []", "", "fault plan\nnode: not from 1 to 1 tables"),
-        ("node = 3", "", "fault plan\nnode: no tables"),
-        ("node = [3]", "", "fault plan\nnode: no tables"),
-        ("ask = 3\n", ONE_NODE, "fault plan\nask: no tables"),
-        ("ask = [3]\n", ONE_NODE, "fault plan\nask: no tables"),
-    ] {
+    for (rest, nodes, wanted) in FAULTS_OF_TABLES {
         let refused = is_no_plan(rt.alloc(), rest, nodes, wanted);
         assert!(rt; refused == Some(true), "{rest}");
     }
 }
 
+const KEY: &str = "key = \"abc\"";
+
+const FAULTS_OF_ASKS: &[(&str, &str, &str)] = &[
+    ("caller = 0\n", "", "ask 0: caller: missing"),
+    ("caller = 0", "caller = 1", "ask 0: caller: not below 1"),
+    ("via = 0\n", "", "ask 0: via: missing"),
+    ("via = 1", "via = 2", "ask 1: via: not below 2"),
+    ("do = \"insert\"\n", "", "ask 0: do: missing"),
+    (
+        "\"remove\"",
+        "\"put\"",
+        "ask 2: do: unknown operation \"put\"",
+    ),
+    ("key = \"abc\"\n", "", "ask 0: key: missing"),
+    (KEY, "key = 3", "ask 0: key: no text"),
+    (KEY, "key = \"\"", "ask 0: key: the key is empty"),
+    ("value = \"y\"\n", "", "ask 2: value: missing"),
+];
+
 #[test]
 fn faults_of_asks(rt: HostRuntime) {
-    let key = "key = \"abc\"";
-    for (old, new, text) in [
-        ("caller = 0\n", "", "ask 0: caller: missing"),
-        ("caller = 0", "caller = 1", "ask 0: caller: not below 1"),
-        ("via = 0\n", "", "ask 0: via: missing"),
-        ("via = 1", "via = 2", "ask 1: via: not below 2"),
-        ("do = \"insert\"\n", "", "ask 0: do: missing"),
-        (
-            "\"remove\"",
-            "\"put\"",
-            "ask 2: do: unknown operation \"put\"",
-        ),
-        ("key = \"abc\"\n", "", "ask 0: key: missing"),
-        (key, "key = 3", "ask 0: key: no text"),
-        (key, "key = \"\"", "ask 0: key: the key is empty"),
-        ("value = \"y\"\n", "", "ask 2: value: missing"),
-    ] {
+    for (old, new, text) in FAULTS_OF_ASKS {
         let refused = is_refused(rt.alloc(), old, new, text);
         assert!(rt; refused == Some(true), "{new}: {text}");
     }
