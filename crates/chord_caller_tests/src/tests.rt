@@ -21,15 +21,14 @@ fn added(caller: u64, number: u64) -> Told {
 }
 
 /// Whether the ask is the call of this caller and number for the key, sent with this floor.
-fn is_ask(ask: Option<Ask>, caller: u64, number: u64, floor: u64, key: &[u8]) -> Option<bool> {
-    let ask = ask?;
-    let is_call = ask.caller == caller
-        && ask.number == number
-        && ask.floor == floor
-        && ask.request.key() == key
-        && ask.hops == 255;
+fn is_ask(ask: Option<Ask>, caller: u64, number: u64, floor: u64, key: &[u8]) -> bool {
+    let Some(ask) = ask else {
+        return false;
+    };
+    let is_call = (ask.caller, ask.number, ask.floor, ask.hops) == (caller, number, floor, 255);
+    let is_key = ask.request.key() == key;
     drop(ask);
-    Some(is_call)
+    is_call & is_key
 }
 
 fn number_of(ask: Ask) -> u64 {
@@ -38,9 +37,12 @@ fn number_of(ask: Ask) -> u64 {
     number
 }
 
-/// The call of an insert under this key.
-fn asks(alloc: Global, core: &mut CallerCore, key: &[u8]) -> Option<Ask> {
-    core.submit(insert(alloc, key).ok()?).ok()
+/// The call of an insert under this key, or why it is refused.
+fn asks(alloc: Global, core: &mut CallerCore, key: &[u8]) -> Result<Ask, SubmitFault> {
+    match insert(alloc, key) {
+        Ok(request) => core.submit(request),
+        Err(_) => Err(SubmitFault::Memory),
+    }
 }
 
 /// A caller of this number and window that submitted inserts under these keys.
@@ -50,31 +52,30 @@ fn submitted(alloc: Global, number: u64, window: u64, keys: &[&[u8]]) -> Option<
 {
     let mut core = CallerCore::new(alloc, number, window);
     for key in keys {
-        number_of(asks(alloc, &mut core, key)?);
+        let fault = asks(alloc, &mut core, key).err();
+        if fault.is_some() {
+            drop(core);
+            return None;
+        }
     }
     Some(core)
 }
 
-/// Why the caller refuses an insert under this key.
-fn refused(alloc: Global, core: &mut CallerCore, key: &[u8]) -> Option<SubmitFault> {
-    core.submit(insert(alloc, key).ok()?).err()
-}
-
 /// The pending request before and after the first submission, whether its call is right, and why a second is refused.
-fn submits_one(alloc: Global) -> Option<(Option<u64>, bool, Option<u64>, SubmitFault)> {
+fn submits_one(alloc: Global) -> (Option<u64>, bool, Option<u64>, Option<SubmitFault>) {
     let mut core = CallerCore::new(alloc, 7, 1);
     let before = core.pending();
-    let ask = asks(alloc, &mut core, b"abc");
+    let ask = asks(alloc, &mut core, b"abc").ok();
     let after = core.pending();
-    let full = refused(alloc, &mut core, b"a");
+    let full = asks(alloc, &mut core, b"a").err();
     drop(core);
-    Some((before, is_ask(ask, 7, 1, 0, b"abc")?, after, full?))
+    (before, is_ask(ask, 7, 1, 0, b"abc"), after, full)
 }
 
 #[test]
 fn a_window_of_one(rt: HostRuntime) {
-    let one = (None, true, Some(1), SubmitFault::WindowFull);
-    assert!(rt; submits_one(rt.alloc()) == Some(one));
+    let one = (None, true, Some(1), Some(SubmitFault::WindowFull));
+    assert!(rt; submits_one(rt.alloc()) == one);
 }
 
 #[test]
@@ -83,19 +84,27 @@ fn a_caller_has_its_number(rt: HostRuntime) {
     assert!(rt; core.number() == 7);
 }
 
+/// Why no call goes out again before one is submitted.
+fn idle(alloc: Global) -> Option<ResendFault> {
+    let core = CallerCore::new(alloc, 7, 1);
+    let idle = core.resend(1).err();
+    drop(core);
+    idle
+}
+
 /// Whether the call goes out again as it was.
 fn goes_out_again(alloc: Global) -> Option<bool> {
     let core = submitted(alloc, 7, 1, &[b"abc"])?;
     let again = core.resend(1).ok();
     drop(core);
-    is_ask(again, 7, 1, 0, b"abc")
+    Some(is_ask(again, 7, 1, 0, b"abc"))
 }
 
 #[test]
 fn a_pending_request_goes_out_again(rt: HostRuntime) {
-    let core = CallerCore::new(rt.alloc(), 7, 1);
-    assert!(rt; core.resend(1).err() == Some(ResendFault::Idle));
-    assert!(rt; goes_out_again(rt.alloc()) == Some(true));
+    let idle = idle(rt.alloc());
+    let again = goes_out_again(rt.alloc());
+    assert!(rt; (idle, again) == (Some(ResendFault::Idle), Some(true)));
 }
 
 /// What a caller with one pending request says to two replies that are not its own, and whether it waits then.
@@ -115,30 +124,30 @@ fn a_foreign_reply_is_not_taken(rt: HostRuntime) {
 }
 
 /// What a reply is that comes twice, how many replies were taken then, and the floor.
-fn takes_twice(alloc: Global) -> Option<(Heard, Heard, usize, u64)> {
+fn takes_twice(alloc: Global) -> Option<([Option<Heard>; 2], usize, u64)> {
     let mut core = submitted(alloc, 7, 1, &[b"abc"])?;
     let first = core.take(added(7, 1)).ok();
     let again = core.take(added(7, 1)).ok();
     let (taken, floor) = (core.mine().len(), core.floor());
     drop(core);
-    Some((first?, again?, taken, floor))
+    Some(([first, again], taken, floor))
 }
 
 #[test]
 fn a_reply_is_taken_once(rt: HostRuntime) {
-    let once = (Heard::Fresh, Heard::Known, 1, 1);
+    let once = ([Some(Heard::Fresh), Some(Heard::Known)], 1, 1);
     assert!(rt; takes_twice(rt.alloc()) == Some(once));
 }
 
-/// A caller that submitted two requests and took the reply to the second.
-fn second_taken(alloc: Global, number: u64) -> Option<(CallerCore, Heard)> {
+/// A caller that submitted two requests and took the reply to the second, and what that reply is.
+fn second_taken(alloc: Global, number: u64) -> Option<(CallerCore, Option<Heard>)> {
     let mut core = submitted(alloc, number, 2, &[b"a", b"b"])?;
-    let heard = core.take(added(number, 2)).ok()?;
+    let heard = core.take(added(number, 2)).ok();
     Some((core, heard))
 }
 
 /// What the reply to the second request is, and which of the numbers 0 to 3 were submitted.
-fn numbers(alloc: Global) -> Option<(Heard, [bool; 4])> {
+fn numbers(alloc: Global) -> Option<(Option<Heard>, [bool; 4])> {
     let (core, heard) = second_taken(alloc, 7)?;
     let were = [
         core.was_submitted(0),
@@ -152,45 +161,46 @@ fn numbers(alloc: Global) -> Option<(Heard, [bool; 4])> {
 
 #[test]
 fn two_numbers_were_submitted(rt: HostRuntime) {
-    let two = (Heard::Fresh, [false, true, true, false]);
+    let two = (Some(Heard::Fresh), [false, true, true, false]);
     assert!(rt; numbers(rt.alloc()) == Some(two));
 }
 
 /// The caller and the number of call 2, and whether it is the insert under `b` that was answered Added.
 fn second_of(core: &CallerCore) -> Option<(u64, u64, bool)> {
     let found = core.taken(2)?;
-    let is_b = found.request.key() == b"b".as_slice() && matches!(&found.reply, Reply::Added);
+    let is_added = matches!(&found.reply, Reply::Added);
+    let is_b = is_added & (found.request.key() == b"b".as_slice());
     Some((found.caller, found.number, is_b))
 }
 
 /// Whether the calls 1 and 3 are not among those taken, and what call 2 is.
-fn finds_the_second(alloc: Global) -> Option<(bool, bool, (u64, u64, bool))> {
+fn finds_the_second(alloc: Global) -> Option<(bool, bool, Option<(u64, u64, bool)>)> {
     let (core, _) = second_taken(alloc, 7)?;
     let (first, third) = (core.taken(1).is_none(), core.taken(3).is_none());
     let second = second_of(&core);
     drop(core);
-    Some((first, third, second?))
+    Some((first, third, second))
 }
 
 #[test]
 fn a_taken_call_is_found_by_its_number(rt: HostRuntime) {
-    assert!(rt; finds_the_second(rt.alloc()) == Some((true, true, (7, 2, true))));
+    let second = (true, true, Some((7, 2, true)));
+    assert!(rt; finds_the_second(rt.alloc()) == Some(second));
 }
 
 /// Why an empty key is refused, and the number of the call that comes then.
-fn after_an_empty_key(alloc: Global) -> Option<(SubmitFault, u64)> {
+fn after_an_empty_key(alloc: Global) -> (Option<SubmitFault>, Result<u64, SubmitFault>) {
     let mut core = CallerCore::new(alloc, 0, 1);
-    let empty = refused(alloc, &mut core, b"");
-    let ask = asks(alloc, &mut core, b"a");
+    let empty = asks(alloc, &mut core, b"").err();
+    let number = asks(alloc, &mut core, b"a").map(number_of);
     drop(core);
-    let number = number_of(ask?);
-    Some((empty?, number))
+    (empty, number)
 }
 
 #[test]
 fn a_refused_request_takes_no_number(rt: HostRuntime) {
-    let empty = SubmitFault::Bad(RequestFault::KeyEmpty);
-    assert!(rt; after_an_empty_key(rt.alloc()) == Some((empty, 1)));
+    let empty = Some(SubmitFault::Bad(RequestFault::KeyEmpty));
+    assert!(rt; after_an_empty_key(rt.alloc()) == (empty, Ok(1)));
 }
 
 /// What a caller says to a set of values for its insert, and whether it waits then.
@@ -214,49 +224,61 @@ fn a_reply_of_another_kind_is_not_taken(rt: HostRuntime) {
 }
 
 /// What the caller says of an insert under `c` before it comes.
-fn refusal(alloc: Global, core: &CallerCore) -> Option<Option<SubmitFault>> {
-    let request = insert(alloc, b"c").ok()?;
+fn refusal(alloc: Global, core: &CallerCore) -> Option<SubmitFault> {
+    let Ok(request) = insert(alloc, b"c") else {
+        return Some(SubmitFault::Memory);
+    };
     let refusal = core.refusal(&request);
     drop(request);
-    Some(refusal)
+    refusal
 }
 
 /// What the caller says of a third request, in words and when it comes, before the reply to the first.
-fn before_the_first(alloc: Global) -> Option<(Heard, Option<SubmitFault>, SubmitFault)> {
+fn before_the_first(
+    alloc: Global,
+) -> Option<(Option<Heard>, Option<SubmitFault>, Option<SubmitFault>)> {
     let (mut core, heard) = second_taken(alloc, 0)?;
     let refusal = refusal(alloc, &core);
-    let full = refused(alloc, &mut core, b"c");
+    let full = asks(alloc, &mut core, b"c").err();
     drop(core);
-    Some((heard, refusal?, full?))
+    Some((heard, refusal, full))
 }
 
-/// The same after the reply to the first, and whether its call is right.
-fn after_the_first(alloc: Global) -> Option<(Heard, Option<SubmitFault>, bool)> {
+/// Why a third request is refused before the reply to the first, and the same after it in words, and whether its call
+/// is right.
+fn after_the_first(
+    alloc: Global,
+) -> Option<
+    (
+        Option<SubmitFault>,
+        Option<Heard>,
+        Option<SubmitFault>,
+        bool,
+    ),
+> {
     let (mut core, _) = second_taken(alloc, 0)?;
-    let before = refused(alloc, &mut core, b"c");
+    let full = asks(alloc, &mut core, b"c").err();
     let heard = core.take(added(0, 1)).ok();
     let refusal = refusal(alloc, &core);
-    let ask = asks(alloc, &mut core, b"c");
+    let ask = asks(alloc, &mut core, b"c").ok();
     drop(core);
-    let is_third = is_ask(ask, 0, 3, 2, b"c")?;
-    before?;
-    Some((heard?, refusal?, is_third))
+    Some((full, heard, refusal, is_ask(ask, 0, 3, 2, b"c")))
 }
 
 #[test]
 fn a_window_of_two(rt: HostRuntime) {
-    let full = SubmitFault::WindowFull;
-    assert!(rt; before_the_first(rt.alloc()) == Some((Heard::Fresh, Some(full), full)));
-    assert!(rt; after_the_first(rt.alloc()) == Some((Heard::Fresh, None, true)));
+    let (fresh, full) = (Some(Heard::Fresh), Some(SubmitFault::WindowFull));
+    assert!(rt; before_the_first(rt.alloc()) == Some((fresh, full, full)));
+    assert!(rt; after_the_first(rt.alloc()) == Some((full, fresh, None, true)));
 }
 
 /// What caller 1 shows after its first reply, and what that reply was.
-fn shown(alloc: Global) -> Option<(Note, Heard)> {
+fn shown(alloc: Global) -> Option<(Note, Option<Heard>)> {
     let mut core = submitted(alloc, 1, 1, &[b"a"])?;
     let heard = core.take(added(1, 1)).ok();
     let note = core.show().ok();
     drop(core);
-    Some((note?, heard?))
+    Some((note?, heard))
 }
 
 /// How much caller 0 was told of and took itself after it met the note twice.
@@ -269,15 +291,16 @@ fn met_twice(alloc: Global, note: &Note) -> Option<(usize, usize)> {
 }
 
 /// What the reply was, how much the note shows, and how much is known of it where it was met.
-fn shows_and_meets(alloc: Global) -> Option<(Heard, usize, (usize, usize))> {
+fn shows_and_meets(alloc: Global) -> Option<(Option<Heard>, usize, Option<(usize, usize)>)> {
     let (note, heard) = shown(alloc)?;
     let shows = note.done.len();
     let met = met_twice(alloc, &note);
     drop(note);
-    Some((heard, shows, met?))
+    Some((heard, shows, met))
 }
 
 #[test]
 fn notes_are_shown_and_met(rt: HostRuntime) {
-    assert!(rt; shows_and_meets(rt.alloc()) == Some((Heard::Fresh, 1, (1, 0))));
+    let met = (Some(Heard::Fresh), 1, Some((1, 0)));
+    assert!(rt; shows_and_meets(rt.alloc()) == Some(met));
 }

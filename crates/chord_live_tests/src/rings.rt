@@ -2,13 +2,12 @@
 ghost use Rattle.std.specs.Prelude.{◌≡◌, ◌≤◌, []};
 
 use chord_ident::Id;
-use chord_live::{AskFault, Blank, Caller, Ring, Settings};
-use chord_map::{Bytes, Reply, Request};
+use chord_live::{AskFault, BeginFault, Blank, Caller, Ring, Settings};
+use chord_map::{Reply, Request};
 use chord_store::EntryStore;
 use chord_table::Naming;
 use std::alloc::{AllocError, Global};
 use std::sync::Wait;
-use std::test::Fail;
 use std::time::Clock;
 
 mod callers;
@@ -25,34 +24,6 @@ pub const C: u128 = 0xc0000000000000000000000000000000;
 
 /// A store in a box, as programs choose it.
 pub type Store = Box<dyn EntryStore + Send>;
-
-/// A key and a value for a request.
-fn key_and_value(alloc: Global, key: &[u8], value: &[u8]) -> Result<(Bytes, Bytes), AllocError> {
-    let key = Bytes::from_slice(alloc, key)?;
-    match Bytes::from_slice(alloc, value) {
-        Ok(value) => Ok((key, value)),
-        Err(refused) => {
-            drop(key);
-            Err(refused)
-        }
-    }
-}
-
-pub fn insert(alloc: Global, key: &[u8], value: &[u8]) -> Result<Request, AllocError> {
-    let (key, value) = key_and_value(alloc, key, value)?;
-    Ok(Request::Insert { key, value })
-}
-
-pub fn remove(alloc: Global, key: &[u8], value: &[u8]) -> Result<Request, AllocError> {
-    let (key, value) = key_and_value(alloc, key, value)?;
-    Ok(Request::Remove { key, value })
-}
-
-pub fn retrieve(alloc: Global, key: &[u8]) -> Result<Request, AllocError> {
-    Ok(Request::Retrieve {
-        key: Bytes::from_slice(alloc, key)?,
-    })
-}
 
 /// Whether the reply is a set of this value alone.
 pub fn is_one_value(reply: &Reply, value: &[u8]) -> bool {
@@ -99,14 +70,6 @@ pub fn settings(slots: usize, callers: usize, tries: u64, wait_ms: u64) -> Setti
     }
 }
 
-/// A ring of these settings that has no name yet.
-pub fn blank(alloc: Global, settings: Settings) -> Result<Blank, Fail> {
-    match Blank::new(alloc, settings) {
-        Ok(blank) => Ok(blank),
-        Err(_) => Err(Fail::from("no ring")),
-    }
-}
-
 /// A ring whose node A has this store.
 pub fn founded<J: Naming, S: EntryStore, R: Wait>(
     rt: &R,
@@ -124,54 +87,57 @@ pub fn founded<J: Naming, S: EntryStore, R: Wait>(
     None
 }
 
-/// A caller of the ring.
-pub fn opened<'a, J: Naming, S: EntryStore, R: Wait>(
+/// What node `via` answers a caller that inserts this value under this key.
+pub fn inserted<J: Naming, S: EntryStore, R: Wait + Clock>(
     rt: &R,
-    ring: &'a Ring<J, S>,
-    window: u64,
-) -> Option<Caller<'a, J, S>>
-    requires some { 1 ≤ window }
-    requires small { window ≤ 16 }
-{
-    ring.open_caller(rt, window).ok()
-}
-
-/// Whether node `via` answers Added to a caller.
-pub fn adds<J: Naming, S: EntryStore, R: Wait + Clock>(
-    rt: &R,
+    alloc: Global,
     caller: &mut Caller<'_, J, S>,
     via: u64,
-    request: Result<Request, AllocError>,
-) -> bool {
-    match request {
-        Ok(request) => is_added(caller.ask(rt, via, request)),
-        Err(_) => false,
+    (key, value): (&[u8], &[u8]),
+) -> Result<Reply, AskFault> {
+    match Request::insert(alloc, key, value) {
+        Ok(request) => caller.ask(rt, via, request),
+        Err(_) => Err(AskFault::Memory),
     }
 }
 
-/// Whether node `via` answers this value alone to a caller.
-pub fn sees<J: Naming, S: EntryStore, R: Wait + Clock>(
+/// What node `via` answers a caller that retrieves this key.
+pub fn retrieved<J: Naming, S: EntryStore, R: Wait + Clock>(
     rt: &R,
+    alloc: Global,
     caller: &mut Caller<'_, J, S>,
     via: u64,
-    request: Result<Request, AllocError>,
-    value: &[u8],
-) -> bool {
-    match request {
-        Ok(request) => is_told(caller.ask(rt, via, request), value),
-        Err(_) => false,
+    key: &[u8],
+) -> Result<Reply, AskFault> {
+    match Request::retrieve(alloc, key) {
+        Ok(request) => caller.ask(rt, via, request),
+        Err(_) => Err(AskFault::Memory),
     }
 }
 
-/// Why node `via` does not answer a caller.
-pub fn unheard<J: Naming, S: EntryStore, R: Wait + Clock>(
+/// What node `via` answers a call.
+pub fn call<J: Naming, S: EntryStore, R: Wait + Clock>(
     rt: &R,
     caller: &mut Caller<'_, J, S>,
     via: u64,
     request: Result<Request, AllocError>,
-) -> Option<AskFault> {
+) -> Result<Reply, AskFault> {
     match request {
-        Ok(request) => caller.ask(rt, via, request).err(),
-        Err(_) => None,
+        Ok(request) => caller.call(rt, via, request),
+        Err(_) => Err(AskFault::Memory),
+    }
+}
+
+/// The number of a retrieve of this key that is begun at node `via`.
+pub fn begin<J: Naming, S: EntryStore, R: Wait + Clock>(
+    rt: &R,
+    alloc: Global,
+    caller: &mut Caller<'_, J, S>,
+    via: u64,
+    key: &[u8],
+) -> Result<u64, BeginFault> {
+    match Request::retrieve(alloc, key) {
+        Ok(request) => caller.begin(rt, via, request),
+        Err(_) => Err(BeginFault::Memory),
     }
 }

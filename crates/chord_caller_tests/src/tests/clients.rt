@@ -1,10 +1,9 @@
 //! A client answers as a caller does, and hands out what it takes.
 
 use super::{added, insert, is_ask, number_of};
-use chord_caller::{ClientCore, Outcome, ResendFault, SubmitFault, Told};
-use chord_map::{Reply, Request, RequestFault, Values};
+use chord_caller::{Ask, ClientCore, Outcome, ResendFault, SubmitFault, Told};
+use chord_map::{Reply, RequestFault, Values};
 use std::alloc::Global;
-use std::test::Fail;
 
 fn is_added(outcome: Outcome) -> bool {
     let is_added = matches!(&outcome, Outcome::Fresh(Reply::Added));
@@ -24,23 +23,24 @@ fn is_foreign(outcome: Outcome) -> bool {
     is_foreign
 }
 
+/// The call of an insert under this key, or why it is refused.
+fn asks(alloc: Global, core: &mut ClientCore, key: &[u8]) -> Result<Ask, SubmitFault> {
+    match insert(alloc, key) {
+        Ok(request) => core.submit(request),
+        Err(_) => Err(SubmitFault::Memory),
+    }
+}
+
 /// Whether the insert under this key goes out as the call of client 7 of this number and floor.
-fn sends(
-    alloc: Global,
-    core: &mut ClientCore,
-    number: u64,
-    floor: u64,
-    key: &[u8],
-) -> Option<bool> {
-    let ask = core.submit(insert(alloc, key).ok()?).ok();
-    is_ask(ask, 7, number, floor, key)
+fn sends(alloc: Global, core: &mut ClientCore, number: u64, floor: u64, key: &[u8]) -> bool {
+    is_ask(asks(alloc, core, key).ok(), 7, number, floor, key)
 }
 
 /// Client 7 with a window of two, after it submitted two requests, and whether their calls were right.
 fn of_two(alloc: Global) -> Option<(ClientCore, bool, bool)> {
     let mut core = ClientCore::new(alloc, 7, 2).ok()?;
-    let first = sends(alloc, &mut core, 1, 0, b"a")?;
-    let second = sends(alloc, &mut core, 2, 0, b"b")?;
+    let first = sends(alloc, &mut core, 1, 0, b"a");
+    let second = sends(alloc, &mut core, 2, 0, b"b");
     Some((core, first, second))
 }
 
@@ -74,37 +74,37 @@ fn takes_the_second(core: &mut ClientCore) -> (bool, bool, Option<u64>, u64) {
 }
 
 /// What the client says of an insert under `c` before it comes.
-fn refusal(alloc: Global, core: &ClientCore) -> Option<Option<SubmitFault>> {
-    let request = insert(alloc, b"c").ok()?;
+fn refusal(alloc: Global, core: &ClientCore) -> Option<SubmitFault> {
+    let Ok(request) = insert(alloc, b"c") else {
+        return Some(SubmitFault::Memory);
+    };
     let refusal = core.refusal(&request);
     drop(request);
-    Some(refusal)
+    refusal
 }
 
 /// Why a third request is refused, and whether the first call goes out again as it was.
-fn waits(alloc: Global, core: &ClientCore) -> Option<(Option<SubmitFault>, bool)> {
-    let refusal = refusal(alloc, core)?;
-    let again = is_ask(core.resend(1).ok(), 7, 1, 0, b"a")?;
-    Some((refusal, again))
+fn waits(alloc: Global, core: &ClientCore) -> (Option<SubmitFault>, bool) {
+    let again = is_ask(core.resend(1).ok(), 7, 1, 0, b"a");
+    (refusal(alloc, core), again)
 }
 
 /// A client after the second reply, with what was found.
 fn second_first(
     alloc: Global,
-) -> Option<((bool, bool, Option<u64>, u64), Option<SubmitFault>, bool)> {
+) -> Option<((bool, bool, Option<u64>, u64), (Option<SubmitFault>, bool))> {
     let (mut core, _, _) = of_two(alloc)?;
     let second = takes_the_second(&mut core);
     let waits = waits(alloc, &core);
     drop(core);
-    let (refusal, again) = waits?;
-    Some((second, refusal, again))
+    Some((second, waits))
 }
 
 #[test]
 fn a_client_with_a_window_of_two(rt: HostRuntime) {
     let second = (true, true, Some(1), 0);
-    let waits = Some((second, Some(SubmitFault::WindowFull), true));
-    assert!(rt; second_first(rt.alloc()) == waits);
+    let waits = (Some(SubmitFault::WindowFull), true);
+    assert!(rt; second_first(rt.alloc()) == Some((second, waits)));
 }
 
 /// Whether the first reply is handed out then, the floor, and which request is pending.
@@ -114,14 +114,10 @@ fn takes_the_first(core: &mut ClientCore) -> (bool, u64, Option<u64>) {
 }
 
 /// Why a third request is refused, whether its call is right, and whether the first reply is known then.
-fn sends_the_third(
-    alloc: Global,
-    core: &mut ClientCore,
-) -> Option<(Option<SubmitFault>, bool, bool)> {
-    let refusal = refusal(alloc, core)?;
-    let sent = sends(alloc, core, 3, 2, b"c")?;
-    let known = is_known(core.take(added(7, 1)));
-    Some((refusal, sent, known))
+fn sends_the_third(alloc: Global, core: &mut ClientCore) -> (Option<SubmitFault>, bool, bool) {
+    let refusal = refusal(alloc, core);
+    let sent = sends(alloc, core, 3, 2, b"c");
+    (refusal, sent, is_known(core.take(added(7, 1))))
 }
 
 /// A client after both replies, with what was found.
@@ -131,7 +127,7 @@ fn both(alloc: Global) -> Option<((bool, u64, Option<u64>), (Option<SubmitFault>
     let first = takes_the_first(&mut core);
     let third = sends_the_third(alloc, &mut core);
     drop(core);
-    Some((first, third?))
+    Some((first, third))
 }
 
 #[test]
@@ -140,11 +136,11 @@ fn a_window_moves_on(rt: HostRuntime) {
     assert!(rt; both(rt.alloc()) == Some(moved));
 }
 
-/// Client 0 with a pending insert, and why an empty key was refused before.
+/// Client 0 after an empty key and an insert, and why the empty key was refused.
 fn pending_insert(alloc: Global) -> Option<(ClientCore, Option<SubmitFault>)> {
     let mut core = ClientCore::new(alloc, 0, 1).ok()?;
-    let empty = core.submit(insert(alloc, b"").ok()?).err();
-    number_of(core.submit(insert(alloc, b"a").ok()?).ok()?);
+    let empty = asks(alloc, &mut core, b"").err();
+    drop(asks(alloc, &mut core, b"a"));
     Some((core, empty))
 }
 
@@ -176,23 +172,13 @@ fn a_client_hears_no_foreign_reply(rt: HostRuntime) {
     assert!(rt; foreign(rt.alloc()) == Some((empty, (true, true, true), true, true)));
 }
 
-/// An insert, made again where there was no memory.
-fn request(alloc: Global) -> Option<Request> {
-    match insert(alloc, b"a") {
-        Ok(request) => Some(request),
-        Err(_) => insert(alloc, b"a").ok(),
-    }
-}
-
 /// The number of the call that is submitted, again where there was no memory: it is not pending then.
-fn submits(alloc: Global, core: &mut ClientCore, number: u64) -> Option<u64> {
-    match core.submit(request(alloc)?) {
-        Ok(ask) => Some(number_of(ask)),
-        Err(SubmitFault::Memory) if !core.is_pending(number) => {
-            Some(number_of(core.submit(request(alloc)?).ok()?))
-        }
-        Err(_) => None,
+fn submits(alloc: Global, core: &mut ClientCore, number: u64) -> Result<u64, SubmitFault> {
+    let told = asks(alloc, core, b"a").map(number_of);
+    if told == Err(SubmitFault::Memory) && !core.is_pending(number) {
+        return asks(alloc, core, b"a").map(number_of);
     }
+    told
 }
 
 /// A client with a window of three, made again where there was no memory.
@@ -204,22 +190,40 @@ fn of_three(alloc: Global) -> Option<ClientCore> {
 }
 
 /// The number that is submitted two ahead of this one, whether the reply to this one is handed out, and the floor.
-fn turns(alloc: Global, core: &mut ClientCore, number: u64) -> Option<(u64, bool, u64)> {
-    let ahead = submits(alloc, core, number.saturating_add(2))?;
+fn turns(
+    alloc: Global,
+    core: &mut ClientCore,
+    number: u64,
+) -> (Result<u64, SubmitFault>, bool, u64) {
+    let ahead = submits(alloc, core, number.saturating_add(2));
     let fresh = is_added(core.take(added(0, number)));
-    Some((ahead, fresh, core.floor()))
+    (ahead, fresh, core.floor())
+}
+
+/// Whether the client turns round at each number below this one.
+fn turns_until(alloc: Global, core: &mut ClientCore, end: u64) -> bool {
+    for number in 1..end {
+        let turned = (Ok(number.saturating_add(2)), true, number);
+        if turns(alloc, core, number) != turned {
+            return false;
+        }
+    }
+    true
+}
+
+/// The first two numbers, whether the client turns round at each number below 60, and which request is pending then.
+fn turned_round(alloc: Global) -> Option<([Result<u64, SubmitFault>; 2], bool, Option<u64>)> {
+    let mut core = of_three(alloc)?;
+    let first = submits(alloc, &mut core, 1);
+    let second = submits(alloc, &mut core, 2);
+    let turned = turns_until(alloc, &mut core, 60);
+    let pending = core.pending();
+    drop(core);
+    Some(([first, second], turned, pending))
 }
 
 #[test]
-fn a_client_turns_round_in_its_window(rt: HostRuntime) -> Result<(), Fail> {
-    let alloc = rt.alloc();
-    let mut core = of_three(alloc).ok_or("no client")?;
-    let first = submits(alloc, &mut core, 1);
-    assert!(rt; (first, submits(alloc, &mut core, 2)) == (Some(1), Some(2)));
-    for number in 1..60u64 {
-        let turned = Some((number.saturating_add(2), true, number));
-        assert!(rt; turns(alloc, &mut core, number) == turned);
-    }
-    assert!(rt; core.pending() == Some(60));
-    Ok(())
+fn a_client_turns_round_in_its_window(rt: HostRuntime) {
+    let turned = ([Ok(1), Ok(2)], true, Some(60));
+    assert!(rt; turned_round(rt.alloc()) == Some(turned));
 }

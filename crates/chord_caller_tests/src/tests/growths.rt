@@ -1,21 +1,11 @@
 //! Each growth refused in turn: a call that wants memory says so, and the caller is as it was.
 // With ample memory nothing is refused. A call that was refused is made again, with room for it.
 
-use super::{added, insert, number_of};
+use super::{added, asks, number_of};
 use chord_caller::{CallerCore, Heard, Note, ResendFault, SubmitFault, TakeFault};
-use chord_map::Request;
-use std::alloc::{AllocError, Global};
-use std::process::Abort;
-use std::test::Fail;
+use std::alloc::Global;
 
-fn request(alloc: Global) -> Result<Request, AllocError> {
-    match insert(alloc, b"a") {
-        Ok(request) => Ok(request),
-        Err(_) => insert(alloc, b"a"),
-    }
-}
-
-// Whether the caller submitted as many requests, and took the replies to as many of them.
+/// Whether the caller submitted as many requests, and took the replies to as many of them.
 fn stands_at(core: &CallerCore, submitted: u64, taken: u64) -> bool {
     let next = if taken < submitted {
         Some(taken.saturating_add(1))
@@ -29,74 +19,86 @@ fn stands_at(core: &CallerCore, submitted: u64, taken: u64) -> bool {
         && core.told().is_empty()
 }
 
-fn submits(rt: &impl Abort, alloc: Global, core: &mut CallerCore, number: u64) -> Result<(), Fail> {
-    match core.submit(request(alloc)?) {
-        Ok(ask) => assert!(rt; number_of(ask) == number),
-        Err(fault) => {
-            assert!(rt; fault == SubmitFault::Memory);
-            assert!(rt; stands_at(core, number.saturating_sub(1), 0), "at {number}");
-            let asked = number_of(core.submit(request(alloc)?)?);
-            assert!(rt; asked == number);
-        }
+/// Whether the next insert is submitted under this number.
+fn submits(alloc: Global, core: &mut CallerCore, number: u64) -> bool {
+    let mut told = asks(alloc, core, b"a").map(number_of);
+    if told == Err(SubmitFault::Memory) && stands_at(core, number.saturating_sub(1), 0) {
+        told = asks(alloc, core, b"a").map(number_of);
     }
-    Ok(())
+    told == Ok(number)
 }
 
-fn sends_again(rt: &impl Abort, core: &CallerCore, number: u64) -> Result<(), Fail> {
-    let ask = match core.resend(number) {
-        Ok(ask) => ask,
-        Err(fault) => {
-            assert!(rt; fault == ResendFault::Memory);
-            core.resend(number)?
-        }
-    };
-    assert!(rt; number_of(ask) == number);
-    Ok(())
-}
-
-fn takes(rt: &impl Abort, core: &mut CallerCore, number: u64, last: u64) -> Result<(), Fail> {
-    if let Err(fault) = core.take(added(0, number)) {
-        assert!(rt; fault == TakeFault::Memory);
-        assert!(rt;
-            stands_at(core, last, number.saturating_sub(1)),
-            "at {number}"
-        );
-        assert!(rt; core.take(added(0, number))? == Heard::Fresh);
+/// Whether the call of this number goes out again.
+fn sends_again(core: &CallerCore, number: u64) -> bool {
+    let mut told = core.resend(number).map(number_of);
+    if told == Err(ResendFault::Memory) {
+        told = core.resend(number).map(number_of);
     }
-    assert!(rt; stands_at(core, last, number), "at {number}");
-    Ok(())
+    told == Ok(number)
 }
 
-// What the caller shows, asked for again where there was no memory.
-fn shown(core: &CallerCore) -> Result<Note, AllocError> {
+/// Whether a caller with nine requests takes the reply to this one.
+fn takes(core: &mut CallerCore, number: u64) -> bool {
+    let mut told = core.take(added(0, number));
+    if told == Err(TakeFault::Memory) && stands_at(core, 9, number.saturating_sub(1)) {
+        told = core.take(added(0, number));
+    }
+    told == Ok(Heard::Fresh) && stands_at(core, 9, number)
+}
+
+/// What the caller shows.
+fn shown(core: &CallerCore) -> Option<Note> {
     match core.show() {
-        Ok(note) => Ok(note),
-        Err(_) => core.show(),
+        Ok(note) => Some(note),
+        Err(_) => core.show().ok(),
     }
 }
 
-fn meets(rt: &impl Abort, core: &mut CallerCore, note: &Note) -> Result<(), Fail> {
-    if core.meet(note).is_err() {
-        assert!(rt; stands_at(core, 0, 0));
-        core.meet(note)?;
+/// How much a new caller was told of that met the note.
+fn met(alloc: Global, note: &Note) -> Option<usize> {
+    let mut core = CallerCore::new(alloc, 1, 1);
+    let is_met = core.meet(note).is_ok() || (stands_at(&core, 0, 0) && core.meet(note).is_ok());
+    let told = core.told().len();
+    drop(core);
+    if is_met { Some(told) } else { None }
+}
+
+/// How much the caller shows, and how much another is told of then.
+fn shows(alloc: Global, core: &CallerCore) -> Option<(usize, usize)> {
+    let note = shown(core)?;
+    let len = note.done.len();
+    let met = met(alloc, &note);
+    drop(note);
+    Some((len, met?))
+}
+
+/// Whether nine inserts are submitted in turn.
+fn submits_nine(alloc: Global, core: &mut CallerCore) -> bool {
+    for number in 1..10u64 {
+        if !submits(alloc, core, number) {
+            return false;
+        }
     }
-    assert!(rt; core.told().len() == note.done.len());
-    Ok(())
+    true
+}
+
+/// Whether each of nine calls goes out again and is answered then.
+fn takes_nine(core: &mut CallerCore) -> bool {
+    for number in 1..10u64 {
+        if !sends_again(core, number) || !takes(core, number) {
+            return false;
+        }
+    }
+    true
 }
 
 #[test]
-fn a_refused_growth_leaves_the_caller(rt: HostRuntime) -> Result<(), Fail> {
+fn a_refused_growth_leaves_the_caller(rt: HostRuntime) {
     let alloc = rt.alloc();
     let mut core = CallerCore::new(alloc, 0, 16);
-    for number in 1..10u64 {
-        submits(&rt, alloc, &mut core, number)?;
-    }
-    for number in 1..10u64 {
-        sends_again(&rt, &core, number)?;
-        takes(&rt, &mut core, number, 9)?;
-    }
-    let note = shown(&core)?;
-    assert!(rt; note.done.len() == 9);
-    let mut other = CallerCore::new(alloc, 1, 1);
-    meets(&rt, &mut other, &note)
+    let is_submitted = submits_nine(alloc, &mut core);
+    let is_taken = takes_nine(&mut core);
+    let shown = shows(alloc, &core);
+    drop(core);
+    assert!(rt; (is_submitted, is_taken, shown) == (true, true, Some((9, 9))));
 }

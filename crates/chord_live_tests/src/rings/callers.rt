@@ -1,15 +1,12 @@
 //! Callers of a ring of one node.
 ghost use Rattle.std.specs.Prelude.{◌≡◌, []};
 
-use super::{
-    Store, adds, blank, founded, insert, is_added, is_told, opened, remove, retrieve, sees,
-    settings, unheard,
-};
+use super::{Store, begin, call, founded, inserted, is_added, is_told, retrieved, settings};
 use chord_live::{AskFault, Blank, Caller, CollectFault, LeaveFault, Open, Ring};
 use chord_map::{Reply, Request};
 use chord_store::{CappedStore, EntryStore};
 use chord_table::Naming;
-use std::alloc::{AllocError, Global};
+use std::alloc::Global;
 use std::marker::Brand;
 use std::sync::Wait;
 use std::test::Fail;
@@ -21,9 +18,14 @@ use std::time::Clock;
 fn a_capped_ring(rt: HostRuntime) -> Result<(), Fail> {
     let alloc = rt.alloc();
     let store: Store = Box::new(alloc, CappedStore::new(alloc, 1))?;
-    let blank = blank(alloc, settings(1, 3, 1, 2_000))?;
-    let done = capped_boxed::<Brand, _>(&rt, alloc, blank, store);
-    assert!(rt; done == Some((true, [true; 5])));
+    let done = match Blank::new(alloc, settings(1, 3, 1, 2_000)) {
+        Ok(blank) => capped_boxed::<Brand, _>(&rt, alloc, blank, store),
+        Err(_) => {
+            drop(store);
+            None
+        }
+    };
+    assert!(rt; done == Some((true, Some([true; 5]))));
     Ok(())
 }
 
@@ -32,7 +34,7 @@ fn capped_boxed<J: Naming + Send + Sync, R: Threads + Wait + Clock + Sync>(
     alloc: Global,
     blank: Blank,
     store: Store,
-) -> Option<(bool, [bool; 5])>
+) -> Option<(bool, Option<[bool; 5]>)>
     requires name { blank ≡ J.name }
     requires vacant { content store ≡ [] }
 {
@@ -45,23 +47,13 @@ fn capped<J: Naming + Send + Sync, S: EntryStore + Send, R: Threads + Wait + Clo
     alloc: Global,
     blank: Blank,
     store: S,
-) -> Option<(bool, [bool; 5])>
+) -> Option<(bool, Option<[bool; 5]>)>
     requires name { blank ≡ J.name }
     requires vacant { S.content store ≡ [] }
 {
-    let ring = founded::<J, S, R>(rt, blank, store)?;
-    let done = work_and_use(rt, alloc, &ring);
-    drop(ring);
-    done
-}
-
-/// Whether the worker ended, and what three callers found.
-fn work_and_use<J: Naming + Send + Sync, S: EntryStore + Send, R: Threads + Wait + Clock + Sync>(
-    rt: &R,
-    alloc: Global,
-    ring: &Ring<J, S>,
-) -> Option<(bool, [bool; 5])> {
-    let (ended, done) = thread::join(
+    let founded = founded::<J, S, R>(rt, blank, store)?;
+    let ring = &founded;
+    let done = thread::join(
         rt,
         move || ring.work(rt, 0, &Open).is_ok(),
         move || {
@@ -70,7 +62,8 @@ fn work_and_use<J: Naming + Send + Sync, S: EntryStore + Send, R: Threads + Wait
             done
         },
     );
-    Some((ended, done?))
+    drop(founded);
+    Some(done)
 }
 
 /// Whether what three callers do while the worker runs is answered as it is to be.
@@ -79,26 +72,18 @@ fn use_the_ring<J: Naming, S: EntryStore, R: Wait + Clock>(
     alloc: Global,
     ring: &Ring<J, S>,
 ) -> Option<[bool; 5]> {
-    let mut zero = opened(rt, ring, 4)?;
-    let done = use_with(rt, alloc, ring, &mut zero);
-    drop(zero);
-    done
-}
-
-/// The same with the first of them.
-fn use_with<J: Naming, S: EntryStore, R: Wait + Clock>(
-    rt: &R,
-    alloc: Global,
-    ring: &Ring<J, S>,
-    zero: &mut Caller<'_, J, S>,
-) -> Option<[bool; 5]> {
-    let mut one = opened(rt, ring, 4)?;
-    let filled = fill(rt, alloc, zero, &mut one);
-    let made = make_room(rt, alloc, zero, &mut one);
-    let collected = collect_turned(rt, alloc, ring) == Some(true);
-    let told = tell(zero, &mut one) == Ok(true);
-    let crashed = crash(rt, alloc, ring, zero);
+    let mut zero = ring.open_caller(rt, 4).ok()?;
+    let Ok(mut one) = ring.open_caller(rt, 4) else {
+        drop(zero);
+        return None;
+    };
+    let filled = fill(rt, alloc, &mut zero, &mut one);
+    let made = make_room(rt, alloc, &mut zero, &mut one);
+    let collected = collect_turned(rt, alloc, ring);
+    let told = tell(&mut zero, &mut one);
+    let crashed = crash(rt, alloc, ring, &mut zero);
     drop(one);
+    drop(zero);
     Some([filled, made, collected, told, crashed])
 }
 
@@ -109,9 +94,9 @@ fn fill<J: Naming, S: EntryStore, R: Wait + Clock>(
     zero: &mut Caller<'_, J, S>,
     one: &mut Caller<'_, J, S>,
 ) -> bool {
-    let first = adds(rt, zero, 0, insert(alloc, b"a", b"x"));
-    let full = unheard(rt, one, 0, insert(alloc, b"a", b"y"));
-    first && full == Some(AskFault::Full) && one.is_pending(1)
+    let first = is_added(inserted(rt, alloc, zero, 0, (b"a", b"x")));
+    let full = inserted(rt, alloc, one, 0, (b"a", b"y")).err();
+    first & (full == Some(AskFault::Full)) & one.is_pending(1)
 }
 
 /// Whether the request was answered Removed.
@@ -121,13 +106,13 @@ fn is_removed<F: Copy>(answer: Result<Reply, F>) -> bool {
     is_removed
 }
 
-/// Whether node 0 answers Removed.
+/// Whether node 0 answers Removed for `a` and x.
 fn removes<J: Naming, S: EntryStore, R: Wait + Clock>(
     rt: &R,
+    alloc: Global,
     caller: &mut Caller<'_, J, S>,
-    request: Result<Request, AllocError>,
 ) -> bool {
-    match request {
+    match Request::remove(alloc, b"a", b"x") {
         Ok(request) => is_removed(caller.ask(rt, 0, request)),
         Err(_) => false,
     }
@@ -140,36 +125,11 @@ fn make_room<J: Naming, S: EntryStore, R: Wait + Clock>(
     zero: &mut Caller<'_, J, S>,
     one: &mut Caller<'_, J, S>,
 ) -> bool {
-    let removed = removes(rt, zero, remove(alloc, b"a", b"x"));
+    let removed = removes(rt, alloc, zero);
     let retried = is_added(one.retry(rt, 0, 1));
     let collected = is_added(one.collect(rt, 1));
     let counts = (zero.mine().len(), zero.floor(), one.mine().len());
-    removed & retried & collected && counts == (2, 2, 1)
-}
-
-/// Whether the request is begun under this number.
-fn begins<J: Naming, S: EntryStore, R: Wait + Clock>(
-    rt: &R,
-    caller: &mut Caller<'_, J, S>,
-    request: Result<Request, AllocError>,
-    number: u64,
-) -> bool {
-    match request {
-        Ok(request) => caller.begin(rt, 0, request) == Ok(number),
-        Err(_) => false,
-    }
-}
-
-/// Whether node 0 answers y alone to a call.
-fn calls<J: Naming, S: EntryStore, R: Wait + Clock>(
-    rt: &R,
-    caller: &mut Caller<'_, J, S>,
-    request: Result<Request, AllocError>,
-) -> bool {
-    match request {
-        Ok(request) => is_told(caller.call(rt, 0, request), b"y"),
-        Err(_) => false,
-    }
+    removed & retried & collected & (counts == (2, 2, 1))
 }
 
 /// Two requests of a third caller in flight are collected in the other order.
@@ -177,14 +137,16 @@ fn collect_turned<J: Naming, S: EntryStore, R: Wait + Clock>(
     rt: &R,
     alloc: Global,
     ring: &Ring<J, S>,
-) -> Option<bool> {
-    let mut two = opened(rt, ring, 2)?;
-    let first = begins(rt, &mut two, retrieve(alloc, b"a"), 1);
-    let second = begins(rt, &mut two, retrieve(alloc, b"a"), 2);
+) -> bool {
+    let Ok(mut two) = ring.open_caller(rt, 2) else {
+        return false;
+    };
+    let first = begin(rt, alloc, &mut two, 0, b"a");
+    let second = begin(rt, alloc, &mut two, 0, b"a");
     let collected = collects(rt, &mut two);
-    let called = calls(rt, &mut two, retrieve(alloc, b"a"));
+    let called = is_told(call(rt, &mut two, 0, Request::retrieve(alloc, b"a")), b"y");
     drop(two);
-    Some(first & second & collected & called)
+    collected & called & ((first, second) == (Ok(1), Ok(2)))
 }
 
 /// Requests 2 and 1 were begun, and no other.
@@ -192,19 +154,23 @@ fn collects<J: Naming, S: EntryStore, R: Wait + Clock>(rt: &R, two: &mut Caller<
     let second = is_told(two.collect(rt, 2), b"y");
     let first = is_told(two.collect(rt, 1), b"y");
     let third = two.collect(rt, 3).err();
-    second && first && third == Some(CollectFault::NotBegun)
+    second & first & (third == Some(CollectFault::NotBegun))
 }
 
 /// Caller 1 shows what it knows, and caller 0 meets it.
-fn tell<J: Naming, S: EntryStore>(
-    zero: &mut Caller<'_, J, S>,
-    one: &mut Caller<'_, J, S>,
-) -> Result<bool, AllocError> {
-    let note = one.show()?;
-    zero.meet(note)?;
+fn tell<J: Naming, S: EntryStore>(zero: &mut Caller<'_, J, S>, one: &mut Caller<'_, J, S>) -> bool {
+    let Ok(note) = one.show() else {
+        return false;
+    };
+    if zero.meet(note).is_err() {
+        return false;
+    }
     match zero.told() {
-        [done] => Ok((done.caller, done.number) == (1, 1) && done.reply == Reply::Added),
-        _ => Ok(false),
+        [done] => {
+            let is_first = (done.caller == 1) & (done.number == 1);
+            is_first & matches!(&done.reply, Reply::Added)
+        }
+        _ => false,
     }
 }
 
@@ -215,11 +181,11 @@ fn crash<J: Naming, S: EntryStore, R: Wait + Clock>(
     ring: &Ring<J, S>,
     zero: &mut Caller<'_, J, S>,
 ) -> bool {
-    let seen = sees(rt, zero, 0, retrieve(alloc, b"a"), b"y");
+    let seen = is_told(retrieved(rt, alloc, zero, 0, b"a"), b"y");
     zero.look();
     let crashed = crashes(rt, ring);
-    let unheard = unheard(rt, zero, 0, retrieve(alloc, b"a"));
-    seen && crashed && unheard == Some(AskFault::NoAnswer)
+    let unheard = retrieved(rt, alloc, zero, 0, b"a").err();
+    seen & crashed & (unheard == Some(AskFault::NoAnswer))
 }
 
 /// A node that crashed crashes again and is ticked, and does not leave.

@@ -1,13 +1,13 @@
 //! One node's events, without a lock.
 ghost use Rattle.std.specs.Prelude.{◌≤◌};
 
-use super::{A, C, insert};
+use super::{A, C};
 use chord_caller::{Ask, Told};
 use chord_handover::Ticket;
 use chord_ident::Id;
 use chord_links::{Links, Peer};
 use chord_live::{Target, Tidied, deal, tidy};
-use chord_map::Reply;
+use chord_map::{Reply, Request};
 use chord_node::{Message, Node};
 use chord_store::CappedStore;
 use std::alloc::{AllocError, Global};
@@ -31,7 +31,7 @@ fn ask(alloc: Global, number: u64, key: &[u8]) -> Result<Ask, AllocError>
         caller: 7,
         number,
         floor: 0,
-        request: insert(alloc, key, b"x")?,
+        request: Request::insert(alloc, key, b"x")?,
         hops: 255,
     })
 }
@@ -41,36 +41,32 @@ fn founder(alloc: Global, limit: u64) -> Option<Node<CappedStore>> {
     Node::found(alloc, ZERO, 3, CappedStore::new(alloc, limit)).ok()
 }
 
-/// What the node does at a tick, at the next one, and once it leaves.
-fn tidied(node: &mut Node<CappedStore>) -> Option<(Tidied, Tidied, Tidied)> {
-    let first = tidy(node, Id::new(C)).ok()?;
-    let second = tidy(node, Id::new(C)).ok()?;
-    node.begin_leave().ok()?;
-    let third = tidy(node, Id::new(C)).ok()?;
-    Some((first, second, third))
-}
-
-/// What a node alone does so.
-fn tidies(alloc: Global) -> Option<(Tidied, Tidied, Tidied)> {
+/// What a node alone does at a tick, at the next one, and once it leaves, and whether it leaves.
+fn tidies(alloc: Global) -> Option<([Option<Tidied>; 3], bool)> {
     let mut node = founder(alloc, 4)?;
-    let steps = tidied(&mut node);
+    let first = tidy(&mut node, Id::new(C)).ok();
+    let second = tidy(&mut node, Id::new(C)).ok();
+    let leaves = node.begin_leave().is_ok();
+    let third = tidy(&mut node, Id::new(C)).ok();
     drop(node);
-    steps
+    Some(([first, second, third], leaves))
 }
 
 #[test]
 fn a_node_alone_tidies(rt: HostRuntime) {
-    let steps = (Tidied::Cut, Tidied::Give(0), Tidied::Nothing);
-    assert!(rt; tidies(rt.alloc()) == Some(steps));
+    let steps = [
+        Some(Tidied::Cut),
+        Some(Tidied::Give(0)),
+        Some(Tidied::Nothing),
+    ];
+    assert!(rt; tidies(rt.alloc()) == Some((steps, true)));
 }
 
+/// What a node sends for a call.
+type Sent = Result<Option<(Target, Message)>, AllocError>;
+
 /// What the node sends for the call of this number under this key.
-fn dealt(
-    alloc: Global,
-    node: &mut Node<CappedStore>,
-    number: u64,
-    key: &[u8],
-) -> Result<Option<(Target, Message)>, AllocError>
+fn dealt(alloc: Global, node: &mut Node<CappedStore>, number: u64, key: &[u8]) -> Sent
     requires some { 1 ≤ number }
     requires near { number ≤ 16 }
 {
@@ -78,40 +74,37 @@ fn dealt(
 }
 
 /// Whether the first call of caller 7 is answered Added to it.
-fn is_added(dealt: Option<(Target, Message)>) -> bool {
-    let is_added = match &dealt {
-        Some((Target::Caller(7), Message::Told(told))) => {
-            (told.caller, told.number) == (7, 1) && told.reply == Reply::Added
+fn is_added(sent: Sent) -> bool {
+    let is_added = match &sent {
+        Ok(Some((Target::Caller(7), Message::Told(told)))) => {
+            let is_first = (told.caller == 7) & (told.number == 1);
+            is_first & matches!(&told.reply, Reply::Added)
         }
         _ => false,
     };
-    drop(dealt);
+    drop(sent);
     is_added
 }
 
 /// Whether the second one is answered Full.
-fn is_full(dealt: Option<(Target, Message)>) -> bool {
-    let is_full = match &dealt {
-        Some((Target::Caller(7), Message::Full { caller, number })) => (*caller, *number) == (7, 2),
+fn is_full(sent: Sent) -> bool {
+    let is_full = match &sent {
+        Ok(Some((Target::Caller(7), Message::Full { caller, number }))) => {
+            (*caller == 7) & (*number == 2)
+        }
         _ => false,
     };
-    drop(dealt);
+    drop(sent);
     is_full
 }
 
-/// Whether the node answers the first call with Added and the second with Full.
-fn answered(alloc: Global, node: &mut Node<CappedStore>) -> Option<(bool, bool)> {
-    let told = is_added(dealt(alloc, node, 1, b"abc").ok()?);
-    let full = is_full(dealt(alloc, node, 2, b"b").ok()?);
-    Some((told, full))
-}
-
-/// The same of a node with room for one pair.
+/// Whether a node with room for one pair answers the first call with Added and the second with Full.
 fn answers(alloc: Global) -> Option<(bool, bool)> {
     let mut node = founder(alloc, 1)?;
-    let answered = answered(alloc, &mut node);
+    let told = is_added(dealt(alloc, &mut node, 1, b"abc"));
+    let full = is_full(dealt(alloc, &mut node, 2, b"b"));
     drop(node);
-    answered
+    Some((told, full))
 }
 
 #[test]
@@ -119,23 +112,22 @@ fn a_call_is_answered_to_its_caller(rt: HostRuntime) {
     assert!(rt; answers(rt.alloc()) == Some((true, true)));
 }
 
-/// Whether the node sends nothing for a call.
-fn sends_nothing(alloc: Global, node: &mut Node<CappedStore>) -> Option<bool> {
-    let sent = dealt(alloc, node, 1, b"abc").ok()?;
-    let sends_nothing = sent.is_none();
+/// Whether nothing is sent.
+fn is_nothing(sent: Sent) -> bool {
+    let is_nothing = matches!(&sent, Ok(None));
     drop(sent);
-    Some(sends_nothing)
+    is_nothing
 }
 
-/// The same of a node that holds nothing and knows no other.
-fn drops(alloc: Global) -> Option<bool> {
+/// Whether a node that holds nothing and knows no other sends nothing for a call.
+fn drops(alloc: Global) -> bool {
     let mut node = Node::newborn(alloc, Links::alone(ONE, 3), CappedStore::new(alloc, 4));
-    let sends_nothing = sends_nothing(alloc, &mut node);
+    let sends_nothing = is_nothing(dealt(alloc, &mut node, 1, b"abc"));
     drop(node);
     sends_nothing
 }
 
 #[test]
 fn a_newborn_node_drops_a_call(rt: HostRuntime) {
-    assert!(rt; drops(rt.alloc()) == Some(true));
+    assert!(rt; drops(rt.alloc()));
 }

@@ -2,35 +2,37 @@
 //! refused; the tests are run with each growth refused in turn too.
 ghost use Rattle.std.specs.Prelude.{◌≡◌, []};
 
-use super::{A, C, insert, is_added, is_told, opened, retrieve, settings, succeeds};
+use super::{A, C, begin, inserted, is_added, is_told, settings, succeeds};
 use chord_ident::Id;
 use chord_live::{
     AskFault, BeginFault, Blank, Caller, CollectFault, CreateFault, JoinFault, NewFault, Open,
     RetryFault, Ring, TickFault,
 };
-use chord_map::{Reply, Request};
 use chord_store::{CappedStore, EntryStore};
 use chord_table::Naming;
-use std::alloc::{AllocError, Global};
+use std::alloc::Global;
 use std::marker::Brand;
 use std::sync::Wait;
-use std::test::Fail;
 use std::thread;
 use std::thread::Threads;
 use std::time::Clock;
 
 #[test]
-fn refused_growths_of_a_ring(rt: HostRuntime) -> Result<(), Fail> {
-    let alloc = rt.alloc();
-    let limits = settings(2, 2, 20, 50);
-    let blank = match Blank::new(alloc, limits) {
-        Ok(blank) => blank,
-        Err(NewFault::BadSettings) => return Err(Fail::from("bad settings")),
-        Err(NewFault::Memory) => Blank::new(alloc, limits)?,
+fn refused_growths_of_a_ring(rt: HostRuntime) {
+    let done = match unnamed(rt.alloc()) {
+        Ok(blank) => two_nodes::<Brand, _>(&rt, rt.alloc(), blank),
+        Err(_) => false,
     };
-    let done = two_nodes::<Brand, _>(&rt, alloc, blank);
-    assert!(rt; done == Some(true));
-    Ok(())
+    assert!(rt; done);
+}
+
+/// A ring for two nodes and two callers, made again where it was out of memory.
+fn unnamed(alloc: Global) -> Result<Blank, NewFault> {
+    let limits = settings(2, 2, 20, 50);
+    match Blank::new(alloc, limits) {
+        Err(NewFault::Memory) => Blank::new(alloc, limits),
+        made => made,
+    }
 }
 
 /// Node 0, made again with the same store where it was out of memory.
@@ -64,24 +66,11 @@ fn ticked<J: Naming, S: EntryStore>(rt: &impl Wait, ring: &Ring<J, S>, no: u64) 
     }
 }
 
-/// Insert `x` under `b`, made again where it was out of memory.
-fn insert_x(alloc: Global) -> Result<Request, AllocError> {
-    match insert(alloc, b"b", b"x") {
-        Ok(request) => Ok(request),
-        Err(_) => insert(alloc, b"b", b"x"),
-    }
-}
-
-/// Retrieve `b`, the same.
-fn retrieve_b(alloc: Global) -> Result<Request, AllocError> {
-    match retrieve(alloc, b"b") {
-        Ok(request) => Ok(request),
-        Err(_) => retrieve(alloc, b"b"),
-    }
-}
-
-/// A second node, and three rounds of ticks.
+/// Two nodes, and three rounds of ticks.
 fn settled<J: Naming, R: Wait>(rt: &R, alloc: Global, ring: &Ring<J, CappedStore>) -> bool {
+    if !created(rt, ring, CappedStore::new(alloc, 4)) {
+        return false;
+    }
     if !joined(rt, ring, CappedStore::new(alloc, 4)) {
         return false;
     }
@@ -98,26 +87,16 @@ fn two_nodes<J: Naming + Send + Sync, R: Threads + Wait + Clock + Sync>(
     rt: &R,
     alloc: Global,
     blank: Blank,
-) -> Option<bool>
+) -> bool
     requires { blank ≡ J.name }
 {
-    let ring = match blank.open::<J, CappedStore>() {
-        Ok(ring) => ring,
-        Err(_) => return Some(true),
+    let Ok(opened) = blank.open::<J, CappedStore>() else {
+        return true;
     };
-    let done = made_and_used(rt, alloc, &ring);
-    drop(ring);
-    done
-}
-
-/// The same of a ring with no node.
-fn made_and_used<J: Naming + Send + Sync, R: Threads + Wait + Clock + Sync>(
-    rt: &R,
-    alloc: Global,
-    ring: &Ring<J, CappedStore>,
-) -> Option<bool> {
-    if !created(rt, ring, CappedStore::new(alloc, 4)) || !settled(rt, alloc, ring) {
-        return None;
+    let ring = &opened;
+    if !settled(rt, alloc, ring) {
+        drop(opened);
+        return false;
     }
     let (ended, done) = thread::join(
         rt,
@@ -128,132 +107,114 @@ fn made_and_used<J: Naming + Send + Sync, R: Threads + Wait + Clock + Sync>(
             done
         },
     );
-    Some(done? && ended)
+    drop(opened);
+    done & ended
 }
 
+/// Whether two callers are answered.
 fn use_the_ring<J: Naming, S: EntryStore, R: Wait + Clock>(
     rt: &R,
     alloc: Global,
     ring: &Ring<J, S>,
-) -> Option<bool> {
-    let mut zero = opened(rt, ring, 4)?;
-    let done = use_with(rt, alloc, ring, &mut zero);
-    drop(zero);
-    done
-}
-
-/// The same with the first caller.
-fn use_with<J: Naming, S: EntryStore, R: Wait + Clock>(
-    rt: &R,
-    alloc: Global,
-    ring: &Ring<J, S>,
-    zero: &mut Caller<'_, J, S>,
-) -> Option<bool> {
-    let mut one = opened(rt, ring, 4)?;
-    let added = adds(rt, alloc, zero) == Some(true);
-    let seen = sees(rt, alloc, &mut one) == Some(true);
-    let told = told(zero, &mut one);
+) -> bool {
+    let Ok(mut zero) = ring.open_caller(rt, 4) else {
+        return false;
+    };
+    let Ok(mut one) = ring.open_caller(rt, 4) else {
+        drop(zero);
+        return false;
+    };
+    let added = adds(rt, alloc, &mut zero);
+    let seen = sees(rt, alloc, &mut one);
+    let told = told(&mut zero, &mut one);
     drop(one);
-    Some(added & seen & told)
+    drop(zero);
+    added & seen & told
 }
 
-/// Whether a caller is answered Added.
+/// Whether a caller is answered Added, asked again after a refused growth.
 fn adds<J: Naming, S: EntryStore, R: Wait + Clock>(
     rt: &R,
     alloc: Global,
     caller: &mut Caller<'_, J, S>,
-) -> Option<bool> {
-    let (request, again) = insert_x(alloc).ok().zip(insert_x(alloc).ok())?;
-    Some(asked(rt, caller, request, again))
+) -> bool {
+    let answered = inserted(rt, alloc, caller, 0, (b"b", b"x"));
+    let is_refused = matches!(&answered, Err(AskFault::Memory));
+    let mut added = is_added(answered);
+    if is_refused {
+        added = adds_again(rt, alloc, caller);
+    }
+    added & (caller.floor() == 1)
 }
 
-/// Whether a caller is told of x.
+/// Sends the request again where it is pending, else asks another one.
+fn adds_again<J: Naming, S: EntryStore, R: Wait + Clock>(
+    rt: &R,
+    alloc: Global,
+    caller: &mut Caller<'_, J, S>,
+) -> bool {
+    if caller.is_pending(1) {
+        return is_retried(rt, caller);
+    }
+    is_added(inserted(rt, alloc, caller, 0, (b"b", b"x")))
+}
+
+/// Sends the pending request again, twice where it was out of memory.
+fn is_retried<J: Naming, S: EntryStore, R: Wait + Clock>(
+    rt: &R,
+    caller: &mut Caller<'_, J, S>,
+) -> bool {
+    let answered = caller.retry(rt, 0, 1);
+    let is_refused = matches!(&answered, Err(RetryFault::Memory));
+    let added = is_added(answered);
+    if is_refused {
+        return is_added(caller.retry(rt, 0, 1));
+    }
+    added
+}
+
+/// Whether a caller that begins a retrieve is told of x.
 fn sees<J: Naming, S: EntryStore, R: Wait + Clock>(
     rt: &R,
     alloc: Global,
     caller: &mut Caller<'_, J, S>,
-) -> Option<bool> {
-    let (request, again) = retrieve_b(alloc).ok().zip(retrieve_b(alloc).ok())?;
-    Some(begun_and_collected(rt, caller, request, again))
-}
-
-/// Sends the pending request again, twice where it was out of memory.
-fn retried<J: Naming, S: EntryStore, R: Wait + Clock>(
-    rt: &R,
-    caller: &mut Caller<'_, J, S>,
-) -> Result<Reply, RetryFault> {
-    let answered = caller.retry(rt, 0, 1);
-    if matches!(&answered, Err(RetryFault::Memory)) {
-        drop(answered);
-        return caller.retry(rt, 0, 1);
-    }
-    answered
-}
-
-/// Asks until the insert is executed; a request that is pending after a refused growth is sent again.
-fn asked<J: Naming, S: EntryStore, R: Wait + Clock>(
-    rt: &R,
-    caller: &mut Caller<'_, J, S>,
-    request: Request,
-    again: Request,
 ) -> bool {
-    let answered = caller.ask(rt, 0, request);
-    let is_refused = matches!(&answered, Err(AskFault::Memory));
-    let mut added = is_added(answered);
-    if is_refused {
-        added = asked_again(rt, caller, again);
-    } else {
-        drop(again);
-    }
-    added && caller.floor() == 1
-}
-
-/// Sends the request again where it is pending, else asks the other one.
-fn asked_again<J: Naming, S: EntryStore, R: Wait + Clock>(
-    rt: &R,
-    caller: &mut Caller<'_, J, S>,
-    again: Request,
-) -> bool {
-    if caller.is_pending(1) {
-        drop(again);
-        return is_added(retried(rt, caller));
-    }
-    is_added(caller.ask(rt, 0, again))
-}
-
-/// Begins a retrieve and collects it.
-fn begun_and_collected<J: Naming, S: EntryStore, R: Wait + Clock>(
-    rt: &R,
-    caller: &mut Caller<'_, J, S>,
-    request: Request,
-    again: Request,
-) -> bool {
-    let mut begun = caller.begin(rt, 0, request);
+    let mut begun = begin(rt, alloc, caller, 0, b"b");
     if begun == Err(BeginFault::Memory) {
-        begun = caller.begin(rt, 0, again);
-    } else {
-        drop(again);
+        begun = begin(rt, alloc, caller, 0, b"b");
     }
-    begun == Ok(1) && is_told(collected(rt, caller), b"x")
+    begun == Ok(1) && collects(rt, caller)
 }
 
 /// Collects the reply to the first request, which is sent again where it was lost.
-fn collected<J: Naming, S: EntryStore, R: Wait + Clock>(
+fn collects<J: Naming, S: EntryStore, R: Wait + Clock>(
     rt: &R,
     caller: &mut Caller<'_, J, S>,
-) -> Result<Reply, CollectFault> {
-    let collected = caller.collect(rt, 1);
-    if !matches!(
-        &collected,
+) -> bool {
+    let told = caller.collect(rt, 1);
+    let is_lost = matches!(
+        &told,
         Err(CollectFault::NoAnswer) | Err(CollectFault::Memory)
-    ) {
-        return collected;
+    );
+    let seen = is_told(told, b"x");
+    if is_lost {
+        return collects_again(rt, caller);
     }
-    drop(collected);
-    match caller.retry(rt, 0, 1) {
-        Ok(reply) => Ok(reply),
-        Err(_) => caller.collect(rt, 1),
+    seen
+}
+
+/// Sends the request again, and collects its reply where none came.
+fn collects_again<J: Naming, S: EntryStore, R: Wait + Clock>(
+    rt: &R,
+    caller: &mut Caller<'_, J, S>,
+) -> bool {
+    let told = caller.retry(rt, 0, 1);
+    let is_lost = told.is_err();
+    let seen = is_told(told, b"x");
+    if is_lost {
+        return is_told(caller.collect(rt, 1), b"x");
     }
+    seen
 }
 
 /// Shows what one caller knows until the other has met it.

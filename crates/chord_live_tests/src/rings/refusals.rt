@@ -1,9 +1,7 @@
 //! Which calls are refused, and in which order.
 ghost use Rattle.std.specs.Prelude.{◌≡◌};
 
-use super::{
-    A, B, C, blank, founded, insert, is_added, opened, retrieve, settings, succeeds, unheard,
-};
+use super::{A, B, C, begin, call, founded, is_added, retrieved, settings, succeeds};
 use chord_ident::Id;
 use chord_links::Peer;
 use chord_live::{
@@ -13,10 +11,9 @@ use chord_live::{
 use chord_map::{Bytes, Request, RequestFault};
 use chord_store::{CappedStore, EntryStore, Inserted};
 use chord_table::Naming;
-use std::alloc::{AllocError, Global};
+use std::alloc::Global;
 use std::marker::Brand;
 use std::sync::Wait;
-use std::test::Fail;
 use std::time::Clock;
 
 /// Whether a ring of these settings is refused.
@@ -39,10 +36,7 @@ fn settings_have_limits(rt: HostRuntime) {
         (1, 1, 1, 60_001),
     ] {
         let limits = settings(slots, callers, tries, wait_ms);
-        assert!(rt;
-            are_bad(rt.alloc(), limits),
-            "{slots}, {callers}, {tries}, {wait_ms}"
-        );
+        assert!(rt; are_bad(rt.alloc(), limits), "{limits:?}");
     }
 }
 
@@ -78,7 +72,7 @@ fn takes_one(alloc: Global, store: &mut CappedStore) -> bool {
     let first = store.insert(&key, b"x".as_slice());
     let second = store.insert(&key, b"y".as_slice());
     drop(key);
-    first == Ok(Inserted::Added) && second.is_err()
+    (first == Ok(Inserted::Added)) & second.is_err()
 }
 
 /// Whether there is no node, for this reason, and its store came back.
@@ -94,11 +88,12 @@ fn is_refused<F: PartialEq + Copy>(
 }
 
 #[test]
-fn a_ring_refuses(rt: HostRuntime) -> Result<(), Fail> {
-    let blank = blank(rt.alloc(), settings(2, 1, 1, 10))?;
-    let refused = refusals::<Brand, _>(&rt, rt.alloc(), blank);
+fn a_ring_refuses(rt: HostRuntime) {
+    let refused = match Blank::new(rt.alloc(), settings(2, 1, 1, 10)) {
+        Ok(blank) => refusals::<Brand, _>(&rt, rt.alloc(), blank),
+        Err(_) => None,
+    };
     assert!(rt; refused == Some([true; 6]));
-    Ok(())
 }
 
 /// Whether a ring refuses what it is to while it has no node, none but the first, two, one that left, and once it is
@@ -203,21 +198,17 @@ fn is_stopped<J: Naming, R: Wait + Clock>(
     let created = ring.create(rt, Id::new(B), CappedStore::new(alloc, 1));
     let created = is_refused(alloc, created, CreateFault::Stopped);
     let ticked = ring.tick(rt, 0) == Err(TickFault::Stopped);
-    let opened = matches!(open_fault(rt, ring), Some(OpenFault::Stopped));
+    let opened = ring.open_caller(rt, 1).err() == Some(OpenFault::Stopped);
     joined & created & ticked & opened
 }
 
-/// Why no caller is opened.
-fn open_fault<J: Naming, R: Wait>(rt: &R, ring: &Ring<J, CappedStore>) -> Option<OpenFault> {
-    ring.open_caller(rt, 1).err()
-}
-
 #[test]
-fn a_caller_refuses(rt: HostRuntime) -> Result<(), Fail> {
-    let blank = blank(rt.alloc(), settings(1, 1, 1, 1))?;
-    let refused = caller_refusals::<Brand, _>(&rt, rt.alloc(), blank);
+fn a_caller_refuses(rt: HostRuntime) {
+    let refused = match Blank::new(rt.alloc(), settings(1, 1, 1, 1)) {
+        Ok(blank) => caller_refusals::<Brand, _>(&rt, rt.alloc(), blank),
+        Err(_) => None,
+    };
     assert!(rt; refused == Some([true; 6]));
-    Ok(())
 }
 
 /// Whether a ring refuses a second caller, and its one caller what it is to.
@@ -229,39 +220,19 @@ fn caller_refusals<J: Naming, R: Wait + Clock>(
     requires { blank ≡ J.name }
 {
     let ring = founded::<J, CappedStore, R>(rt, blank, CappedStore::new(alloc, 1))?;
-    let refused = refusals_of_one(rt, alloc, &ring);
-    drop(ring);
-    refused
-}
-
-/// The same of a ring with a node.
-fn refusals_of_one<J: Naming, R: Wait + Clock>(
-    rt: &R,
-    alloc: Global,
-    ring: &Ring<J, CappedStore>,
-) -> Option<[bool; 6]> {
-    let mut caller = opened(rt, ring, 1)?;
-    let spent = matches!(open_fault(rt, ring), Some(OpenFault::CallersSpent));
+    let Ok(mut caller) = ring.open_caller(rt, 1) else {
+        drop(ring);
+        return None;
+    };
+    let spent = ring.open_caller(rt, 1).err() == Some(OpenFault::CallersSpent);
     let bad = bad_requests(rt, alloc, &mut caller);
     let unknown = unknown_nodes(rt, alloc, &mut caller);
     let nothing = nothing_pending(rt, &mut caller);
     let full = a_full_window(rt, alloc, &mut caller);
     let unanswered = no_answers(rt, &mut caller);
     drop(caller);
+    drop(ring);
     Some([spent, bad, unknown, nothing, full, unanswered])
-}
-
-/// Why no request is begun at this node.
-fn not_begun<J: Naming, R: Wait + Clock>(
-    rt: &R,
-    caller: &mut Caller<'_, J, CappedStore>,
-    via: u64,
-    request: Result<Request, AllocError>,
-) -> Option<BeginFault> {
-    match request {
-        Ok(request) => caller.begin(rt, via, request).err(),
-        Err(_) => None,
-    }
 }
 
 /// A request with an empty key is refused, whatever the node.
@@ -270,23 +241,10 @@ fn bad_requests<J: Naming, R: Wait + Clock>(
     alloc: Global,
     caller: &mut Caller<'_, J, CappedStore>,
 ) -> bool {
-    let begun = not_begun(rt, caller, 5, retrieve(alloc, b""));
-    let asked = unheard(rt, caller, 5, retrieve(alloc, b""));
-    begun == Some(BeginFault::Bad(RequestFault::KeyEmpty))
-        && asked == Some(AskFault::Bad(RequestFault::KeyEmpty))
-}
-
-/// Why node `via` does not answer a call.
-fn not_called<J: Naming, R: Wait + Clock>(
-    rt: &R,
-    caller: &mut Caller<'_, J, CappedStore>,
-    via: u64,
-    request: Result<Request, AllocError>,
-) -> Option<AskFault> {
-    match request {
-        Ok(request) => caller.call(rt, via, request).err(),
-        Err(_) => None,
-    }
+    let begun = begin(rt, alloc, caller, 5, b"");
+    let asked = retrieved(rt, alloc, caller, 5, b"").err();
+    let not_begun = begun == Err(BeginFault::Bad(RequestFault::KeyEmpty));
+    not_begun & (asked == Some(AskFault::Bad(RequestFault::KeyEmpty)))
 }
 
 /// There is no node 5.
@@ -295,9 +253,9 @@ fn unknown_nodes<J: Naming, R: Wait + Clock>(
     alloc: Global,
     caller: &mut Caller<'_, J, CappedStore>,
 ) -> bool {
-    let begun = not_begun(rt, caller, 5, retrieve(alloc, b"a"));
-    let called = not_called(rt, caller, 5, retrieve(alloc, b"a"));
-    begun == Some(BeginFault::NoSuchNode) && called == Some(AskFault::NoSuchNode)
+    let begun = begin(rt, alloc, caller, 5, b"a");
+    let called = call(rt, caller, 5, Request::retrieve(alloc, b"a")).err();
+    (begun == Err(BeginFault::NoSuchNode)) & (called == Some(AskFault::NoSuchNode))
 }
 
 /// Nothing was sent so far.
@@ -309,21 +267,7 @@ fn nothing_pending<J: Naming, R: Wait + Clock>(
     let collected = caller.collect(rt, 1).err();
     let retried = caller.retry(rt, 0, 1).err();
     let is_collected = collected == Some(CollectFault::NotBegun);
-    pending.is_none() && is_collected && retried == Some(RetryFault::Idle)
-}
-
-/// Whether the first request is begun.
-fn begins_one<J: Naming, R: Wait + Clock>(
-    rt: &R,
-    caller: &mut Caller<'_, J, CappedStore>,
-    request: Result<Request, AllocError>,
-) -> bool {
-    let begun = match request {
-        Ok(request) => caller.begin(rt, 0, request),
-        Err(_) => return false,
-    };
-    let stands = (caller.is_pending(1), caller.pending(), caller.floor());
-    begun == Ok(1) && stands == (true, Some(1), 0)
+    pending.is_none() & is_collected & (retried == Some(RetryFault::Idle))
 }
 
 /// One request fills the window, and a second one is refused before its node is looked for.
@@ -332,10 +276,13 @@ fn a_full_window<J: Naming, R: Wait + Clock>(
     alloc: Global,
     caller: &mut Caller<'_, J, CappedStore>,
 ) -> bool {
-    let begun = begins_one(rt, caller, retrieve(alloc, b"a"));
-    let more = not_begun(rt, caller, 5, retrieve(alloc, b"a"));
-    let asked = unheard(rt, caller, 5, retrieve(alloc, b"a"));
-    begun && more == Some(BeginFault::WindowFull) && asked == Some(AskFault::WindowFull)
+    let begun = begin(rt, alloc, caller, 0, b"a");
+    let stands = (caller.is_pending(1), caller.pending(), caller.floor());
+    let more = begin(rt, alloc, caller, 5, b"a");
+    let asked = retrieved(rt, alloc, caller, 5, b"a").err();
+    let is_begun = (begun, more) == (Ok(1), Err(BeginFault::WindowFull));
+    let is_asked = asked == Some(AskFault::WindowFull);
+    is_begun & is_asked & (stands == (true, Some(1), 0))
 }
 
 /// The request that was sent waits, since nobody works for node 0.
@@ -347,23 +294,12 @@ fn no_answers<J: Naming, R: Wait + Clock>(rt: &R, caller: &mut Caller<'_, J, Cap
 }
 
 #[test]
-fn a_stopped_ring_does_not_answer(rt: HostRuntime) -> Result<(), Fail> {
-    let blank = blank(rt.alloc(), settings(1, 1, 1_000, 60_000))?;
-    let unheard = stopped::<Brand, _>(&rt, rt.alloc(), blank);
+fn a_stopped_ring_does_not_answer(rt: HostRuntime) {
+    let unheard = match Blank::new(rt.alloc(), settings(1, 1, 1_000, 60_000)) {
+        Ok(blank) => stopped::<Brand, _>(&rt, rt.alloc(), blank),
+        Err(_) => None,
+    };
     assert!(rt; unheard == Some((true, Some(AskFault::NoAnswer), true)));
-    Ok(())
-}
-
-/// Whether node 0 answers Added to a call.
-fn is_called<J: Naming, R: Wait + Clock>(
-    rt: &R,
-    caller: &mut Caller<'_, J, CappedStore>,
-    request: Result<Request, AllocError>,
-) -> bool {
-    match request {
-        Ok(request) => is_added(caller.call(rt, 0, request)),
-        Err(_) => false,
-    }
 }
 
 /// Whether a caller is answered, how it is not once the ring is stopped twice, and whether its request is pending then.
@@ -375,23 +311,16 @@ fn stopped<J: Naming, R: Wait + Clock>(
     requires { blank ≡ J.name }
 {
     let ring = founded::<J, CappedStore, R>(rt, blank, CappedStore::new(alloc, 1))?;
-    let found = called_and_stopped(rt, alloc, &ring);
-    drop(ring);
-    found
-}
-
-/// The same of a ring with a node.
-fn called_and_stopped<J: Naming, R: Wait + Clock>(
-    rt: &R,
-    alloc: Global,
-    ring: &Ring<J, CappedStore>,
-) -> Option<(bool, Option<AskFault>, bool)> {
-    let mut caller = opened(rt, ring, 2)?;
-    let called = is_called(rt, &mut caller, insert(alloc, b"abc", b"x"));
+    let Ok(mut caller) = ring.open_caller(rt, 2) else {
+        drop(ring);
+        return None;
+    };
+    let called = is_added(call(rt, &mut caller, 0, Request::insert(alloc, b"abc", b"x")));
     ring.stop();
     ring.stop();
-    let unheard = unheard(rt, &mut caller, 0, retrieve(alloc, b"abc"));
+    let unheard = retrieved(rt, alloc, &mut caller, 0, b"abc").err();
     let is_pending = caller.is_pending(2);
     drop(caller);
+    drop(ring);
     Some((called, unheard, is_pending))
 }

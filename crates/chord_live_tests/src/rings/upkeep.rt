@@ -1,20 +1,17 @@
 //! Two nodes with a worker each, and rounds of ticks.
 ghost use Rattle.std.specs.Prelude.{◌≡◌};
 
-use super::{
-    adds, blank, founded, insert, is_added, is_told, opened, retrieve, sees, settings, succeeds,
-};
+use super::{call, founded, inserted, is_added, is_told, retrieved, settings, succeeds};
 use chord_ident::Id;
 use chord_links::Links;
-use chord_live::{Blank, Caller, Client, Gate, Open, Ring};
+use chord_live::{Blank, Client, Gate, Open, Ring};
 use chord_map::Request;
 use chord_store::{CappedStore, EntryStore};
 use chord_table::Naming;
-use std::alloc::{AllocError, Global};
+use std::alloc::Global;
 use std::marker::Brand;
 use std::sync::Wait;
 use std::sync::atomic::{AtomicBool, Ordering};
-use std::test::Fail;
 use std::thread;
 use std::thread::Threads;
 use std::time::{Clock, Duration};
@@ -64,43 +61,36 @@ impl<'a, R: Clock> Gate for Held<'a, R> {
 }
 
 #[test]
-fn two_locks_at_once(rt: HostRuntime) -> Result<(), Fail> {
-    let blank = blank(rt.alloc(), settings(2, 3, 20, 1_000))?;
-    let done = two_nodes::<Brand, _>(&rt, rt.alloc(), blank, Then::TwoLocks);
-    assert!(rt; done == Some(true));
-    Ok(())
+fn two_locks_at_once(rt: HostRuntime) {
+    assert!(rt; is_kept(&rt, rt.alloc(), Then::TwoLocks));
 }
 
 #[test]
-fn a_ring_without_a_crashed_node(rt: HostRuntime) -> Result<(), Fail> {
-    let blank = blank(rt.alloc(), settings(2, 3, 20, 1_000))?;
-    let done = two_nodes::<Brand, _>(&rt, rt.alloc(), blank, Then::Crash);
-    assert!(rt; done == Some(true));
-    Ok(())
+fn a_ring_without_a_crashed_node(rt: HostRuntime) {
+    assert!(rt; is_kept(&rt, rt.alloc(), Then::Crash));
 }
 
 #[test]
-fn a_node_leaves_and_retires(rt: HostRuntime) -> Result<(), Fail> {
-    let blank = blank(rt.alloc(), settings(2, 3, 20, 1_000))?;
-    let done = two_nodes::<Brand, _>(&rt, rt.alloc(), blank, Then::Leave);
-    assert!(rt; done == Some(true));
-    Ok(())
+fn a_node_leaves_and_retires(rt: HostRuntime) {
+    assert!(rt; is_kept(&rt, rt.alloc(), Then::Leave));
 }
 
 #[test]
-fn a_client_begins_where_it_was_answered(rt: HostRuntime) -> Result<(), Fail> {
-    let blank = blank(rt.alloc(), settings(2, 3, 20, 1_000))?;
-    let done = two_nodes::<Brand, _>(&rt, rt.alloc(), blank, Then::Guess);
-    assert!(rt; done == Some(true));
-    Ok(())
+fn a_client_begins_where_it_was_answered(rt: HostRuntime) {
+    assert!(rt; is_kept(&rt, rt.alloc(), Then::Guess));
 }
 
 #[test]
-fn a_client_asks_no_crashed_node(rt: HostRuntime) -> Result<(), Fail> {
-    let blank = blank(rt.alloc(), settings(2, 3, 20, 1_000))?;
-    let done = two_nodes::<Brand, _>(&rt, rt.alloc(), blank, Then::GuessCrashed);
-    assert!(rt; done == Some(true));
-    Ok(())
+fn a_client_asks_no_crashed_node(rt: HostRuntime) {
+    assert!(rt; is_kept(&rt, rt.alloc(), Then::GuessCrashed));
+}
+
+/// Whether all that is done in a ring of two nodes is as it is to be.
+fn is_kept<R: Threads + Wait + Clock + Sync>(rt: &R, alloc: Global, then: Then) -> bool {
+    match Blank::new(alloc, settings(2, 3, 20, 1_000)) {
+        Ok(blank) => two_nodes::<Brand, _>(rt, alloc, blank, then),
+        Err(_) => false,
+    }
 }
 
 /// Node M joins by node A.
@@ -114,10 +104,13 @@ fn two_nodes<J: Naming + Send + Sync, R: Threads + Wait + Clock + Sync>(
     alloc: Global,
     blank: Blank,
     then: Then,
-) -> Option<bool>
+) -> bool
     requires { blank ≡ J.name }
 {
-    let ring = founded::<J, CappedStore, R>(rt, blank, CappedStore::new(alloc, 4))?;
+    let store = CappedStore::new(alloc, 4);
+    let Some(ring) = founded::<J, CappedStore, R>(rt, blank, store) else {
+        return false;
+    };
     let done = joined_and_worked(rt, alloc, &ring, then);
     drop(ring);
     done
@@ -129,9 +122,9 @@ fn joined_and_worked<J: Naming + Send + Sync, R: Threads + Wait + Clock + Sync>(
     alloc: Global,
     ring: &Ring<J, CappedStore>,
     then: Then,
-) -> Option<bool> {
+) -> bool {
     if !joined(rt, alloc, ring) {
-        return None;
+        return false;
     }
     let gate = Held {
         rt,
@@ -155,13 +148,13 @@ fn joined_and_worked<J: Naming + Send + Sync, R: Threads + Wait + Clock + Sync>(
             )
         },
     );
-    Some(done? && ended && other)
+    done & ended & other
 }
 
 /// A round of ticks.
 fn ticked<J: Naming, S: EntryStore, R: Wait + Clock>(rt: &R, ring: &Ring<J, S>) -> bool {
     let zero = ring.tick(rt, 0).is_ok();
-    ring.tick(rt, 1).is_ok() && zero
+    ring.tick(rt, 1).is_ok() & zero
 }
 
 /// Eight rounds of ticks, and what comes then.
@@ -171,10 +164,10 @@ fn settle_and_then<J: Naming + Send + Sync, S: EntryStore + Send, R: Threads + W
     ring: &Ring<J, S>,
     gate: &Held<'_, R>,
     then: Then,
-) -> Option<bool> {
+) -> bool {
     for _ in 0..8u64 {
         if !ticked(rt, ring) {
-            return None;
+            return false;
         }
         thread::sleep(rt, Duration::from_millis(5));
     }
@@ -190,15 +183,15 @@ fn settle_and_then<J: Naming + Send + Sync, S: EntryStore + Send, R: Threads + W
 /// Whether a caller of its own is answered Added.
 fn adds_alone<J: Naming, S: EntryStore, R: Wait + Clock>(
     rt: &R,
+    alloc: Global,
     ring: &Ring<J, S>,
     via: u64,
-    request: Result<Request, AllocError>,
+    pair: (&[u8], &[u8]),
 ) -> bool {
-    let Some(mut caller) = opened(rt, ring, 4) else {
-        drop(request);
+    let Ok(mut caller) = ring.open_caller(rt, 4) else {
         return false;
     };
-    let added = adds(rt, &mut caller, via, request);
+    let added = is_added(inserted(rt, alloc, &mut caller, via, pair));
     drop(caller);
     added
 }
@@ -209,12 +202,12 @@ fn two_locks<J: Naming + Send + Sync, S: EntryStore + Send, R: Threads + Wait + 
     alloc: Global,
     ring: &Ring<J, S>,
     gate: &Held<'_, R>,
-) -> Option<bool> {
+) -> bool {
     gate.stands.store(false, Ordering::SeqCst);
     gate.opened.store(false, Ordering::SeqCst);
     let (zero, one) = thread::join(
         rt,
-        move || adds_alone(rt, ring, 0, insert(alloc, b"b", b"y")),
+        move || adds_alone(rt, alloc, ring, 0, (b"b", b"y")),
         move || {
             for _ in 0..10_000u64 {
                 if !gate.stands.load(Ordering::SeqCst) {
@@ -222,13 +215,13 @@ fn two_locks<J: Naming + Send + Sync, S: EntryStore + Send, R: Threads + Wait + 
                 }
             }
             let answered = gate.stands.load(Ordering::SeqCst)
-                && adds_alone(rt, ring, 1, insert(alloc, b"abc", b"x"));
+                && adds_alone(rt, alloc, ring, 1, (b"abc", b"x"));
             let held = !gate.spent.load(Ordering::SeqCst);
             gate.opened.store(true, Ordering::SeqCst);
             answered && held
         },
     );
-    Some(zero && one)
+    zero & one
 }
 
 /// Node 0, which held nothing of `abc`, crashes; its neighbour drops it and answers.
@@ -236,26 +229,16 @@ fn crash<J: Naming, S: EntryStore, R: Wait + Clock>(
     rt: &R,
     alloc: Global,
     ring: &Ring<J, S>,
-) -> Option<bool> {
-    let mut caller = opened(rt, ring, 1)?;
-    let added = adds(rt, &mut caller, 0, insert(alloc, b"abc", b"x"));
+) -> bool {
+    let Ok(mut caller) = ring.open_caller(rt, 1) else {
+        return false;
+    };
+    let added = is_added(inserted(rt, alloc, &mut caller, 0, (b"abc", b"x")));
     let crashed = ring.crash(rt, 0).is_ok();
     let dropped = ring.tick(rt, 1).is_ok();
-    let seen = sees(rt, &mut caller, 1, retrieve(alloc, b"abc"), b"x");
+    let seen = is_told(retrieved(rt, alloc, &mut caller, 1, b"abc"), b"x");
     drop(caller);
-    Some(added & crashed & dropped & seen)
-}
-
-/// Whether node 0 answers x alone to a call.
-fn calls<J: Naming, S: EntryStore, R: Wait + Clock>(
-    rt: &R,
-    caller: &mut Caller<'_, J, S>,
-    request: Result<Request, AllocError>,
-) -> bool {
-    match request {
-        Ok(request) => is_told(caller.call(rt, 0, request), b"x"),
-        Err(_) => false,
-    }
+    added & crashed & dropped & seen
 }
 
 /// Node 1 leaves; what it held is at node 0 then.
@@ -263,44 +246,42 @@ fn leave<J: Naming, S: EntryStore, R: Wait + Clock>(
     rt: &R,
     alloc: Global,
     ring: &Ring<J, S>,
-) -> Option<bool> {
-    let mut caller = opened(rt, ring, 1)?;
-    let added = adds(rt, &mut caller, 0, insert(alloc, b"abc", b"x"));
-    let called = calls(rt, &mut caller, retrieve(alloc, b"abc"));
+) -> bool {
+    let Ok(mut caller) = ring.open_caller(rt, 1) else {
+        return false;
+    };
+    let added = is_added(inserted(rt, alloc, &mut caller, 0, (b"abc", b"x")));
+    let called = is_told(
+        call(rt, &mut caller, 0, Request::retrieve(alloc, b"abc")),
+        b"x",
+    );
     let retired = retires(rt, ring);
     let forgotten = forgets(rt, ring);
-    let seen = sees(rt, &mut caller, 0, retrieve(alloc, b"abc"), b"x");
+    let seen = is_told(retrieved(rt, alloc, &mut caller, 0, b"abc"), b"x");
     drop(caller);
-    Some(added & called & retired & forgotten & seen)
-}
-
-/// A client of the ring.
-fn client_of<'a, J: Naming, S: EntryStore, R: Wait>(
-    rt: &R,
-    ring: &'a Ring<J, S>,
-) -> Option<Client<'a, J, S>> {
-    ring.open_client(rt, 1).ok()
+    added & called & retired & forgotten & seen
 }
 
 /// Whether a client that asks at node 0 is answered Added.
 fn client_adds<J: Naming, S: EntryStore, R: Wait + Clock>(
     rt: &R,
+    alloc: Global,
     client: &mut Client<'_, J, S>,
-    request: Result<Request, AllocError>,
+    (key, value): (&[u8], &[u8]),
 ) -> bool {
-    match request {
+    match Request::insert(alloc, key, value) {
         Ok(request) => is_added(client.call(rt, 0, request)),
         Err(_) => false,
     }
 }
 
-/// Whether one is answered x alone.
+/// Whether one that asks for `abc` is answered x alone.
 fn client_sees<J: Naming, S: EntryStore, R: Wait + Clock>(
     rt: &R,
+    alloc: Global,
     client: &mut Client<'_, J, S>,
-    request: Result<Request, AllocError>,
 ) -> bool {
-    match request {
+    match Request::retrieve(alloc, b"abc") {
         Ok(request) => is_told(client.call(rt, 0, request), b"x"),
         Err(_) => false,
     }
@@ -312,15 +293,17 @@ fn guess<J: Naming, S: EntryStore, R: Wait + Clock>(
     rt: &R,
     alloc: Global,
     ring: &Ring<J, S>,
-) -> Option<bool> {
-    let mut client = client_of(rt, ring)?;
-    let added = client_adds(rt, &mut client, insert(alloc, b"abc", b"x"));
-    let other = client_adds(rt, &mut client, insert(alloc, b"eq", b"y"));
-    let seen = client_sees(rt, &mut client, retrieve(alloc, b"abc"));
+) -> bool {
+    let Ok(mut client) = ring.open_client(rt, 1) else {
+        return false;
+    };
+    let added = client_adds(rt, alloc, &mut client, (b"abc", b"x"));
+    let other = client_adds(rt, alloc, &mut client, (b"eq", b"y"));
+    let seen = client_sees(rt, alloc, &mut client);
     let crashed = ring.crash(rt, 0).is_ok();
-    let again = client_sees(rt, &mut client, retrieve(alloc, b"abc"));
+    let again = client_sees(rt, alloc, &mut client);
     drop(client);
-    Some(added & other & seen & crashed & again)
+    added & other & seen & crashed & again
 }
 
 /// Node 1 answered for `abc` and crashes: `eq`, whose guess it is, is asked for at node 0.
@@ -328,13 +311,15 @@ fn guess_crashed<J: Naming, S: EntryStore, R: Wait + Clock>(
     rt: &R,
     alloc: Global,
     ring: &Ring<J, S>,
-) -> Option<bool> {
-    let mut client = client_of(rt, ring)?;
-    let added = client_adds(rt, &mut client, insert(alloc, b"abc", b"x"));
+) -> bool {
+    let Ok(mut client) = ring.open_client(rt, 1) else {
+        return false;
+    };
+    let added = client_adds(rt, alloc, &mut client, (b"abc", b"x"));
     let crashed = ring.crash(rt, 1).is_ok();
-    let other = client_adds(rt, &mut client, insert(alloc, b"eq", b"y"));
+    let other = client_adds(rt, alloc, &mut client, (b"eq", b"y"));
     drop(client);
-    Some(added & crashed & other)
+    added & crashed & other
 }
 
 /// Node 1 leaves, and retires once node 0 holds all that it held.

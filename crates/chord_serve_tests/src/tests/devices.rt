@@ -11,6 +11,10 @@ pub struct Limited<T> {
 }
 
 impl<T> Limited<T> {
+    pub fn new(inner: T, (step, calls): (usize, u64)) -> Limited<T> {
+        Limited { inner, step, calls }
+    }
+
     fn turn(&mut self, len: usize) -> io::Result<usize> {
         if self.calls == 0 {
             return Err(io::Error::from(io::ErrorKind::WouldBlock));

@@ -3,25 +3,24 @@
 use chord_serve::{AgainFault, CallFault, ReceiveFault, SendFault};
 use std::alloc::Global;
 use std::fmt::Display;
-use std::test::Fail;
 
 /// Whether the fault has this text.
 fn reads<F: Display + Drop>(alloc: Global, fault: F, text: &str) -> Option<bool> {
     let made = format!(in alloc; "{fault}").ok()?;
-    Some(made.as_str() == text)
+    let is_text = made.as_str() == text;
+    drop(made);
+    Some(is_text)
 }
 
 #[test]
-fn faults_have_texts(rt: HostRuntime) -> Result<(), Fail> {
+fn faults_have_texts(rt: HostRuntime) {
     let alloc = rt.alloc();
-    let ended = ReceiveFault::Call(CallFault::Ended);
     let text = "no answer came: the other end ended the connection";
-    assert!(rt; reads(alloc, ended, text) == Some(true));
-    let text = "no answer is awaited";
-    assert!(rt; reads(alloc, ReceiveFault::Idle, text) == Some(true));
+    let ended = reads(alloc, ReceiveFault::Call(CallFault::Ended), text);
+    let idle = reads(alloc, ReceiveFault::Idle, "no answer is awaited");
     let text = "as many requests as the window holds are in flight";
-    assert!(rt; reads(alloc, SendFault::WindowFull, text) == Some(true));
+    let full = reads(alloc, SendFault::WindowFull, text);
     let text = "no request of this number got a fault and was not sent again since";
-    assert!(rt; reads(alloc, AgainFault::NotRefused, text) == Some(true));
-    Ok(())
+    let not_refused = reads(alloc, AgainFault::NotRefused, text);
+    assert!(rt; [ended, idle, full, not_refused] == [Some(true); 4]);
 }

@@ -2,10 +2,11 @@
 // With ample memory nothing is refused.
 
 use super::askers::MapAsker;
-use super::sessions::{ADDED, INSERT, INSERT_2, begun, calls, insert, is_added, three};
+use super::in_flight::send;
+use super::sessions::{ADDED, Frames, INSERT, INSERT_2, begun, calls, insert, is_added, three};
 use chord_map::Request;
 use chord_serve::{CallFault, Client, SendFault, Served, serve};
-use chord_wire::{Answer, Answers};
+use chord_wire::Answers;
 use std::alloc::{AllocError, Global};
 
 /// A writer with room, so that it is not the one that is refused.
@@ -24,21 +25,24 @@ fn request(alloc: Global) -> Result<Request, AllocError> {
 }
 
 /// The three frames and their answers, made again where there was no memory.
-fn three_frames(alloc: Global) -> Result<(Vec<u8>, Vec<u8>), AllocError> {
+fn three_frames(alloc: Global) -> Result<Frames, AllocError> {
     match three(alloc) {
-        Ok(whole) => Ok(whole),
+        Ok(frames) => Ok(frames),
         Err(_) => three(alloc),
     }
 }
 
 /// How a session over the three frames ends, and how many bytes of their answers it writes.
-fn session(alloc: Global) -> Option<(Served, usize)> {
-    let (input, output) = three_frames(alloc).ok()?;
+fn session(alloc: Global) -> Option<(Served, Option<usize>)> {
     let mut written = roomy(alloc).ok()?;
+    let frames = three_frames(alloc).ok()?;
     let mut asker = MapAsker::new(alloc);
-    let served = serve(alloc, &mut input.as_slice(), &mut written, &mut asker, 10);
+    let mut reader = frames.input.as_slice();
+    let served = serve(alloc, &mut reader, &mut written, &mut asker, 10);
     drop(asker);
-    Some((served, begun(&output, &written)?))
+    let begun = begun(&frames.output, &written);
+    drop(frames);
+    Some((served, begun))
 }
 
 #[test]
@@ -47,26 +51,23 @@ fn a_session_writes_whole_frames(rt: HostRuntime) {
     assert!(rt;
         matches!(
             told,
-            Some((Served::Ended, 51) | (Served::Memory, 0 | 15 | 36))
+            Some((Served::Ended, Some(51)) | (Served::Memory, Some(0 | 15 | 36)))
         )
     );
 }
 
-/// Whether a call that wants memory wrote its whole frame or nothing.
-fn is_refused(fault: CallFault, written: &[u8], frame: &[u8]) -> bool {
-    fault == CallFault::Memory && (written.is_empty() || written == frame)
-}
-
-/// A call with ample turns, whose answer is there.
+/// Whether a call with ample turns is answered Added, and why it has no answer. The answer is there.
 fn answered(
     alloc: Global,
     version: u8,
     written: &mut Vec<u8>,
     answers: &mut Answers,
     request: &Request,
-) -> Result<Answer, CallFault> {
+) -> (bool, Option<CallFault>) {
     let mut reader = ADDED.as_slice();
-    calls(alloc, (&mut reader, written), answers, version, request, 10)
+    let answer = calls(alloc, (&mut reader, written), answers, version, request, 10);
+    let fault = answer.as_ref().err().copied();
+    (is_added(answer), fault)
 }
 
 /// The same made again where it wants memory and wrote its whole frame or nothing.
@@ -75,47 +76,41 @@ fn answered_again(
     (version, frame): (u8, &[u8]),
     written: &mut Vec<u8>,
     request: &Request,
-) -> Result<Answer, CallFault> {
+) -> (bool, Option<CallFault>) {
     let mut answers = Answers::new(alloc);
-    let mut answer = answered(alloc, version, written, &mut answers, request);
-    if answer
-        .as_ref()
-        .is_err_and(|fault| is_refused(*fault, written, frame))
-    {
+    let mut told = answered(alloc, version, written, &mut answers, request);
+    let is_whole = written.is_empty() || written.as_slice() == frame;
+    if told.1 == Some(CallFault::Memory) && is_whole {
         written.clear();
-        answer = answered(alloc, version, written, &mut answers, request);
+        told = answered(alloc, version, written, &mut answers, request);
     }
     drop(answers);
-    answer
+    told
 }
 
 /// Whether a call, made again where it wants memory, is answered and writes exactly this frame.
 fn is_answered(alloc: Global, version: u8, frame: &[u8]) -> Option<bool> {
     let mut written = roomy(alloc).ok()?;
     let request = request(alloc).ok()?;
-    let answer = answered_again(alloc, (version, frame), &mut written, &request);
+    let told = answered_again(alloc, (version, frame), &mut written, &request);
     drop(request);
-    Some(is_added(answer) && written.as_slice() == frame)
+    let is_frame = written.as_slice() == frame;
+    Some(told.0 & is_frame)
 }
 
 #[test]
 fn a_call_made_again_is_answered(rt: HostRuntime) {
-    assert!(rt; is_answered(rt.alloc(), 1, &INSERT) == Some(true));
-    assert!(rt; is_answered(rt.alloc(), 2, &INSERT_2) == Some(true));
+    let first = is_answered(rt.alloc(), 1, &INSERT);
+    let second = is_answered(rt.alloc(), 2, &INSERT_2);
+    assert!(rt; (first, second) == (Some(true), Some(true)));
 }
 
-/// Sends a request that keeps the limits.
-fn sent(
-    alloc: Global,
-    client: &mut Client,
-    written: &mut Vec<u8>,
-) -> Option<Result<u64, SendFault>> {
-    let request = request(alloc).ok()?;
-    if request.check().is_err() {
-        drop(request);
-        return None;
+/// Sends a request, or wants memory for it.
+fn sent(alloc: Global, client: &mut Client, written: &mut Vec<u8>) -> Result<u64, SendFault> {
+    match insert(alloc) {
+        Ok(request) => send(client, written, request),
+        Err(_) => Err(SendFault::Memory),
     }
-    Some(client.send(written, request))
 }
 
 /// What a send is answered, made again where it wants memory and wrote nothing, and whether the request is written.
@@ -123,11 +118,11 @@ fn sent_again(alloc: Global) -> Option<(Result<u64, SendFault>, bool)> {
     let mut written = roomy(alloc).ok()?;
     let mut client = Client::new(alloc, 2, 16)?;
     let mut number = sent(alloc, &mut client, &mut written);
-    if number == Some(Err(SendFault::Memory)) && written.is_empty() {
+    if number == Err(SendFault::Memory) && written.is_empty() {
         number = sent(alloc, &mut client, &mut written);
     }
     drop(client);
-    Some((number?, written.as_slice() == INSERT_2.as_slice()))
+    Some((number, written.as_slice() == INSERT_2.as_slice()))
 }
 
 /// A client whose send wanted memory wrote nothing, and sends under the same number then.

@@ -3,7 +3,7 @@
 use super::askers::{FullAtFirst, MapAsker};
 use super::devices::Limited;
 use super::sessions::{ADDED, INSERT, INSERT_2, fault, insert};
-use chord_map::{Bytes, Reply, Request, Values};
+use chord_map::{Reply, Request};
 use chord_serve::{AgainFault, Asker, CallFault, Client, ReceiveFault, SendFault, Served, serve};
 use chord_wire::{Answer, FaultCode};
 use std::alloc::{AllocError, Global};
@@ -64,26 +64,20 @@ impl Flight {
 }
 
 fn retrieve(alloc: Global) -> Result<Request, AllocError> {
-    let key = Bytes::from_slice(alloc, b"a")?;
-    Ok(Request::Retrieve { key })
+    Request::retrieve(alloc, b"a")
 }
 
 /// Remove y from under a.
 fn remove(alloc: Global) -> Result<Request, AllocError> {
-    let key = Bytes::from_slice(alloc, b"a")?;
-    let value = Bytes::from_slice(alloc, b"y")?;
-    Ok(Request::Remove { key, value })
-}
-
-/// The one value x.
-fn one_value(alloc: Global) -> Result<Reply, AllocError> {
-    let mut values = Values::new(alloc);
-    values.push(Bytes::from_slice(alloc, b"x")?)?;
-    Ok(Reply::Values(values))
+    Request::remove(alloc, b"a", b"y")
 }
 
 /// Sends a request that keeps the limits.
-fn send<W: Write>(client: &mut Client, writer: &mut W, request: Request) -> Result<u64, SendFault> {
+pub fn send<W: Write>(
+    client: &mut Client,
+    writer: &mut W,
+    request: Request,
+) -> Result<u64, SendFault> {
     if request.check().is_err() {
         drop(request);
         return Err(SendFault::Memory);
@@ -300,11 +294,10 @@ fn only_what_was_refused_is_sent_again(rt: HostRuntime) {
 }
 
 /// Whether these are two frames, which come again, the second one first.
-fn come_again(frames: &[u8]) -> Option<bool> {
-    let first = frames.get(..27)?;
-    let second = frames.get(27..54)?;
-    let again = frames.get(54..81)? == second;
-    Some(again && frames.get(81..)? == first)
+fn come_again(frames: &[u8]) -> bool {
+    let is_second = frames.get(54..81) == frames.get(27..54);
+    let is_first = frames.get(81..) == frames.get(..27);
+    is_second & is_first & (frames.len() == 108)
 }
 
 /// Whether a client's two frames were written again, the second one first.
@@ -312,7 +305,7 @@ fn is_written_again(alloc: Global) -> Option<bool> {
     let flight = sent_again(alloc)?;
     let is_written = come_again(&flight.written);
     drop(flight);
-    is_written
+    Some(is_written)
 }
 
 /// What a full store refused is sent again as it was, in any order.
@@ -334,6 +327,7 @@ fn answered_again(alloc: Global) -> Option<((bool, u64), (bool, u64))> {
     let mut reader = answers.get(30..).unwrap_or(&[]);
     let second = floor_after(&mut flight.client, &mut reader, 2);
     let first = floor_after(&mut flight.client, &mut reader, 1);
+    drop(answers);
     drop(flight);
     Some((second, first))
 }
@@ -405,23 +399,19 @@ fn an_unanswered_request_is_answered_then(rt: HostRuntime) {
     assert!(rt; answered_then(rt.alloc()) == Some(wanted));
 }
 
-fn why(received: Received) -> Option<ReceiveFault> {
-    received.err()
-}
-
-/// Why a client receives nothing of this input before it sent a request, the number of its request, why it receives
-/// nothing then, and how many answers it awaits.
+/// Why a client receives nothing of this input before and after it sent a request, the number of that request, and how
+/// many answers it awaits.
 fn nothing_of(
     alloc: Global,
     mut input: &[u8],
-) -> Option<(ReceiveFault, Result<u64, SendFault>, ReceiveFault, usize)> {
+) -> Option<([Option<ReceiveFault>; 2], Result<u64, SendFault>, usize)> {
     let mut flight = Flight::new(alloc, 2, 16)?;
-    let idle = why(flight.client.receive(&mut input, 10));
+    let idle = flight.client.receive(&mut input, 10).err();
     let sent = flight.send(insert(alloc));
-    let fault = why(flight.client.receive(&mut input, 10));
+    let fault = flight.client.receive(&mut input, 10).err();
     let awaited = flight.client.in_flight();
     drop(flight);
-    Some((idle?, sent, fault?, awaited))
+    Some(([idle, fault], sent, awaited))
 }
 
 /// Each way in which no answer comes, and that the request is still awaited.
@@ -442,20 +432,16 @@ fn answers_that_are_none(rt: HostRuntime) {
         (fault(0, 1).as_slice(), ReceiveFault::WrongNumber),
         (REMOVED.as_slice(), ReceiveFault::WrongKind),
     ] {
-        let wanted = (ReceiveFault::Idle, Ok(1), fault, 1);
-        assert!(rt; nothing_of(rt.alloc(), input) == Some(wanted));
+        let faults = [Some(ReceiveFault::Idle), Some(fault)];
+        assert!(rt; nothing_of(rt.alloc(), input) == Some((faults, Ok(1), 1)));
     }
 }
 
 /// Why a client receives no reply, or that it does, from a reader that gives a byte a call and then fails.
 fn read_slowly(alloc: Global, calls: u64, turns: u64) -> Option<Option<ReceiveFault>> {
     let mut flight = after_inserts(alloc, 4, 1)?;
-    let mut reader = Limited {
-        inner: ADDED.as_slice(),
-        step: 1,
-        calls,
-    };
-    let why = why(flight.client.receive(&mut reader, turns));
+    let mut reader = Limited::new(ADDED.as_slice(), (1, calls));
+    let why = flight.client.receive(&mut reader, turns).err();
     drop(flight);
     Some(why)
 }
@@ -475,11 +461,7 @@ fn slow_and_failing_readers(rt: HostRuntime) {
 /// A client whose writer failed behind 7 bytes of its request, and the writer.
 fn half_written(alloc: Global) -> Option<(Client, Limited<Vec<u8>>)> {
     let mut client = Client::new(alloc, 2, 16)?;
-    let mut writer = Limited {
-        inner: Vec::new(alloc),
-        step: 7,
-        calls: 1,
-    };
+    let mut writer = Limited::new(Vec::new(alloc), (7, 1));
     let Ok(request) = insert(alloc) else {
         drop(client);
         return None;
@@ -495,6 +477,7 @@ fn half_written(alloc: Global) -> Option<(Client, Limited<Vec<u8>>)> {
 fn awaited_half_written(alloc: Global) -> Option<(bool, usize)> {
     let (client, writer) = half_written(alloc)?;
     let begins = writer.inner.as_slice() == &INSERT_2[..7];
+    drop(writer);
     let awaited = client.in_flight();
     drop(client);
     Some((begins, awaited))
@@ -512,6 +495,7 @@ fn again_half_written(alloc: Global) -> Option<(bool, Result<(), AgainFault>, us
     let received = client.receive(&mut fault(1, 10).as_slice(), 1);
     let is_full = is_fault(received, 1, FaultCode::Full);
     let again = client.again(&mut writer, 1);
+    drop(writer);
     let awaited = client.in_flight();
     drop(client);
     Some((is_full, again, awaited))
@@ -536,7 +520,27 @@ fn three_sent(alloc: Global) -> Option<Flight> {
     None
 }
 
-fn tells(received: Received, wanted: u64, told: &Reply) -> bool {
+/// Whether number 2 is answered the one value x.
+fn is_x(received: Received) -> bool {
+    let is_x = match &received {
+        Ok(
+            (
+                2,
+                Answer::Reply {
+                    reply: Reply::Values(values),
+                    ..
+                },
+            ),
+        ) => { matches!(values.as_slice(), [one] if one.as_slice() == b"x".as_slice()) }
+        _ => false,
+    };
+    drop(received);
+    is_x
+}
+
+/// Whether the next answer is this reply to this number.
+fn tells(client: &mut Client, reader: &mut &[u8], wanted: u64, told: &Reply) -> bool {
+    let received = client.receive(reader, 10);
     let is_told = match &received {
         Ok((number, Answer::Reply { reply, .. })) => *number == wanted && reply == told,
         _ => false,
@@ -545,30 +549,18 @@ fn tells(received: Received, wanted: u64, told: &Reply) -> bool {
     is_told
 }
 
-/// Whether the next answer of a plain map is this reply to this number.
-fn next_tells(client: &mut Client, reader: &mut &[u8], number: u64, told: &Reply) -> bool {
-    tells(client.receive(reader, 10), number, told)
-}
-
-/// Whether it is the one value x, to number 2.
-fn next_tells_x(alloc: Global, client: &mut Client, reader: &mut &[u8]) -> Option<bool> {
-    let found = one_value(alloc).ok()?;
-    let is_told = next_tells(client, reader, 2, &found);
-    drop(found);
-    Some(is_told)
-}
-
-/// The same of an insert, a retrieve and a remove of what is not there.
+/// Whether a plain map answers an insert, a retrieve and a remove of what is not there.
 fn three_told(alloc: Global) -> Option<(bool, bool, bool)> {
     let mut flight = three_sent(alloc)?;
     let (_, answers) = mapped(alloc, &flight.written);
     let mut reader = answers.as_slice();
     let client = &mut flight.client;
-    let first = next_tells(client, &mut reader, 1, &Reply::Added);
-    let second = next_tells_x(alloc, client, &mut reader);
-    let third = next_tells(client, &mut reader, 3, &Reply::Absent);
+    let first = tells(client, &mut reader, 1, &Reply::Added);
+    let second = is_x(client.receive(&mut reader, 10));
+    let third = tells(client, &mut reader, 3, &Reply::Absent);
+    drop(answers);
     drop(flight);
-    Some((first, second?, third))
+    Some((first, second, third))
 }
 
 /// Replies are those of a plain map, in the order of the requests.

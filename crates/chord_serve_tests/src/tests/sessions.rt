@@ -45,11 +45,32 @@ pub fn joined(alloc: Global, parts: &[&[u8]]) -> Result<Vec<u8>, AllocError> {
     Ok(whole)
 }
 
+/// What a session reads, and what it is to write.
+#[derive(Drop)]
+pub struct Frames {
+    pub input: Vec<u8>,
+    pub output: Vec<u8>,
+}
+
+impl Frames {
+    pub fn new(alloc: Global, input: &[&[u8]], output: &[&[u8]]) -> Result<Frames, AllocError> {
+        let input = joined(alloc, input)?;
+        let output = joined(alloc, output)?;
+        Ok(Frames { input, output })
+    }
+
+    pub fn both(&self) -> (&[u8], &[u8]) {
+        (&self.input, &self.output)
+    }
+}
+
 /// The three frames and their answers.
-pub fn three(alloc: Global) -> Result<(Vec<u8>, Vec<u8>), AllocError> {
-    let input = joined(alloc, &[&INSERT, &RETRIEVE, &REMOVE])?;
-    let output = joined(alloc, &[&ADDED, &ONE_VALUE, &REMOVED])?;
-    Ok((input, output))
+pub fn three(alloc: Global) -> Result<Frames, AllocError> {
+    Frames::new(
+        alloc,
+        &[&INSERT, &RETRIEVE, &REMOVE],
+        &[&ADDED, &ONE_VALUE, &REMOVED],
+    )
 }
 
 /// How many bytes were written, where they are the first of this output.
@@ -68,29 +89,29 @@ fn session<A: Asker>(
     input: &[&[u8]],
     output: &[&[u8]],
 ) -> Option<(Served, bool)> {
-    let input = joined(alloc, input).ok()?;
-    let output = joined(alloc, output).ok()?;
-    let mut written = Vec::new(alloc);
-    let served = serve(alloc, &mut input.as_slice(), &mut written, asker, 10);
-    Some((served, written.as_slice() == output.as_slice()))
+    let frames = Frames::new(alloc, input, output).ok()?;
+    let told = limited(alloc, frames.both(), (FREE, FREE), 10, asker);
+    let is_output = told.begun == Some(frames.output.len());
+    drop(frames);
+    Some((told.end, is_output))
 }
 
 /// The same over a plain map, and how many requests it was asked.
-fn mapped(alloc: Global, input: &[&[u8]], output: &[&[u8]]) -> Option<((Served, bool), usize)> {
+fn mapped(alloc: Global, input: &[&[u8]], output: &[&[u8]]) -> (Option<(Served, bool)>, usize) {
     let mut asker = MapAsker::new(alloc);
     let told = session(alloc, &mut asker, input, output);
     let asked = asker.requests.len();
     drop(asker);
-    Some((told?, asked))
+    (told, asked)
 }
 
 /// The same over a store that is full at first, and how often it was asked again.
-fn full(alloc: Global, input: &[&[u8]], output: &[&[u8]]) -> Option<((Served, bool), usize, u64)> {
+fn full(alloc: Global, input: &[&[u8]], output: &[&[u8]]) -> (Option<(Served, bool)>, usize, u64) {
     let mut asker = FullAtFirst::new(alloc);
     let told = session(alloc, &mut asker, input, output);
     let (asked, retried) = (asker.requests.len(), asker.retried);
     drop(asker);
-    Some((told?, asked, retried))
+    (told, asked, retried)
 }
 
 #[test]
@@ -104,7 +125,7 @@ fn session_repeats(rt: HostRuntime) {
         &[&INSERT, &INSERT, &other, &far],
         &[&ADDED, &ADDED, &fault(1, 8), &fault(3, 9)],
     );
-    assert!(rt; told == Some(((Served::Ended, true), 1)));
+    assert!(rt; told == (Some((Served::Ended, true)), 1));
 }
 
 #[test]
@@ -114,7 +135,7 @@ fn session_retry(rt: HostRuntime) {
         &[&INSERT, &INSERT, &INSERT],
         &[&fault(1, 10), &ADDED, &ADDED],
     );
-    assert!(rt; told == Some(((Served::Ended, true), 1, 1)));
+    assert!(rt; told == (Some((Served::Ended, true)), 1, 1));
 }
 
 #[test]
@@ -144,7 +165,7 @@ fn refused_numbers_and_floors(rt: HostRuntime) {
             &fault(1, 9),
         ],
     );
-    assert!(rt; told == Some(((Served::Ended, true), 2, 2)));
+    assert!(rt; told == (Some((Served::Ended, true)), 2, 2));
 }
 
 #[test]
@@ -156,7 +177,7 @@ fn short_sessions(rt: HostRuntime) {
         (INSERT_2.as_slice(), Served::Ended, ADDED.as_slice(), 1),
     ] {
         let told = mapped(rt.alloc(), &[input], &[output]);
-        assert!(rt; told == Some(((end, true), asked)));
+        assert!(rt; told == (Some((end, true)), asked));
     }
 }
 
@@ -166,10 +187,10 @@ fn changed(
     frame: &[u8],
     (place, byte): (usize, u8),
     output: &[u8],
-) -> Option<((Served, bool), usize)> {
-    let mut input = Vec::from_slice(alloc, frame).ok()?;
-    *input.get_mut(place)? = byte;
-    mapped(alloc, &[&input], &[output])
+) -> (Option<(Served, bool)>, usize) {
+    let head = frame.get(..place).unwrap_or(&[]);
+    let tail = frame.get(place.saturating_add(1)..).unwrap_or(&[]);
+    mapped(alloc, &[head, &[byte], tail], &[output])
 }
 
 /// A frame with another byte at a place ends the session with its fault.
@@ -184,7 +205,7 @@ fn faulty_sessions(rt: HostRuntime) {
         (INSERT_2.as_slice(), (21, 1), FaultCode::BadFloor, (1, 12)),
     ] {
         let ended = changed(rt.alloc(), frame, change, &fault(number, told));
-        assert!(rt; ended == Some(((Served::Malformed(code), true), 0)));
+        assert!(rt; ended == (Some((Served::Malformed(code), true)), 0));
     }
 }
 
@@ -192,31 +213,88 @@ fn faulty_sessions(rt: HostRuntime) {
 fn a_bad_length_ends_a_session(rt: HostRuntime) {
     let ended = mapped(rt.alloc(), &[&[0, 0, 0x11, 0x15]], &[&fault(0, 1)]);
     let malformed = Served::Malformed(FaultCode::BadLength);
-    assert!(rt; ended == Some(((malformed, true), 0)));
+    assert!(rt; ended == (Some((malformed, true)), 0));
 }
 
 #[test]
 fn a_session_keeps_its_version(rt: HostRuntime) {
     let ended = mapped(rt.alloc(), &[&INSERT_2, &INSERT], &[&ADDED, &fault(0, 2)]);
     let malformed = Served::Malformed(FaultCode::BadVersion);
-    assert!(rt; ended == Some(((malformed, true), 1)));
+    assert!(rt; ended == (Some((malformed, true)), 1));
+}
+
+/// The most bytes of one call of a device, and its calls that do not fail.
+pub type Limits = (usize, u64);
+
+/// Limits of a device that no test reaches.
+pub const FREE: Limits = (usize::MAX, 100);
+
+/// How a session ended, how many bytes it wrote, the same where they begin its output, and how many reads and
+/// writes it made.
+#[derive(Clone, Copy)]
+pub struct Told {
+    pub end: Served,
+    pub len: usize,
+    pub begun: Option<usize>,
+    pub reads: u64,
+    pub writes: u64,
+}
+
+impl Told {
+    /// How it ended, how many bytes it wrote, where they are the first of its output, and in how many writes.
+    pub fn written(self) -> (Served, Option<usize>, u64) {
+        (self.end, self.begun, self.writes)
+    }
+}
+
+/// A session over devices that fail after some calls.
+pub fn limited<A: Asker>(
+    alloc: Global,
+    (input, output): (&[u8], &[u8]),
+    (reads, writes): (Limits, Limits),
+    turns: u64,
+    asker: &mut A,
+) -> Told {
+    let mut reader = Limited::new(input, reads);
+    let mut writer = Limited::new(Vec::new(alloc), writes);
+    let end = serve(alloc, &mut reader, &mut writer, asker, turns);
+    let told = Told {
+        end,
+        len: writer.inner.len(),
+        begun: begun(output, &writer.inner),
+        reads: reads.1.saturating_sub(reader.calls),
+        writes: writes.1.saturating_sub(writer.calls),
+    };
+    drop(writer);
+    told
+}
+
+/// A session over the first bytes of the three frames.
+pub fn three_frames(
+    alloc: Global,
+    cut: usize,
+    calls: (Limits, Limits),
+    turns: u64,
+) -> Option<Told> {
+    let frames = three(alloc).ok()?;
+    let mut asker = MapAsker::new(alloc);
+    let input = frames.input.get(..cut).unwrap_or(&[]);
+    let told = limited(alloc, (input, &frames.output), calls, turns, &mut asker);
+    drop(asker);
+    drop(frames);
+    Some(told)
 }
 
 /// How a session over the first bytes of the three frames ends, and how many bytes of their answers it writes.
-fn cut_at(alloc: Global, cut: usize) -> Option<(Served, usize)> {
-    let (input, output) = three(alloc).ok()?;
-    let mut reader = input.get(..cut)?;
-    let mut written = Vec::new(alloc);
-    let mut asker = MapAsker::new(alloc);
-    let served = serve(alloc, &mut reader, &mut written, &mut asker, 10);
-    drop(asker);
-    Some((served, begun(&output, &written)?))
+fn cut_at(alloc: Global, cut: usize) -> Option<(Served, Option<usize>)> {
+    let told = three_frames(alloc, cut, (FREE, FREE), 10)?;
+    Some((told.end, told.begun))
 }
 
 #[test]
 fn three_frames_cut_anywhere(rt: HostRuntime) {
     for cut in 0..=54 {
-        let wanted = match cut {
+        let (end, answered) = match cut {
             0 => (Served::Ended, 0),
             19 => (Served::Ended, 15),
             35 => (Served::Ended, 36),
@@ -225,30 +303,19 @@ fn three_frames_cut_anywhere(rt: HostRuntime) {
             20..35 => (Served::Truncated, 15),
             _ => (Served::Truncated, 36),
         };
-        assert!(rt; cut_at(rt.alloc(), cut) == Some(wanted), "at {cut}");
+        let told = cut_at(rt.alloc(), cut);
+        assert!(rt; told == Some((end, Some(answered))), "at {cut}");
     }
 }
 
-/// How a session over the three frames ends, how many bytes of their answers it writes, and how often it reads, where a
-/// read has so many bytes at most and those after so many calls fail.
+/// How a session over the three frames ends, how many bytes of their answers it writes, and how often it reads.
 fn read_in_pieces(
     alloc: Global,
-    step: usize,
-    calls: u64,
+    reads: Limits,
     turns: u64,
-) -> Option<(Served, usize, u64)> {
-    let (input, output) = three(alloc).ok()?;
-    let mut reader = Limited {
-        inner: input.as_slice(),
-        step,
-        calls,
-    };
-    let mut written = Vec::new(alloc);
-    let mut asker = MapAsker::new(alloc);
-    let served = serve(alloc, &mut reader, &mut written, &mut asker, turns);
-    drop(asker);
-    let reads = calls.saturating_sub(reader.calls);
-    Some((served, begun(&output, &written)?, reads))
+) -> Option<(Served, Option<usize>, u64)> {
+    let told = three_frames(alloc, 54, (reads, FREE), turns)?;
+    Some((told.end, told.begun, told.reads))
 }
 
 #[test]
@@ -266,24 +333,15 @@ fn a_reader_fails_at_each_call(rt: HostRuntime) {
         (8, Served::Read, 51),
         (9, Served::Ended, 51),
     ] {
-        let told = read_in_pieces(rt.alloc(), 7, calls, 20);
-        assert!(rt; told == Some((end, answered, calls)));
+        let told = read_in_pieces(rt.alloc(), (7, calls), 20);
+        assert!(rt; told == Some((end, Some(answered), calls)));
     }
 }
 
-/// How a session over the three frames ends, and how many bytes of their answers it writes, where a write takes so many
-/// bytes at most and those after so many calls fail.
-fn written_in_pieces(alloc: Global, step: usize, calls: u64) -> Option<(Served, usize)> {
-    let (input, output) = three(alloc).ok()?;
-    let mut writer = Limited {
-        inner: Vec::new(alloc),
-        step,
-        calls,
-    };
-    let mut asker = MapAsker::new(alloc);
-    let served = serve(alloc, &mut input.as_slice(), &mut writer, &mut asker, 20);
-    drop(asker);
-    Some((served, begun(&output, &writer.inner)?))
+/// How a session over the three frames ends, and how many bytes of their answers it writes.
+fn written_in_pieces(alloc: Global, writes: Limits) -> Option<(Served, Option<usize>)> {
+    let told = three_frames(alloc, 54, (FREE, writes), 20)?;
+    Some((told.end, told.begun))
 }
 
 #[test]
@@ -300,15 +358,15 @@ fn a_writer_fails_at_each_call(rt: HostRuntime) {
         (7, Served::Write, 49),
         (8, Served::Ended, 51),
     ] {
-        let told = written_in_pieces(rt.alloc(), 7, calls);
-        assert!(rt; told == Some((end, written)), "at {calls}");
+        let told = written_in_pieces(rt.alloc(), (7, calls));
+        assert!(rt; told == Some((end, Some(written))), "at {calls}");
     }
 }
 
 #[test]
 fn a_writer_takes_no_byte(rt: HostRuntime) {
-    let told = written_in_pieces(rt.alloc(), 0, 20);
-    assert!(rt; told == Some((Served::Write, 0)));
+    let told = written_in_pieces(rt.alloc(), (0, 20));
+    assert!(rt; told == Some((Served::Write, Some(0))));
 }
 
 #[test]
@@ -321,8 +379,8 @@ fn turns_and_pieces(rt: HostRuntime) {
         (1, 40, Served::TurnsSpent, 36, 40),
         (54, 0, Served::TurnsSpent, 0, 0),
     ] {
-        let told = read_in_pieces(rt.alloc(), step, 100, turns);
-        assert!(rt; told == Some((end, answered, reads)));
+        let told = read_in_pieces(rt.alloc(), (step, 100), turns);
+        assert!(rt; told == Some((end, Some(answered), reads)));
     }
 }
 
@@ -369,21 +427,22 @@ fn is_called(alloc: Global, answers: &mut Answers, version: u8, frame: &[u8]) ->
     let devices = (&mut reader, &mut written);
     let answer = calls(alloc, devices, answers, version, &request, 10);
     drop(request);
-    Some(is_added(answer) && written.as_slice() == frame)
+    let is_frame = written.as_slice() == frame;
+    Some(is_added(answer) & is_frame)
 }
 
 /// The same of two calls with one stream of answers, in version 1 and then in version 2.
-fn both_are_called(alloc: Global) -> Option<(bool, bool)> {
+fn both_are_called(alloc: Global) -> (Option<bool>, Option<bool>) {
     let mut answers = Answers::new(alloc);
     let first = is_called(alloc, &mut answers, 1, &INSERT);
     let second = is_called(alloc, &mut answers, 2, &INSERT_2);
     drop(answers);
-    Some((first?, second?))
+    (first, second)
 }
 
 #[test]
 fn one_call_over_memory(rt: HostRuntime) {
-    assert!(rt; both_are_called(rt.alloc()) == Some((true, true)));
+    assert!(rt; both_are_called(rt.alloc()) == (Some(true), Some(true)));
 }
 
 /// Why a call gives no answer, and how many reads it made. Each read and each write takes 7 bytes at most.
@@ -395,16 +454,8 @@ fn fault_of(
     turns: u64,
 ) -> Option<(Option<CallFault>, u64)> {
     let request = insert(alloc).ok()?;
-    let mut reader = Limited {
-        inner: input,
-        step: 7,
-        calls: reads,
-    };
-    let mut writer = Limited {
-        inner: Vec::new(alloc),
-        step: 7,
-        calls: writes,
-    };
+    let mut reader = Limited::new(input, (7, reads));
+    let mut writer = Limited::new(Vec::new(alloc), (7, writes));
     let mut answers = Answers::new(alloc);
     let devices = (&mut reader, &mut writer);
     let answer = calls(alloc, devices, &mut answers, version, &request, turns);

@@ -1,69 +1,29 @@
 //! The frames of one turn are written together.
 
 use super::askers::{MapAsker, OutOfMemoryAt};
-use super::devices::Limited;
-use super::sessions::{ADDED, INSERT, RETRIEVE, begun, fault, joined, three};
+use super::sessions::{
+    ADDED, FREE, Frames, INSERT, RETRIEVE, fault, joined, limited, three_frames,
+};
 use chord_map::Request;
-use chord_serve::{Asker, Served, serve};
+use chord_serve::Served;
 use chord_wire::FaultCode;
 use std::alloc::{AllocError, Global};
 
-/// How a session ended, what it wrote, and in how many writes, over a writer that takes all of a write and fails after
-/// so many.
-#[derive(Drop)]
-struct Outcome {
-    end: Served,
-    written: Vec<u8>,
-    writes: u64,
-}
-
-/// A session over reads of this many bytes.
-fn session<A: Asker>(
-    alloc: Global,
-    (input, step): (&[u8], usize),
-    asker: &mut A,
-    writes: u64,
-) -> Outcome {
-    let mut reader = Limited {
-        inner: input,
-        step,
-        calls: 100,
-    };
-    let mut writer = Limited {
-        inner: Vec::new(alloc),
-        step: usize::MAX,
-        calls: writes,
-    };
-    let end = serve(alloc, &mut reader, &mut writer, asker, 100);
-    Outcome {
-        end,
-        written: writer.inner,
-        writes: writes.saturating_sub(writer.calls),
-    }
-}
-
-impl Outcome {
-    /// How the session ended, how many bytes it wrote, where they are the first of this output, and in how many writes.
-    fn against(&self, output: &[u8]) -> Option<(Served, usize, u64)> {
-        Some((self.end, begun(output, &self.written)?, self.writes))
-    }
-}
-
-/// The same of the three frames.
-fn three_frames(alloc: Global, step: usize, writes: u64) -> Option<(Served, usize, u64)> {
-    let (input, output) = three(alloc).ok()?;
-    let mut asker = MapAsker::new(alloc);
-    let outcome = session(alloc, (&input, step), &mut asker, writes);
-    drop(asker);
-    outcome.against(&output)
+/// How a session over the three frames ends, how many bytes of their answers it writes, and in how many writes, where a
+/// read has so many bytes at most and the writes after so many fail.
+fn in_turns(alloc: Global, step: usize, writes: u64) -> Option<(Served, Option<usize>, u64)> {
+    let calls = ((step, 100), (usize::MAX, writes));
+    let told = three_frames(alloc, 54, calls, 100)?;
+    Some(told.written())
 }
 
 #[test]
 fn one_write_a_turn(rt: HostRuntime) {
     // Three frames in one read; two reads that have a frame or two; one byte a read.
     for (step, writes) in [(4096, 1), (54, 1), (35, 2), (19, 3), (1, 3)] {
-        let told = three_frames(rt.alloc(), step, 100);
-        assert!(rt; told == Some((Served::Ended, 51, writes)), "at {step}");
+        let told = in_turns(rt.alloc(), step, 100);
+        let wanted = (Served::Ended, Some(51), writes);
+        assert!(rt; told == Some(wanted), "at {step}");
     }
 }
 
@@ -71,9 +31,9 @@ fn one_write_a_turn(rt: HostRuntime) {
 fn half_a_frame_writes_nothing(rt: HostRuntime) {
     let alloc = rt.alloc();
     let mut asker = MapAsker::new(alloc);
-    let outcome = session(alloc, (&INSERT[..18], 4096), &mut asker, 100);
+    let told = limited(alloc, (&INSERT[..18], &[]), (FREE, FREE), 100, &mut asker);
     drop(asker);
-    assert!(rt; outcome.against(&[]) == Some((Served::Truncated, 0, 0)));
+    assert!(rt; told.written() == (Served::Truncated, Some(0), 0));
 }
 
 #[test]
@@ -85,41 +45,44 @@ fn each_write_of_a_turn_fails(rt: HostRuntime) {
         (2, Served::Write, 36),
         (3, Served::Ended, 51),
     ] {
-        let told = three_frames(rt.alloc(), 19, writes);
-        assert!(rt; told == Some((end, answered, writes)));
+        let told = in_turns(rt.alloc(), 19, writes);
+        assert!(rt; told == Some((end, Some(answered), writes)));
     }
 }
 
 /// The same of two equal inserts, a frame of no operation and an insert.
-fn with_a_bad_frame(alloc: Global, writes: u64) -> Option<(Served, usize, u64)> {
+fn with_a_bad_frame(alloc: Global, writes: u64) -> Option<(Served, Option<usize>, u64)> {
     let mut bad = RETRIEVE;
     bad[5] = 4;
-    let input = joined(alloc, &[&INSERT, &INSERT, &bad, &INSERT]).ok()?;
-    let output = joined(alloc, &[&ADDED, &ADDED, &fault(0, 3)]).ok()?;
+    let input = [INSERT.as_slice(), &INSERT, &bad, &INSERT];
+    let output = [ADDED.as_slice(), &ADDED, &fault(0, 3)];
+    let frames = Frames::new(alloc, &input, &output).ok()?;
     let mut asker = MapAsker::new(alloc);
-    let outcome = session(alloc, (&input, 4096), &mut asker, writes);
+    let calls = (FREE, (usize::MAX, writes));
+    let told = limited(alloc, frames.both(), calls, 100, &mut asker);
     drop(asker);
-    outcome.against(&output)
+    drop(frames);
+    Some(told.written())
 }
 
 #[test]
 fn a_refused_frame_goes_out_with_those_before(rt: HostRuntime) {
     let malformed = Served::Malformed(FaultCode::BadOperation);
-    assert!(rt; with_a_bad_frame(rt.alloc(), 100) == Some((malformed, 45, 1)));
+    assert!(rt; with_a_bad_frame(rt.alloc(), 100) == Some((malformed, Some(45), 1)));
 }
 
 #[test]
 fn a_refused_frame_is_not_written(rt: HostRuntime) {
-    assert!(rt; with_a_bad_frame(rt.alloc(), 0) == Some((Served::Write, 0, 0)));
+    assert!(rt; with_a_bad_frame(rt.alloc(), 0) == Some((Served::Write, Some(0), 0)));
 }
 
-/// Inserts with the numbers 1, 2 and 3.
-fn three_inserts(alloc: Global) -> Result<Vec<u8>, AllocError> {
-    let mut second = INSERT;
+/// Inserts with the numbers 1, 2 and 3, and the first two answers.
+fn three_inserts(alloc: Global) -> Result<Frames, AllocError> {
+    let (mut second, mut third, mut added) = (INSERT, INSERT, ADDED);
     second[13] = 2;
-    let mut third = INSERT;
     third[13] = 3;
-    joined(alloc, &[&INSERT, &second, &third])
+    added[13] = 2;
+    Frames::new(alloc, &[&INSERT, &second, &third], &[&ADDED, &added])
 }
 
 /// The same of the three inserts, where memory ends at the one with this number, and how many the asker was asked.
@@ -127,30 +90,30 @@ fn out_of_memory_at(
     alloc: Global,
     number: usize,
     writes: u64,
-) -> Option<((Served, usize, u64), usize)> {
-    let input = three_inserts(alloc).ok()?;
-    let mut added = ADDED;
-    added[13] = 2;
-    let output = joined(alloc, &[&ADDED, &added]).ok()?;
+) -> Option<((Served, Option<usize>, u64), usize)> {
+    let frames = three_inserts(alloc).ok()?;
     let mut asker = OutOfMemoryAt::new(alloc, number);
-    let outcome = session(alloc, (&input, 4096), &mut asker, writes);
+    let calls = (FREE, (usize::MAX, writes));
+    let told = limited(alloc, frames.both(), calls, 100, &mut asker);
     let asked = asker.requests.len();
     drop(asker);
-    Some((outcome.against(&output)?, asked))
+    drop(frames);
+    Some((told.written(), asked))
 }
 
 #[test]
 fn what_is_due_is_written_before_memory_ends(rt: HostRuntime) {
     for (number, answered, writes) in [(1, 0, 0), (2, 15, 1), (3, 30, 1)] {
         let told = out_of_memory_at(rt.alloc(), number, 100);
-        assert!(rt; told == Some(((Served::Memory, answered, writes), number)));
+        let wanted = (Served::Memory, Some(answered), writes);
+        assert!(rt; told == Some((wanted, number)));
     }
 }
 
 #[test]
 fn memory_ends_and_a_write_fails(rt: HostRuntime) {
     let told = out_of_memory_at(rt.alloc(), 3, 0);
-    assert!(rt; told == Some(((Served::Write, 0, 0), 3)));
+    assert!(rt; told == Some(((Served::Write, Some(0), 0), 3)));
 }
 
 /// Insert a value of 4,096 bytes under a.
@@ -171,13 +134,10 @@ fn map_of(alloc: Global, count: u8) -> Option<MapAsker> {
 
 /// Retrieve a, numbers 1, 2 and 3.
 fn retrieves(alloc: Global) -> Result<Vec<u8>, AllocError> {
-    let mut whole = Vec::new(alloc);
-    for number in 1..=3 {
-        let mut retrieve = RETRIEVE;
-        retrieve[13] = number;
-        whole.extend_from_slice(&retrieve)?;
-    }
-    Ok(whole)
+    let (mut first, mut third) = (RETRIEVE, RETRIEVE);
+    first[13] = 1;
+    third[13] = 3;
+    joined(alloc, &[&first, &RETRIEVE, &third])
 }
 
 /// How a session over the three retrieves of so many values ends, how many bytes it writes and in how many writes, and
@@ -185,11 +145,11 @@ fn retrieves(alloc: Global) -> Result<Vec<u8>, AllocError> {
 fn retrieved(alloc: Global, count: u8, writes: u64) -> Option<((Served, usize, u64), usize)> {
     let input = retrieves(alloc).ok()?;
     let mut asker = map_of(alloc, count)?;
-    let outcome = session(alloc, (&input, 4096), &mut asker, writes);
-    let told = (outcome.end, outcome.written.len(), outcome.writes);
+    let calls = (FREE, (usize::MAX, writes));
+    let told = limited(alloc, (&input, &[]), calls, 100, &mut asker);
     let asked = asker.requests.len();
     drop(asker);
-    Some((told, asked))
+    Some(((told.end, told.len, told.writes), asked))
 }
 
 #[test]
