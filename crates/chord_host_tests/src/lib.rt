@@ -1,6 +1,8 @@
-//! The tests of `chord_host`: the commands `run` and `serve --connections`.
+//! The tests of the commands `run` and `serve --connections`, and of `ask` and `load` with a ring behind the server.
 #![tactic(auto)]
 
+#[cfg(test)]
+mod commands;
 #[cfg(test)]
 mod plan_runs;
 #[cfg(test)]
