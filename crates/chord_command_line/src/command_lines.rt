@@ -1,4 +1,6 @@
 //! The commands of `chord` and what each takes.
+ghost use Rattle.std.specs.Prelude.{ℕ, ◌↔◌, IsTrue, IfSome, IsSome};
+ghost use Rattle.chord_command_line.specs.Words.{IsSmall, NameStores};
 
 use chord_client::{ask_command, fault_of, load_command};
 use clap::{Arg, ArgAction, ArgGroup, Command};
@@ -144,7 +146,10 @@ pub fn no_stores(alloc: Global, word: &str) -> Result<clap::Error, AllocError> {
 }
 
 /// The number from 1 to 65,535 that a word is, if it is one.
-pub fn small_number(word: &str) -> Option<u16> {
+pub fn small_number(word: &str) -> Option<u16>
+    ensures some { IfSome result (IsSmall word.now) }
+    ensures none { (number : ℕ) → IsSmall word.now number → IsSome result }
+{
     match word.parse::<u16>() {
         Ok(number) if 0 < number => Some(number),
         _ => None,
@@ -160,7 +165,9 @@ pub fn no_number(alloc: Global, option: &str, word: &str) -> Result<clap::Error,
 }
 
 /// Whether the word names 1 to 64 stores, one letter each.
-pub fn names_stores(word: &str) -> bool {
+pub fn names_stores(word: &str) -> bool
+    ensures { IsTrue result ↔ NameStores word.now }
+{
     let count = word.len();
     0 < count
         && count <= STORE_LIMIT

@@ -1,0 +1,17 @@
+-- What the program takes as a number, and as stores, on a command line. Source: our own.
+use Rattle.std.specs.Prelude.{◌≡◌, ℕ, ◌≤◌, ◌<◌, ◌⊎◌, ◌^◌, List, length}
+use Rattle.std.specs.List.{All}
+use Rattle.std.specs.Str.Parse.{IsNumeral, digits_value, without_leading_plus}
+
+-- a decimal numeral, with a plus before it or not, of a number from 1 to 65,535
+abbrev pub IsSmall : List ℕ → ℕ → Type 0
+IsSmall word number =
+    IsNumeral 10 (without_leading_plus word) × (digits_value 10 (without_leading_plus word) ≡ number) × (1 ≤ number) × (number < 2 ^ 16)
+
+-- t, l, n or c
+abbrev pub IsStoreLetter : ℕ → Type 0
+IsStoreLetter letter = (letter ≡ 116) ⊎ (letter ≡ 108) ⊎ (letter ≡ 110) ⊎ (letter ≡ 99)
+
+-- 1 to 64 such letters
+abbrev pub NameStores : List ℕ → Type 0
+NameStores word = (1 ≤ length word) × (length word ≤ 64) × All IsStoreLetter word
