@@ -12,7 +12,8 @@ use chord_command_line::{
     DEFAULT_STORES, commands, names_stores, no_number, no_stores, small_number,
 };
 use chord_console::{empty_ones, world};
-use chord_host::{Front, listen, run, serve, stay};
+use chord_front::{Front, listen};
+use chord_host::{run, serve, stay};
 use chord_plan::{Plan, PlanFault, StoreKind, read_plan};
 use chord_store::{CappedStore, EntryStore, ListStore, NotedStore, TreeStore};
 use clap::ArgMatches;

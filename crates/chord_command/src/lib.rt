@@ -9,6 +9,3 @@ mod words;
 pub use finish::{Fault, Finish};
 pub use shown::{Hex, Shown};
 pub use words::{LineFault, Words};
-
-#[cfg(test)]
-mod tests;

@@ -1,4 +1,4 @@
-//! The tests of `chord_command_line`.
+//! The tests of `chord_command` and of `chord_command_line`.
 #![tactic(auto)]
 
 #[cfg(test)]

@@ -3,6 +3,7 @@
 use crate::tests::serve_lines::{prints, shows};
 use chord_command_line::{names_stores, no_stores};
 
+mod command;
 mod serve_lines;
 
 /// The text of a command line without a command, and the status that the program ends with.

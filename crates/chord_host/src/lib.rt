@@ -9,6 +9,5 @@ mod running;
 mod serving;
 
 pub use plan_run::run;
-pub use serving::front::{Front, listen};
 pub use serving::server::serve;
 pub use serving::stay::stay;

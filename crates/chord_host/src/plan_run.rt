@@ -13,7 +13,7 @@ use std::io::{self, BufWriter, Write};
 use std::marker::Brand;
 use std::sync::Wait;
 use std::thread;
-use std::thread::{Scope, Threads};
+use std::thread::{JoinHandle, Scope, Threads};
 use std::time::Clock;
 
 /// What came of an ask.
@@ -79,7 +79,45 @@ fn ask_in_turn<J: Naming, S: EntryStore, R: Wait + Clock>(
     Ok(answers)
 }
 
-/// All callers ask at once, each on a thread of its own, while another thread ticks the nodes.
+/// Each caller asks on a thread of its own.
+fn start_callers<
+    's,
+    E: 's,
+    J: Naming + Send + Sync + 's,
+    S: EntryStore + Send + 's,
+    R: Threads + Wait + Clock + Sync + 's,
+>(
+    rt: &'s R,
+    alloc: Global,
+    ring: &'s Ring<J, S>,
+    scope: &'s Scope<'s, E>,
+    plan: &'s Plan,
+) -> Result<Vec<JoinHandle<Answers>>, Finish> {
+    let asks = plan.asks.as_slice();
+    let mut callers = Vec::new(alloc);
+    for number in 0..plan.settings.callers {
+        match scope.spawn(move || ask_in_turn(rt, alloc, ring, number, asks)) {
+            Ok(caller) => callers.push(caller)?,
+            Err(_) => return Err(Finish::OutOfMemory),
+        }
+    }
+    Ok(callers)
+}
+
+/// What all callers were answered, once they are done.
+fn join_callers(
+    rt: &(impl Threads + Wait),
+    alloc: Global,
+    callers: Vec<JoinHandle<Answers>>,
+) -> Result<Vec<Vec<Answer>>, Finish> {
+    let mut all = Vec::new(alloc);
+    for caller in callers {
+        all.push(caller.join(rt)?)?;
+    }
+    Ok(all)
+}
+
+/// All callers ask at once, while another thread ticks the nodes.
 fn ask_at_once<
     's,
     E: 's,
@@ -97,37 +135,35 @@ fn ask_at_once<
     if scope.spawn(move || tick_in_turn(rt, ring, nodes)).is_err() {
         return Err(Finish::OutOfMemory);
     }
-    let asks = plan.asks.as_slice();
-    let mut callers = Vec::new(alloc);
-    for number in 0..plan.settings.callers {
-        match scope.spawn(move || ask_in_turn(rt, alloc, ring, number, asks)) {
-            Ok(caller) => callers.push(caller)?,
-            Err(_) => return Err(Finish::OutOfMemory),
+    let callers = start_callers(rt, alloc, ring, scope, plan)?;
+    join_callers(rt, alloc, callers)
+}
+
+/// Writes what came of an ask.
+fn write_answer<W: Write>(
+    caller: usize,
+    number: usize,
+    answer: &Answer,
+    writer: &mut W,
+) -> io::Result<()> {
+    match answer {
+        Answer::Reply(reply) => {
+            let reply = Shown(reply);
+            writeln!(writer, "{caller} {number} {reply}")
         }
+        Answer::Full => writeln!(writer, "{caller} {number} full"),
+        Answer::NoAnswer => writeln!(writer, "{caller} {number} noanswer"),
     }
-    let mut all = Vec::new(alloc);
-    for caller in callers {
-        all.push(caller.join(rt)?)?;
-    }
-    Ok(all)
 }
 
 /// Writes a line for each ask that was made, by caller and number.
 fn write_answers<W: Write>(all: &[Vec<Answer>], writer: &mut W) -> io::Result<()> {
     for (caller, answers) in all.iter().enumerate() {
         for (place, answer) in answers.iter().enumerate() {
-            let number = place.saturating_add(1);
-            match answer {
-                Answer::Reply(reply) => {
-                    let reply = Shown(reply);
-                    writeln!(writer, "{caller} {number} {reply}")?
-                }
-                Answer::Full => writeln!(writer, "{caller} {number} full")?,
-                Answer::NoAnswer => writeln!(writer, "{caller} {number} noanswer")?,
-            }
+            write_answer(caller, place.saturating_add(1), answer, writer)?;
         }
     }
-    Ok(())
+    writer.flush()
 }
 
 /// Starts the nodes, and stops the ring when all callers are done. The first handle starts the threads.
@@ -159,8 +195,16 @@ fn run_named<J: Naming + Send + Sync, S: EntryStore + Send, R: Threads + Wait + 
 ) -> Result<Vec<Vec<Answer>>, Finish>
     requires { blank ≡ J.name }
 {
-    let ring = blank.open::<J, S>()?;
-    run_ring(rt, rt, alloc, &ring, plan, stores)
+    let ring = match blank.open::<J, S>() {
+        Ok(ring) => ring,
+        Err(_) => {
+            drop(stores);
+            return Err(Finish::OutOfMemory);
+        }
+    };
+    let all = run_ring(rt, rt, alloc, &ring, plan, stores);
+    drop(ring);
+    all
 }
 
 /// A ring of the plan's size that has no name yet.
@@ -180,6 +224,17 @@ pub fn blank_of(alloc: Global, plan: &Plan) -> Result<Blank, Finish> {
     }
 }
 
+/// Writes the same through a buffer.
+fn write_buffered<W: Write + Drop>(
+    alloc: Global,
+    all: &[Vec<Answer>],
+    writer: W,
+) -> Result<(), Finish> {
+    let mut lines = BufWriter::new(alloc, writer)?;
+    write_answers(all, &mut lines)?;
+    Ok(())
+}
+
 /// Runs a ring of the plan's nodes over these stores, one for each, until all its callers are done, and writes what
 /// they were answered.
 fn run_and_write<S: EntryStore + Send, R: Threads + Wait + Clock + Sync, W: Write + Drop>(
@@ -191,10 +246,9 @@ fn run_and_write<S: EntryStore + Send, R: Threads + Wait + Clock + Sync, W: Writ
 ) -> Result<(), Finish> {
     let blank = blank_of(alloc, plan)?;
     let all = run_named::<Brand, S, R>(rt, alloc, plan, stores, blank)?;
-    let mut lines = BufWriter::new(alloc, writer)?;
-    write_answers(all.as_slice(), &mut lines)?;
-    lines.flush()?;
-    Ok(())
+    let written = write_buffered(alloc, all.as_slice(), writer);
+    drop(all);
+    written
 }
 
 /// The command `run`.

@@ -63,7 +63,36 @@ pub fn tick_in_turn<J: Naming, S: EntryStore, R: Wait + Clock>(
     }
 }
 
-/// The nodes enter in their order, each with a worker from its start and eight rounds of upkeep after it.
+/// A node enters, with a worker from its start and eight rounds of upkeep after it.
+fn start_node<
+    's,
+    E: 's,
+    J: Naming + Send + Sync + 's,
+    S: EntryStore + Send + 's,
+    R: Threads + Wait + Clock + Sync + 's,
+>(
+    rt: &'s R,
+    ring: &'s Ring<J, S>,
+    workers: &'s Scope<'s, E>,
+    number: usize,
+    node: &PlanNode,
+    store: S,
+) -> Result<(), Finish> {
+    enter(rt, ring, number, node, store)?;
+    let no = number as u64;
+    if workers
+        .spawn(move || ring.work(rt, no, &Open).is_ok())
+        .is_err()
+    {
+        return Err(Finish::OutOfMemory);
+    }
+    for _ in 0..ROUNDS {
+        tick_round(rt, ring, no.saturating_add(1));
+    }
+    Ok(())
+}
+
+/// The nodes enter in their order.
 pub fn start_nodes<
     's,
     E: 's,
@@ -78,17 +107,7 @@ pub fn start_nodes<
     stores: Vec<S>,
 ) -> Result<(), Finish> {
     for (number, (node, store)) in nodes.iter().zip(stores).enumerate() {
-        enter(rt, ring, number, node, store)?;
-        let no = number as u64;
-        if workers
-            .spawn(move || ring.work(rt, no, &Open).is_ok())
-            .is_err()
-        {
-            return Err(Finish::OutOfMemory);
-        }
-        for _ in 0..ROUNDS {
-            tick_round(rt, ring, no.saturating_add(1));
-        }
+        start_node(rt, ring, workers, number, node, store)?;
     }
     Ok(())
 }

@@ -1,13 +1,8 @@
 //! The command `serve`: a ring of a plan's nodes, which clients ask over loopback.
 
 pub mod asker;
-pub mod clients;
-pub mod ended;
-pub mod front;
 pub mod idle;
-pub mod lines;
 pub mod pool;
 pub mod server;
 pub mod service;
 pub mod stay;
-pub mod stop;

@@ -2,7 +2,8 @@
 
 use chord_client::{Kind, Load, Manner, Until, ask_lines, run_load};
 use chord_command::{Fault, Finish};
-use chord_host::{Front, serve};
+use chord_front::Front;
+use chord_host::serve;
 use chord_loopback::{bound, plan_with, two_stores};
 use chord_plan::Plan;
 use chord_store::EntryStore;

@@ -1,7 +1,8 @@
 //! The command `serve` over loopback, for so many connections.
 
 use chord_command::{Fault, Finish};
-use chord_host::{Front, listen, serve};
+use chord_front::{Front, listen};
+use chord_host::serve;
 use chord_loopback::{
     Act, Acts, Answer, Ask, ask, ask_insert, bound, changed, do_acts, expect, insert, is_served,
     leave, plan_of, plan_with, request_frame, retrieve, two_stores,

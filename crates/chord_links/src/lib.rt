@@ -14,6 +14,3 @@ pub use fingers::Fingers;
 pub use links::Links;
 pub use peer::Peer;
 pub use successors::{Empty, SuccList};
-
-#[cfg(test)]
-mod tests;

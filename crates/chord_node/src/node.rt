@@ -298,6 +298,8 @@ impl<S: EntryStore> Node<S> {
             return Err(GiveFault::Memory);
         };
         if self.outbox.reserve().is_err() {
+            drop(part);
+            drop(pairs);
             return Err(GiveFault::Memory);
         }
         let segment = self.held.remove(place);
@@ -347,7 +349,8 @@ impl<S: EntryStore> Node<S> {
         let Some(back) = self.outbox.declined(declined.to, declined.number) else {
             unreachable!()
         };
-        let (segment, _) = back.into_parts();
+        let (segment, pairs) = back.into_parts();
+        drop(pairs);
         self.held.push_reserved(segment);
         Ok(Back::Held)
     }

@@ -10,6 +10,3 @@ mod lookup;
 
 pub use hop::{Hop, next_hop};
 pub use lookup::{LinkReader, LookupFault, find_predecessor, find_successor};
-
-#[cfg(test)]
-mod tests;

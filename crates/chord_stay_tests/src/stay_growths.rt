@@ -2,7 +2,8 @@
 //! memory nothing is refused; the toolchain's failing allocations refuse one.
 
 use chord_command::Finish;
-use chord_host::{Front, stay};
+use chord_front::Front;
+use chord_host::stay;
 use chord_loopback::{bound, plan_with, two_stores};
 use chord_plan::Plan;
 use log::sink::Discard;

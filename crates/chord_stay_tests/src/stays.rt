@@ -1,7 +1,8 @@
 //! The command `serve --stay` over loopback.
 
 use chord_command::{Fault, Finish};
-use chord_host::{Front, stay};
+use chord_front::Front;
+use chord_host::stay;
 use chord_loopback::{
     Act, Acts, Answer, Ask, bound, do_acts, is_served, leave, plan_with, two_stores,
 };

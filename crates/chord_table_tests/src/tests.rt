@@ -1,8 +1,12 @@
 //! Seats of one table.
-ghost use Rattle.std.specs.Prelude.{◌≡◌, [], IfOk};
+ghost use Rattle.std.specs.Prelude.{◌≡◌, [], IfOk, Ok};
+ghost use Rattle.chord_links.specs.NodeLinks.{alone};
+ghost use Rattle.chord_model.specs.Node.{founder};
+ghost use Rattle.chord_model.specs.declared.message.Message.TheVariants.{Ask as AskMessage};
 ghost use Rattle.chord_node.specs.Asked.{AskSteps};
+ghost use Rattle.chord_node.specs.declared.asks.answered.Answered.TheVariants.{Told as ToldAnswer};
 
-use chord_caller::{Ask, CallerCore, Heard};
+use chord_caller::{Ask, CallerCore, Heard, Told};
 use chord_ident::Id;
 use chord_links::{Links, Peer};
 use chord_map::{Reply, Request};
@@ -11,7 +15,6 @@ use chord_store::{CappedStore, EntryStore};
 use chord_table::{BlankTable, CallerSeat, Naming, NodeSeat, Parcel, Registrar, Shared};
 use std::alloc::{AllocError, Global};
 use std::marker::Brand;
-use std::process::Abort;
 use std::test::Fail;
 
 mod clients;
@@ -47,12 +50,34 @@ fn ask<J: Naming>(
     Ok(seat.send(table, core, Message::Ask(ask)))
 }
 
-/// What the node answers to the call.
-fn answered<S: EntryStore>(node: &mut Node<S>, ask: &Ask) -> Result<Answered, AllocError>
-    ensures { AskSteps ask.now node.old result node.new }
+/// The call that a message is.
+fn call_in(message: Message) -> Result<Ask, Fail>
+    ensures { IfOk result (λ ask. message ≡ AskMessage ask) }
 {
-    let (answered, _) = node.on_ask(ask)?;
-    Ok(answered)
+    match message {
+        Message::Ask(ask) => Ok(ask),
+        other => {
+            drop(other);
+            Err(Fail::from("no call"))
+        }
+    }
+}
+
+/// What the node tells where it does the call.
+fn told_by<S: EntryStore>(node: &mut Node<S>, ask: Ask) -> Result<Told, Fail>
+    ensures { IfOk result (λ told. AskSteps ask node.old (Ok (ToldAnswer told)) node.new) }
+{
+    let answered = node.on_ask(&ask);
+    drop(ask);
+    let (answered, done) = answered?;
+    drop(done);
+    match answered {
+        Answered::Told(told) => Ok(told),
+        other => {
+            drop(other);
+            Err(Fail::from("no reply"))
+        }
+    }
 }
 
 /// The node does the call that comes, and its reply goes out.
@@ -64,13 +89,24 @@ fn reply<J: Naming, S: EntryStore>(
 ) -> Result<Parcel<J>, Fail>
     requires { seat.old.node ≡ node.old }
 {
-    let Message::Ask(ask) = seat.receive(table, parcel) else {
-        return Err(Fail::from("no call"));
-    };
-    let Answered::Told(told) = answered(node, &ask)? else {
-        return Err(Fail::from("no reply"));
-    };
+    let call = call_in(seat.receive(table, parcel))?;
+    let told = told_by(node, call)?;
     Ok(seat.send(table, node, Message::Told(told)))
+}
+
+/// The first node of a ring, under this number.
+fn founded<S: EntryStore>(alloc: Global, no: u64, store: S) -> Result<Node<S>, Fail>
+    requires vacant { S.content store ≡ [] }
+    ensures { IfOk result (λ node. node ≡ founder (alone (record { no = no; id = record { number = 5 } }) 3) (S.limit store)) }
+{
+    let me = Peer { no, id: Id::new(5) };
+    match Node::found(alloc, me, 3, store) {
+        Ok(node) => Ok(node),
+        Err(store) => {
+            drop(store);
+            Err(Fail::from("no node"))
+        }
+    }
 }
 
 /// The caller takes the reply that comes.
@@ -90,68 +126,53 @@ fn take<J: Naming>(
     Ok(heard)
 }
 
-/// A caller's call comes to a node as it was sent, and the reply to it comes to the caller.
-fn is_heard<J: Naming, S: EntryStore, R: Abort>(
-    rt: &R,
+/// How many replies the caller took that say added.
+fn added_replies(core: &CallerCore) -> usize {
+    core.mine()
+        .iter()
+        .filter(|done| done.reply == Reply::Added)
+        .count()
+}
+
+/// A caller's call comes to a node, and the reply to it comes to the caller: whether the call was the first one, what
+/// the caller heard, and how many replies it has that say added.
+fn hears<J: Naming, S: EntryStore>(
     alloc: Global,
     table: &Shared<J>,
     node: &mut Node<S>,
     seat: &mut NodeSeat<J>,
     core: &mut CallerCore,
     caller: &mut CallerSeat<J>,
-) -> Result<(), Fail>
+) -> Result<(bool, Heard, usize), Fail>
     requires node { seat.old.node ≡ node.old }
     requires caller { caller.old.caller ≡ core.old }
 {
     let call = ask(table, core, caller, insert(alloc)?)?;
-    assert!(rt; is_first_call(call.message()));
+    let is_first = is_first_call(call.message());
     let told = reply(table, node, seat, call)?;
     let heard = take(table, core, caller, told)?;
-    assert!(rt; heard == Heard::Fresh);
-    let replies = core.mine().iter().filter(|done| done.reply == Reply::Added);
-    assert!(rt; replies.count() == 1);
     seat.look(table);
     caller.look(table);
-    Ok(())
+    Ok((is_first, heard, added_replies(core)))
 }
 
 /// The same at a node and with a caller that enter for it.
-fn is_answered<J: Naming, S: EntryStore, R: Abort>(
-    rt: &R,
+fn is_answered<J: Naming, S: EntryStore>(
     alloc: Global,
     blank: BlankTable,
     store: S,
-) -> Result<(), Fail>
+) -> Result<(bool, Heard, usize), Fail>
     requires name { blank ≡ J.name }
     requires slots { blank.slots ≡ 2 }
     requires callers { blank.callers ≡ 1 }
     requires vacant { S.content store ≡ [] }
 {
-    let me = Peer {
-        no: 0,
-        id: Id::new(5),
-    };
-    let mut node = match Node::found(alloc, me, 3, store) {
-        Ok(node) => node,
-        Err(store) => {
-            drop(store);
-            drop(blank);
-            return Err(Fail::from("no node"));
-        }
-    };
+    let mut node = founded(alloc, 0, store)?;
     let (table, mut registrar) = blank.open::<J>();
     let mut seat = registrar.admit_node(&table, 0, &node);
     let mut core = CallerCore::new(alloc, 0, 1);
     let mut caller = registrar.admit_caller(&table, 0, &core);
-    let heard = is_heard(
-        rt,
-        alloc,
-        &table,
-        &mut node,
-        &mut seat,
-        &mut core,
-        &mut caller,
-    );
+    let heard = hears(alloc, &table, &mut node, &mut seat, &mut core, &mut caller);
     drop(caller);
     drop(core);
     drop(seat);
@@ -162,18 +183,17 @@ fn is_answered<J: Naming, S: EntryStore, R: Abort>(
 }
 
 /// The same over a boxed store.
-fn is_answered_from_a_box<J: Naming, R: Abort>(
-    rt: &R,
+fn is_answered_from_a_box<J: Naming>(
     alloc: Global,
     blank: BlankTable,
     store: Box<dyn EntryStore + Send>,
-) -> Result<(), Fail>
+) -> Result<(bool, Heard, usize), Fail>
     requires name { blank ≡ J.name }
     requires slots { blank.slots ≡ 2 }
     requires callers { blank.callers ≡ 1 }
     requires vacant { content store ≡ [] }
 {
-    is_answered::<J, Box<dyn EntryStore + Send>, R>(rt, alloc, blank, store)
+    is_answered::<J, Box<dyn EntryStore + Send>>(alloc, blank, store)
 }
 
 #[test]
@@ -181,67 +201,54 @@ fn a_caller_is_answered(rt: HostRuntime) -> Result<(), Fail> {
     let alloc = rt.alloc();
     let blank = Registrar::open(alloc, 2, 1)?;
     let store: Box<dyn EntryStore + Send> = Box::new(alloc, CappedStore::new(alloc, 4))?;
-    is_answered_from_a_box::<Brand, _>(&rt, alloc, blank, store)
+    let heard = is_answered_from_a_box::<Brand>(alloc, blank, store)?;
+    assert!(rt; heard == (true, Heard::Fresh, 1));
+    Ok(())
 }
 
-/// The message that a node takes in is the call that was sent.
-fn comes<J: Naming, R: Abort>(
-    rt: &R,
+/// Whether the message that a node takes in is the call that was sent.
+fn comes<J: Naming>(
     alloc: Global,
     table: &Shared<J>,
     seat: &mut NodeSeat<J>,
     core: &mut CallerCore,
     caller: &mut CallerSeat<J>,
-) -> Result<(), Fail>
+) -> Result<bool, Fail>
     requires { caller.old.caller ≡ core.old }
 {
     let call = ask(table, core, caller, insert(alloc)?)?;
     let message = seat.receive(table, call);
-    assert!(rt; is_first_call(&message));
+    let is_first = is_first_call(&message);
     drop(message);
-    Ok(())
+    Ok(is_first)
 }
 
 /// The same at a node and with a caller that enter for it.
-fn comes_as_it_was_sent<J: Naming, R: Abort>(
-    rt: &R,
-    alloc: Global,
-    blank: BlankTable,
-) -> Result<(), Fail>
+fn comes_as_it_was_sent<J: Naming>(alloc: Global, blank: BlankTable) -> Result<bool, Fail>
     requires name { blank ≡ J.name }
     requires slots { blank.slots ≡ 2 }
     requires callers { blank.callers ≡ 1 }
 {
-    let me = Peer {
-        no: 0,
-        id: Id::new(5),
-    };
-    let node = match Node::found(alloc, me, 3, CappedStore::new(alloc, 4)) {
-        Ok(node) => node,
-        Err(store) => {
-            drop(store);
-            drop(blank);
-            return Err(Fail::from("no node"));
-        }
-    };
+    let node = founded(alloc, 0, CappedStore::new(alloc, 4))?;
     let (table, mut registrar) = blank.open::<J>();
     let mut seat = registrar.admit_node(&table, 0, &node);
     let mut core = CallerCore::new(alloc, 0, 1);
     let mut caller = registrar.admit_caller(&table, 0, &core);
-    let come = comes(rt, alloc, &table, &mut seat, &mut core, &mut caller);
+    let comes = comes(alloc, &table, &mut seat, &mut core, &mut caller);
     drop(caller);
     drop(core);
     drop(seat);
     drop(node);
     drop(registrar);
     drop(table);
-    come
+    comes
 }
 
 #[test]
 fn a_call_comes_as_it_was_sent(rt: HostRuntime) -> Result<(), Fail> {
     let blank = Registrar::open(rt.alloc(), 2, 1)?;
-    comes_as_it_was_sent::<Brand, _>(&rt, rt.alloc(), blank)
+    assert!(rt; comes_as_it_was_sent::<Brand>(rt.alloc(), blank)?);
+    Ok(())
 }
 
 /// A node enters beside another, and does an event of its own.
@@ -249,18 +256,7 @@ fn enters_later<J: Naming>(alloc: Global, blank: BlankTable) -> Result<(), Fail>
     requires name { blank ≡ J.name }
     requires slots { blank.slots ≡ 2 }
 {
-    let me = Peer {
-        no: 1,
-        id: Id::new(5),
-    };
-    let first = match Node::found(alloc, me, 3, CappedStore::new(alloc, 4)) {
-        Ok(first) => first,
-        Err(store) => {
-            drop(store);
-            drop(blank);
-            return Err(Fail::from("no node"));
-        }
-    };
+    let first = founded(alloc, 1, CappedStore::new(alloc, 4))?;
     let (table, mut registrar) = blank.open::<J>();
     drop(registrar.admit_node(&table, 1, &first));
     drop(first);

@@ -1,7 +1,7 @@
 //! Callers between connections.
 
-use crate::serving::ended::Ended;
 use crate::serving::idle::IdleCaller;
+use chord_front::Ended;
 use chord_live::{Client, Ring};
 use chord_store::EntryStore;
 use chord_table::Naming;
@@ -22,12 +22,8 @@ impl<'r, J: Naming, S: EntryStore> Resting<'r, J, S> {
     /// Adds a caller. There is room for all callers of the ring.
     fn add(&mut self, caller: Client<'r, J, S>) {
         match IdleCaller::of(caller) {
-            Ok(idle) => {
-                let _ = self.idle.push(idle).is_ok();
-            }
-            Err(caller) => {
-                let _ = self.pending.push_back(caller).is_ok();
-            }
+            Ok(idle) => drop(self.idle.push(idle)),
+            Err(caller) => drop(self.pending.push_back(caller)),
         }
     }
 }
@@ -52,17 +48,27 @@ impl<'r, J: Naming, S: EntryStore> Pool<'r, J, S> {
         Ok(Pool { ring, resting })
     }
 
+    /// An idle caller.
+    fn rested(&self, rt: &impl Wait) -> Option<IdleCaller<'r, J, S>> {
+        self.resting.lock(rt).idle.pop()
+    }
+
+    /// The caller whose pending request waits longest.
+    fn waiting(&self, rt: &impl Wait) -> Option<Client<'r, J, S>> {
+        self.resting.lock(rt).pending.pop_front()
+    }
+
     /// An idle caller, or a new one, or one whose pending requests are answered now that they are sent again. Else how a
     /// connection ends for which there is none.
     pub fn take<R: Wait + Clock>(&self, rt: &R, via: u64) -> Result<IdleCaller<'r, J, S>, Ended> {
-        if let Some(idle) = self.resting.lock(rt).idle.pop() {
+        if let Some(idle) = self.rested(rt) {
             return Ok(idle);
         }
         let none = match IdleCaller::open(rt, self.ring) {
             Ok(idle) => return Ok(idle),
             Err(none) => none,
         };
-        let Some(caller) = self.resting.lock(rt).pending.pop_front() else {
+        let Some(caller) = self.waiting(rt) else {
             return Err(none);
         };
         match IdleCaller::settle(rt, caller, via) {

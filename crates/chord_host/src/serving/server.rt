@@ -2,27 +2,29 @@
 ghost use Rattle.std.specs.Prelude.{◌≡◌};
 
 use crate::plan_run::blank_of;
-use crate::serving::ended::Ended;
-use crate::serving::front::Front;
 use crate::serving::idle::IdleCaller;
-use crate::serving::lines::{write_address, write_end};
 use crate::serving::service::{Service, node_of};
 use chord_command::Finish;
+use chord_front::{Ended, Front, write_address, write_end};
 use chord_live::Blank;
 use chord_serve::Served;
 use chord_store::EntryStore;
 use chord_table::Naming;
 use log::Log;
+use std::alloc::Global;
 use std::io::{self, Write};
 use std::marker::Brand;
 use std::net::{TcpListener, TcpStream};
 use std::sync::Wait;
 use std::thread;
-use std::thread::{Scope, Threads};
+use std::thread::{JoinHandle, Scope, Threads};
 use std::time::Clock;
 
 /// How many reads a connection makes at most.
 const TURNS: u64 = 65_536;
+
+/// The thread of a connection, or how it ended with none.
+type Connection = Result<JoinHandle<Ended>, Ended>;
 
 /// Serves a connection by a caller of its own. How it ended is noted before it is closed.
 fn serve_client<J: Naming, S: EntryStore, R: Wait + Clock, L: Log>(
@@ -39,8 +41,31 @@ fn serve_client<J: Naming, S: EntryStore, R: Wait + Clock, L: Log>(
     ended
 }
 
-/// Accepts so many connections, each on a thread and at a node of its own, and says how each ended.
-fn accept<
+/// Starts the thread of a connection.
+fn start_client<
+    's,
+    E: 's,
+    J: Naming + Send + Sync + 's,
+    S: EntryStore + Send + 's,
+    R: Threads + Wait + Clock + Sync + 's,
+    L: Log + Sync + 's,
+>(
+    service: &'s Service<'s, J, S, R, L>,
+    scope: &'s Scope<'s, E>,
+    number: u64,
+    accepted: io::Result<TcpStream>,
+) -> Connection {
+    let Ok(stream) = accepted else {
+        return Err(Ended::NotAccepted);
+    };
+    match scope.spawn(move || serve_client(service, number, stream)) {
+        Ok(client) => Ok(client),
+        Err(_) => Err(Ended::Served(Served::Memory)),
+    }
+}
+
+/// Accepts so many connections, each on a thread and at a node of its own.
+fn start_clients<
     's,
     E: 's,
     J: Naming + Send + Sync + 's,
@@ -52,26 +77,29 @@ fn accept<
     scope: &'s Scope<'s, E>,
     listener: &TcpListener,
     connections: usize,
-) -> Result<Vec<Ended>, Finish> {
+) -> Result<Vec<Connection>, Finish> {
     let mut clients = Vec::with_capacity(service.alloc, connections)?;
-    let mut ends = Vec::with_capacity(service.alloc, connections)?;
     for (number, accepted) in listener.incoming().take(connections).enumerate() {
         let number = number as u64;
-        let client = match accepted {
-            Ok(stream) => match scope.spawn(move || serve_client(service, number, stream)) {
-                Ok(client) => Ok(client),
-                Err(_) => Err(Ended::Served(Served::Memory)),
-            },
-            Err(_) => Err(Ended::NotAccepted),
-        };
+        let client = start_client(service, scope, number, accepted);
         if let Err(ended) = &client {
             service.log_end(number, ended);
         }
         clients.push(client)?;
     }
+    Ok(clients)
+}
+
+/// How each connection ended, once all did.
+fn join_clients(
+    rt: &(impl Threads + Wait),
+    alloc: Global,
+    clients: Vec<Connection>,
+) -> Result<Vec<Ended>, Finish> {
+    let mut ends = Vec::with_capacity(alloc, clients.len())?;
     for client in clients {
         ends.push(match client {
-            Ok(client) => client.join(service.rt),
+            Ok(client) => client.join(rt),
             Err(ended) => ended,
         })?;
     }
@@ -97,7 +125,8 @@ fn start_and_accept<
 ) -> Result<Vec<Ended>, Finish> {
     service.start(scope, front.plan.nodes.as_slice(), stores)?;
     write_address(front.listener, writer)?;
-    accept(service, scope, front.listener, connections)
+    let clients = start_clients(service, scope, front.listener, connections)?;
+    join_clients(service.rt, service.alloc, clients)
 }
 
 /// Serves so many connections, and stops the ring then. The handle starts the threads.
@@ -140,9 +169,17 @@ fn serve_named<
 ) -> Result<Vec<Ended>, Finish>
     requires { blank ≡ J.name }
 {
-    let ring = blank.open::<J, S>()?;
+    let ring = match blank.open::<J, S>() {
+        Ok(ring) => ring,
+        Err(_) => {
+            drop(stores);
+            return Err(Finish::OutOfMemory);
+        }
+    };
     let service = Service::new(rt, &ring, front);
-    serve_ring(rt, &service, front, stores, connections, writer)
+    let ends = serve_ring(rt, &service, front, stores, connections, writer);
+    drop(ring);
+    ends
 }
 
 /// Writes how each connection ended, by number.

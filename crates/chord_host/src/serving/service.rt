@@ -3,10 +3,9 @@ ghost use Rattle.std.specs.Prelude.{◌≡◌, ◌%◌};
 
 use crate::running::{start_nodes, tick_in_turn};
 use crate::serving::asker::RingAsker;
-use crate::serving::ended::Ended;
-use crate::serving::front::Front;
 use crate::serving::idle::IdleCaller;
 use chord_command::Finish;
+use chord_front::{Ended, Front};
 use chord_live::{Client, Ring};
 use chord_plan::PlanNode;
 use chord_serve::{Served, serve};
@@ -20,7 +19,7 @@ use std::thread::{Scope, Threads};
 use std::time::Clock;
 
 /// A ring, how many nodes it has, and where it is noted how connections end.
-#[derive_where(Clone, Copy)]
+#[derive(Drop)]
 pub struct Service<'r, J: Naming, S: EntryStore, R, L> {
     pub rt: &'r R,
     pub alloc: Global,

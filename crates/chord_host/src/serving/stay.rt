@@ -2,20 +2,16 @@
 ghost use Rattle.std.specs.Prelude.{◌≡◌};
 
 use crate::plan_run::blank_of;
-use crate::serving::clients::Clients;
-use crate::serving::ended::Ended;
-use crate::serving::front::Front;
-use crate::serving::lines::Lines;
 use crate::serving::pool::Pool;
 use crate::serving::service::{Service, node_of};
-use crate::serving::stop::Stop;
 use chord_command::Finish;
-use chord_live::Blank;
+use chord_front::{Clients, Ended, Front, Lines, Stop};
+use chord_live::{Blank, Ring};
 use chord_serve::Served;
 use chord_store::EntryStore;
 use chord_table::Naming;
 use log::Log;
-use std::io::{Read, Write};
+use std::io::{self, Read, Write};
 use std::marker::Brand;
 use std::net::{Net, TcpListener, TcpStream};
 use std::sync::{Arc, Wait};
@@ -70,6 +66,30 @@ impl<
         drop(stream);
     }
 
+    /// Runs a connection on a thread of its own. Says whether there was memory for it.
+    fn run_beside<'s, E: 's>(
+        &'s self,
+        scope: &'s Scope<'s, E>,
+        number: u64,
+        stream: TcpStream,
+    ) -> bool
+    where
+        J: Send + Sync + 's,
+        S: Send + 's,
+        R: Threads + Sync + 's,
+        L: Sync + 's,
+        W: Send + 's,
+    {
+        let Ok(stream) = Arc::new(self.service.alloc, stream) else {
+            return false;
+        };
+        if self.clients.add(self.service.rt, number, &stream).is_err() {
+            drop(stream);
+            return false;
+        }
+        scope.spawn(move || self.run_client(number, stream)).is_ok()
+    }
+
     /// Starts the thread of a connection. Where there is no memory for it the connection ends so.
     fn start_client<'s, E: 's>(&'s self, scope: &'s Scope<'s, E>, number: u64, stream: TcpStream)
     where
@@ -79,16 +99,32 @@ impl<
         L: Sync + 's,
         W: Send + 's,
     {
-        let started = match Arc::new(self.service.alloc, stream) {
-            Ok(stream) => {
-                self.clients.add(self.service.rt, number, &stream).is_ok()
-                    && scope.spawn(move || self.run_client(number, stream)).is_ok()
-            }
-            Err(_) => false,
-        };
-        if !started {
+        if !self.run_beside(scope, number, stream) {
             self.tell(number, &Ended::Served(Served::Memory));
             self.clients.forget(self.service.rt, number);
+        }
+    }
+
+    /// Takes in what was accepted.
+    fn meet<'s, E: 's>(
+        &'s self,
+        scope: &'s Scope<'s, E>,
+        number: u64,
+        accepted: io::Result<TcpStream>,
+    )
+    where
+        J: Send + Sync + 's,
+        S: Send + 's,
+        R: Threads + Sync + 's,
+        L: Sync + 's,
+        W: Send + 's,
+    {
+        match accepted {
+            Ok(stream) => self.start_client(scope, number, stream),
+            Err(_) => {
+                self.tell(number, &Ended::NotAccepted);
+                thread::sleep(self.service.rt, Duration::from_millis(10));
+            }
         }
     }
 
@@ -103,17 +139,29 @@ impl<
     {
         for (number, accepted) in (0..u64::MAX).zip(listener.incoming()) {
             if self.stop.is_stopped() {
+                drop(accepted);
                 break;
             }
-            match accepted {
-                Ok(stream) => self.start_client(scope, number, stream),
-                Err(_) => {
-                    self.tell(number, &Ended::NotAccepted);
-                    thread::sleep(self.service.rt, Duration::from_millis(10));
-                }
-            }
+            self.meet(scope, number, accepted);
         }
         self.clients.end_all(self.service.rt);
+    }
+
+    /// Whether all lines were written.
+    fn finish(self) -> Result<(), Finish>
+    where
+        W: Drop,
+    {
+        let Hall {
+            service: _,
+            pool,
+            clients,
+            lines,
+            stop: _,
+        } = self;
+        drop(pool);
+        drop(clients);
+        lines.finish()
     }
 }
 
@@ -162,6 +210,36 @@ fn stay_open<
     })
 }
 
+/// Stays with a ring.
+fn stay_with<
+    J: Naming + Send + Sync,
+    S: EntryStore + Send,
+    R: Threads + Wait + Clock + Net<Listener = TcpListener, Stream = TcpStream> + Sync,
+    L: Log + Sync,
+    W: Write + Send + Drop,
+>(
+    rt: &R,
+    front: &Front<'_, L>,
+    stores: Vec<S>,
+    stop: &Stop,
+    writer: W,
+    ring: &Ring<J, S>,
+) -> Result<(), Finish> {
+    let service = Service::new(rt, ring, front);
+    let pool = Pool::new(front.alloc, ring, front.plan.settings.callers)?;
+    let hall = Hall {
+        service: &service,
+        pool,
+        clients: Clients::new(front.alloc),
+        lines: Lines::new(writer),
+        stop,
+    };
+    let stayed = stay_open(rt, &hall, front, stores);
+    let finished = hall.finish();
+    stayed?;
+    finished
+}
+
 /// Stays with a ring under its name.
 fn stay_named<
     J: Naming + Send + Sync,
@@ -179,25 +257,17 @@ fn stay_named<
 ) -> Result<(), Finish>
     requires { blank ≡ J.name }
 {
-    let ring = blank.open::<J, S>()?;
-    let service = Service::new(rt, &ring, front);
-    let pool = Pool::new(front.alloc, &ring, front.plan.settings.callers)?;
-    let hall = Hall {
-        service: &service,
-        pool,
-        clients: Clients::new(front.alloc),
-        lines: Lines::new(writer),
-        stop,
+    let ring = match blank.open::<J, S>() {
+        Ok(ring) => ring,
+        Err(_) => {
+            drop(stores);
+            drop(writer);
+            return Err(Finish::OutOfMemory);
+        }
     };
-    stay_open(rt, &hall, front, stores)?;
-    let Hall {
-        service: _,
-        pool: _,
-        clients: _,
-        lines,
-        stop: _,
-    } = hall;
-    lines.finish()
+    let stayed = stay_with(rt, front, stores, stop, writer, &ring);
+    drop(ring);
+    stayed
 }
 
 /// Waits for the end of the input, on a thread that nothing waits for, and stops the server then.
@@ -212,6 +282,17 @@ fn stop_behind<
         Ok(_) => Ok(()),
         Err(_) => Err(Finish::OutOfMemory),
     }
+}
+
+/// What stops a server at this front, once the input ends.
+fn stop_at_end<
+    R: Threads + Clock + Net<Listener = TcpListener, Stream = TcpStream> + Copy + Send + 'static,
+    L,
+    I: Read + Send + Drop + 'static,
+>(rt: &R, front: &Front<'_, L>, input: I) -> Result<Arc<Stop>, Finish> {
+    let stop = Arc::new(front.alloc, Stop::new(front.listener.local_addr()?))?;
+    stop_behind(rt, &stop, input)?;
+    Ok(stop)
 }
 
 /// The command `serve --stay`: the nodes of a plan over these stores, one for each, until the input ends.
@@ -230,7 +311,16 @@ pub fn stay<
     I: Read + Send + Drop + 'static,
 >(rt: &R, front: &Front<'_, L>, stores: Vec<S>, input: I, writer: W) -> Result<(), Finish> {
     let blank = blank_of(front.alloc, front.plan)?;
-    let stop = Arc::new(front.alloc, Stop::new(front.listener.local_addr()?))?;
-    stop_behind(rt, &stop, input)?;
-    stay_named::<Brand, S, R, L, W>(rt, front, stores, &stop, writer, blank)
+    let stop = match stop_at_end(rt, front, input) {
+        Ok(stop) => stop,
+        Err(finish) => {
+            drop(stores);
+            drop(writer);
+            drop(blank);
+            return Err(finish);
+        }
+    };
+    let stayed = stay_named::<Brand, S, R, L, W>(rt, front, stores, &stop, writer, blank);
+    drop(stop);
+    stayed
 }

@@ -27,6 +27,21 @@ fn copy_of(ask: &Ask) -> Result<Ask, AllocError>
     })
 }
 
+/// The reply twice.
+fn two_copies(reply: &Reply) -> Result<(Reply, Reply), AllocError>
+    ensures equal { IfOk result (λ both. (both.0 ≡ reply.now) × (both.1 ≡ reply.now)) }
+    ensures memory { OnErr result (IsValues reply.now) }
+{
+    let first = reply.try_copy()?;
+    match reply.try_copy() {
+        Ok(second) => Ok((first, second)),
+        Err(refused) => {
+            drop(first);
+            Err(refused)
+        }
+    }
+}
+
 /// The reply once more, for the segment to keep, and the call with it where its request is to be noted.
 fn copies_of(
     ask: &Ask,
@@ -37,18 +52,24 @@ fn copies_of(
     ensures note { IfOk result (λ both. both.1 ≡ done_with ask.now noted reply.now) }
     ensures memory { OnErr result (IsValues reply.now) }
 {
-    let kept = reply.try_copy()?;
     let Some(request) = noted else {
-        return Ok((kept, None));
+        return Ok((reply.try_copy()?, None));
     };
-    let reply = reply.try_copy()?;
-    let done = Done {
-        caller: ask.caller,
-        number: ask.number,
-        request,
-        reply,
-    };
-    Ok((kept, Some(done)))
+    match two_copies(reply) {
+        Ok((kept, reply)) => {
+            let done = Done {
+                caller: ask.caller,
+                number: ask.number,
+                request,
+                reply,
+            };
+            Ok((kept, Some(done)))
+        }
+        Err(refused) => {
+            drop(request);
+            Err(refused)
+        }
+    }
 }
 
 /// Executes a new call that the segment has room for, unless the store has none. All that can fail comes before the first
@@ -69,10 +90,18 @@ pub(crate) fn execute_ready<S: EntryStore>(
 {
     let reply = match apply(alloc, store, &ask.request) {
         Ok(reply) => reply,
-        Err(StoreFault::Full) => return Ok((Answered::Full, None)),
-        Err(StoreFault::Memory) => return Err(AllocError),
+        Err(fault) => {
+            drop(ask);
+            drop(noted);
+            return match fault {
+                StoreFault::Full => Ok((Answered::Full, None)),
+                StoreFault::Memory => Err(AllocError),
+            };
+        }
     };
     let Ok((kept, note)) = copies_of(&ask, &reply, noted) else {
+        drop(ask);
+        drop(reply);
         return Err(AllocError);
     };
     let told = Told {
@@ -87,10 +116,9 @@ pub(crate) fn execute_ready<S: EntryStore>(
         reply: kept,
     };
     match segment.append(done, ask.floor) {
-        Ok(()) => {}
+        Ok(()) => Ok((Answered::Told(told), note)),
         Err(_) => unreachable!(),
     }
-    Ok((Answered::Told(told), note))
 }
 
 /// What the execution of a call takes memory for, the store apart: room in the segment, and copies of the request.
@@ -101,8 +129,13 @@ fn prepare(segment: &mut Segment, ask: &Ask) -> Result<(Ask, Request), AllocErro
 {
     segment.reserve(ask.caller)?;
     let copy = copy_of(ask)?;
-    let noted = ask.request.try_copy()?;
-    Ok((copy, noted))
+    match ask.request.try_copy() {
+        Ok(noted) => Ok((copy, noted)),
+        Err(refused) => {
+            drop(copy);
+            Err(refused)
+        }
+    }
 }
 
 /// Executes a copy of a new call, unless the store has no room.

@@ -30,13 +30,15 @@ fn execute_taken<S: EntryStore>(
     ensures answers { AnswersIn ask false segment.old.segment (S.content store.old) (S.limit store.old) result segment.new.segment (S.content store.new) }
     ensures limit { S.limit store.new ≡ S.limit store.old }
 {
-    let Ok(()) = segment.reserve(ask.caller) else {
-        return if is_full(store, &ask.request) {
+    if segment.reserve(ask.caller).is_err() {
+        let is_full = is_full(store, &ask.request);
+        drop(ask);
+        return if is_full {
             Ok((Answered::Full, None))
         } else {
             Err(AllocError)
         };
-    };
+    }
     execute_ready(alloc, segment, store, ask, None)
 }
 
@@ -52,13 +54,17 @@ pub(crate) fn answer_taken<S: EntryStore>(
     ensures limit { S.limit store.new ≡ S.limit store.old }
 {
     match segment.find(ask.caller, ask.number) {
-        Past::Seen => Ok((Answered::Dropped, None)),
+        Past::Seen => {
+            drop(ask);
+            Ok((Answered::Dropped, None))
+        }
         Past::Kept(done) => {
-            let reply = done.reply.try_copy()?;
+            let (caller, number) = (ask.caller, ask.number);
+            drop(ask);
             let told = Told {
-                caller: ask.caller,
-                number: ask.number,
-                reply,
+                caller,
+                number,
+                reply: done.reply.try_copy()?,
             };
             Ok((Answered::Told(told), None))
         }
@@ -74,6 +80,7 @@ pub(crate) fn pass_taken(links: &Links, mut ask: Ask, target: Id) -> Answered
 {
     let peer = peer_of_hop(next_hop(links, target));
     if ask.hops == 0 || peer.no == links.me().no {
+        drop(ask);
         return Answered::Dropped;
     }
     ask.hops -= 1;

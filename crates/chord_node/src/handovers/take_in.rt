@@ -27,14 +27,23 @@ fn take_whole<S: EntryStore>(
     ensures limit { S.limit store.new ≡ S.limit store.old }
     ensures stocked { IsStocked (segments_of held.new.items) (S.content store.new) }
 {
-    taken.reserve()?;
+    if taken.reserve().is_err() {
+        drop(parcelled);
+        return Err(AllocError);
+    }
     match make_held(held, store, &parcelled) {
         Ok(()) => {}
-        Err(PutFault::Clash) => return Ok(Given::Clash),
-        Err(PutFault::Full) => return Ok(Given::Full),
-        Err(PutFault::Memory) => return Err(AllocError),
+        Err(fault) => {
+            drop(parcelled);
+            return match fault {
+                PutFault::Clash => Ok(Given::Clash),
+                PutFault::Full => Ok(Given::Full),
+                PutFault::Memory => Err(AllocError),
+            };
+        }
     }
-    let (segment, _) = parcelled.into_parts();
+    let (segment, pairs) = parcelled.into_parts();
+    drop(pairs);
     held.push_reserved(segment);
     taken.mark(part.from);
     Ok(Given::Got)

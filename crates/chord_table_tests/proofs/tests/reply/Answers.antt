@@ -1,8 +1,7 @@
-use Rattle.std.proofs.Common.{◌≡◌, Option, Some, Ok, [], ◌∷◌, ◌++◌, sym, subst, Contains}
+use Rattle.std.proofs.Common.{◌≡◌, ◌∙◌, Option, Some, Ok, [], ◌∷◌, ◌++◌, sym, subst, Contains}
 use Rattle.std.proofs.lemmas.List.Elements.{Contains-push}
 use Rattle.chord_caller.specs.declared.ask.Ask.{Ask}
-use Rattle.chord_node.specs.Asked.{AskSteps, ask_done}
-use Rattle.chord_node.specs.declared.asks.answered.Answered.{Answered}
+use Rattle.chord_node.specs.Asked.{ask_done}
 use Rattle.chord_model.specs.declared.message.Message.{Message}
 use Rattle.chord_model.specs.declared.message.Message.TheVariants.{Ask as AskMessage, Told as ToldMessage}
 use Rattle.chord_model.specs.Node.{Node, NodeStep}
@@ -12,20 +11,19 @@ use Rattle.chord_table_tests.proofs.tests.reply.Goals as goal
 
 -- a node may do the call that just came to its seat
 does_what_came : (seat came : NodeSight) (parcel told : Message) (old new : Node) (call : Ask) (done : Option Done)
-    → came ≡ record seat { messages = seat.messages ++ parcel ∷ [] } → seat.node ≡ old → AskMessage call ≡ parcel
+    → came ≡ record seat { messages = seat.messages ++ parcel ∷ [] } → seat.node ≡ old → parcel ≡ AskMessage call
     → NodeStep old (Some (AskMessage call)) new (Some told) done → MayAct came.node came.messages new (Some told)
 does_what_came seat came parcel told old new call done shows is same step =
     subst (λ (s : NodeSight). MayAct s.node s.messages new (Some told)) (sym shows) (
       Some (AskMessage call),
       done,
-      subst (λ (m : Message). Contains (seat.messages ++ parcel ∷ []) m) (sym same) (Contains-push seat.messages parcel),
+      subst (λ (m : Message). Contains (seat.messages ++ parcel ∷ []) m) same (Contains-push seat.messages parcel),
       subst (λ (n : Node). NodeStep n (Some (AskMessage call)) new (Some told) done) (sym is) step,
     )
 
 pub send-requires : goal.send-requires
 send-requires g c =
-    let call = c.in-Ask.ask in
+    let call = c.in_ok-call.call in
     let old = c.args.node.now in
-    let new = c.answered.new.node in
-    let step = subst (λ (a : Answered). AskSteps call old (Ok a) new) c.in-Told.is c.in_ok-told.ensures in
-    record { event = does_what_came c.args.seat.now c.receive.new.self c.args.parcel (ToldMessage c.in-Told.told) old new call (ask_done call old) c.receive.ensures.seat c.requires c.in-Ask.ensures.message step }
+    let new = c.told_by.new.node in
+    record { event = does_what_came c.args.seat.now c.receive.new.self c.args.parcel (ToldMessage c.in_ok-told.told) old new call (ask_done call old) c.receive.ensures.seat c.requires (sym c.receive.ensures.message ∙ c.in_ok-call.ensures) c.in_ok-told.ensures }

@@ -1,6 +1,6 @@
 //! Ends of commands, words of lines, and replies on them.
 
-use crate::{Fault, Finish, Hex, LineFault, Shown, Words};
+use chord_command::{Fault, Finish, Hex, LineFault, Shown, Words};
 use chord_ident::Id;
 use chord_map::{Bytes, Reply, Values};
 use std::alloc::Global;

@@ -2,8 +2,8 @@
 
 ghost use Rattle.std.specs.Prelude.{◌<◌};
 
-use crate::{Empty, Fingers, Links, Peer, SuccList};
 use chord_ident::Id;
+use chord_links::{Empty, Fingers, Links, Peer, SuccList};
 use std::test::Fail;
 
 const QUARTER: u128 = 1 << 126;

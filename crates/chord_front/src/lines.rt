@@ -1,6 +1,6 @@
 //! What a server that stays writes.
 
-use crate::serving::ended::Ended;
+use crate::ended::Ended;
 use chord_command::Finish;
 use std::io::{self, Write};
 use std::net::TcpListener;

@@ -2,9 +2,9 @@
 
 ghost use Rattle.std.specs.Prelude.{◌<◌};
 
-use crate::{Hop, LinkReader, LookupFault, find_predecessor, find_successor, next_hop};
 use chord_ident::Id;
 use chord_links::{Links, Peer, SuccList};
+use chord_route::{Hop, LinkReader, LookupFault, find_predecessor, find_successor, next_hop};
 
 const EIGHTH: u128 = 1 << 125;
 

@@ -1,0 +1,6 @@
+//! Worked values.
+
+mod ident;
+mod links;
+mod ring;
+mod route;

@@ -1,0 +1,13 @@
+-- A caller enters where there is none.
+use Rattle.std.proofs.Common.{◌≡◌, ◌∙◌, ℕ, List, [], refl, sym, ap, subst, arith, Contains}
+use Rattle.chord_caller.specs.Answers.{new_caller}
+use Rattle.chord_caller.specs.Caller.{Caller}
+use Rattle.chord_table.specs.Views.{MayOpen, Register}
+
+none_there : Contains {X = ℕ} [] 0 → ⊥
+none_there (place, low, same) = absurd (omega (arith, low))
+
+pub may_open : (opened now : Register) (nodes : List ℕ) (core : Caller) → opened ≡ record { nodes = []; callers = [] } → now ≡ record { nodes = nodes; callers = opened.callers } → core ≡ new_caller 0 1 → MayOpen now.callers core
+may_open opened now nodes core none is new =
+    let empty = ap (λ (r : Register). r.callers) is ∙ ap (λ (r : Register). r.callers) none in
+    subst (λ (c : Caller). MayOpen now.callers c) (sym new) ((λ there. none_there (subst (λ (l : List ℕ). Contains l 0) empty there)), (1, omega arith, omega arith, refl))
