@@ -3,9 +3,9 @@ ghost use Rattle.std.specs.Prelude.{◌≡◌};
 
 use crate::running::{start_nodes, tick_in_turn};
 use chord_command::{Finish, Shown};
-use chord_live::{AskFault, Blank, Caller, NewFault, Ring, Settings};
 use chord_map::Reply;
 use chord_plan::{Plan, PlanAsk};
+use chord_running::{AskFault, Blank, Client, NewFault, OpenClientFault, Ring, Settings};
 use chord_store::EntryStore;
 use chord_table::Naming;
 use std::alloc::Global;
@@ -30,11 +30,11 @@ type Answers = Result<Vec<Answer>, Finish>;
 /// A caller asks a request of the plan.
 fn ask_once<J: Naming, S: EntryStore, R: Wait + Clock>(
     rt: &R,
-    caller: &mut Caller<'_, J, S>,
+    client: &mut Client<'_, J, S>,
     ask: &PlanAsk,
 ) -> Result<Answer, Finish> {
     let request = ask.request.try_copy()?;
-    match caller.ask(rt, ask.via as u64, request) {
+    match client.call(rt, ask.via as u64, request) {
         Ok(reply) => Ok(Answer::Reply(reply)),
         Err(AskFault::Memory) => Err(Finish::OutOfMemory),
         Err(AskFault::Full) => Ok(Answer::Full),
@@ -45,14 +45,14 @@ fn ask_once<J: Naming, S: EntryStore, R: Wait + Clock>(
 /// The caller of this number asks what the plan has for it.
 fn ask_each<J: Naming, S: EntryStore, R: Wait + Clock>(
     rt: &R,
-    caller: &mut Caller<'_, J, S>,
+    client: &mut Client<'_, J, S>,
     number: usize,
     asks: &[PlanAsk],
     answers: &mut Vec<Answer>,
 ) -> Result<(), Finish> {
     for ask in asks {
         if ask.caller == number {
-            let answer = ask_once(rt, caller, ask)?;
+            let answer = ask_once(rt, client, ask)?;
             let is_reply = matches!(&answer, Answer::Reply(_));
             answers.push(answer)?;
             if !is_reply {
@@ -72,10 +72,12 @@ fn ask_in_turn<J: Naming, S: EntryStore, R: Wait + Clock>(
     asks: &[PlanAsk],
 ) -> Answers {
     let mut answers = Vec::new(alloc);
-    let Ok(mut caller) = ring.open_caller(rt, 1) else {
-        return Ok(answers);
+    let mut client = match ring.open_client(rt, 1) {
+        Ok(client) => client,
+        Err(OpenClientFault::Memory) => return Err(Finish::OutOfMemory),
+        Err(_) => return Ok(answers),
     };
-    ask_each(rt, &mut caller, number, asks, &mut answers)?;
+    ask_each(rt, &mut client, number, asks, &mut answers)?;
     Ok(answers)
 }
 

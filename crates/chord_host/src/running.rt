@@ -1,8 +1,8 @@
 //! The nodes of a plan in a running ring.
 
 use chord_command::{Fault, Finish};
-use chord_live::{CreateFault, JoinFault, Open, Ring, TickFault};
 use chord_plan::PlanNode;
+use chord_running::{CreateFault, JoinFault, Open, Ring, TickFault};
 use chord_store::EntryStore;
 use chord_table::Naming;
 use std::sync::Wait;

@@ -1,31 +1,12 @@
 -- A message that came is among those that a seat shows.
-use Rattle.std.proofs.Common.{◌≡◌, [], ◌∷◌, ◌++◌, Option, Some, None, sym, subst, Contains}
+use Rattle.std.proofs.Common.{◌≡◌, [], ◌∷◌, ◌++◌, Some, None, sym, subst, Contains}
 use Rattle.std.proofs.lemmas.List.Elements.{Contains-push}
 use Rattle.chord_caller.specs.Caller.{Caller, CallerStep, Letter}
-use Rattle.chord_live.specs.Dealt.{message_in}
-use Rattle.chord_live.specs.declared.target.Target.{Target}
 use Rattle.chord_model.specs.Letters.{message_of}
-use Rattle.chord_model.specs.Node.{Node, NodeStep}
 use Rattle.chord_model.specs.declared.message.Message.{Message}
-use Rattle.chord_map.specs.declared.done.Done.{Done}
-use Rattle.chord_table.specs.Views.{NodeSight, CallerSight, MayAct, MayCall}
+use Rattle.chord_table.specs.Views.{CallerSight, MayCall}
 
-pub came : (old new : NodeSight) (parcel message : Message) → new ≡ record old { messages = old.messages ++ parcel ∷ [] } → message ≡ parcel → Contains new.messages message
-came old new parcel message is same =
-    subst (λ (m : Message). Contains new.messages m) (sym same) (subst (λ (s : NodeSight). Contains s.messages parcel) (sym is) (Contains-push old.messages parcel))
-
--- and a node that took it in may become what it is then
-pub acted : (old new : NodeSight) (parcel message : Message) (node after : Node) (out : Option (Target × Message)) (sent : Option Message)
-    → new ≡ record old { messages = old.messages ++ parcel ∷ [] } → message ≡ parcel → node ≡ new.node → message_in out ≡ sent
-    → ((done : Option Done) × NodeStep node (Some message) after (message_in out) done) → MayAct new.node new.messages after sent
-acted old new parcel message node after out sent is same mine goes (done, step) = (
-  Some message,
-  done,
-  came old new parcel message is same,
-  subst (λ (n : Node). NodeStep n (Some message) after sent done) mine (subst (λ (m : Option Message). NodeStep node (Some message) after m done) goes step),
-)
-
--- and a caller that took it in may become what it is then
+-- a caller that took a message in may become what it is then
 pub took : (old new : CallerSight) (parcel : Message) (letter : Letter) (core after : Caller) → new ≡ record old { messages = old.messages ++ parcel ∷ [] }
     → message_of letter ≡ parcel → core ≡ new.caller → CallerStep core (Some letter) after None → MayCall new.caller new.messages after None
 took old new parcel letter core after is same mine step = (

@@ -12,11 +12,12 @@ use Rattle.chord_caller.specs.declared.heard.Heard.{Heard as TakenAs}
 use Rattle.chord_caller.specs.declared.heard.Heard.TheVariants.{Fresh, Known}
 use Rattle.chord_caller.specs.declared.told.Told.{Told}
 use Rattle.chord_caller.proofs.Places.{either_is}
-use Rattle.chord_live.specs.Asking.{AskIs, BeginIs, IsTaken, TookReplies, WaitIs, WaitsStill, WasSubmitted}
-use Rattle.chord_live.specs.Refused.{waited_ask}
-use Rattle.chord_live.specs.declared.fault.AskFault.{AskFault}
-use Rattle.chord_live.specs.declared.fault.WaitFault.{WaitFault}
-use Rattle.chord_live.specs.declared.fault.WaitFault.TheVariants as wait
+use Rattle.chord_live.specs.Asking.{AskIs, IsTaken, TookReplies, WaitIs, WaitsStill, WasSubmitted}
+use Rattle.chord_running.specs.Begun.{BeginIs}
+use Rattle.chord_faults.specs.Refused.{waited_ask}
+use Rattle.chord_faults.specs.declared.caller.AskFault.{AskFault}
+use Rattle.chord_faults.specs.declared.caller.WaitFault.{WaitFault}
+use Rattle.chord_faults.specs.declared.caller.WaitFault.TheVariants as wait
 use Rattle.chord_map.specs.declared.reply.Reply.{Reply}
 use Rattle.chord_map.specs.declared.request.Request.{Request}
 use Rattle.chord_map.proofs.Lists.{by_option, by_test}

@@ -1,5 +1,3 @@
 pub mod Coming
-pub mod Counting
 pub mod Hearing
 pub mod Messages
-pub mod Sending

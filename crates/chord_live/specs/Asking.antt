@@ -1,28 +1,23 @@
 -- What a caller of a ring answers, and what it knows afterwards.
-use Rattle.std.specs.Prelude.{◌≡◌, ◌⊎◌, ℕ, ◌+◌, ◌^◌, ◌<◌, Bool, true, false, ◌&&◌, eqb, count_by, None, Some, is_some, List, ◌++◌, Result, Ok, Err}
+use Rattle.std.specs.Prelude.{◌≡◌, ◌⊎◌, ℕ, ◌^◌, ◌<◌, true, false, None, Some, is_some, List, ◌++◌, Result, Ok, Err}
 use Rattle.std.specs.declared.alloc.AllocError.{AllocError}
 use Rattle.chord_caller.specs.Answers.{SubmitIs, HasWindow, is_pending}
 use Rattle.chord_caller.specs.Caller.{Caller, Note, next_number, submission_at, unknown, with_request}
 use Rattle.chord_caller.specs.declared.fault.SubmitFault.TheVariants as submit
-use Rattle.chord_live.specs.declared.fault.AskFault.{AskFault}
-use Rattle.chord_live.specs.declared.fault.AskFault.TheVariants as ask
-use Rattle.chord_live.specs.declared.fault.BeginFault.{BeginFault}
-use Rattle.chord_live.specs.declared.fault.BeginFault.TheVariants as begin
-use Rattle.chord_live.specs.declared.fault.CollectFault.{CollectFault}
-use Rattle.chord_live.specs.declared.fault.CollectFault.TheVariants as collect
-use Rattle.chord_live.specs.declared.fault.RetryFault.{RetryFault}
-use Rattle.chord_live.specs.declared.fault.RetryFault.TheVariants as retry
-use Rattle.chord_live.specs.declared.fault.WaitFault.{WaitFault}
+use Rattle.chord_faults.specs.declared.caller.CollectFault.{CollectFault}
+use Rattle.chord_faults.specs.declared.caller.CollectFault.TheVariants as collect
 use Rattle.chord_live.specs.declared.heard.Heard.{Heard}
 use Rattle.chord_live.specs.declared.heard.Heard.TheVariants as heard
 use Rattle.chord_map.specs.Checked.{IsRequest}
-use Rattle.chord_map.specs.declared.request.Request.{Request}
-use Rattle.chord_map.specs.declared.reply.Reply.{Reply}
-use Rattle.chord_model.specs.declared.message.Message.{Message}
-use Rattle.chord_model.specs.declared.message.Message.TheVariants.{Full as FullMessage}
 use Rattle.chord_map.specs.History.{done_at}
 use Rattle.chord_map.specs.declared.done.Done.{Done}
-use Rattle.chord_table.specs.Views.{CallerSight}
+use Rattle.chord_map.specs.declared.request.Request.{Request}
+use Rattle.chord_map.specs.declared.reply.Reply.{Reply}
+use Rattle.chord_faults.specs.declared.caller.AskFault.{AskFault}
+use Rattle.chord_faults.specs.declared.caller.AskFault.TheVariants as ask
+use Rattle.chord_faults.specs.declared.caller.RetryFault.{RetryFault}
+use Rattle.chord_faults.specs.declared.caller.RetryFault.TheVariants as retry
+use Rattle.chord_faults.specs.declared.caller.WaitFault.{WaitFault}
 
 -- the caller took replies, none or more, and nothing else of it changed
 abbrev pub TookReplies : Caller → Caller → Type 0
@@ -36,27 +31,6 @@ IsTaken caller number reply = (done : Done) × (done_at caller.number number cal
 abbrev pub WaitsStill : ℕ → Caller → Caller → Type 0
 WaitsStill number old new = TookReplies old new × (is_pending number new ≡ is_pending number old)
 
--- messages came, none or more
-abbrev pub TookMessages : CallerSight → CallerSight → Type 0
-TookMessages old new = (others : List Message) × (new.messages ≡ old.messages ++ others)
-
--- the message says that a store has no room for this caller's request of the number
-abbrev pub says_full : ℕ → ℕ → Message → Bool
-says_full caller number (FullMessage other of) = eqb other caller && eqb of number
-says_full caller number message = false
-
--- how many of the messages that came say so of the caller's own request of the number
-unfoldable pub full_count : ℕ → CallerSight → ℕ
-full_count number sight = count_by (says_full sight.caller.number number) sight.messages
-
--- one more such message came
-abbrev pub WasToldFull : ℕ → CallerSight → CallerSight → Type 0
-WasToldFull number old new = full_count number new ≡ full_count number old + 1
-
--- no such message came
-abbrev pub WasNotToldFull : ℕ → CallerSight → CallerSight → Type 0
-WasNotToldFull number old new = full_count number new ≡ full_count number old
-
 -- what came to a caller that waits for the reply to the request of the number
 abbrev pub HeardIs : ℕ → Caller → Heard → Caller → Type 0
 HeardIs number old (heard.Reply reply) new = TookReplies old new × IsTaken new number reply
@@ -67,23 +41,9 @@ abbrev pub WaitIs : ℕ → Caller → Result Reply WaitFault → Caller → Typ
 WaitIs number old (Ok reply) new = TookReplies old new × IsTaken new number reply
 WaitIs number old (Err fault) new = WaitsStill number old new
 
--- the caller would refuse the request only where it is out of memory
-abbrev pub MaySubmit : Request → Caller → Type 0
-MaySubmit request caller = IsRequest request × HasWindow caller × (next_number caller < 2 ^ 64)
-
 -- the request is one that may go out now: it stood under the next number, and replies were taken since
 abbrev pub WasSubmitted : Request → Caller → Caller → Type 0
 WasSubmitted request old new = IsRequest request × HasWindow old × (next_number old < 2 ^ 64) × TookReplies (with_request request old) new
-
--- the request stands under the next number, or the first refusal that fits is answered and nothing changes
-abbrev pub BeginIs : Request → Caller → Result ℕ BeginFault → Caller → Type 0
-BeginIs request old (Ok number) new =
-    (number ≡ next_number old) × IsRequest request × HasWindow old × (next_number old < 2 ^ 64) × (new ≡ with_request request old)
-BeginIs request old (Err (begin.Bad fault)) new = SubmitIs request old (Err (submit.Bad fault)) new
-BeginIs request old (Err begin.WindowFull) new = SubmitIs request old (Err submit.WindowFull) new
-BeginIs request old (Err begin.NumbersSpent) new = SubmitIs request old (Err submit.NumbersSpent) new
-BeginIs request old (Err begin.NoSuchNode) new = SubmitIs request old (Err submit.Memory) new
-BeginIs request old (Err begin.Memory) new = SubmitIs request old (Err submit.Memory) new
 
 -- the reply to the request stands among the calls taken, or the first refusal that fits is answered
 abbrev pub AskIs : Request → Caller → Result Reply AskFault → Caller → Type 0

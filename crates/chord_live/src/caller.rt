@@ -2,24 +2,23 @@
 ghost use Rattle.std.specs.Prelude.{◌≡◌, ◌≢◌, ◌≤◌, ◌++◌, [], ◌∷◌, Ok, Err, None, Some, true, IfOk, IfErr, IfSome, OnErr};
 ghost use Rattle.chord_caller.specs.Answers.{PendingIs, is_pending, new_caller};
 ghost use Rattle.chord_caller.specs.Caller.{floor_of, known, next_number};
-ghost use Rattle.chord_live.specs.Asking.{AskIs, BeginIs, CollectIs, HeardIs, MaySubmit, MeetIs, RetryIs, TookMessages, WaitIs, WasNotToldFull, WasToldFull};
-ghost use Rattle.chord_live.specs.declared.fault.AskFault.TheVariants as AskFault;
-ghost use Rattle.chord_live.specs.declared.fault.BeginFault.TheVariants as BeginFault;
-ghost use Rattle.chord_live.specs.declared.fault.CollectFault.TheVariants as CollectFault;
-ghost use Rattle.chord_live.specs.declared.fault.RetryFault.TheVariants as RetryFault;
-ghost use Rattle.chord_live.specs.declared.fault.WaitFault.TheVariants as WaitFault;
+ghost use Rattle.chord_live.specs.Asking.{AskIs, CollectIs, HeardIs, MeetIs, RetryIs, WaitIs};
+ghost use Rattle.chord_faults.specs.declared.caller.AskFault.TheVariants as AskFault;
+ghost use Rattle.chord_faults.specs.declared.caller.BeginFault.TheVariants as BeginFault;
+ghost use Rattle.chord_faults.specs.declared.caller.CollectFault.TheVariants as CollectFault;
+ghost use Rattle.chord_faults.specs.declared.caller.RetryFault.TheVariants as RetryFault;
+ghost use Rattle.chord_faults.specs.declared.caller.WaitFault.TheVariants as WaitFault;
 ghost use Rattle.chord_live.specs.declared.heard.Heard.TheVariants as Heard;
 ghost use Rattle.chord_model.specs.declared.message.Message.TheVariants.{Note as NoteMessage};
+ghost use Rattle.chord_running.specs.Begun.{BeginIs, MaySubmit, TookMessages, WasNotToldFull, WasToldFull};
 ghost use Rattle.chord_table.specs.Shown.{CallerShown};
 
-use crate::fault::{AskFault, BeginFault, CollectFault, OpenFault, RetryFault, WaitFault};
 use crate::heard::Heard;
-use crate::keyed::Keyed;
 use crate::note_parcel::NoteParcel;
 use crate::owned::Owned;
-use crate::ring::Ring;
-use crate::target::Target;
+use chord_faults::{AskFault, BeginFault, CollectFault, OpenFault, RetryFault, WaitFault};
 use chord_map::{Reply, Request};
+use chord_running::{Ring, Target};
 use chord_segment::Done;
 use chord_store::EntryStore;
 use chord_table::{Naming, Parcel};
@@ -58,7 +57,9 @@ impl<'a, J: Naming, S: EntryStore> Caller<'a, J, S> {
         requires small { window ≤ 16 }
         ensures ok { IfOk result (λ caller. (caller.caller ≡ new_caller caller.caller.number window) × CallerShown caller) }
     {
-        let (no, own) = ring.open_seat(rt, window)?;
+        let (core, seat) = ring.admit_caller(rt, window)?;
+        let no = core.number();
+        let own = Owned::new(core, seat);
         let mut caller = Caller { ring, own, no };
         caller.look();
         Ok(caller)
@@ -104,7 +105,7 @@ impl<'a, J: Naming, S: EntryStore> Caller<'a, J, S> {
         ensures same { self.new ≡ self.old }
         ensures shown { CallerShown self.old }
     {
-        self.own.look(&self.ring.table);
+        self.own.look(self.ring.table());
     }
 
     /// Shows what the caller knows, for another caller of the same ring to meet.
@@ -112,7 +113,7 @@ impl<'a, J: Naming, S: EntryStore> Caller<'a, J, S> {
         ensures same { self.new ≡ self.old }
         ensures note { IfOk result (λ shown. shown ≡ record { caller = self.old.caller.number; done = known self.old.caller }) }
     {
-        self.own.show(&self.ring.table)
+        self.own.show(self.ring.table())
     }
 
     /// Learns what another caller showed and this one did not know. A refused note is lost.
@@ -121,7 +122,7 @@ impl<'a, J: Naming, S: EntryStore> Caller<'a, J, S> {
         ensures answer { MeetIs shown self.old.caller result self.new.caller }
         ensures shown { CallerShown self.new }
     {
-        let met = self.own.meet(&self.ring.table, shown);
+        let met = self.own.meet(self.ring.table(), shown);
         self.look();
         met
     }
@@ -144,7 +145,7 @@ impl<'a, J: Naming, S: EntryStore> Caller<'a, J, S> {
             drop(request);
             return Err(BeginFault::NoSuchNode);
         }
-        match self.own.submit(&self.ring.table, request) {
+        match self.own.submit(self.ring.table(), request) {
             Ok(sent) => Ok(sent),
             Err(fault) => Err(BeginFault::from(fault)),
         }
@@ -177,8 +178,8 @@ impl<'a, J: Naming, S: EntryStore> Caller<'a, J, S> {
         ensures not_full { result ≢ Some Heard.Full → WasNotToldFull number self.old self.new }
     {
         let ring = self.ring;
-        match ring.receive(rt, &ring.inboxes[self.no as usize].parcels, limit) {
-            Some(parcel) => Some(self.own.take(&ring.table, parcel, number)),
+        match ring.hear(rt, self.no, limit) {
+            Some(parcel) => Some(self.own.take(ring.table(), parcel, number)),
             None => None,
         }
     }
@@ -212,7 +213,7 @@ impl<'a, J: Naming, S: EntryStore> Caller<'a, J, S> {
         ensures full { result ≡ Err WaitFault.Full → WasToldFull number self.old self.new }
         ensures not_full { result ≢ Err WaitFault.Full → WasNotToldFull number self.old self.new }
     {
-        match self.own.resend(&self.ring.table, number) {
+        match self.own.resend(self.ring.table(), number) {
             Ok(parcel) => self.ring.post(rt, Target::Node(via), parcel),
             Err(_) => return Err(WaitFault::Memory),
         }
@@ -250,7 +251,7 @@ impl<'a, J: Naming, S: EntryStore> Caller<'a, J, S> {
         ensures full { result ≡ Err WaitFault.Full → WasToldFull number self.old self.new }
         ensures not_full { result ≢ Err WaitFault.Full → WasNotToldFull number self.old self.new }
     {
-        let more = self.ring.settings.tries - 1;
+        let more = self.ring.tries() - 1;
         match self.wait(rt, number) {
             Err(WaitFault::NoAnswer) => {}
             ended => return ended,
@@ -309,7 +310,7 @@ impl<'a, J: Naming, S: EntryStore> Caller<'a, J, S> {
         ensures full { result ≡ Err WaitFault.Full → WasToldFull number self.old self.new }
         ensures not_full { result ≢ Err WaitFault.Full → WasNotToldFull number self.old self.new }
     {
-        for _ in 0..self.ring.settings.tries {
+        for _ in 0..self.ring.tries() {
             match self.wait(rt, number) {
                 Err(WaitFault::NoAnswer) if !self.ring.is_stopped() => {}
                 ended => return ended,
@@ -371,7 +372,7 @@ impl<'a, J: Naming, S: EntryStore> Caller<'a, J, S> {
         if !self.ring.was(via) {
             return Err(RetryFault::NoSuchNode);
         }
-        let tries = self.ring.settings.tries;
+        let tries = self.ring.tries();
         match self.insist(rt, via, number, tries) {
             Ok(reply) => Ok(reply),
             Err(fault) => Err(RetryFault::from(fault)),
@@ -405,9 +406,9 @@ impl<'a, J: Naming, S: EntryStore> Caller<'a, J, S> {
         ensures not_full { result ≢ Heard.Full → WasNotToldFull number self.old self.new }
     {
         let ring = self.ring;
-        match ring.carry(rt, via, Keyed::new(parcel)) {
+        match ring.carry(rt, via, parcel) {
             Some(carried) if carried.caller == self.no => {
-                self.own.take(&ring.table, carried.parcel, number)
+                self.own.take(ring.table(), carried.parcel, number)
             }
             Some(carried) => {
                 ring.post(rt, Target::Caller(carried.caller), carried.parcel);
@@ -452,7 +453,7 @@ impl<'a, J: Naming, S: EntryStore> Caller<'a, J, S> {
         ensures full { result ≡ Err WaitFault.Full → WasToldFull number self.old self.new }
         ensures not_full { result ≢ Err WaitFault.Full → WasNotToldFull number self.old self.new }
     {
-        match self.own.resend(&self.ring.table, number) {
+        match self.own.resend(self.ring.table(), number) {
             Ok(parcel) => self.carry_or_wait(rt, via, parcel, number),
             Err(_) => Err(WaitFault::Memory),
         }
@@ -495,7 +496,7 @@ impl<'a, J: Naming, S: EntryStore> Caller<'a, J, S> {
         ensures full { result ≡ Err WaitFault.Full → WasToldFull number self.old self.new }
         ensures not_full { result ≢ Err WaitFault.Full → WasNotToldFull number self.old self.new }
     {
-        let more = self.ring.settings.tries - 1;
+        let more = self.ring.tries() - 1;
         match self.carry_or_wait(rt, via, parcel, number) {
             Err(WaitFault::NoAnswer) => {}
             ended => return ended,

@@ -14,6 +14,7 @@ mod callers;
 mod dealing;
 mod growths;
 mod refusals;
+mod standing;
 mod upkeep;
 
 pub const A: u128 = 0x40000000000000000000000000000000;

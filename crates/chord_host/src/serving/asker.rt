@@ -5,8 +5,8 @@ ghost use Rattle.chord_serve.specs.Question.{IsAnswer, IsHeard};
 ghost use Rattle.chord_serve.specs.declared.asker.Asked.TheVariants as Asked;
 
 use crate::serving::idle::IdleCaller;
-use chord_live::{AskFault, Client, RetryFault};
 use chord_map::{Reply, Request};
+use chord_running::{AskFault, Client, RetryFault};
 use chord_serve::{Asked, Asker};
 use chord_store::EntryStore;
 use chord_table::Naming;

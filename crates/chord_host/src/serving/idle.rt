@@ -3,7 +3,7 @@ ghost use Rattle.std.specs.Prelude.{◌≡◌, ℕ, None, true, IfOk, IfErr};
 ghost use Rattle.chord_caller.specs.Answers.{PendingIs, is_pending};
 
 use chord_front::Ended;
-use chord_live::{Client, OpenClientFault, Ring};
+use chord_running::{Client, OpenClientFault, Ring};
 use chord_serve::Served;
 use chord_store::EntryStore;
 use chord_table::Naming;

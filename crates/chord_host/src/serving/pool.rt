@@ -2,7 +2,7 @@
 
 use crate::serving::idle::IdleCaller;
 use chord_front::Ended;
-use chord_live::{Client, Ring};
+use chord_running::{Client, Ring};
 use chord_store::EntryStore;
 use chord_table::Naming;
 use std::alloc::{AllocError, Global};

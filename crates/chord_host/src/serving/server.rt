@@ -6,7 +6,7 @@ use crate::serving::idle::IdleCaller;
 use crate::serving::service::{Service, node_of};
 use chord_command::Finish;
 use chord_front::{Ended, Front, write_address, write_end};
-use chord_live::Blank;
+use chord_running::Blank;
 use chord_serve::Served;
 use chord_store::EntryStore;
 use chord_table::Naming;

@@ -6,7 +6,7 @@ use crate::serving::pool::Pool;
 use crate::serving::service::{Service, node_of};
 use chord_command::Finish;
 use chord_front::{Clients, Ended, Front, Lines, Stop};
-use chord_live::{Blank, Ring};
+use chord_running::{Blank, Ring};
 use chord_serve::Served;
 use chord_store::EntryStore;
 use chord_table::Naming;

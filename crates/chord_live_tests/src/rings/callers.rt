@@ -2,7 +2,7 @@
 ghost use Rattle.std.specs.Prelude.{◌≡◌, []};
 
 use super::{Store, begin, call, founded, inserted, is_added, is_told, retrieved, settings};
-use chord_live::{AskFault, Blank, Caller, CollectFault, LeaveFault, Open, Ring};
+use chord_live::{AskFault, Blank, Caller, CollectFault, LeaveFault, Open, OpenCaller, Ring};
 use chord_map::{Reply, Request};
 use chord_store::{CappedStore, EntryStore};
 use chord_table::Naming;

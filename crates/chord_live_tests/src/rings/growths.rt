@@ -6,7 +6,7 @@ use super::{A, C, begin, inserted, is_added, is_told, settings, succeeds};
 use chord_ident::Id;
 use chord_live::{
     AskFault, BeginFault, Blank, Caller, CollectFault, CreateFault, JoinFault, NewFault, Open,
-    RetryFault, Ring, TickFault,
+    OpenCaller, RetryFault, Ring, TickFault,
 };
 use chord_store::{CappedStore, EntryStore};
 use chord_table::Naming;

@@ -6,7 +6,8 @@ use chord_ident::Id;
 use chord_links::Peer;
 use chord_live::{
     AskFault, BeginFault, Blank, Caller, CollectFault, CreateFault, JoinFault, LeaveFault,
-    NewFault, NoSuchNode, Open, OpenFault, RetireFault, RetryFault, Ring, Settings, TickFault,
+    NewFault, NoSuchNode, Open, OpenCaller, OpenFault, RetireFault, RetryFault, Ring, Settings,
+    TickFault,
 };
 use chord_map::{Bytes, Request, RequestFault};
 use chord_store::{CappedStore, EntryStore, Inserted};

@@ -4,7 +4,7 @@ ghost use Rattle.std.specs.Prelude.{◌≡◌};
 use super::{call, founded, inserted, is_added, is_told, retrieved, settings, succeeds};
 use chord_ident::Id;
 use chord_links::Links;
-use chord_live::{Blank, Client, Gate, Open, Ring};
+use chord_live::{Blank, Client, Gate, Open, OpenCaller, Ring};
 use chord_map::Request;
 use chord_store::{CappedStore, EntryStore};
 use chord_table::Naming;

@@ -1,6 +1,6 @@
 use Rattle.std.proofs.Common.{subst}
 use Rattle.chord_live.proofs.Messages.{heard_full, heard_other}
-use Rattle.chord_live.specs.Asking.{WasNotToldFull, WasToldFull}
+use Rattle.chord_running.specs.Begun.{WasNotToldFull, WasToldFull}
 use Rattle.chord_table.specs.Views.{CallerSight}
 use Rattle.chord_live.proofs.caller.Caller.carry.Goals as goal
 

@@ -1,4 +1,5 @@
-use Rattle.chord_live.specs.Asking.{TookMessages, WaitsStill, WasNotToldFull}
+use Rattle.chord_live.specs.Asking.{WaitsStill}
+use Rattle.chord_running.specs.Begun.{TookMessages, WasNotToldFull}
 use Rattle.chord_live.proofs.caller.Caller.insist.Given as goal
 
 -- the request waits as before; messages came, and none that says Full

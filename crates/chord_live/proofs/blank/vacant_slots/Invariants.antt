@@ -1,6 +1,0 @@
-use Rattle.std.proofs.Common.{◌≡◌, vec_len}
-use Rattle.chord_live.proofs.blank.vacant_slots.Given as goal
-
--- as many as were pushed
-abbrev pub invariant-loop : goal.invariant-loop
-invariant-loop g l = vec_len l.slots ≡ l.counter

@@ -1,0 +1,109 @@
+//! What callers of another kind stand on: a core beside its seat, and parcels that they send, carry and wait for.
+ghost use Rattle.std.specs.Prelude.{◌≡◌, ◌<◌};
+
+use super::{founded, settings};
+use chord_caller::CallerCore;
+use chord_live::{Blank, OpenFault, Ring, Target};
+use chord_map::{Reply, Request};
+use chord_node::Message;
+use chord_store::CappedStore;
+use chord_table::{CallerSeat, Naming, Parcel};
+use std::alloc::Global;
+use std::marker::Brand;
+use std::sync::Wait;
+use std::time::{Clock, Duration};
+
+#[test]
+fn a_core_and_its_seat(rt: HostRuntime) {
+    let stood = match Blank::new(rt.alloc(), settings(2, 1, 3, 5)) {
+        Ok(blank) => stands::<Brand, _>(&rt, rt.alloc(), blank),
+        Err(_) => None,
+    };
+    assert!(rt; stood == Some([true; 4]));
+}
+
+/// Whether a ring of one node says what it is to, has a caller's core and seat once, and carries its call.
+fn stands<J: Naming, R: Wait + Clock>(rt: &R, alloc: Global, blank: Blank) -> Option<[bool; 4]>
+    requires { blank ≡ J.name }
+{
+    let ring = founded::<J, CappedStore, R>(rt, blank, CappedStore::new(alloc, 1))?;
+    let runs = runs(rt, &ring);
+    let admitted = admits(rt, alloc, &ring);
+    let spent = ring.admit_caller(rt, 1).err() == Some(OpenFault::CallersSpent);
+    ring.stop();
+    let stopped = ring.is_stopped() & (ring.time_left(rt, &None) == Duration::from_millis(0));
+    drop(ring);
+    Some([runs, admitted, spent, stopped])
+}
+
+/// Node 0 was admitted and node 1 was not; a request is sent three times, with a wait of five milliseconds after each.
+fn runs<J: Naming, R: Wait + Clock>(rt: &R, ring: &Ring<J, CappedStore>) -> bool {
+    let was = [ring.was(0), ring.was(1), ring.is_stopped()] == [true, false, false];
+    was & (ring.tries() == 3) & (ring.time_left(rt, &None) == Duration::from_millis(5))
+}
+
+/// Whether the first caller is number 0, and is answered.
+fn admits<J: Naming, R: Wait + Clock>(rt: &R, alloc: Global, ring: &Ring<J, CappedStore>) -> bool {
+    let Ok((core, seat)) = ring.admit_caller(rt, 1) else {
+        return false;
+    };
+    let no = core.number();
+    is_answered(rt, alloc, ring, no, core, seat) & (no == 0)
+}
+
+/// Whether a caller's insert is carried, and answered Added under its number.
+fn is_answered<J: Naming, R: Wait + Clock>(
+    rt: &R,
+    alloc: Global,
+    ring: &Ring<J, CappedStore>,
+    no: u64,
+    mut core: CallerCore,
+    mut seat: CallerSeat<J>,
+) -> bool
+    requires shown { core ≡ seat.caller }
+    requires own { no < J.name.callers }
+{
+    let ask = match Request::insert(alloc, b"a", b"x") {
+        Ok(request) => core.submit(request),
+        Err(_) => return false,
+    };
+    let Ok(ask) = ask else {
+        return false;
+    };
+    let parcel = seat.send(ring.table(), &core, Message::Ask(ask));
+    let Some(came) = carried(rt, ring, no, parcel) else {
+        return false;
+    };
+    let message = seat.receive(ring.table(), came);
+    let nothing = ring.hear(rt, no, Duration::from_millis(0)).is_none();
+    is_added(message, no) & nothing
+}
+
+/// What comes back to caller `no` of a parcel that is carried from node 0, posted to it, and waited for.
+fn carried<J: Naming, R: Wait + Clock>(
+    rt: &R,
+    ring: &Ring<J, CappedStore>,
+    no: u64,
+    parcel: Parcel<J>,
+) -> Option<Parcel<J>>
+    requires { no < J.name.callers }
+{
+    let carried = ring.carry(rt, 0, parcel)?;
+    if carried.from != 0 {
+        return None;
+    }
+    ring.post(rt, Target::Caller(carried.caller), carried.parcel);
+    ring.hear(rt, no, Duration::from_millis(1_000))
+}
+
+/// Whether the message tells this caller that its request 1 was answered Added.
+fn is_added(message: Message, no: u64) -> bool {
+    let is_added = match &message {
+        Message::Told(told) => {
+            matches!(&told.reply, Reply::Added) & (told.caller == no) & (told.number == 1)
+        }
+        _ => false,
+    };
+    drop(message);
+    is_added
+}

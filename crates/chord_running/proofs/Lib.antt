@@ -1,0 +1,4 @@
+pub mod Coming
+pub mod Counting
+pub mod Messages
+pub mod Sending

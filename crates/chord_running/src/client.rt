@@ -1,0 +1,438 @@
+//! A caller whose memory is bounded by its window.
+ghost use Rattle.std.specs.Prelude.{◌≡◌, ◌≢◌, ◌≤◌, Ok, Err, None, Some, true, IfOk, IfErr, IfSome, OnErr};
+ghost use Rattle.chord_caller.specs.Answers.{PendingIs, is_pending, new_caller};
+ghost use Rattle.chord_caller.specs.Caller.{floor_of, next_number};
+ghost use Rattle.chord_running.specs.Begun.{BeginIs, MaySubmit, TookMessages, WasNotToldFull, WasToldFull};
+ghost use Rattle.chord_running.specs.Calling.{AwaitIs, CallIs, RecallIs};
+ghost use Rattle.chord_faults.specs.declared.caller.AskFault.TheVariants as AskFault;
+ghost use Rattle.chord_faults.specs.declared.caller.BeginFault.TheVariants as BeginFault;
+ghost use Rattle.chord_faults.specs.declared.caller.RetryFault.TheVariants as RetryFault;
+ghost use Rattle.chord_faults.specs.declared.caller.WaitFault.TheVariants as WaitFault;
+ghost use Rattle.chord_table.specs.Shown.{CallerShown};
+
+use crate::carried::Carried;
+use crate::guesses::Guesses;
+use crate::keyed::Keyed;
+use crate::owned_client::OwnedClient;
+use crate::ring::Ring;
+use crate::target::Target;
+use chord_faults::{AskFault, BeginFault, OpenClientFault, RetryFault, WaitFault};
+use chord_ident::Id;
+use chord_map::{Reply, Request};
+use chord_store::EntryStore;
+use chord_table::{Naming, Parcel};
+use std::marker::Model;
+use std::sync::Wait;
+use std::time::{Clock, Duration, Instant};
+
+/// A caller that keeps a request until its reply is handed out, and no reply. It borrows its ring. Contracts see what its
+/// seat shows: the whole caller, which is data of the proof alone.
+#[derive(Drop)]
+pub struct Client<'a, J: Naming, S: EntryStore> {
+    ring: &'a Ring<J, S>,
+    own: OwnedClient<J>,
+    no: u64,
+    guesses: Guesses,
+}
+
+impl<'a, J: Naming, S: EntryStore> Model for Client<'a, J, S> {
+    ghost use Rattle.std.specs.Prelude.{◌≡◌, ◌<◌};
+    ghost use Rattle.chord_table.specs.Views.{CallerSight};
+
+    ghost Value = { CallerSight };
+
+    ghost view = { λ a. a.own };
+
+    ghost invariant = { λ a. a.no < J.name.callers };
+}
+
+impl<'a, J: Naming, S: EntryStore> Client<'a, J, S> {
+    /// A client under the next free number, with a window of 1 to 16 requests.
+    pub fn open(
+        ring: &'a Ring<J, S>,
+        rt: &impl Wait,
+        window: u64,
+    ) -> Result<Client<'a, J, S>, OpenClientFault>
+        requires some { 1 ≤ window }
+        requires small { window ≤ 16 }
+        ensures ok { IfOk result (λ client. (client.caller ≡ new_caller client.caller.number window) × CallerShown client) }
+    {
+        let (no, own) = ring.open_client_seat(rt, window)?;
+        let mut client = Client {
+            ring,
+            own,
+            no,
+            guesses: Guesses::new(),
+        };
+        client.look();
+        Ok(client)
+    }
+
+    /// The greatest number with all at or below it taken.
+    pub fn floor(&self) -> u64
+        ensures { result ≡ floor_of self.now.caller }
+    {
+        self.own.floor()
+    }
+
+    /// The least pending number. Where there is none, the next request has the number behind the floor.
+    pub fn pending(&self) -> Option<u64>
+        ensures { PendingIs self.now.caller result }
+    {
+        self.own.pending()
+    }
+
+    /// Whether the request of this number waits for its reply.
+    pub fn is_pending(&self, number: u64) -> bool
+        ensures { result ≡ is_pending number self.now.caller }
+    {
+        self.own.is_pending(number)
+    }
+
+    /// All replies that it handed out stand in one legal history.
+    pub fn look(&mut self)
+        ensures same { self.new ≡ self.old }
+        ensures shown { CallerShown self.old }
+    {
+        self.own.look(&self.ring.table);
+    }
+
+    /// Submits a request, if it would be taken and there is such a node. Its number comes with the parcel.
+    fn submit(&mut self, via: u64, request: Request) -> Result<(u64, Parcel<J>), BeginFault>
+        ensures ok { IfOk result (λ sent. BeginIs request self.old.caller (Ok sent.0) self.new.caller) }
+        ensures waits { IfOk result (λ sent. is_pending sent.0 self.new.caller ≡ true) }
+        ensures messages { self.new.messages ≡ self.old.messages }
+        ensures not_full { WasNotToldFull (next_number self.old.caller) self.old self.new }
+        ensures placed { J.name.slots ≤ via → MaySubmit request self.old.caller → result ≡ Err BeginFault.NoSuchNode }
+        ensures err { IfErr result (λ fault. BeginIs request self.old.caller (Err fault) self.new.caller) }
+        ensures same { OnErr result (self.new ≡ self.old) }
+    {
+        if let Some(fault) = self.own.refusal(&request) {
+            drop(request);
+            return Err(BeginFault::from(fault));
+        }
+        if !self.ring.was(via) {
+            drop(request);
+            return Err(BeginFault::NoSuchNode);
+        }
+        match self.own.submit(&self.ring.table, request) {
+            Ok(sent) => Ok(sent),
+            Err(fault) => Err(BeginFault::from(fault)),
+        }
+    }
+
+    /// Waits for one message, no longer than this. None where none came.
+    fn hear<R: Wait + Clock>(
+        &mut self,
+        rt: &R,
+        limit: Duration,
+        number: u64,
+    ) -> Option<Result<Reply, WaitFault>>
+        ensures some { IfSome result (λ heard. AwaitIs number self.old.caller heard self.new.caller) }
+        ensures none { result ≡ None → self.new ≡ self.old }
+        ensures came { TookMessages self.old self.new }
+        ensures full { result ≡ Some (Err WaitFault.Full) → WasToldFull number self.old self.new }
+        ensures not_full { result ≢ Some (Err WaitFault.Full) → WasNotToldFull number self.old self.new }
+    {
+        let ring = self.ring;
+        match ring.hear(rt, self.no, limit) {
+            Some(parcel) => Some(self.own.take(&ring.table, parcel, number)),
+            None => None,
+        }
+    }
+
+    /// Waits for the reply to a request, as long as one try is to wait.
+    fn wait<R: Wait + Clock>(&mut self, rt: &R, number: u64) -> Result<Reply, WaitFault>
+        ensures answer { AwaitIs number self.old.caller result self.new.caller }
+        ensures came { TookMessages self.old self.new }
+        ensures full { result ≡ Err WaitFault.Full → WasToldFull number self.old self.new }
+        ensures not_full { result ≢ Err WaitFault.Full → WasNotToldFull number self.old self.new }
+    {
+        let start = Instant::now(rt).ok();
+        for _ in 0..u64::MAX {
+            let left = self.ring.time_left(rt, &start);
+            match self.hear(rt, left, number) {
+                Some(Err(WaitFault::NoAnswer)) => {}
+                Some(ended) => return ended,
+                None => return Err(WaitFault::NoAnswer),
+            }
+        }
+        Err(WaitFault::NoAnswer)
+    }
+
+    /// Takes what came of a parcel that was carried.
+    fn take(&mut self, rt: &impl Wait, carried: Carried<J>, number: u64) -> Result<Reply, WaitFault>
+        ensures answer { AwaitIs number self.old.caller result self.new.caller }
+        ensures came { TookMessages self.old self.new }
+        ensures full { result ≡ Err WaitFault.Full → WasToldFull number self.old self.new }
+        ensures not_full { result ≢ Err WaitFault.Full → WasNotToldFull number self.old self.new }
+    {
+        let ring = self.ring;
+        if carried.caller == self.no {
+            return self.own.take(&ring.table, carried.parcel, number);
+        }
+        ring.post(rt, Target::Caller(carried.caller), carried.parcel);
+        Err(WaitFault::NoAnswer)
+    }
+
+    /// Carries a parcel from node to node, each event under that node's lock, and takes what comes back.
+    fn carry(
+        &mut self,
+        rt: &impl Wait,
+        via: u64,
+        parcel: Parcel<J>,
+        number: u64,
+    ) -> Result<Reply, WaitFault>
+        ensures answer { AwaitIs number self.old.caller result self.new.caller }
+        ensures came { TookMessages self.old self.new }
+        ensures full { result ≡ Err WaitFault.Full → WasToldFull number self.old self.new }
+        ensures not_full { result ≢ Err WaitFault.Full → WasNotToldFull number self.old self.new }
+    {
+        match self.ring.carry(rt, via, parcel) {
+            Some(carried) => self.take(rt, carried, number),
+            None => Err(WaitFault::NoAnswer),
+        }
+    }
+
+    /// The member that answered last for such an identifier, else `via`.
+    fn first_node(&self, id: Id, via: u64) -> u64 {
+        match self.guesses.guess(id) {
+            Some(no) if self.ring.is_live(no) => no,
+            _ => via,
+        }
+    }
+
+    /// Remembers which node answered, or that none did.
+    fn remember_node(&mut self, id: Id, node: Option<u64>)
+        ensures { self.new ≡ self.old }
+    {
+        match node {
+            Some(no) => self.guesses.remember(id, no),
+            None => self.guesses.forget(id),
+        }
+    }
+
+    /// Carries a new request, first to the node that is guessed, and notes which node answered. Where none did the guess is
+    /// forgotten.
+    fn carry_by_guess(
+        &mut self,
+        rt: &impl Wait,
+        via: u64,
+        parcel: Parcel<J>,
+        number: u64,
+    ) -> Result<Reply, WaitFault>
+        ensures answer { AwaitIs number self.old.caller result self.new.caller }
+        ensures came { TookMessages self.old self.new }
+        ensures full { result ≡ Err WaitFault.Full → WasToldFull number self.old self.new }
+        ensures not_full { result ≢ Err WaitFault.Full → WasNotToldFull number self.old self.new }
+    {
+        let keyed = Keyed::new(parcel);
+        let id = keyed.id;
+        match self.ring.carry_keyed(rt, self.first_node(id, via), keyed) {
+            Some(carried) => {
+                self.remember_node(id, Some(carried.from));
+                self.take(rt, carried, number)
+            }
+            None => {
+                self.remember_node(id, None);
+                Err(WaitFault::NoAnswer)
+            }
+        }
+    }
+
+    /// Carries a pending request, and waits where its reply does not come back at once.
+    fn carry_or_wait<R: Wait + Clock>(
+        &mut self,
+        rt: &R,
+        via: u64,
+        parcel: Parcel<J>,
+        number: u64,
+    ) -> Result<Reply, WaitFault>
+        ensures answer { AwaitIs number self.old.caller result self.new.caller }
+        ensures came { TookMessages self.old self.new }
+        ensures full { result ≡ Err WaitFault.Full → WasToldFull number self.old self.new }
+        ensures not_full { result ≢ Err WaitFault.Full → WasNotToldFull number self.old self.new }
+    {
+        match self.carry(rt, via, parcel, number) {
+            Err(WaitFault::NoAnswer) => {}
+            ended => return ended,
+        }
+        self.wait(rt, number)
+    }
+
+    /// Carries a pending request again.
+    fn carry_again<R: Wait + Clock>(
+        &mut self,
+        rt: &R,
+        via: u64,
+        number: u64,
+    ) -> Result<Reply, WaitFault>
+        requires { is_pending number self.old.caller ≡ true }
+        ensures answer { AwaitIs number self.old.caller result self.new.caller }
+        ensures came { TookMessages self.old self.new }
+        ensures full { result ≡ Err WaitFault.Full → WasToldFull number self.old self.new }
+        ensures not_full { result ≢ Err WaitFault.Full → WasNotToldFull number self.old self.new }
+    {
+        match self.own.resend(&self.ring.table, number) {
+            Ok(parcel) => self.carry_or_wait(rt, via, parcel, number),
+            Err(_) => Err(WaitFault::Memory),
+        }
+    }
+
+    /// Carries a pending request again and again, so many times at most.
+    fn carry_on<R: Wait + Clock>(
+        &mut self,
+        rt: &R,
+        via: u64,
+        number: u64,
+        times: u64,
+    ) -> Result<Reply, WaitFault>
+        requires { is_pending number self.old.caller ≡ true }
+        ensures answer { AwaitIs number self.old.caller result self.new.caller }
+        ensures came { TookMessages self.old self.new }
+        ensures full { result ≡ Err WaitFault.Full → WasToldFull number self.old self.new }
+        ensures not_full { result ≢ Err WaitFault.Full → WasNotToldFull number self.old self.new }
+    {
+        for _ in 0..times {
+            match self.carry_again(rt, via, number) {
+                Err(WaitFault::NoAnswer) if !self.ring.is_stopped() => {}
+                ended => return ended,
+            }
+        }
+        Err(WaitFault::NoAnswer)
+    }
+
+    /// Waits for the reply to a request that was carried once, and carries it again as often as the ring's settings say.
+    fn wait_and_carry_on<R: Wait + Clock>(
+        &mut self,
+        rt: &R,
+        via: u64,
+        number: u64,
+    ) -> Result<Reply, WaitFault>
+        requires { is_pending number self.old.caller ≡ true }
+        ensures answer { AwaitIs number self.old.caller result self.new.caller }
+        ensures came { TookMessages self.old self.new }
+        ensures full { result ≡ Err WaitFault.Full → WasToldFull number self.old self.new }
+        ensures not_full { result ≢ Err WaitFault.Full → WasNotToldFull number self.old self.new }
+    {
+        let more = self.ring.tries() - 1;
+        match self.wait(rt, number) {
+            Err(WaitFault::NoAnswer) => {}
+            ended => return ended,
+        }
+        self.carry_on(rt, via, number, more)
+    }
+
+    /// Carries a new request up to as many times as the ring's settings say, the first time by the guess.
+    fn bring<R: Wait + Clock>(
+        &mut self,
+        rt: &R,
+        via: u64,
+        parcel: Parcel<J>,
+        number: u64,
+    ) -> Result<Reply, WaitFault>
+        requires { is_pending number self.old.caller ≡ true }
+        ensures answer { AwaitIs number self.old.caller result self.new.caller }
+        ensures came { TookMessages self.old self.new }
+        ensures full { result ≡ Err WaitFault.Full → WasToldFull number self.old self.new }
+        ensures not_full { result ≢ Err WaitFault.Full → WasNotToldFull number self.old self.new }
+    {
+        match self.carry_by_guess(rt, via, parcel, number) {
+            Err(WaitFault::NoAnswer) => {}
+            ended => return ended,
+        }
+        self.wait_and_carry_on(rt, via, number)
+    }
+
+    /// Submits a request and carries it, as `call` does.
+    fn submit_and_bring<R: Wait + Clock>(
+        &mut self,
+        rt: &R,
+        via: u64,
+        request: Request,
+    ) -> Result<Reply, AskFault>
+        ensures answer { CallIs request self.old.caller result self.new.caller }
+        ensures placed { J.name.slots ≤ via → MaySubmit request self.old.caller → result ≡ Err AskFault.NoSuchNode }
+        ensures came { TookMessages self.old self.new }
+        ensures full { result ≡ Err AskFault.Full → WasToldFull (next_number self.old.caller) self.old self.new }
+        ensures not_full { result ≢ Err AskFault.Full → WasNotToldFull (next_number self.old.caller) self.old self.new }
+    {
+        let (number, parcel) = match self.submit(via, request) {
+            Ok(sent) => sent,
+            Err(fault) => return Err(AskFault::from(fault)),
+        };
+        match self.bring(rt, via, parcel, number) {
+            Ok(reply) => Ok(reply),
+            Err(fault) => Err(AskFault::from(fault)),
+        }
+    }
+
+    /// Submits a request and hands out its reply. The calling thread itself does each node's event, under that node's
+    /// lock: no worker is needed. It begins at the member that answered last for identifiers with the same first byte,
+    /// else at `via`. Where no reply comes back, as while a handover is under way, it waits and tries again from `via`.
+    /// A request without its reply stays pending; a reply to it that comes while nobody waits for it is not taken, and so
+    /// is not lost: `retry` gets it from the holder, which keeps it.
+    pub fn call<R: Wait + Clock>(
+        &mut self,
+        rt: &R,
+        via: u64,
+        request: Request,
+    ) -> Result<Reply, AskFault>
+        ensures answer { CallIs request self.old.caller result self.new.caller }
+        ensures placed { J.name.slots ≤ via → MaySubmit request self.old.caller → result ≡ Err AskFault.NoSuchNode }
+        ensures came { TookMessages self.old self.new }
+        ensures full { result ≡ Err AskFault.Full → WasToldFull (next_number self.old.caller) self.old self.new }
+        ensures not_full { result ≢ Err AskFault.Full → WasNotToldFull (next_number self.old.caller) self.old self.new }
+        ensures shown { CallerShown self.new }
+    {
+        let answered = self.submit_and_bring(rt, via, request);
+        self.look();
+        answered
+    }
+
+    /// Carries a pending request again, as `retry` does.
+    fn bring_again<R: Wait + Clock>(
+        &mut self,
+        rt: &R,
+        via: u64,
+        number: u64,
+    ) -> Result<Reply, RetryFault>
+        ensures answer { RecallIs number self.old.caller result self.new.caller }
+        ensures placed { J.name.slots ≤ via → is_pending number self.old.caller ≡ true → result ≡ Err RetryFault.NoSuchNode }
+        ensures came { TookMessages self.old self.new }
+        ensures full { result ≡ Err RetryFault.Full → WasToldFull number self.old self.new }
+        ensures not_full { result ≢ Err RetryFault.Full → WasNotToldFull number self.old self.new }
+    {
+        if !self.own.is_pending(number) {
+            return Err(RetryFault::Idle);
+        }
+        if !self.ring.was(via) {
+            return Err(RetryFault::NoSuchNode);
+        }
+        let tries = self.ring.tries();
+        match self.carry_on(rt, via, number, tries) {
+            Ok(reply) => Ok(reply),
+            Err(fault) => Err(RetryFault::from(fault)),
+        }
+    }
+
+    /// Sends a pending request again from `via`, under its number, and hands out its reply, as `call` does. It acts once,
+    /// however often it is sent: where it was executed before, the holder answers its kept reply.
+    pub fn retry<R: Wait + Clock>(
+        &mut self,
+        rt: &R,
+        via: u64,
+        number: u64,
+    ) -> Result<Reply, RetryFault>
+        ensures answer { RecallIs number self.old.caller result self.new.caller }
+        ensures placed { J.name.slots ≤ via → is_pending number self.old.caller ≡ true → result ≡ Err RetryFault.NoSuchNode }
+        ensures came { TookMessages self.old self.new }
+        ensures full { result ≡ Err RetryFault.Full → WasToldFull number self.old self.new }
+        ensures not_full { result ≢ Err RetryFault.Full → WasNotToldFull number self.old self.new }
+        ensures shown { CallerShown self.new }
+    {
+        let answered = self.bring_again(rt, via, number);
+        self.look();
+        answered
+    }
+}

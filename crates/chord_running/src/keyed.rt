@@ -1,0 +1,36 @@
+//! A message under way, beside the identifier of its key.
+ghost use Rattle.std.specs.Prelude.{◌≡◌};
+ghost use Rattle.chord_running.specs.Keys.{IsKeyId};
+
+use chord_ident::Id;
+use chord_node::Message;
+use chord_table::{Naming, Parcel};
+
+/// A parcel, and the identifier of the key where it is a call. So that is computed once, and under no lock.
+#[derive(Drop)]
+pub struct Keyed<J: Naming> {
+    pub parcel: Parcel<J>,
+    pub id: Id,
+    ghost known: { IsKeyId id.number parcel },
+}
+
+/// The identifier of a call's key, and 0 for any other message.
+pub fn id_in(message: &Message) -> Id
+    ensures { IsKeyId result.number message.now }
+{
+    match message {
+        Message::Ask(ask) => Id::of_bytes(ask.request.key()),
+        Message::Told(_) | Message::Full { .. } | Message::Note(_) => Id::new(0),
+        Message::Part(_) | Message::Got(_) | Message::Declined(_) => Id::new(0),
+    }
+}
+
+impl<J: Naming> Keyed<J> {
+    /// The parcel with the identifier of its key.
+    pub fn new(parcel: Parcel<J>) -> Keyed<J>
+        ensures { result.parcel ≡ parcel }
+    {
+        let id = id_in(parcel.message());
+        Keyed { parcel, id }
+    }
+}

@@ -1,0 +1,158 @@
+//! A client beside its seat.
+ghost use Rattle.std.specs.Prelude.{◌≡◌, ◌≢◌, ◌↔◌, ◌++◌, [], ◌∷◌, Contains, IfOk, IfErr, OnErr, Ok, Err, true};
+ghost use Rattle.chord_caller.specs.Answers.{SubmitIs, RefusalIs, PendingIs, is_pending};
+ghost use Rattle.chord_caller.specs.Caller.{floor_of};
+ghost use Rattle.chord_caller.specs.Client.{IsCoreOf};
+ghost use Rattle.chord_caller.specs.declared.ask.Ask.{Ask as AskOf};
+ghost use Rattle.chord_model.specs.declared.message.Message.TheVariants.{Ask as AskMessage, Full as FullMessage, Told as ToldMessage};
+ghost use Rattle.chord_running.specs.Calling.{AwaitIs};
+ghost use Rattle.chord_faults.specs.declared.caller.WaitFault.TheVariants.{Full as WaitFull};
+ghost use Rattle.chord_table.specs.Shown.{CallerShown};
+
+use chord_caller::{ClientCore, Outcome, ResendFault, SubmitFault, Told};
+use chord_faults::WaitFault;
+use chord_map::{Reply, Request};
+use chord_node::Message;
+use chord_table::{CallerSeat, Naming, Parcel, Shared};
+use std::alloc::AllocError;
+use std::marker::Model;
+
+/// A client, and the seat of the caller that it is the core of. The seat has no memory for what it shows: that is data of
+/// the proof alone. Contracts see it.
+#[derive(Drop)]
+pub struct OwnedClient<J: Naming> {
+    core: ClientCore,
+    seat: CallerSeat<J>,
+}
+
+impl<J: Naming> Model for OwnedClient<J> {
+    ghost use Rattle.chord_caller.specs.Client.{IsCoreOf};
+    ghost use Rattle.chord_table.specs.Views.{CallerSight};
+
+    ghost Value = { CallerSight };
+
+    ghost view = { λ a. a.seat };
+
+    ghost invariant = { λ a. IsCoreOf a.core a.seat.caller };
+}
+
+impl<J: Naming> OwnedClient<J> {
+    /// A client with the seat that its caller was admitted with.
+    pub fn new(core: ClientCore, seat: CallerSeat<J>) -> OwnedClient<J>
+        requires { IsCoreOf core seat.caller }
+        ensures { result ≡ seat }
+    {
+        OwnedClient { core, seat }
+    }
+
+    /// Why the request would be refused now, even with ample memory.
+    pub fn refusal(&self, request: &Request) -> Option<SubmitFault>
+        ensures { RefusalIs request.now self.now.caller result }
+    {
+        self.core.refusal(request)
+    }
+
+    /// Submits a request, and sends it. Its number comes with the parcel.
+    pub fn submit(
+        &mut self,
+        table: &Shared<J>,
+        request: Request,
+    ) -> Result<(u64, Parcel<J>), SubmitFault>
+        ensures ok { IfOk result (λ sent. (ask : AskOf) × SubmitIs request self.old.caller (Ok ask) self.new.caller × (sent.0 ≡ ask.number) × (sent.1 ≡ AskMessage ask)) }
+        ensures waits { IfOk result (λ sent. is_pending sent.0 self.new.caller ≡ true) }
+        ensures messages { self.new.messages ≡ self.old.messages }
+        ensures err { IfErr result (λ fault. SubmitIs request self.old.caller (Err fault) self.new.caller) }
+        ensures same { OnErr result (self.new ≡ self.old) }
+    {
+        let ask = match self.core.submit(request) {
+            Ok(ask) => ask,
+            Err(fault) => return Err(fault),
+        };
+        let number = ask.number;
+        let parcel = self.seat.submit(table, ask);
+        Ok((number, parcel))
+    }
+
+    /// Sends a pending request again.
+    pub fn resend(&mut self, table: &Shared<J>, number: u64) -> Result<Parcel<J>, AllocError>
+        requires { is_pending number self.old.caller ≡ true }
+        ensures same { self.new ≡ self.old }
+    {
+        let ask = match self.core.resend(number) {
+            Ok(ask) => ask,
+            Err(ResendFault::Idle) => unreachable!(),
+            Err(ResendFault::Memory) => return Err(AllocError),
+        };
+        Ok(self.seat.resend(table, ask))
+    }
+
+    /// The greatest number with all at or below it taken.
+    pub fn floor(&self) -> u64
+        ensures { result ≡ floor_of self.now.caller }
+    {
+        self.core.floor()
+    }
+
+    /// The least pending number.
+    pub fn pending(&self) -> Option<u64>
+        ensures { PendingIs self.now.caller result }
+    {
+        self.core.pending()
+    }
+
+    /// Whether the request of this number waits for its reply.
+    pub fn is_pending(&self, number: u64) -> bool
+        ensures { result ≡ is_pending number self.now.caller }
+    {
+        self.core.is_pending(number)
+    }
+
+    /// All that the caller took stands in one legal history.
+    pub fn look(&mut self, table: &Shared<J>)
+        ensures same { self.new ≡ self.old }
+        ensures shown { CallerShown self.old }
+    {
+        self.seat.look(table);
+    }
+
+    /// Takes a reply that came, if its request is pending.
+    fn take_told(&mut self, table: &Shared<J>, told: Told) -> Result<Reply, WaitFault>
+        requires { Contains self.old.messages (ToldMessage told) }
+        ensures messages { self.new.messages ≡ self.old.messages }
+        ensures heard { AwaitIs told.number self.old.caller result self.new.caller }
+        ensures reply { result ≢ Err WaitFull }
+    {
+        self.seat.hear(table, &told);
+        match self.core.take(told) {
+            Outcome::Fresh(reply) => Ok(reply),
+            Outcome::Known => Err(WaitFault::NoAnswer),
+            Outcome::Foreign => Err(WaitFault::NoAnswer),
+        }
+    }
+
+    /// Takes a message in. The reply to the request of this number is taken and handed out, if the request is pending. Any
+    /// other is dropped and not taken: its request stays pending, and is answered by its holder's kept reply when it is
+    /// sent again.
+    pub fn take(
+        &mut self,
+        table: &Shared<J>,
+        parcel: Parcel<J>,
+        number: u64,
+    ) -> Result<Reply, WaitFault>
+        ensures messages { self.new.messages ≡ self.old.messages ++ parcel ∷ [] }
+        ensures heard { AwaitIs number self.old.caller result self.new.caller }
+        ensures full { (result ≡ Err WaitFull) ↔ (parcel ≡ FullMessage self.new.caller.number number) }
+    {
+        let own = self.core.number();
+        match self.seat.receive(table, parcel) {
+            Message::Told(told) if told.number == number => self.take_told(table, told),
+            Message::Full { caller, number: of } if caller == own && of == number => {
+                Err(WaitFault::Full)
+            }
+            other => {
+                drop(other);
+                Err(WaitFault::NoAnswer)
+            }
+        }
+    }
+}

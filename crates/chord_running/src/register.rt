@@ -1,0 +1,187 @@
+//! Which numbers are taken.
+ghost use Rattle.std.specs.Prelude.{◌≡◌, ◌+◌, ◌<◌, ◌≤◌, [], false, true, IfOk, IfErr, OnOk, OnErr, IfSome, Err};
+ghost use Rattle.chord_caller.specs.Answers.{new_caller};
+ghost use Rattle.chord_links.specs.NodeLinks.{alone};
+ghost use Rattle.chord_faults.specs.declared.caller.OpenClientFault.TheVariants.{CallersSpent, Memory};
+ghost use Rattle.chord_model.specs.Node.{founder, newborn};
+
+use crate::locked::Locked;
+use crate::owned_client::OwnedClient;
+use chord_caller::{CallerCore, ClientCore};
+use chord_faults::OpenClientFault;
+use chord_ident::Id;
+use chord_links::{Links, Peer};
+use chord_node::Node;
+use chord_store::EntryStore;
+use chord_table::{CallerSeat, Naming, Registrar, Shared};
+use std::alloc::Global;
+use std::marker::Model;
+
+/// The next free numbers, beside the registrar that has admitted those below them. Contracts see how many nodes and
+/// callers there are.
+#[derive(Drop)]
+pub struct Register<J: Naming> {
+    registrar: Registrar<J>,
+    /// The identifiers of the nodes.
+    ids: Vec<Id>,
+    nodes: usize,
+    callers: usize,
+    slots: usize,
+    places: usize,
+}
+
+impl<J: Naming> Model for Register<J> {
+    ghost use Rattle.std.specs.Prelude.{◌≡◌, ◌<◌, All, length};
+    ghost use Rattle.chord_running.specs.Counts.{Counts};
+
+    ghost Value = { Counts };
+
+    ghost view = { λ a. record { nodes = a.nodes; callers = a.callers } };
+
+    ghost invariant = { λ a. (a.slots ≡ J.name.slots) × (a.places ≡ J.name.callers) × (length a.registrar.nodes ≡ a.nodes) × All (λ no. no < a.nodes) a.registrar.nodes × All (λ no. no < a.callers) a.registrar.callers };
+}
+
+impl<J: Naming> Register<J> {
+    /// No number is taken.
+    pub fn new(alloc: Global, registrar: Registrar<J>, slots: usize, places: usize) -> Register<J>
+        requires slots { slots ≡ J.name.slots }
+        requires places { places ≡ J.name.callers }
+        requires nodes { registrar.nodes ≡ [] }
+        requires callers { registrar.callers ≡ [] }
+        ensures { (result.nodes ≡ 0) × (result.callers ≡ 0) }
+    {
+        Register {
+            registrar,
+            ids: Vec::new(alloc),
+            nodes: 0,
+            callers: 0,
+            slots,
+            places,
+        }
+    }
+
+    /// How many nodes there are.
+    pub fn nodes(&self) -> usize
+        ensures { result ≡ self.now.nodes }
+    {
+        self.nodes
+    }
+
+    /// Whether there is a number for a node.
+    pub fn has_slot(&self) -> bool
+        ensures { result ≡ true → self.now.nodes < J.name.slots }
+    {
+        self.nodes < self.slots
+    }
+
+    /// Whether a node has the identifier.
+    pub fn is_taken(&self, id: Id) -> bool {
+        self.ids.iter().any(|taken| *taken == id)
+    }
+
+    /// The first node. Where it is out of memory its store comes back.
+    pub fn create<S: EntryStore>(
+        &mut self,
+        table: &Shared<J>,
+        alloc: Global,
+        id: Id,
+        r: usize,
+        store: S,
+    ) -> Result<Locked<J, S>, S>
+        requires none { self.old.nodes ≡ 0 }
+        requires slot { 0 < J.name.slots }
+        requires low { 2 ≤ r }
+        requires high { r ≤ 16 }
+        requires vacant { S.content store ≡ [] }
+        ensures ok { IfOk result (λ locked. locked.node ≡ founder (alone (record { no = 0; id = id }) r) (S.limit store)) }
+        ensures err { IfErr result (λ back. back ≡ store) }
+        ensures counted { OnOk result (self.new ≡ record self.old { nodes = 1 }) }
+    {
+        if self.ids.reserve(1).is_err() {
+            return Err(store);
+        }
+        let me = Peer { no: 0, id };
+        let node = Node::found(alloc, me, r, store)?;
+        let seat = self.registrar.admit_node(table, 0, &node);
+        self.ids.push_reserved(id);
+        self.nodes += 1;
+        Ok(Locked::new(node, seat))
+    }
+
+    /// A later node with these links. Where it is out of memory its store comes back.
+    pub fn join<S: EntryStore>(
+        &mut self,
+        table: &Shared<J>,
+        alloc: Global,
+        links: Links,
+        store: S,
+    ) -> Result<Locked<J, S>, S>
+        requires some { 0 < self.old.nodes }
+        requires slot { self.old.nodes < J.name.slots }
+        requires own { links.me.no ≡ self.old.nodes }
+        requires vacant { S.content store ≡ [] }
+        ensures ok { IfOk result (λ locked. locked.node ≡ newborn links (S.limit store)) }
+        ensures err { IfErr result (λ back. back ≡ store) }
+        ensures counted { OnOk result (self.new ≡ record self.old { nodes = self.old.nodes + 1 }) }
+    {
+        if self.ids.reserve(1).is_err() {
+            return Err(store);
+        }
+        let me = links.me();
+        let node = Node::newborn(alloc, links, store);
+        let seat = self.registrar.admit_node(table, me.no, &node);
+        self.ids.push_reserved(me.id);
+        self.nodes += 1;
+        Ok(Locked::new(node, seat))
+    }
+
+    /// A caller under the next free number and the seat that shows it, or None where all numbers are taken.
+    pub fn admit_caller(
+        &mut self,
+        table: &Shared<J>,
+        alloc: Global,
+        window: u64,
+    ) -> Option<(CallerCore, CallerSeat<J>)>
+        requires some { 1 ≤ window }
+        requires small { window ≤ 16 }
+        ensures number { IfSome result (λ admitted. (admitted.0.number ≡ self.old.callers) × (admitted.0.number < J.name.callers)) }
+        ensures shown { IfSome result (λ admitted. (admitted.0 ≡ new_caller admitted.0.number window) × (admitted.0 ≡ admitted.1.caller)) }
+    {
+        if self.callers >= self.places {
+            return None;
+        }
+        let no = self.callers as u64;
+        let core = CallerCore::new(alloc, no, window);
+        let seat = self.registrar.admit_caller(table, no, &core);
+        self.callers += 1;
+        Some((core, seat))
+    }
+
+    /// A client with its number. It is refused so where all numbers are taken, or else only where it is out of memory.
+    pub fn open_client(
+        &mut self,
+        table: &Shared<J>,
+        alloc: Global,
+        window: u64,
+    ) -> Result<(u64, OwnedClient<J>), OpenClientFault>
+        requires some { 1 ≤ window }
+        requires small { window ≤ 16 }
+        ensures ok { IfOk result (λ opened. (opened.0 ≡ self.old.callers) × (opened.0 < J.name.callers) × (opened.1.caller ≡ new_caller opened.0 window)) }
+        ensures counted { OnOk result (self.new ≡ record self.old { callers = self.old.callers + 1 }) }
+        ensures spent { result ≡ Err CallersSpent → J.name.callers ≤ self.old.callers }
+        ensures memory { result ≡ Err Memory → self.old.callers < J.name.callers }
+        ensures err { OnErr result (self.new ≡ self.old) }
+    {
+        if self.callers >= self.places {
+            return Err(OpenClientFault::CallersSpent);
+        }
+        let no = self.callers as u64;
+        let core = match ClientCore::new(alloc, no, window) {
+            Ok(core) => core,
+            Err(_) => return Err(OpenClientFault::Memory),
+        };
+        let seat = self.registrar.open_caller(table, no, window);
+        self.callers = no as usize + 1;
+        Ok((no, OwnedClient::new(core, seat)))
+    }
+}

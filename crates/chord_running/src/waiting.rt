@@ -1,0 +1,92 @@
+//! Waiting for parcels.
+ghost use Rattle.std.specs.Prelude.{◌<◌};
+
+use crate::ring::Ring;
+use chord_store::EntryStore;
+use chord_table::{Naming, Parcel};
+use crossbeam_channel::Receiver;
+use std::alloc::Global;
+use std::sync::Wait;
+use std::sync::atomic::Ordering;
+use std::time::{Clock, Duration, Instant};
+
+/// So many microseconds a thread tries before it sleeps.
+const POLL: u64 = 40;
+
+/// A thread that tried for so many microseconds had to leave the processor to others.
+const CROWDED: u64 = 1_000;
+
+/// So many waits do not try after that.
+const SHY: u64 = 5_000;
+
+/// The most turns of one try.
+const TURNS: u64 = 200;
+
+impl<J: Naming, S: EntryStore> Ring<J, S> {
+    /// How long is left of one wait that began then.
+    pub fn time_left<R: Wait + Clock>(&self, rt: &R, start: &Option<Instant>) -> Duration {
+        if self.is_stopped() {
+            return Duration::from_millis(0);
+        }
+        let limit = Duration::from_millis(self.settings.wait_ms);
+        match start {
+            Some(start) => match start.elapsed(rt) {
+                Ok(passed) => limit.saturating_sub(passed),
+                Err(_) => Duration::from_millis(0),
+            },
+            None => limit,
+        }
+    }
+
+    /// Waits for a parcel: tries for a moment, then sleeps.
+    pub(crate) fn receive<R: Wait + Clock>(
+        &self,
+        rt: &R,
+        from: &Receiver<Parcel<J>, Global>,
+        limit: Duration,
+    ) -> Option<Parcel<J>> {
+        if let Some(parcel) = self.poll(rt, from) {
+            return Some(parcel);
+        }
+        from.recv_timeout(rt, limit).ok()
+    }
+
+    /// Waits for a parcel that comes to a caller.
+    pub fn hear<R: Wait + Clock>(&self, rt: &R, caller: u64, limit: Duration) -> Option<Parcel<J>>
+        requires { caller < J.name.callers }
+    {
+        self.receive(rt, &self.inboxes[caller as usize].parcels, limit)
+    }
+
+    /// Tries for a moment, and leaves the processor to others in between. Where they keep it for long, the next waits
+    /// do not try.
+    fn poll<R: Wait + Clock>(
+        &self,
+        rt: &R,
+        from: &Receiver<Parcel<J>, Global>,
+    ) -> Option<Parcel<J>> {
+        if let Ok(parcel) = from.try_recv(rt) {
+            return Some(parcel);
+        }
+        let crowded = self.crowded.load(Ordering::SeqCst);
+        if crowded > 0 {
+            self.crowded.store(crowded - 1, Ordering::SeqCst);
+            return None;
+        }
+        let start = Instant::now(rt).ok()?;
+        for _ in 0..TURNS {
+            std::thread::yield_now();
+            if let Ok(parcel) = from.try_recv(rt) {
+                return Some(parcel);
+            }
+            let passed = start.elapsed(rt).ok()?;
+            if passed > Duration::from_micros(POLL) {
+                if passed > Duration::from_micros(CROWDED) {
+                    self.crowded.store(SHY, Ordering::SeqCst);
+                }
+                return None;
+            }
+        }
+        None
+    }
+}
