@@ -205,7 +205,7 @@ fn run_named<J: Naming + Send + Sync, S: EntryStore + Send, R: Threads + Wait + 
         }
     };
     let all = run_ring(rt, rt, alloc, &ring, plan, stores);
-    drop(ring);
+    ring.close();
     all
 }
 

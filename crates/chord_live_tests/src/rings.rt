@@ -84,7 +84,7 @@ pub fn founded<J: Naming, S: EntryStore, R: Wait>(
     if succeeds(ring.create(rt, Id::new(A), store)) {
         return Some(ring);
     }
-    drop(ring);
+    ring.close();
     None
 }
 

@@ -1,6 +1,9 @@
 -- When each reply is due, and what the map has after it.
-use Rattle.std.proofs.Common.{◌≡◌, ℕ, ◌<◌, ◌≤◌, Bool, true, false, cond, leb, List, length, refl, sym, ap, ◌∙◌, arith}
+use Rattle.std.proofs.Common.{◌≡◌, ℕ, ◌<◌, ◌≤◌, Bool, true, false, cond, leb, List, [], ◌∷◌, length, refl, sym, ap, ◌∙◌, arith}
+use Rattle.std.proofs.lemmas.Bool.{lt-ltb}
 use Rattle.std.proofs.lemmas.Bool.Decides.{nat_tests}
+use Rattle.chord_map.specs.Checked.{takes_memory}
+use Rattle.chord_map.specs.Copies.{AreFew}
 use Rattle.chord_map.specs.declared.pair.Pair.{Pair}
 use Rattle.chord_map.specs.declared.request.Request.{Request}
 use Rattle.chord_map.specs.declared.request.Request.TheVariants.{Insert, Retrieve, Remove}
@@ -49,3 +52,9 @@ after_remove key value pairs false e =
 pub applied : (request : Request) (reply : Reply) (pairs pairs' : List Pair) → reply_to request pairs ≡ reply → pairs' ≡ pairs_by request reply pairs
     → (reply ≡ reply_to request pairs) × (pairs' ≡ pairs_after request pairs)
 applied request reply pairs pairs' due change = (sym due, change ∙ sym (after_reply request reply pairs due))
+
+-- values that are not few take memory
+pub many_take : (values : List (List ℕ)) → ¬ AreFew values → takes_memory (Values values) ≡ true
+many_take [] many = absurd (many tt)
+many_take (value ∷ []) many = lt-ltb 16 (length value) (omega (arith, many))
+many_take (value ∷ other ∷ values) many = refl

@@ -1,5 +1,5 @@
 -- Which requests keep the limits, what is wrong with the others, and what a map answers.
-use Rattle.std.specs.Prelude.{◌≡◌, ℕ, Bool, true, false, ◌<◌, ◌≤◌, List, [], length, Result, Ok, Err}
+use Rattle.std.specs.Prelude.{◌≡◌, ℕ, Bool, true, false, ◌<◌, ◌≤◌, nat_lt, List, [], ◌∷◌, length, Result, Ok, Err}
 use Rattle.chord_map.specs.declared.pair.Pair.{Pair}
 use Rattle.chord_map.specs.declared.request.Request.{Request}
 use Rattle.chord_map.specs.declared.request.Request.TheVariants.{Insert, Retrieve, Remove}
@@ -38,10 +38,12 @@ abbrev pub CheckIs : {A : Type 0} → Request → Result A RequestFault → Type
 CheckIs request (Ok passed) = IsRequest request
 CheckIs request (Err fault) = HasFault request fault
 
--- a reply takes memory where a value is added, and where values are told
+-- a reply takes memory where a value is added, and where values are told, but not for a single one of up to 16 bytes
 abbrev pub takes_memory : Reply → Bool
 takes_memory Added = true
-takes_memory (Values values) = true
+takes_memory (Values []) = false
+takes_memory (Values (value ∷ [])) = nat_lt 16 (length value)
+takes_memory (Values (value ∷ other ∷ values)) = true
 takes_memory reply = false
 
 -- the map gives the reply and has the pairs that are then due, or a reply that takes memory lacked it and nothing changed

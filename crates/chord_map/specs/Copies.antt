@@ -3,7 +3,7 @@ use Rattle.std.specs.Prelude.{ℕ, ◌≤◌, List, [], ◌∷◌, length}
 use Rattle.chord_map.specs.Checked.{value_of}
 use Rattle.chord_map.specs.Map.{key_of}
 use Rattle.chord_map.specs.declared.reply.Reply.{Reply}
-use Rattle.chord_map.specs.declared.reply.Reply.TheVariants.{Added, Present, SetFull, Values, Removed, Absent}
+use Rattle.chord_map.specs.declared.reply.Reply.TheVariants.{Values}
 use Rattle.chord_map.specs.declared.request.Request.{Request}
 
 -- a key or a value of up to 16 bytes

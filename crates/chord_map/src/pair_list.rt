@@ -1,7 +1,8 @@
 //! Pairs in order.
-ghost use Rattle.std.specs.Prelude.{◌≡◌, ◌<◌, ◌^◌, ℕ, List, [], length, IfOk, IfErr, OnOk, OnErr};
+ghost use Rattle.std.specs.Prelude.{◌≡◌, ◌<◌, ◌^◌, ℕ, List, [], length, IfOk, IfErr, IsOk, OnOk, OnErr};
 ghost use Rattle.std.specs.Fn.{CalledAt};
 ghost use Rattle.std.specs.List.Retain.{IsFiltered};
+ghost use Rattle.chord_map.specs.Copies.{AreFew};
 ghost use Rattle.chord_map.specs.declared.pair.Pair.{Pair};
 ghost use Rattle.chord_map.specs.Map.{pair_cmp, has_pair, insert_pair, remove_pair, values_at};
 ghost use Rattle.chord_map.specs.Pairs.{IsRising};
@@ -96,9 +97,11 @@ impl PairList {
         count
     }
 
-    /// Copies of the values under the key, in byte order.
+    /// Copies of the values under the key, in byte order. No value takes no memory, nor does a single one of up to 16
+    /// bytes.
     pub fn values(&self, alloc: Global, key: &[u8]) -> Result<Values, AllocError>
-        ensures { IfOk result (λ values. values ≡ values_at key.now self.now) }
+        ensures copy { IfOk result (λ values. values ≡ values_at key.now self.now) }
+        ensures few { AreFew (values_at key.now self.now) → IsOk result }
     {
         let mut values = Values::new(alloc);
         for pair in self.pairs.iter() {

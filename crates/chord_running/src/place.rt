@@ -1,4 +1,6 @@
 //! Places of nodes.
+ghost use Rattle.std.specs.Prelude.{◌≡◌, ◌≢◌};
+ghost use Rattle.chord_running.specs.declared.place.Place.TheVariants.{Here, Crashed};
 
 use crate::locked::Locked;
 use chord_store::EntryStore;
@@ -20,7 +22,10 @@ pub enum Place<J: Naming, S: EntryStore> {
 
 impl<J: Naming, S: EntryStore> Place<J, S> {
     /// The same where a node that stands there takes no further step.
-    pub fn crashed(self) -> Place<J, S> {
+    pub fn crashed(self) -> Place<J, S>
+        ensures here { (locked : _) → self ≡ Here locked → result ≡ Crashed locked }
+        ensures other { ((locked : _) → self ≢ Here locked) → result ≡ self }
+    {
         match self {
             Place::Here(locked) => Place::Crashed(locked),
             other => other,

@@ -83,6 +83,11 @@ impl<J: Naming, S: EntryStore> Ring<J, S> {
         self.stopped.store(true, Ordering::SeqCst);
     }
 
+    /// Lets the ring go, with its nodes, their stores and the parcels under way.
+    pub fn close(self) {
+        drop(self);
+    }
+
     /// The links of a node, if it is there: what its upkeep knows of the ring at this moment.
     pub fn links_of(&self, rt: &impl Wait, no: u64) -> Option<Links>
         ensures { IfSome result (λ links. links.me.no ≡ no) }

@@ -6,8 +6,8 @@ use chord_store::EntryStore;
 use chord_table::{Naming, Parcel};
 use crossbeam_channel::Receiver;
 use std::alloc::Global;
-use std::sync::Wait;
 use std::sync::atomic::Ordering;
+use std::sync::{Mutex, MutexGuard, Wait};
 use std::time::{Clock, Duration, Instant};
 
 /// So many microseconds a thread tries before it sleeps.
@@ -21,6 +21,20 @@ const SHY: u64 = 5_000;
 
 /// The most turns of one try.
 const TURNS: u64 = 200;
+
+/// So often a thread tries for a lock, and leaves the processor to others in between, before it sleeps.
+const YIELDS: u64 = 64;
+
+/// Takes a lock that is held for a moment only.
+pub(crate) fn lock_soon<'l, T>(rt: &impl Wait, lock: &'l Mutex<T>) -> MutexGuard<'l, T> {
+    for _ in 0..YIELDS {
+        if let Some(guard) = lock.try_lock() {
+            return guard;
+        }
+        std::thread::yield_now();
+    }
+    lock.lock(rt)
+}
 
 impl<J: Naming, S: EntryStore> Ring<J, S> {
     /// How long is left of one wait that began then.

@@ -6,6 +6,7 @@ use crate::keyed::Keyed;
 use crate::place::Place;
 use crate::ring::Ring;
 use crate::target::Target;
+use crate::waiting::lock_soon;
 use chord_faults::NoSuchNode;
 use chord_store::EntryStore;
 use chord_table::{Naming, Parcel};
@@ -33,7 +34,7 @@ impl<J: Naming, S: EntryStore> Ring<J, S> {
             drop(keyed);
             return None;
         };
-        match &mut *slot.place.lock(rt) {
+        match &mut *lock_soon(rt, &slot.place) {
             Place::Here(locked) => {
                 let sent = locked.answer(&self.table, keyed);
                 gate.pass(no);

@@ -1,7 +1,8 @@
 //! What the stores over a list of pairs do.
-ghost use Rattle.std.specs.Prelude.{◌≡◌, [], bytes_eq, filter, length, IfOk};
+ghost use Rattle.std.specs.Prelude.{◌≡◌, [], bytes_eq, filter, length, IfOk, IsOk};
 ghost use Rattle.std.specs.Ordering.{is_le, is_lt, nat_cmp};
 ghost use Rattle.std.specs.Cmp.Lexicographic.{slice_cmp};
+ghost use Rattle.chord_map.specs.Copies.{AreFew};
 ghost use Rattle.chord_map.specs.Map.{values_at};
 ghost use Rattle.chord_map.specs.Pairs.{IsRising};
 ghost use Rattle.chord_ident.specs.Circle.{in_span, key_id};
@@ -43,7 +44,8 @@ fn count_under(pairs: &[Pair], key: &[u8]) -> usize
 /// Copies of the values under a key of a rising list, in byte order.
 pub fn values_under(alloc: Global, pairs: &[Pair], key: &[u8]) -> Result<Values, AllocError>
     requires { IsRising pairs.now }
-    ensures { IfOk result (λ values. values ≡ values_at key.now pairs.now) }
+    ensures copy { IfOk result (λ values. values ≡ values_at key.now pairs.now) }
+    ensures few { AreFew (values_at key.now pairs.now) → IsOk result }
 {
     let mut values = Values::new(alloc);
     for pair in run_of(pairs, key) {
@@ -96,7 +98,8 @@ pub fn take_out(pairs: &mut PairList, span: &Span)
 /// Copies of the pairs whose keys lie in the span, in order.
 #[tactic(auto, unfolding(crate::specs::Inside::pairs_inside))]
 pub fn copy_span(alloc: Global, pairs: &[Pair], span: &Span) -> Result<Vec<Pair>, AllocError>
-    ensures { IfOk result (λ copies. copies.items ≡ pairs_inside span.now pairs.now) }
+    ensures copies { IfOk result (λ copies. copies.items ≡ pairs_inside span.now pairs.now) }
+    ensures none { pairs_inside span.now pairs.now ≡ [] → IsOk result }
 {
     let mut copies = Vec::new(alloc);
     for pair in pairs {

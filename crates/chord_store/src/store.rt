@@ -1,5 +1,6 @@
 //! What every store does.
-ghost use Rattle.std.specs.Prelude.{◌≡◌, ◌≤◌, ℕ, [], List, length, IfOk};
+ghost use Rattle.std.specs.Prelude.{◌≡◌, ◌≤◌, ℕ, [], List, length, IfOk, IsOk};
+ghost use Rattle.chord_map.specs.Copies.{AreFew};
 ghost use Rattle.chord_map.specs.declared.pair.Pair.{Pair};
 ghost use Rattle.chord_map.specs.Map.{has_pair, remove_pair, values_at};
 ghost use Rattle.chord_map.specs.Pairs.{IsRising};
@@ -47,13 +48,15 @@ pub trait EntryStore: Drop {
         ensures rising { IsRising (content self.now) }
         ensures few { HasFew (content self.now) };
 
-    /// The values under the key, in byte order.
+    /// The values under the key, in byte order. No value takes no memory, nor does a single one of up to 16 bytes.
     fn values(&self, alloc: Global, key: &Bytes) -> Result<Values, AllocError>
-        ensures { IfOk result (λ values. values ≡ values_at key.now (content self.now)) };
+        ensures copy { IfOk result (λ values. values ≡ values_at key.now (content self.now)) }
+        ensures few { AreFew (values_at key.now (content self.now)) → IsOk result };
 
-    /// Copies of the pairs whose keys lie in the span, by key bytes and then by value bytes.
+    /// Copies of the pairs whose keys lie in the span, by key bytes and then by value bytes. No pair takes no memory.
     fn copy_span(&self, alloc: Global, span: &Span) -> Result<Vec<Pair>, AllocError>
-        ensures { IfOk result (λ pairs. pairs.items ≡ pairs_inside span.now (content self.now)) };
+        ensures copies { IfOk result (λ pairs. pairs.items ≡ pairs_inside span.now (content self.now)) }
+        ensures none { pairs_inside span.now (content self.now) ≡ [] → IsOk result };
 
     /// Adds the pairs, which lie in a span where the store has nothing: all of them or none.
     fn put_all(&mut self, span: &Span, pairs: &[Pair]) -> Result<(), StoreFault>

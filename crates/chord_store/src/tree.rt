@@ -1,8 +1,9 @@
 //! The pairs of a map as a tree of sets.
-ghost use Rattle.std.specs.Prelude.{◌≡◌, ◌≢◌, ◌↔◌, ◌+◌, ◌<◌, ◌≤◌, ◌^◌, ◌-◌, ◌++◌, ◌∷◌, ◌&&◌, List, [], true, false, not, length, IsTrue, IfOk, OnOk, OnErr};
+ghost use Rattle.std.specs.Prelude.{◌≡◌, ◌≢◌, ◌↔◌, ◌+◌, ◌<◌, ◌≤◌, ◌^◌, ◌-◌, ◌++◌, ◌∷◌, ◌&&◌, List, [], true, false, not, length, IsTrue, IfOk, IsOk, OnOk, OnErr};
 ghost use Rattle.std.specs.BTreeMap.{keys};
 ghost use Rattle.std.specs.Map.{lookup};
 ghost use Rattle.std.specs.List.Sorted.{IsStrictlySortedBy};
+ghost use Rattle.chord_map.specs.Copies.{AreFew};
 ghost use Rattle.chord_map.specs.declared.pair.Pair.{Pair as PairOf};
 ghost use Rattle.chord_map.specs.Map.{has_pair, insert_pair, remove_pair, values_at};
 ghost use Rattle.chord_map.specs.Pairs.{IsRising};
@@ -81,7 +82,8 @@ impl Tree {
 
     /// Copies of the values under the key, in byte order.
     pub fn values(&self, alloc: Global, key: &Bytes) -> Result<Values, AllocError>
-        ensures { IfOk result (λ values. values ≡ values_at key.now self.now) }
+        ensures copy { IfOk result (λ values. values ≡ values_at key.now self.now) }
+        ensures few { AreFew (values_at key.now self.now) → IsOk result }
     {
         match self.sets.get(key) {
             Some(set) => set.values.try_copy(),
@@ -148,7 +150,8 @@ impl Tree {
 
     /// Copies of the pairs whose keys lie in the span, in order. Each key's identifier is computed once.
     pub fn copy_span(&self, alloc: Global, span: &Span) -> Result<Vec<Pair>, AllocError>
-        ensures { IfOk result (λ pairs. pairs.items ≡ pairs_inside span.now self.now) }
+        ensures copies { IfOk result (λ pairs. pairs.items ≡ pairs_inside span.now self.now) }
+        ensures none { pairs_inside span.now self.now ≡ [] → IsOk result }
     {
         copy_sets(alloc, &self.sets, span)
     }
@@ -250,7 +253,8 @@ fn copy_sets(
     sets: &BTreeMap<Bytes, ValueSet>,
     span: &Span,
 ) -> Result<Vec<Pair>, AllocError>
-    ensures { IfOk result (λ pairs. pairs.items ≡ pairs_inside span.now (pairs_of_sets sets.now.entries)) }
+    ensures copies { IfOk result (λ pairs. pairs.items ≡ pairs_inside span.now (pairs_of_sets sets.now.entries)) }
+    ensures none { pairs_inside span.now (pairs_of_sets sets.now.entries) ≡ [] → IsOk result }
 {
     let mut copies = Vec::new(alloc);
     for (key, set) in sets.iter() {
@@ -267,7 +271,8 @@ fn copy_set(
     key: &Bytes,
     set: &ValueSet,
 ) -> Result<(), AllocError>
-    ensures { OnOk result (copies.new.items ≡ copies.old.items ++ pairs_inside span.now (pairs_under key.now set.now.values)) }
+    ensures copies { OnOk result (copies.new.items ≡ copies.old.items ++ pairs_inside span.now (pairs_under key.now set.now.values)) }
+    ensures none { pairs_inside span.now (pairs_under key.now set.now.values) ≡ [] → IsOk result }
 {
     if !span.contains(Id::of_bytes(key.as_slice())) {
         return Ok(());

@@ -178,7 +178,7 @@ fn serve_named<
     };
     let service = Service::new(rt, &ring, front);
     let ends = serve_ring(rt, &service, front, stores, connections, writer);
-    drop(ring);
+    ring.close();
     ends
 }
 

@@ -266,7 +266,7 @@ fn stay_named<
         }
     };
     let stayed = stay_with(rt, front, stores, stop, writer, &ring);
-    drop(ring);
+    ring.close();
     stayed
 }
 

@@ -62,7 +62,7 @@ fn capped<J: Naming + Send + Sync, S: EntryStore + Send, R: Threads + Wait + Clo
             done
         },
     );
-    drop(founded);
+    founded.close();
     Some(done)
 }
 

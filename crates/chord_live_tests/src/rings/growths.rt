@@ -95,7 +95,7 @@ fn two_nodes<J: Naming + Send + Sync, R: Threads + Wait + Clock + Sync>(
     };
     let ring = &opened;
     if !settled(rt, alloc, ring) {
-        drop(opened);
+        opened.close();
         return false;
     }
     let (ended, done) = thread::join(
@@ -107,7 +107,7 @@ fn two_nodes<J: Naming + Send + Sync, R: Threads + Wait + Clock + Sync>(
             done
         },
     );
-    drop(opened);
+    opened.close();
     done & ended
 }
 

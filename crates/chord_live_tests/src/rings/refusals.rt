@@ -110,7 +110,7 @@ fn refusals<J: Naming, R: Wait + Clock>(rt: &R, alloc: Global, blank: Blank) -> 
     let departed = departures(rt, &ring);
     ring.stop();
     let stopped = is_stopped(rt, alloc, &ring);
-    drop(ring);
+    ring.close();
     Some([without_a_node, created, filled, known, departed, stopped])
 }
 
@@ -222,7 +222,7 @@ fn caller_refusals<J: Naming, R: Wait + Clock>(
 {
     let ring = founded::<J, CappedStore, R>(rt, blank, CappedStore::new(alloc, 1))?;
     let Ok(mut caller) = ring.open_caller(rt, 1) else {
-        drop(ring);
+        ring.close();
         return None;
     };
     let spent = ring.open_caller(rt, 1).err() == Some(OpenFault::CallersSpent);
@@ -232,7 +232,7 @@ fn caller_refusals<J: Naming, R: Wait + Clock>(
     let full = a_full_window(rt, alloc, &mut caller);
     let unanswered = no_answers(rt, &mut caller);
     drop(caller);
-    drop(ring);
+    ring.close();
     Some([spent, bad, unknown, nothing, full, unanswered])
 }
 
@@ -313,7 +313,7 @@ fn stopped<J: Naming, R: Wait + Clock>(
 {
     let ring = founded::<J, CappedStore, R>(rt, blank, CappedStore::new(alloc, 1))?;
     let Ok(mut caller) = ring.open_caller(rt, 2) else {
-        drop(ring);
+        ring.close();
         return None;
     };
     let called = is_added(call(rt, &mut caller, 0, Request::insert(alloc, b"abc", b"x")));
@@ -322,6 +322,6 @@ fn stopped<J: Naming, R: Wait + Clock>(
     let unheard = retrieved(rt, alloc, &mut caller, 0, b"abc").err();
     let is_pending = caller.is_pending(2);
     drop(caller);
-    drop(ring);
+    ring.close();
     Some((called, unheard, is_pending))
 }

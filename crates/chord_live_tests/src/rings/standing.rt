@@ -1,8 +1,10 @@
 //! What callers of another kind stand on: a core beside its seat, and parcels that they send, carry and wait for.
-ghost use Rattle.std.specs.Prelude.{◌≡◌, ◌<◌};
+ghost use Rattle.std.specs.Prelude.{◌≡◌, ◌<◌, None, Some, IfSome};
+ghost use Rattle.chord_caller.specs.Caller.{CallerStep};
+ghost use Rattle.chord_caller.specs.Caller.Letter.{AskLetter};
 
 use super::{founded, settings};
-use chord_caller::CallerCore;
+use chord_caller::{Ask, CallerCore};
 use chord_live::{Blank, OpenFault, Ring, Target};
 use chord_map::{Reply, Request};
 use chord_node::Message;
@@ -32,7 +34,7 @@ fn stands<J: Naming, R: Wait + Clock>(rt: &R, alloc: Global, blank: Blank) -> Op
     let spent = ring.admit_caller(rt, 1).err() == Some(OpenFault::CallersSpent);
     ring.stop();
     let stopped = ring.is_stopped() & (ring.time_left(rt, &None) == Duration::from_millis(0));
-    drop(ring);
+    ring.close();
     Some([runs, admitted, spent, stopped])
 }
 
@@ -44,11 +46,14 @@ fn runs<J: Naming, R: Wait + Clock>(rt: &R, ring: &Ring<J, CappedStore>) -> bool
 
 /// Whether the first caller is number 0, and is answered.
 fn admits<J: Naming, R: Wait + Clock>(rt: &R, alloc: Global, ring: &Ring<J, CappedStore>) -> bool {
-    let Ok((core, seat)) = ring.admit_caller(rt, 1) else {
+    let Ok((mut core, mut seat)) = ring.admit_caller(rt, 1) else {
         return false;
     };
     let no = core.number();
-    is_answered(rt, alloc, ring, no, core, seat) & (no == 0)
+    let answered = is_answered(rt, alloc, ring, no, &mut core, &mut seat);
+    drop(seat);
+    drop(core);
+    answered & (no == 0)
 }
 
 /// Whether a caller's insert is carried, and answered Added under its number.
@@ -57,26 +62,29 @@ fn is_answered<J: Naming, R: Wait + Clock>(
     alloc: Global,
     ring: &Ring<J, CappedStore>,
     no: u64,
-    mut core: CallerCore,
-    mut seat: CallerSeat<J>,
+    core: &mut CallerCore,
+    seat: &mut CallerSeat<J>,
 ) -> bool
-    requires shown { core ≡ seat.caller }
+    requires shown { core.old ≡ seat.old.caller }
     requires own { no < J.name.callers }
 {
-    let ask = match Request::insert(alloc, b"a", b"x") {
-        Ok(request) => core.submit(request),
-        Err(_) => return false,
-    };
-    let Ok(ask) = ask else {
+    let Some(ask) = submitted(alloc, core) else {
         return false;
     };
-    let parcel = seat.send(ring.table(), &core, Message::Ask(ask));
+    let parcel = seat.send(ring.table(), core, Message::Ask(ask));
     let Some(came) = carried(rt, ring, no, parcel) else {
         return false;
     };
-    let message = seat.receive(ring.table(), came);
-    let nothing = ring.hear(rt, no, Duration::from_millis(0)).is_none();
-    is_added(message, no) & nothing
+    let added = is_added(seat.receive(ring.table(), came), no);
+    added & ring.hear(rt, no, Duration::from_millis(0)).is_none()
+}
+
+/// An insert of x under a, as its caller sends it.
+fn submitted(alloc: Global, core: &mut CallerCore) -> Option<Ask>
+    ensures { IfSome result (λ ask. CallerStep core.old None core.new (Some (AskLetter ask))) }
+{
+    let request = Request::insert(alloc, b"a", b"x").ok()?;
+    core.submit(request).ok()
 }
 
 /// What comes back to caller `no` of a parcel that is carried from node 0, posted to it, and waited for.

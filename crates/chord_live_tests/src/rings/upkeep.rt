@@ -112,7 +112,7 @@ fn two_nodes<J: Naming + Send + Sync, R: Threads + Wait + Clock + Sync>(
         return false;
     };
     let done = joined_and_worked(rt, alloc, &ring, then);
-    drop(ring);
+    ring.close();
     done
 }
 
