@@ -21,7 +21,7 @@ use chord_map::{Reply, Request};
 use chord_running::{Ring, Target};
 use chord_segment::Done;
 use chord_store::EntryStore;
-use chord_table::{Naming, Parcel};
+use chord_table::{Naming, Parcel, Witness};
 use std::alloc::AllocError;
 use std::marker::Model;
 use std::sync::Wait;
@@ -98,6 +98,14 @@ impl<'a, J: Naming, S: EntryStore> Caller<'a, J, S> {
         ensures { result ≡ is_pending number self.now.caller }
     {
         self.own.is_pending(number)
+    }
+
+    /// A witness of the caller as it is now. One look of joined witnesses speaks of all their callers in one world.
+    pub fn witness(&mut self) -> Witness<J>
+        ensures same { self.new ≡ self.old }
+        ensures noted { result ≡ self.old.caller ∷ [] }
+    {
+        self.own.witness(self.ring.table())
     }
 
     /// All that it took and was told of stands in one legal history.

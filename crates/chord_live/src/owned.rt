@@ -15,7 +15,7 @@ use chord_caller::{CallerCore, Heard as TakenAs, ResendFault, SubmitFault, TakeF
 use chord_map::{Reply, Request};
 use chord_node::Message;
 use chord_segment::Done;
-use chord_table::{CallerSeat, Naming, Parcel, Shared};
+use chord_table::{CallerSeat, Naming, Parcel, Shared, Witness};
 use std::alloc::AllocError;
 use std::marker::Model;
 
@@ -142,6 +142,14 @@ impl<J: Naming> Owned<J> {
             },
             None => Ok(None),
         }
+    }
+
+    /// A witness of the caller as it is now.
+    pub fn witness(&mut self, table: &Shared<J>) -> Witness<J>
+        ensures same { self.new ≡ self.old }
+        ensures noted { result ≡ self.old.caller ∷ [] }
+    {
+        self.seat.witness(table)
     }
 
     /// All that the caller took stands in one legal history.

@@ -1,5 +1,5 @@
 //! A caller whose memory is bounded by its window.
-ghost use Rattle.std.specs.Prelude.{◌≡◌, ◌≢◌, ◌≤◌, Ok, Err, None, Some, true, IfOk, IfErr, IfSome, OnErr};
+ghost use Rattle.std.specs.Prelude.{◌≡◌, ◌≢◌, ◌≤◌, [], ◌∷◌, Ok, Err, None, Some, true, IfOk, IfErr, IfSome, OnErr};
 ghost use Rattle.chord_caller.specs.Answers.{PendingIs, is_pending, new_caller};
 ghost use Rattle.chord_caller.specs.Caller.{floor_of, next_number};
 ghost use Rattle.chord_running.specs.Begun.{BeginIs, MaySubmit, TookMessages, WasNotToldFull, WasToldFull};
@@ -20,7 +20,7 @@ use chord_faults::{AskFault, BeginFault, OpenClientFault, RetryFault, WaitFault}
 use chord_ident::Id;
 use chord_map::{Reply, Request};
 use chord_store::EntryStore;
-use chord_table::{Naming, Parcel};
+use chord_table::{Naming, Parcel, Witness};
 use std::marker::Model;
 use std::sync::Wait;
 use std::time::{Clock, Duration, Instant};
@@ -87,6 +87,14 @@ impl<'a, J: Naming, S: EntryStore> Client<'a, J, S> {
         ensures { result ≡ is_pending number self.now.caller }
     {
         self.own.is_pending(number)
+    }
+
+    /// A witness of the caller as it is now. One look of joined witnesses speaks of all their callers in one world.
+    pub fn witness(&mut self) -> Witness<J>
+        ensures same { self.new ≡ self.old }
+        ensures noted { result ≡ self.old.caller ∷ [] }
+    {
+        self.own.witness(&self.ring.table)
     }
 
     /// All replies that it handed out stand in one legal history.

@@ -13,7 +13,7 @@ use chord_caller::{ClientCore, Outcome, ResendFault, SubmitFault, Told};
 use chord_faults::WaitFault;
 use chord_map::{Reply, Request};
 use chord_node::Message;
-use chord_table::{CallerSeat, Naming, Parcel, Shared};
+use chord_table::{CallerSeat, Naming, Parcel, Shared, Witness};
 use std::alloc::AllocError;
 use std::marker::Model;
 
@@ -105,6 +105,14 @@ impl<J: Naming> OwnedClient<J> {
         ensures { result ≡ is_pending number self.now.caller }
     {
         self.core.is_pending(number)
+    }
+
+    /// A witness of the caller as it is now.
+    pub fn witness(&mut self, table: &Shared<J>) -> Witness<J>
+        ensures same { self.new ≡ self.old }
+        ensures noted { result ≡ self.old.caller ∷ [] }
+    {
+        self.seat.witness(table)
     }
 
     /// All that the caller took stands in one legal history.

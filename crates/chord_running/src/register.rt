@@ -1,5 +1,5 @@
 //! Which numbers are taken.
-ghost use Rattle.std.specs.Prelude.{◌≡◌, ◌+◌, ◌<◌, ◌≤◌, [], false, true, IfOk, IfErr, OnOk, OnErr, IfSome, Err};
+ghost use Rattle.std.specs.Prelude.{◌≡◌, ◌+◌, ◌<◌, ◌≤◌, [], false, true, IfOk, IfErr, OnOk, OnErr, IfSome, Err, None};
 ghost use Rattle.chord_caller.specs.Answers.{new_caller};
 ghost use Rattle.chord_links.specs.NodeLinks.{alone};
 ghost use Rattle.chord_faults.specs.declared.caller.OpenClientFault.TheVariants.{CallersSpent, Memory};
@@ -146,6 +146,8 @@ impl<J: Naming> Register<J> {
         requires small { window ≤ 16 }
         ensures number { IfSome result (λ admitted. (admitted.0.number ≡ self.old.callers) × (admitted.0.number < J.name.callers)) }
         ensures shown { IfSome result (λ admitted. (admitted.0 ≡ new_caller admitted.0.number window) × (admitted.0 ≡ admitted.1.caller)) }
+        ensures counted { IfSome result (λ admitted. self.new ≡ record self.old { callers = self.old.callers + 1 }) }
+        ensures spent { result ≡ None → (J.name.callers ≤ self.old.callers) × (self.new ≡ self.old) }
     {
         if self.callers >= self.places {
             return None;

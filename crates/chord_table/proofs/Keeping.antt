@@ -1,19 +1,22 @@
 -- Each move of the table keeps its rule.
-use Rattle.std.proofs.Common.{◌≡◌, ◌≢◌, ℕ, ◌<◌, arith, List, [], ◌∷◌, ◌++◌, set, zero, suc, Option, Some, refl, sym, ap, ◌∙◌, subst, ⊎_elim, Contains}
-use Rattle.std.proofs.lemmas.List.Elements.{All-push, All-nil, Contains-push}
+use Rattle.std.proofs.Common.{◌≡◌, ◌≢◌, ℕ, ◌<◌, arith, List, [], ◌∷◌, ◌++◌, set, zero, suc, Option, Some, refl, sym, ap, ◌∙◌, subst, inl, inr, ⊎_elim, Contains, All}
+use Rattle.std.proofs.lemmas.List.Elements.{All-append, All-cons, All-push, All-nil, All-head, All-tail, Contains-push}
 use mathlib.Core.Option.{some, some-ne-none, some-injective}
 use lib.ListN.{get_elem?}
-use Rattle.atomic_table.specs.Table.{Me, keeps, opening, Allows, Splits, Joins}
+use Rattle.atomic_table.specs.Table.{Me, keeps, opening, Allows, Enters, Splits, Joins}
+use Rattle.chord_caller.specs.Caller.{Caller}
 use Rattle.atomic_table.proofs.Lists.{at_set, set_again}
 use Rattle.chord_model.specs.declared.message.Message.{Message}
 use Rattle.chord_model.specs.World.{World, empty_world}
 use Rattle.chord_model.specs.World.Run.{Stays, Goes_on}
 use Rattle.chord_table.proofs.Events.{shown_heir, admitted_heir, event_shown, true_entered, register_entered, callers_entered}
+use Rattle.chord_table.proofs.Later.{later_itself}
 use Rattle.chord_table.proofs.Showing.{IsHeir, shows_changed, shows_added}
 use Rattle.chord_table.proofs.Worlds.{IsNew, new_apart, there_entered, may_enter}
 use Rattle.chord_table.specs.Actors.{IsThere, AreOne, after, entered}
-use Rattle.chord_table.specs.Seen.{Actor, OfNode, OfCaller, View, Admitted, Shown, Sent, Spent}
-use Rattle.chord_table.specs.Views.{Name, word_of, sight_of, IsTrueOf, HaveOneOwner, Shows, IsKept, IsTrueOfSome, Sight, view_of, Register, changed, admitting, told, MayBecome, MayEnter}
+use Rattle.chord_table.specs.Later.{WasThere}
+use Rattle.chord_table.specs.Seen.{Actor, OfNode, OfCaller, Sight, View, Admitted, Shown, Witnessed, Sent, Spent}
+use Rattle.chord_table.specs.Views.{Name, word_of, sight_of, OneIs, IsSeen, IsTrueOf, HaveOneOwner, Shows, IsKept, IsTrueOfSome, view_of, Register, changed, admitting, told, testimony, gathered, MayBecome, MayEnter}
 
 -- where there is a word, the table has some
 pub some_words : {word words : ℕ} → word < words → 0 < words
@@ -28,29 +31,38 @@ still_seated name word old next s new is becomes at same =
     subst (λ (m : Me ℕ View). (m ≡ (view_of (sight_of m.0), [])) × (word ≡ word_of name (sight_of m.0).actor)) (sym shown) (refl, at ∙ same)
 
 -- the registrar's seat alone shows the empty world
-pub begins : (words : List ℕ) → IsKept (opening words [] (Admitted [] []))
+pub begins : (words : List ℕ) → IsKept (opening words [] (Admitted [] [] []))
 begins words = (empty_world, Stays, record { agrees = agrees; apart = apart })
   where
-    agrees : (seat : ℕ) (v : View) → get_elem? (Admitted [] [] ∷ []) seat ≡ some v → IsTrueOf empty_world v
-    agrees zero v e = subst (IsTrueOf empty_world) (some-injective (Admitted [] []) v e) (refl, refl)
+    agrees : (seat : ℕ) (v : View) → get_elem? (Admitted [] [] [] ∷ []) seat ≡ some v → IsTrueOf empty_world v
+    agrees zero v e = subst (IsTrueOf empty_world) (some-injective (Admitted [] [] []) v e) (refl, refl, tt, All-nil (IsSeen empty_world))
     agrees (suc seat) v e = absurd (some-ne-none v (sym e))
 
-    apart : (seat other : ℕ) (v u : View) → get_elem? (Admitted [] [] ∷ []) seat ≡ some v → get_elem? (Admitted [] [] ∷ []) other ≡ some u → HaveOneOwner v u → seat ≡ other
+    apart : (seat other : ℕ) (v u : View) → get_elem? (Admitted [] [] [] ∷ []) seat ≡ some v → get_elem? (Admitted [] [] [] ∷ []) other ≡ some u → HaveOneOwner v u → seat ≡ other
     apart zero zero v u e f one = refl
     apart zero (suc other) v u e f one = absurd (some-ne-none u (sym f))
     apart (suc seat) other v u e f one = absurd (some-ne-none v (sym e))
 
 nobodys : (message : Message) (u : View) → HaveOneOwner u (Sent message) → ⊥
-nobodys message (Admitted _ _) h = h
+nobodys message (Admitted _ _ _) h = h
 nobodys message (Shown _ _) h = h
+nobodys message (Witnessed _) h = h
 nobodys message (Sent _) h = h
 nobodys message Spent h = h
 
 spent_has_none : (u : View) → HaveOneOwner u Spent → ⊥
-spent_has_none (Admitted _ _) h = h
+spent_has_none (Admitted _ _ _) h = h
 spent_has_none (Shown _ _) h = h
+spent_has_none (Witnessed _) h = h
 spent_has_none (Sent _) h = h
 spent_has_none Spent h = h
+
+witness_has_none : (callers : List Caller) (u : View) → HaveOneOwner u (Witnessed callers) → ⊥
+witness_has_none callers (Admitted _ _ _) h = h
+witness_has_none callers (Shown _ _) h = h
+witness_has_none callers (Witnessed _) h = h
+witness_has_none callers (Sent _) h = h
+witness_has_none callers Spent h = h
 
 -- an event that sends nothing, or whose message is lost, at any word
 pub local_as : (slots id word : ℕ) (me : Me ℕ View) (s : Sight) (new : Actor) (f : ℕ → ℕ) → me ≡ (view_of s, []) → (sent : Option Message) × MayBecome s.actor s.messages new sent
@@ -81,21 +93,27 @@ send_as id me s new message is (taken, call, known, event) =
           shows_added (after world new (Some message) call) (set t.views id (Shown new s.messages)) (Sent message) next.1 (was_sent world new) (λ seat u e. (nobodys message u, λ h. h)),
         )
 
+-- a new actor is none of those that the world has
+none_is_new : (world : World) (new : Actor) → IsNew world new → (taken : List Sight) → All (IsSeen world) taken → OneIs taken new → ⊥
+none_is_new world new none [] all h = h
+none_is_new world new none (sight ∷ rest) all (inl h) = new_apart world new sight.actor none (All-head (IsSeen world) sight rest all).0 h
+none_is_new world new none (sight ∷ rest) all (inr h) = none_is_new world new none rest (All-tail (IsSeen world) sight rest all) h
+
 -- a new actor, with a new seat
-pub admit_as : (id : ℕ) (new : Actor) (me : Me ℕ View) (register : Register) → me ≡ (Admitted register.nodes register.callers, []) → MayEnter register new
+pub admit_as : (id : ℕ) (new : Actor) (me : Me ℕ View) (register : Register) → me ≡ (Admitted register.nodes register.callers [], []) → MayEnter register new
     → Splits IsKept id me.0 (admitting new me.0) (Shown new [])
 admit_as id new me register is may =
     subst (λ (m : Me ℕ View). Splits IsKept id m.0 (admitting new m.0) (Shown new [])) (sym is) allowed
   where
     old_view : View
-    old_view = Admitted register.nodes register.callers
+    old_view = Admitted register.nodes register.callers []
 
     listed : (world : World) (actor : Actor) → IsTrueOf world old_view → IsTrueOf (entered world actor) (admitting actor old_view)
-    listed world (OfNode node) (nodes, callers) = (register_entered world register.nodes node nodes, callers)
-    listed world (OfCaller caller) (nodes, callers) = (nodes, callers_entered world register.callers caller callers)
+    listed world (OfNode node) (nodes, callers, differ, others) = (register_entered world register.nodes node nodes, callers, tt, All-nil (IsSeen (entered world (OfNode node))))
+    listed world (OfCaller caller) (nodes, callers, differ, others) = (nodes, callers_entered world register.callers caller callers, tt, All-nil (IsSeen (entered world (OfCaller caller))))
 
     not_there : (world : World) → IsNew world new → (u : View) → IsTrueOf world u → (HaveOneOwner u (Shown new []) → ⊥) × (HaveOneOwner (Shown new []) u → ⊥)
-    not_there world none (Admitted _ _) h = ((λ x. x), (λ x. x))
+    not_there world none (Admitted _ _ taken) (nodes, callers, differ, all) = (none_is_new world new none taken all, none_is_new world new none taken all)
     not_there world none (Shown other _) h = (new_apart world new other none h.0, (λ one. new_apart world new other none h.0 (turned new other one)))
       where
         turned : (a b : Actor) → AreOne a b → AreOne b a
@@ -103,6 +121,7 @@ admit_as id new me register is may =
         turned (OfCaller a) (OfCaller b) one = sym one
         turned (OfNode a) (OfCaller b) one = one
         turned (OfCaller a) (OfNode b) one = one
+    not_there world none (Witnessed _) h = ((λ x. x), (λ x. x))
     not_there world none (Sent _) h = ((λ x. x), (λ x. x))
     not_there world none Spent h = ((λ x. x), (λ x. x))
 
@@ -118,8 +137,8 @@ admit_as id new me register is may =
         (at_set views id seat (admitting new old_view) u e)
 
     heir : (actor : Actor) → IsHeir old_view (admitting actor old_view)
-    heir (OfNode node) = admitted_heir register.nodes register.callers (register.nodes ++ node.number ∷ []) register.callers
-    heir (OfCaller caller) = admitted_heir register.nodes register.callers register.nodes (register.callers ++ caller.number ∷ [])
+    heir (OfNode node) = admitted_heir register.nodes register.callers (register.nodes ++ node.number ∷ []) register.callers []
+    heir (OfCaller caller) = admitted_heir register.nodes register.callers register.nodes (register.callers ++ caller.number ∷ []) []
 
     no_message : (world : World) (actor : Actor) → IsThere (entered world actor) actor → IsTrueOf (entered world actor) (Shown actor [])
     no_message world actor there = (there, All-nil (Contains (entered world actor).sent))
@@ -133,8 +152,8 @@ admit_as id new me register is may =
         (λ seat u apart e. true_entered world new register.nodes register.callers none u (λ one. apart (shows.apart seat id u old_view e at one)) (shows.agrees seat u e)) in
         (next, Goes_on reached step, shows_added next (set s.views id (admitting new old_view)) (Shown new []) all (no_message world new (there_entered world new none)) (alone s.views world none shows))
 
-spends : (other : ℕ) (message : Message) (w : World) (views : List View) → Shows w views → Shows w (set views other Spent)
-spends other message w views shows = record {
+spends : (other : ℕ) (w : World) (views : List View) → Shows w views → Shows w (set views other Spent)
+spends other w views shows = record {
   agrees = λ seat u e. ⊎_elim
       (λ (x : (seat ≡ other) × (Spent ≡ u)). subst (IsTrueOf w) x.1 tt)
       (λ (x : (seat ≢ other) × (get_elem? views seat ≡ some u)). shows.agrees seat u x.1)
@@ -170,7 +189,7 @@ receive_as id other me you s message is came =
         let first = shows_changed w w t.views id (view_of s) both shows at (shown_heir s.actor s.actor s.messages (s.messages ++ message ∷ []) (itself s.actor))
         (mine.0, All-push (Contains w.sent) s.messages message mine.1 was_sent)
         (λ seat u _ e. shows.agrees seat u e) in
-        (w, reached, spends other message w (set t.views id both) first)
+        (w, reached, spends other w (set t.views id both) first)
 
 -- a look at any word
 pub look_at : (slots id word : ℕ) (me : Me ℕ View) (v : View) (f : ℕ → ℕ) → me ≡ (v, [])
@@ -181,3 +200,49 @@ look_at slots id word me v f is =
     allowed : Allows IsKept slots id (v, []) word f (λ found w. (w ≡ (v, [])) × IsTrueOfSome v)
     allowed s (w, reached, shows) len at fits =
         (v, keeps, tt, (w, reached, subst (Shows w) (sym (set_again s.views id v at)) shows), (refl, (w, reached, shows.agrees id v at)))
+
+-- a witness of nobody, with a new seat
+pub attend_as : (slots word : ℕ) → Enters IsKept slots word (λ found w. ◌≡◌ {A = Me ℕ View} (w, []) (Witnessed [], []))
+attend_as slots word t (world, reached, shows) len fits = (
+  Witnessed [],
+  (world, reached, shows_added world t.views (Witnessed []) shows (All-nil (WasThere world)) (λ seat u e. (witness_has_none [] u, λ h. h))),
+  refl,
+)
+
+-- what a caller's seat shows, beside it
+pub testify_as : (id : ℕ) (me : Me ℕ View) (s : Sight) (caller : Caller) → me ≡ (view_of s, []) → s.actor ≡ OfCaller caller → Splits IsKept id me.0 me.0 (testimony me.0)
+testify_as id me s caller is calls =
+    subst (λ (m : Me ℕ View). Splits IsKept id m.0 m.0 (testimony m.0)) (sym (is ∙ ap (λ actor. (Shown actor s.messages, [])) calls)) allowed
+  where
+    allowed : Splits IsKept id (Shown (OfCaller caller) s.messages) (Shown (OfCaller caller) s.messages) (Witnessed (caller ∷ []))
+    allowed t (world, reached, shows) at =
+        let view : View = Shown (OfCaller caller) s.messages in
+        let mine = shows.agrees id view at in (
+          world,
+          reached,
+          shows_added world (set t.views id view) (Witnessed (caller ∷ [])) (subst (Shows world) (sym (set_again t.views id view at)) shows)
+              (All-cons (WasThere world) caller [] (caller, mine.0, later_itself caller) (All-nil (WasThere world)))
+              (λ seat u e. (witness_has_none (caller ∷ []) u, λ h. h)),
+        )
+
+-- one witness takes in another
+pub gather_as : (id other : ℕ) (me you : Me ℕ View) (callers more : List Caller) → me ≡ (Witnessed callers, []) → you ≡ (Witnessed more, [])
+    → Joins IsKept id me.0 other you.0 (gathered me.0 you.0) Spent
+gather_as id other me you callers more is came =
+    subst (λ (m : Me ℕ View). Joins IsKept id m.0 other you.0 (gathered m.0 you.0) Spent) (sym is)
+    (subst (λ (y : Me ℕ View). Joins IsKept id (Witnessed callers) other y.0 (gathered (Witnessed callers) y.0) Spent) (sym came) allowed)
+  where
+    heir : IsHeir (Witnessed callers) (Witnessed (callers ++ more))
+    heir = record { left = λ u h. h; right = λ u h. absurd (witness_has_none (callers ++ more) u h) }
+
+    allowed : Joins IsKept id (Witnessed callers) other (Witnessed more) (Witnessed (callers ++ more)) Spent
+    allowed t (w, reached, shows) at apart there =
+        let both : View = Witnessed (callers ++ more) in
+        let others : All (WasThere w) more = ⊎_elim
+        (λ (x : (other ≡ id) × (both ≡ Witnessed more)). absurd (apart x.0))
+        (λ (x : (other ≢ id) × (get_elem? t.views other ≡ some (Witnessed more))). shows.agrees other (Witnessed more) x.1)
+        (at_set t.views id other both (Witnessed more) there) in
+        let first = shows_changed w w t.views id (Witnessed callers) both shows at heir
+        (All-append (WasThere w) callers more (shows.agrees id (Witnessed callers) at) others)
+        (λ seat u _ e. shows.agrees seat u e) in
+        (w, reached, spends other w (set t.views id both) first)

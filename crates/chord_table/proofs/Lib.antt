@@ -1,8 +1,12 @@
 pub mod Numbers
 pub mod Worlds
+pub mod Later
 pub mod Showing
 pub mod Events
 pub mod Keeping
+pub mod Taking
 pub mod Becoming
 pub mod Cores
+pub mod Histories
+pub mod Whole
 pub mod Telling

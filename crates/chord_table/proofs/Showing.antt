@@ -19,7 +19,6 @@ module _ {A : Type 0} where
 pub record IsHeir (v w : View) : Type 0 where
   pub left : (u : View) → HaveOneOwner w u → HaveOneOwner v u
   pub right : (u : View) → HaveOneOwner u w → HaveOneOwner u v
-  pub itself : HaveOneOwner v v
 
 -- one view changed, in another world
 pub shows_changed : (old new : World) (views : List View) (id : ℕ) (v w : View) → Shows old views → get_elem? views id ≡ some v → IsHeir v w → IsTrueOf new w

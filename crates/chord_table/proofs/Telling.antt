@@ -1,14 +1,17 @@
 -- What a look tells, with the theorem over worlds.
-use Rattle.std.proofs.Common.{◌≡◌, subst}
+use Rattle.std.proofs.Common.{◌≡◌, subst, List, All}
 use Rattle.std.specs.Prelude.{Contains}
-use Rattle.std.proofs.lemmas.List.Elements.{All-contains}
+use Rattle.std.proofs.lemmas.List.Elements.{All-contains, All-weaker}
+use Rattle.chord_caller.specs.Caller.{Caller}
 use Rattle.chord_model.specs.declared.message.Message.TheVariants.{Note as NoteMessage}
 use Rattle.chord_model.specs.Headline.{Headline}
 use Rattle.chord_model.specs.World.{World, Reached}
+use Rattle.chord_table.proofs.Histories.{was_in, once_in_all}
 use Rattle.chord_table.specs.Actors.{IsThere}
-use Rattle.chord_table.specs.Seen.{Actor, OfNode, OfCaller}
-use Rattle.chord_table.specs.Shown.{IsShown, NodeShown, CallerShown}
-use Rattle.chord_table.specs.Views.{Sight, NodeSight, CallerSight, node_in, caller_in}
+use Rattle.chord_table.specs.Later.{WasThere}
+use Rattle.chord_table.specs.Seen.{Actor, OfNode, OfCaller, Witnessed}
+use Rattle.chord_table.specs.Shown.{IsShown, NodeShown, CallerShown, IsIn, WitnessShown}
+use Rattle.chord_table.specs.Views.{IsTrueOfSome, Sight, NodeSight, CallerSight, node_in, caller_in}
 
 -- every world that some steps lead to has the headline
 abbrev HasHeadline : Type 0
@@ -44,3 +47,18 @@ caller_told s v is shows seen headline =
       in_order = all.history.in_order;
       one_holder = all.one_holder;
     })
+
+pub witness_told : (callers : List Caller) → IsTrueOfSome (Witnessed callers) → HasHeadline → WitnessShown callers
+witness_told callers (world, reached, there) headline =
+    let all : Headline world = headline world ∣ reached ∣₁ in
+    let stand : All (IsIn world.history) callers = All-weaker (WasThere world) (IsIn world.history) (λ c. was_in world all.history c) callers there in
+    record {
+      world = world;
+      reached = reached;
+      there = there;
+      headline = all;
+      legal = all.history.legal;
+      stand = stand;
+      once = once_in_all world.history callers stand;
+      one_holder = all.one_holder;
+    }

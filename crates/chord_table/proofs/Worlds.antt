@@ -91,22 +91,22 @@ no_node [] e = refl
 no_node (node ∷ nodes) e = cc
 
 -- what the registrar may admit enters the world that it shows by one step
-pub may_enter : (world : World) (register : Register) (new : Actor) → IsTrueOf world (Admitted register.nodes register.callers) → MayEnter register new
+pub may_enter : (world : World) (register : Register) (new : Actor) → IsTrueOf world (Admitted register.nodes register.callers []) → MayEnter register new
     → IsNew world new × WorldStep world (entered world new)
 unfolding node_at caller_at
-may_enter world register (OfNode node) (nodes, callers) (inl (first, (links, limit, within, is))) =
+may_enter world register (OfNode node) (nodes, callers, none_differ, others) (inl (first, (links, limit, within, is))) =
     let none : world.nodes ≡ [] = no_node world.nodes (nodes ∙ first) in (
       ap (node_at node.number) none,
       subst (λ (n : Node). WorldStep world (entered world (OfNode n))) (sym is)
           (subst (λ (ns : List Node). WorldStep world (record world { nodes = ns ++ founder links limit ∷ [] })) (sym none) (WorldStep.Creates links limit within none)),
     )
-may_enter world register (OfNode node) (nodes, callers) (inr (some, new, (links, limit, within, is))) =
+may_enter world register (OfNode node) (nodes, callers, none_differ, others) (inr (some, new, (links, limit, within, is))) =
     let none : node_at node.number world.nodes ≡ None = absent (λ (n : Node). n.number) world.nodes node.number (subst (λ ns. Contains ns node.number → ⊥) (sym nodes) new) in (
       none,
       subst (λ (n : Node). WorldStep world (entered world (OfNode n))) (sym is)
           (WorldStep.Joins links limit within (λ e. some (sym nodes ∙ no_node_number world e)) (subst (λ (n : Node). node_at n.number world.nodes ≡ None) is none)),
     )
-may_enter world register (OfCaller caller) (nodes, callers) (new, (window, low, high, is)) =
+may_enter world register (OfCaller caller) (nodes, callers, none_differ, others) (new, (window, low, high, is)) =
     let none : caller_at caller.number world.callers ≡ None = absent (λ (c : Caller). c.number) world.callers caller.number (subst (λ ns. Contains ns caller.number → ⊥) (sym callers) new) in (
       none,
       subst (λ (c : Caller). WorldStep world (entered world (OfCaller c))) (sym is) (WorldStep.Opens caller.number window low high none),

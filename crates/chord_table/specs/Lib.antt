@@ -1,4 +1,5 @@
 pub mod Seen
 pub mod Actors
+pub mod Later
 pub mod Views
 pub mod Shown

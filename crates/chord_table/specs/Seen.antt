@@ -9,12 +9,19 @@ pub data Actor : Type 0 where
   OfNode : Node → Actor
   OfCaller : Caller → Actor
 
+-- an actor, and messages that came to it
+pub record Sight : Type 0 where
+  pub actor : Actor
+  pub messages : List Message
+
 -- what a seat shows
 pub data View : Type 0 where
-  -- the numbers of the nodes and of the callers, in the order admitted
-  Admitted : (nodes callers : List ℕ) → View
+  -- the numbers of the nodes and of the callers, in the order admitted, and the actors whose seats this one took in
+  Admitted : (nodes callers : List ℕ) → List Sight → View
   -- an actor, and messages that were sent
   Shown : Actor → List Message → View
+  -- callers, each as it was at some time
+  Witnessed : List Caller → View
   -- one message that was sent
   Sent : Message → View
   -- nothing

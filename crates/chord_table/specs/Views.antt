@@ -1,5 +1,5 @@
 -- What the seats of one table show of the world.
-use Rattle.std.specs.Prelude.{◌≡◌, ◌≢◌, ℕ, ◌+◌, ◌^◌, ◌<◌, ◌≤◌, ◌⊎◌, Option, List, [], ◌∷◌, ◌++◌, All, Contains}
+use Rattle.std.specs.Prelude.{◌≡◌, ◌≢◌, ℕ, ◌+◌, ◌^◌, ◌<◌, ◌≤◌, ◌⊎◌, Option, List, [], ◌∷◌, ◌++◌, All, Contains, map}
 use mathlib.Core.Option.{some}
 use lib.ListN.{get_elem?}
 use Rattle.atomic_table.specs.Table.{State}
@@ -14,7 +14,9 @@ use Rattle.chord_model.specs.Node.{Node, NodeStep, founder, newborn}
 use Rattle.chord_model.specs.World.{World, Reached, WasSent}
 use Rattle.chord_map.specs.declared.done.Done.{Done}
 use Rattle.chord_table.specs.Actors.{IsThere, AreOne, Event, node_numbers, caller_numbers}
-use Rattle.chord_table.specs.Seen.{Actor, OfNode, OfCaller, View, Admitted, Shown, Sent, Spent}
+use Rattle.chord_table.specs.Later.{WasThere}
+use Rattle.chord_table.specs.Seen.{Actor, OfNode, OfCaller, View, Admitted, Shown, Witnessed, Sent, Spent}
+pub use Rattle.chord_table.specs.Seen.{Sight}
 
 -- which table it is, and how many of its words are for nodes and for callers
 pub record Name : Type 0 where
@@ -31,16 +33,33 @@ abbrev pub word_of : Name → Actor → ℕ
 word_of name (OfNode node) = node.number
 word_of name (OfCaller caller) = name.slots + caller.number
 
+-- one of these is a state of this actor
+abbrev pub OneIs : List Sight → Actor → Type 0
+OneIs [] actor = ⊥
+OneIs (sight ∷ rest) actor = AreOne sight.actor actor ⊎ OneIs rest actor
+
+-- no two of them are states of one actor
+abbrev pub AllDiffer : List Sight → Type 0
+AllDiffer [] = Unit {0}
+AllDiffer (sight ∷ rest) = (¬ OneIs rest sight.actor) × AllDiffer rest
+
+-- the world has the actor in this very state, and these messages were sent there
+abbrev pub IsSeen : World → Sight → Type 0
+IsSeen world sight = IsThere world sight.actor × All (Contains world.sent) sight.messages
+
 -- what a view says is true of this world
 abbrev pub IsTrueOf : World → View → Type 0
-IsTrueOf world (Admitted nodes callers) = (node_numbers world ≡ nodes) × (caller_numbers world ≡ callers)
+IsTrueOf world (Admitted nodes callers taken) = (node_numbers world ≡ nodes) × (caller_numbers world ≡ callers) × AllDiffer taken × All (IsSeen world) taken
 IsTrueOf world (Shown actor messages) = IsThere world actor × All (Contains world.sent) messages
+IsTrueOf world (Witnessed callers) = All (WasThere world) callers
 IsTrueOf world (Sent message) = Contains world.sent message
 IsTrueOf world Spent = Unit {0}
 
--- both are the registrar's, or both are views of one actor
+-- both are the registrar's, or both are views of one actor: the registrar's is one of each actor that it took in
 abbrev pub HaveOneOwner : View → View → Type 0
-HaveOneOwner (Admitted nodes callers) (Admitted others more) = Unit {0}
+HaveOneOwner (Admitted nodes callers taken) (Admitted others more given) = Unit {0}
+HaveOneOwner (Admitted nodes callers taken) (Shown actor messages) = OneIs taken actor
+HaveOneOwner (Shown actor messages) (Admitted nodes callers taken) = OneIs taken actor
 HaveOneOwner (Shown actor messages) (Shown other more) = AreOne actor other
 HaveOneOwner _ _ = ⊥
 
@@ -64,8 +83,8 @@ changed new view = view
 
 -- the registrar's view with one number more
 abbrev pub admitting : Actor → View → View
-admitting (OfNode node) (Admitted nodes callers) = Admitted (nodes ++ node.number ∷ []) callers
-admitting (OfCaller caller) (Admitted nodes callers) = Admitted nodes (callers ++ caller.number ∷ [])
+admitting (OfNode node) (Admitted nodes callers taken) = Admitted (nodes ++ node.number ∷ []) callers taken
+admitting (OfCaller caller) (Admitted nodes callers taken) = Admitted nodes (callers ++ caller.number ∷ []) taken
 admitting actor view = view
 
 -- the view with one message more
@@ -73,10 +92,20 @@ abbrev pub told : View → View → View
 told (Shown actor messages) (Sent message) = Shown actor (messages ++ message ∷ [])
 told view other = view
 
--- what an actor's seat shows
-pub record Sight : Type 0 where
-  pub actor : Actor
-  pub messages : List Message
+-- what a caller's seat shows, for a witness
+abbrev pub testimony : View → View
+testimony (Shown (OfCaller caller) messages) = Witnessed (caller ∷ [])
+testimony view = Spent
+
+-- the callers of both views
+abbrev pub gathered : View → View → View
+gathered (Witnessed callers) (Witnessed more) = Witnessed (callers ++ more)
+gathered view other = view
+
+-- the callers that the view shows, where it is a witness's
+abbrev pub callers_of : View → List Caller
+callers_of (Witnessed callers) = callers
+callers_of _ = []
 
 -- such a view
 abbrev pub view_of : Sight → View
@@ -99,6 +128,16 @@ abbrev pub sight_of : View → Sight
 sight_of (Shown actor messages) = record { actor = actor; messages = messages }
 sight_of _ = record { actor = OfNode no_node; messages = [] }
 
+-- the actor before these nodes, if it is a node
+abbrev pub with_node : Actor → List Node → List Node
+with_node (OfNode node) nodes = node ∷ nodes
+with_node (OfCaller caller) nodes = nodes
+
+-- the actor before these callers, if it is a caller
+abbrev pub with_caller : Actor → List Caller → List Caller
+with_caller (OfNode node) callers = callers
+with_caller (OfCaller caller) callers = caller ∷ callers
+
 -- what the registrar's seat shows
 pub record Register : Type 0 where
   pub nodes : List ℕ
@@ -106,12 +145,46 @@ pub record Register : Type 0 where
 
 -- what the view shows, where it is the registrar's
 abbrev pub register_of : View → Register
-register_of (Admitted nodes callers) = record { nodes = nodes; callers = callers }
+register_of (Admitted nodes callers taken) = record { nodes = nodes; callers = callers }
 register_of _ = record { nodes = []; callers = [] }
 
 -- such a view
 abbrev pub view_of_register : Register → View
-view_of_register register = Admitted register.nodes register.callers
+view_of_register register = Admitted register.nodes register.callers []
+
+-- the registrar's view with one actor more, which gave its seat up
+abbrev pub taking : View → View → View
+taking (Admitted nodes callers taken) (Shown actor messages) = Admitted nodes callers (taken ++ record { actor = actor; messages = messages } ∷ [])
+taking view other = view
+
+-- what an assembly's seat shows: who is registered, and who gave a seat up, in that order
+pub record Assembled : Type 0 where
+  pub register : Register
+  pub taken : List Sight
+
+-- what the view shows, where it is the registrar's
+abbrev pub assembled_of : View → Assembled
+assembled_of (Admitted nodes callers taken) = record { register = record { nodes = nodes; callers = callers }; taken = taken }
+assembled_of _ = record { register = record { nodes = []; callers = [] }; taken = [] }
+
+-- such a view
+abbrev pub view_of_assembled : Assembled → View
+view_of_assembled assembled = Admitted assembled.register.nodes assembled.register.callers assembled.taken
+
+-- the nodes among them, in that order
+abbrev pub nodes_among : List Sight → List Node
+nodes_among [] = []
+nodes_among (sight ∷ rest) = with_node sight.actor (nodes_among rest)
+
+-- the callers among them, in that order
+abbrev pub callers_among : List Sight → List Caller
+callers_among [] = []
+callers_among (sight ∷ rest) = with_caller sight.actor (callers_among rest)
+
+-- each that is registered gave its seat up, in the order of registration
+pub record IsWhole (assembled : Assembled) : Type 0 where
+  pub nodes : map (λ (node : Node). node.number) (nodes_among assembled.taken) ≡ assembled.register.nodes
+  pub callers : map (λ (caller : Caller). caller.number) (callers_among assembled.taken) ≡ assembled.register.callers
 
 -- the register with one number more
 abbrev pub with_number : Actor → Register → Register

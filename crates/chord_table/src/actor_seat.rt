@@ -1,15 +1,17 @@
 //! The seat of any actor.
 ghost use Rattle.std.specs.Prelude.{◌≡◌, ◌++◌, [], ◌∷◌, Option, Some};
 ghost use Rattle.chord_model.specs.declared.message.Message.{Message as Content};
+ghost use Rattle.chord_table.specs.Seen.{OfCaller};
 ghost use Rattle.chord_table.specs.Shown.{IsShown};
-ghost use Rattle.chord_table.specs.Views.{MayBecome};
+ghost use Rattle.chord_table.specs.Views.{MayBecome, caller_in};
 
 use crate::event::Event;
-use crate::moves::{Local, Look, Post, Receive};
+use crate::moves::{Local, Look, Post, Receive, Testify};
 use crate::naming::Naming;
 use crate::parcel::Parcel;
 use crate::shared::Shared;
 use crate::view::View;
+use crate::witness::Witness;
 use atomic_table::Seat;
 use chord_node::Message;
 use std::marker::{Model, PhantomData};
@@ -84,6 +86,19 @@ impl<J: Naming> ActorSeat<J> {
             .shared
             .join_seat::<Receive>(&mut self.seat, seat);
         message
+    }
+
+    /// A witness of the caller that the seat shows.
+    pub(crate) fn testify(&mut self, table: &Shared<J>) -> Witness<J>
+        requires calls { self.old.actor ≡ OfCaller (caller_in self.old.actor) }
+        ensures same { self.new ≡ self.old }
+        ensures noted { result ≡ caller_in self.old.actor ∷ [] }
+    {
+        let seat = table.table.shared.split_seat::<Testify>(&mut self.seat);
+        Witness {
+            seat,
+            of: PhantomData,
+        }
     }
 
     /// What the seat shows is true of a world that some steps lead to.

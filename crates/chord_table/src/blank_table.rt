@@ -28,7 +28,7 @@ impl Model for BlankTable {
 
     ghost view = { λ b. record { table = b.table.shared.table_id; slots = b.slots; callers = b.callers } };
 
-    ghost invariant = { λ b. (b.table.shared.table_id.words ≡ b.slots + b.callers) × (b.slots + b.callers < 2 ^ 64) × (b.seat.table_id ≡ b.table.shared.table_id) × (b.seat.me ≡ (Admitted [] [], [])) };
+    ghost invariant = { λ b. (b.table.shared.table_id.words ≡ b.slots + b.callers) × (0 < b.slots + b.callers) × (b.slots + b.callers < 2 ^ 64) × (b.seat.table_id ≡ b.table.shared.table_id) × (b.seat.me ≡ (Admitted [] [] [], [])) };
 }
 
 impl BlankTable {

@@ -11,6 +11,7 @@ use crate::actor_seat::ActorSeat;
 use crate::naming::Naming;
 use crate::parcel::Parcel;
 use crate::shared::Shared;
+use crate::witness::Witness;
 use chord_caller::{Ask, CallerCore, Told};
 use chord_model::laws;
 use chord_node::Message;
@@ -85,6 +86,14 @@ impl<J: Naming> CallerSeat<J> {
         ensures seat { self.new ≡ record self.old { messages = self.old.messages ++ parcel ∷ [] } }
     {
         self.seat.receive(table, parcel)
+    }
+
+    /// A witness of the caller as it is now.
+    pub fn witness(&mut self, table: &Shared<J>) -> Witness<J>
+        ensures same { self.new ≡ self.old }
+        ensures noted { result ≡ self.old.caller ∷ [] }
+    {
+        self.seat.testify(table)
     }
 
     /// All that the caller took stands in one legal history, each call once, in the order that callers had seen.

@@ -13,5 +13,5 @@ impl TableRule<u8, View, ()> for Law {
 
     ghost holds = { λ _. IsKept };
 
-    ghost first = { λ _. Admitted [] [] };
+    ghost first = { λ _. Admitted [] [] [] };
 }

@@ -9,9 +9,13 @@
 //! a parcel: `let parcel = seat.send(&table, &node, Message::Told(told));`. The caller's seat takes it in with
 //! `seat.receive(&table, parcel)`. A step that is no event of the core from the state that the seat shows is refused
 //! by the prover.
+//!
+//! Two looks tell of two worlds. To have one world for several callers a [`Witness`] of each is taken,
+//! `seat.witness(&table)`, from whichever thread; they are joined, and the last one looks.
 #![tactic(auto)]
 
 mod actor_seat;
+mod assembly;
 mod blank_table;
 mod caller_seat;
 mod event;
@@ -23,7 +27,9 @@ mod parcel;
 mod registrar;
 mod shared;
 mod view;
+mod witness;
 
+pub use assembly::Assembly;
 pub use blank_table::BlankTable;
 pub use caller_seat::CallerSeat;
 pub use naming::Naming;
@@ -31,3 +37,4 @@ pub use node_seat::NodeSeat;
 pub use parcel::Parcel;
 pub use registrar::Registrar;
 pub use shared::Shared;
+pub use witness::Witness;

@@ -56,6 +56,39 @@ impl<E: Event> Split<View> for Admit<E> {
     ghost right = { λ v. Shown E.actor [] };
 }
 
+/// A witness of nobody, with a seat of its own.
+pub struct Attend;
+
+impl Play<u8, View> for Attend {
+    ghost use Rattle.std.specs.Prelude.{◌≡◌, []};
+    ghost use Rattle.chord_table.specs.Seen.{Witnessed};
+
+    ghost then = { λ step me found new. new ≡ (Witnessed [], []) };
+}
+
+/// What a caller's seat shows goes to a witness, and stays.
+pub struct Testify;
+
+impl Split<View> for Testify {
+    ghost use Rattle.chord_table.specs.Views.{testimony};
+
+    ghost left = { λ v. v };
+
+    ghost right = { testimony };
+}
+
+/// One witness takes in another.
+pub struct Gather;
+
+impl Join<View> for Gather {
+    ghost use Rattle.chord_table.specs.Seen.{Spent};
+    ghost use Rattle.chord_table.specs.Views.{gathered};
+
+    ghost both = { gathered };
+
+    ghost spent = { Spent };
+}
+
 /// A message that was sent comes to an actor.
 pub struct Receive;
 
@@ -64,6 +97,18 @@ impl Join<View> for Receive {
     ghost use Rattle.chord_table.specs.Views.{told};
 
     ghost both = { told };
+
+    ghost spent = { Spent };
+}
+
+/// The registrar's seat takes in an actor's.
+pub struct Take;
+
+impl Join<View> for Take {
+    ghost use Rattle.chord_table.specs.Seen.{Spent};
+    ghost use Rattle.chord_table.specs.Views.{taking};
+
+    ghost both = { taking };
 
     ghost spent = { Spent };
 }

@@ -1,5 +1,5 @@
 //! Who is admitted.
-ghost use Rattle.std.specs.Prelude.{◌≡◌, ◌<◌, ◌++◌, [], ◌∷◌, IfOk};
+ghost use Rattle.std.specs.Prelude.{◌≡◌, ◌<◌, ◌≤◌, ◌++◌, [], ◌∷◌, IfOk};
 ghost use Rattle.chord_caller.specs.Answers.{new_caller};
 ghost use Rattle.chord_table.specs.Views.{MayEnter, MayFound, MayOpen, with_number, word_of};
 
@@ -35,12 +35,13 @@ impl<J: Naming> Model for Registrar<J> {
 
     ghost view = { λ r. register_of r.seat.me.0 };
 
-    ghost invariant = { λ r. (r.seat.table_id ≡ J.name.table) × (r.seat.me ≡ (Admitted (register_of r.seat.me.0).nodes (register_of r.seat.me.0).callers, [])) };
+    ghost invariant = { λ r. (r.seat.table_id ≡ J.name.table) × (r.seat.me ≡ (Admitted (register_of r.seat.me.0).nodes (register_of r.seat.me.0).callers [], [])) };
 }
 
 impl Registrar<Brand> {
-    /// A table with a word for each node and each caller. Too many of them count as out of memory.
+    /// A table with a word for each node and each caller, some node at least. Too many of them count as out of memory.
     pub fn open(alloc: Global, slots: usize, callers: usize) -> Result<BlankTable, AllocError>
+        requires some { 1 ≤ slots }
         ensures { IfOk result (λ blank. (blank.slots ≡ slots) × (blank.callers ≡ callers)) }
     {
         let Some(count) = slots.checked_add(callers) else {

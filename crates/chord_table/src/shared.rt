@@ -17,5 +17,6 @@ pub struct Shared<J: Naming> {
     ghost named: { table.shared.table_id ≡ J.name.table },
     ghost has_slots: { slots ≡ J.name.slots },
     ghost counted: { J.name.table.words ≡ J.name.slots + J.name.callers },
+    ghost some: { 0 < J.name.table.words },
     ghost few: { J.name.table.words < 2 ^ 64 },
 }

@@ -17,7 +17,9 @@ use std::alloc::{AllocError, Global};
 use std::marker::Brand;
 use std::test::Fail;
 
+mod assemblies;
 mod clients;
+mod witnesses;
 
 /// Insert `x` under `abc`.
 fn insert(alloc: Global) -> Result<Request, AllocError> {

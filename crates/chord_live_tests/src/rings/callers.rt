@@ -1,11 +1,12 @@
 //! Callers of a ring of one node.
-ghost use Rattle.std.specs.Prelude.{◌≡◌, []};
+ghost use Rattle.std.specs.Prelude.{◌≡◌, [], ◌∷◌};
+ghost use Rattle.chord_table.specs.Shown.{WitnessShown};
 
 use super::{Store, begin, call, founded, inserted, is_added, is_told, retrieved, settings};
 use chord_live::{AskFault, Blank, Caller, CollectFault, LeaveFault, Open, OpenCaller, Ring};
 use chord_map::{Reply, Request};
 use chord_store::{CappedStore, EntryStore};
-use chord_table::Naming;
+use chord_table::{Naming, Witness};
 use std::alloc::Global;
 use std::marker::Brand;
 use std::sync::Wait;
@@ -81,6 +82,7 @@ fn use_the_ring<J: Naming, S: EntryStore, R: Wait + Clock>(
     let made = make_room(rt, alloc, &mut zero, &mut one);
     let collected = collect_turned(rt, alloc, ring);
     let told = tell(&mut zero, &mut one);
+    share_a_world(ring, &mut zero, &mut one);
     let crashed = crash(rt, alloc, ring, &mut zero);
     drop(one);
     drop(zero);
@@ -172,6 +174,21 @@ fn tell<J: Naming, S: EntryStore>(zero: &mut Caller<'_, J, S>, one: &mut Caller<
         }
         _ => false,
     }
+}
+
+/// What both took and were told of stands in one history of one world.
+fn share_a_world<J: Naming, S: EntryStore>(
+    ring: &Ring<J, S>,
+    zero: &mut Caller<'_, J, S>,
+    one: &mut Caller<'_, J, S>,
+)
+    ensures { WitnessShown (zero.old.caller ∷ one.old.caller ∷ []) }
+{
+    let mut all = Witness::open(ring.table());
+    all.join(ring.table(), zero.witness());
+    all.join(ring.table(), one.witness());
+    all.look(ring.table());
+    drop(all);
 }
 
 /// A caller that was told is answered, and not any more once the node has crashed.

@@ -1,5 +1,6 @@
 //! Two nodes with a worker each, and rounds of ticks.
-ghost use Rattle.std.specs.Prelude.{◌≡◌};
+ghost use Rattle.std.specs.Prelude.{◌≡◌, [], ◌∷◌};
+ghost use Rattle.chord_table.specs.Shown.{WitnessShown};
 
 use super::{call, founded, inserted, is_added, is_told, retrieved, settings, succeeds};
 use chord_ident::Id;
@@ -7,7 +8,7 @@ use chord_links::Links;
 use chord_live::{Blank, Client, Gate, Open, OpenCaller, Ring};
 use chord_map::Request;
 use chord_store::{CappedStore, EntryStore};
-use chord_table::Naming;
+use chord_table::{Naming, Witness};
 use std::alloc::Global;
 use std::marker::Brand;
 use std::sync::Wait;
@@ -302,8 +303,19 @@ fn guess<J: Naming, S: EntryStore, R: Wait + Clock>(
     let seen = client_sees(rt, alloc, &mut client);
     let crashed = ring.crash(rt, 0).is_ok();
     let again = client_sees(rt, alloc, &mut client);
+    stands_in_one_world(ring, &mut client);
     drop(client);
     added & other & seen & crashed & again
+}
+
+/// What the client was handed out stands in one history of one world.
+fn stands_in_one_world<J: Naming, S: EntryStore>(ring: &Ring<J, S>, client: &mut Client<'_, J, S>)
+    ensures { WitnessShown (client.old.caller ∷ []) }
+{
+    let mut all = Witness::open(ring.table());
+    all.join(ring.table(), client.witness());
+    all.look(ring.table());
+    drop(all);
 }
 
 /// Node 1 answered for `abc` and crashes: `eq`, whose guess it is, is asked for at node 0.

@@ -1,0 +1,137 @@
+-- The registrar's seat takes in an actor's seat, and gives it back.
+use Rattle.std.proofs.Common.{◌≡◌, ◌≢◌, ℕ, List, [], ◌∷◌, ◌++◌, set, ◌⊎◌, sym, ◌∙◌, subst, inl, inr, ⊎_elim}
+use Rattle.std.proofs.lemmas.List.Elements.{All-push}
+use mathlib.Core.Option.{some}
+use lib.ListN.{get_elem?}
+use Rattle.atomic_table.specs.Table.{Me, Joins}
+use Rattle.atomic_table.proofs.Lists.{at_set}
+use Rattle.chord_model.specs.World.{World}
+use Rattle.chord_table.specs.Actors.{AreOne}
+use Rattle.chord_table.specs.Seen.{Actor, OfNode, OfCaller, Sight, View, Admitted, Shown, Witnessed, Sent, Spent}
+use Rattle.chord_table.specs.Views.{OneIs, AllDiffer, IsSeen, IsTrueOf, HaveOneOwner, Shows, IsKept, view_of, Assembled, view_of_assembled, taking}
+
+-- ---- no actor twice
+
+pub one_turned : (a b : Actor) → AreOne a b → AreOne b a
+one_turned (OfNode a) (OfNode b) one = sym one
+one_turned (OfCaller a) (OfCaller b) one = sym one
+one_turned (OfNode a) (OfCaller b) one = one
+one_turned (OfCaller a) (OfNode b) one = one
+
+-- one of the list with one more is an old one, or that one
+one_of_push : (taken : List Sight) (sight : Sight) (actor : Actor) → OneIs (taken ++ sight ∷ []) actor → OneIs taken actor ⊎ AreOne sight.actor actor
+one_of_push [] sight actor (inl one) = inr one
+one_of_push [] sight actor (inr none) = absurd none
+one_of_push (first ∷ rest) sight actor (inl one) = inl (inl one)
+one_of_push (first ∷ rest) sight actor (inr one) = ⊎_elim (λ o. inl (inr o)) (λ o. inr o) (one_of_push rest sight actor one)
+
+differ_push : (taken : List Sight) (sight : Sight) → AllDiffer taken → (OneIs taken sight.actor → ⊥) → AllDiffer (taken ++ sight ∷ [])
+differ_push [] sight differ none = ((λ h. h), tt)
+differ_push (first ∷ rest) sight differ none = (
+  (λ one. ⊎_elim differ.0 (λ o. none (inl (one_turned sight.actor first.actor o))) (one_of_push rest sight first.actor one)),
+  differ_push rest sight differ.1 (λ o. none (inr o)),
+)
+
+-- ---- one seat takes in another, which is spent
+
+spent_left : (u : View) → HaveOneOwner Spent u → ⊥
+spent_left (Admitted _ _ _) h = h
+spent_left (Shown _ _) h = h
+spent_left (Witnessed _) h = h
+spent_left (Sent _) h = h
+spent_left Spent h = h
+
+spent_right : (u : View) → HaveOneOwner u Spent → ⊥
+spent_right (Admitted _ _ _) h = h
+spent_right (Shown _ _) h = h
+spent_right (Witnessed _) h = h
+spent_right (Sent _) h = h
+spent_right Spent h = h
+
+-- whoever shares an owner with the new view shared it with one of the two old ones
+record IsHeirOfBoth (v w both : View) : Type 0 where
+  pub left : (u : View) → HaveOneOwner both u → HaveOneOwner v u ⊎ HaveOneOwner w u
+  pub right : (u : View) → HaveOneOwner u both → HaveOneOwner u v ⊎ HaveOneOwner u w
+
+-- where a view stands after one was changed and another spent
+data Stands (views : List View) (id other : ℕ) (both : View) (seat : ℕ) (u : View) : Type 0 where
+  Is_spent : seat ≡ other → Spent ≡ u → Stands views id other both seat u
+  Is_both : seat ≡ id → both ≡ u → Stands views id other both seat u
+  Is_old : seat ≢ id → seat ≢ other → get_elem? views seat ≡ some u → Stands views id other both seat u
+
+stands : (views : List View) (id other : ℕ) (both : View) (seat : ℕ) (u : View) → get_elem? (set (set views id both) other Spent) seat ≡ some u → Stands views id other both seat u
+stands views id other both seat u e = ⊎_elim
+    (λ (x : (seat ≡ other) × (Spent ≡ u)). Is_spent x.0 x.1)
+    (λ (x : (seat ≢ other) × (get_elem? (set views id both) seat ≡ some u)). ⊎_elim
+    (λ (y : (seat ≡ id) × (both ≡ u)). Is_both y.0 y.1)
+    (λ (y : (seat ≢ id) × (get_elem? views seat ≡ some u)). Is_old y.0 x.0 y.1)
+    (at_set views id seat both u x.1))
+    (at_set (set views id both) other seat Spent u e)
+
+shows_joined : (world : World) (views : List View) (id other : ℕ) (v w both : View) → Shows world views → get_elem? views id ≡ some v → get_elem? views other ≡ some w
+    → IsHeirOfBoth v w both → IsTrueOf world both → Shows world (set (set views id both) other Spent)
+shows_joined world views id other v w both shows at there heir true = record {
+  agrees = λ seat u e. agrees seat u (stands views id other both seat u e);
+  apart = λ seat next u t e f one. apart seat next u t (stands views id other both seat u e) (stands views id other both next t f) one;
+}
+  where
+    agrees : (seat : ℕ) (u : View) → Stands views id other both seat u → IsTrueOf world u
+    agrees seat u (Is_spent s is) = subst (IsTrueOf world) is tt
+    agrees seat u (Is_both s is) = subst (IsTrueOf world) is true
+    agrees seat u (Is_old n m e) = shows.agrees seat u e
+
+    apart : (seat next : ℕ) (u t : View) → Stands views id other both seat u → Stands views id other both next t → HaveOneOwner u t → seat ≡ next
+    apart seat next u t (Is_spent s is) _ one = absurd (spent_left t (subst (λ (z : View). HaveOneOwner z t) (sym is) one))
+    apart seat next u t (Is_both s is) (Is_spent r has) one = absurd (spent_right u (subst (λ (z : View). HaveOneOwner u z) (sym has) one))
+    apart seat next u t (Is_both s is) (Is_both r has) one = s ∙ sym r
+    apart seat next u t (Is_both s is) (Is_old n m f) one = ⊎_elim
+        (λ (o : HaveOneOwner v t). absurd (n (sym (shows.apart id next v t at f o))))
+        (λ (o : HaveOneOwner w t). absurd (m (sym (shows.apart other next w t there f o))))
+        (heir.left t (subst (λ (z : View). HaveOneOwner z t) (sym is) one))
+    apart seat next u t (Is_old n m e) (Is_spent r has) one = absurd (spent_right u (subst (λ (z : View). HaveOneOwner u z) (sym has) one))
+    apart seat next u t (Is_old n m e) (Is_both r has) one = ⊎_elim
+        (λ (o : HaveOneOwner u v). absurd (n (shows.apart seat id u v e at o)))
+        (λ (o : HaveOneOwner u w). absurd (m (shows.apart seat other u w e there o)))
+        (heir.right u (subst (λ (z : View). HaveOneOwner u z) (sym has) one))
+    apart seat next u t (Is_old n m e) (Is_old k l f) one = shows.apart seat next u t e f one
+
+-- the registrar's seat takes in an actor's
+pub take_as : (id other : ℕ) (me you : Me ℕ View) (a : Assembled) (s : Sight) → me ≡ (view_of_assembled a, []) → you ≡ (view_of s, [])
+    → Joins IsKept id me.0 other you.0 (taking me.0 you.0) Spent
+take_as id other me you a s is came =
+    subst (λ (m : Me ℕ View). Joins IsKept id m.0 other you.0 (taking m.0 you.0) Spent) (sym is)
+    (subst (λ (y : Me ℕ View). Joins IsKept id (view_of_assembled a) other y.0 (taking (view_of_assembled a) y.0) Spent) (sym came) allowed)
+  where
+    both : View
+    both = Admitted a.register.nodes a.register.callers (a.taken ++ s ∷ [])
+
+    heir : IsHeirOfBoth (view_of_assembled a) (view_of s) both
+    heir = record { left = λ u. left u; right = λ u. right u }
+      where
+        left : (u : View) → HaveOneOwner both u → HaveOneOwner (view_of_assembled a) u ⊎ HaveOneOwner (view_of s) u
+        left (Admitted _ _ _) h = inl h
+        left (Shown actor _) h = one_of_push a.taken s actor h
+        left (Witnessed _) h = inl h
+        left (Sent _) h = inl h
+        left Spent h = inl h
+
+        right : (u : View) → HaveOneOwner u both → HaveOneOwner u (view_of_assembled a) ⊎ HaveOneOwner u (view_of s)
+        right (Admitted _ _ _) h = inl h
+        right (Shown actor _) h = ⊎_elim (λ o. inl o) (λ o. inr (one_turned s.actor actor o)) (one_of_push a.taken s actor h)
+        right (Witnessed _) h = inl h
+        right (Sent _) h = inl h
+        right Spent h = inl h
+
+    allowed : Joins IsKept id (view_of_assembled a) other (view_of s) both Spent
+    allowed t (w, reached, shows) at apart there =
+        let yours : get_elem? t.views other ≡ some (view_of s) = ⊎_elim
+        (λ (x : (other ≡ id) × (both ≡ view_of s)). absurd (apart x.0))
+        (λ (x : (other ≢ id) × (get_elem? t.views other ≡ some (view_of s))). x.1)
+        (at_set t.views id other both (view_of s) there) in
+        let (nodes, callers, differ, all) = shows.agrees id (view_of_assembled a) at in
+        let new = differ_push a.taken s differ (λ (o : OneIs a.taken s.actor). apart (sym (shows.apart id other (view_of_assembled a) (view_of s) at yours o))) in (
+          w,
+          reached,
+          shows_joined w t.views id other (view_of_assembled a) (view_of s) both shows at yours heir
+              (nodes, callers, new, All-push (IsSeen w) a.taken s all (shows.agrees other (view_of s) yours)),
+        )

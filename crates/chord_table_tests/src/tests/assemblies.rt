@@ -1,0 +1,52 @@
+//! One look for all.
+ghost use Rattle.std.specs.Prelude.{◌≡◌, [], ◌∷◌};
+ghost use Rattle.chord_table.specs.Seen.{OfNode, OfCaller};
+ghost use Rattle.chord_table.specs.Shown.{WholeShown};
+
+use super::founded;
+use chord_store::CappedStore;
+use chord_table::{Assembly, BlankTable, CallerSeat, Naming, NodeSeat, Registrar, Shared};
+use std::alloc::Global;
+use std::marker::Brand;
+use std::test::Fail;
+
+/// A node and a caller, with no others admitted, are a world that some steps lead to.
+fn are_a_world<J: Naming>(
+    table: &Shared<J>,
+    registrar: Registrar<J>,
+    node: NodeSeat<J>,
+    caller: CallerSeat<J>,
+) -> Assembly<J>
+    requires nodes { registrar.nodes ≡ node.node.number ∷ [] }
+    requires callers { registrar.callers ≡ caller.caller.number ∷ [] }
+    ensures both { result.taken ≡ record { actor = OfNode node.node; messages = node.messages } ∷ record { actor = OfCaller caller.caller; messages = caller.messages } ∷ [] }
+    ensures shown { WholeShown result }
+{
+    let mut all = Assembly::of(registrar);
+    all.take_node(table, node);
+    all.take_caller(table, caller);
+    all.look_whole(table);
+    all
+}
+
+/// The same of two that enter for it.
+fn two_are_a_world<J: Naming>(alloc: Global, blank: BlankTable) -> Result<(), Fail>
+    requires name { blank ≡ J.name }
+    requires slots { blank.slots ≡ 1 }
+    requires callers { blank.callers ≡ 1 }
+{
+    let node = founded(alloc, 0, CappedStore::new(alloc, 4))?;
+    let (table, mut registrar) = blank.open::<J>();
+    let first = registrar.admit_node(&table, 0, &node);
+    let second = registrar.open_caller(&table, 0, 1);
+    drop(are_a_world(&table, registrar, first, second));
+    drop(node);
+    drop(table);
+    Ok(())
+}
+
+#[test]
+fn a_node_and_a_caller_are_a_world(rt: HostRuntime) -> Result<(), Fail> {
+    let blank = Registrar::open(rt.alloc(), 1, 1)?;
+    two_are_a_world::<Brand>(rt.alloc(), blank)
+}

@@ -1,0 +1,62 @@
+//! One world for several callers.
+ghost use Rattle.std.specs.Prelude.{◌≡◌, [], ◌∷◌};
+ghost use Rattle.chord_table.specs.Shown.{WitnessShown};
+
+use super::{founded, hears};
+use chord_caller::{CallerCore, Heard};
+use chord_store::CappedStore;
+use chord_table::{BlankTable, CallerSeat, Naming, Registrar, Shared, Witness};
+use std::alloc::Global;
+use std::marker::Brand;
+use std::test::Fail;
+
+/// What two callers took stands in one history of one world, each call once.
+fn share_a_world<J: Naming>(
+    table: &Shared<J>,
+    first: &mut CallerSeat<J>,
+    second: &mut CallerSeat<J>,
+) -> Witness<J>
+    ensures callers { result ≡ first.old.caller ∷ second.old.caller ∷ [] }
+    ensures shown { WitnessShown result }
+{
+    let mut all = Witness::open(table);
+    all.join(table, first.witness(table));
+    all.join(table, second.witness(table));
+    all.look(table);
+    all
+}
+
+/// A node answers the first of two callers, and then both stand in one world.
+fn two_share_a_world<J: Naming>(
+    alloc: Global,
+    blank: BlankTable,
+) -> Result<(bool, Heard, usize), Fail>
+    requires name { blank ≡ J.name }
+    requires slots { blank.slots ≡ 2 }
+    requires callers { blank.callers ≡ 2 }
+{
+    let mut node = founded(alloc, 0, CappedStore::new(alloc, 4))?;
+    let (table, mut registrar) = blank.open::<J>();
+    let mut seat = registrar.admit_node(&table, 0, &node);
+    let mut core = CallerCore::new(alloc, 0, 1);
+    let mut first = registrar.admit_caller(&table, 0, &core);
+    let mut second = registrar.open_caller(&table, 1, 1);
+    let heard = hears(alloc, &table, &mut node, &mut seat, &mut core, &mut first);
+    drop(share_a_world(&table, &mut first, &mut second));
+    drop(second);
+    drop(first);
+    drop(core);
+    drop(seat);
+    drop(node);
+    drop(registrar);
+    drop(table);
+    heard
+}
+
+#[test]
+fn two_callers_share_a_world(rt: HostRuntime) -> Result<(), Fail> {
+    let blank = Registrar::open(rt.alloc(), 2, 2)?;
+    let heard = two_share_a_world::<Brand>(rt.alloc(), blank)?;
+    assert!(rt; heard == (true, Heard::Fresh, 1));
+    Ok(())
+}
