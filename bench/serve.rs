@@ -1,12 +1,13 @@
-//! One client for three servers: `chord serve`, `redis-server`, and an echo server that does nothing, so that all are
-//! measured by the same program. A thread a connection writes so many requests at once and reads all their answers.
+//! One client for three servers: `chord serve`, `redis-server`, and an echo server that does
+//! nothing else, so that the same program measures all three. Each connection has a thread, which
+//! writes FLIGHT requests at once and then reads their answers.
 //!
 //!     serve echo PORT                                              the echo server
 //!     serve load SERVER PORT KIND CONNECTIONS FLIGHT REQUESTS      requests a second, on one line
 //!
-//! SERVER is `chord`, `redis` or `echo`; KIND is `insert` (8 bytes under one of 100,000 keys of 12 bytes), `retrieve` (one
-//! of those sets), `fill` (one value under each key) or `fill100` (100 values under each of the first 1,000 keys) and
-//! `retrieve100` (one of those).
+//! SERVER is `chord`, `redis` or `echo`; KIND is `insert` (8 bytes under one of 100,000 keys of 12
+//! bytes), `retrieve` (one of those sets), `fill` (one value under each key) or `fill100` (100
+//! values under each of the first 1,000 keys) and `retrieve100` (one of those).
 
 use std::env;
 use std::io::{Read, Write};
@@ -40,7 +41,7 @@ impl Kind {
     }
 }
 
-/// Numbers in no order, by xorshift.
+/// Numbers in random order, by xorshift.
 struct Mixed(u64);
 
 impl Mixed {
@@ -87,7 +88,7 @@ fn put_words(out: &mut Vec<u8>, puts: bool, key: &[u8], value: &[u8]) {
     }
 }
 
-/// How many bytes the first answer of our frames has, where it is whole.
+/// How many bytes the first answer in our frames has, once it is whole.
 fn frame_length(bytes: &[u8]) -> Option<usize> {
     let length = 4 + u32::from_be_bytes(bytes.get(..4)?.try_into().unwrap()) as usize;
     let frame = bytes.get(..length)?;
@@ -95,12 +96,12 @@ fn frame_length(bytes: &[u8]) -> Option<usize> {
     Some(length)
 }
 
-/// How many bytes the first line has, where it is whole.
+/// How many bytes the first line has, once it is whole.
 fn line_length(bytes: &[u8]) -> Option<usize> {
     bytes.windows(2).position(|pair| pair == b"\r\n").map(|at| at + 2)
 }
 
-/// How many bytes the first answer of Redis has, where it is whole.
+/// How many bytes the first answer of Redis has, once it is whole.
 fn words_length(bytes: &[u8]) -> Option<usize> {
     let mut end = line_length(bytes)?;
     if bytes[0] == b':' {

@@ -1,8 +1,10 @@
 #!/usr/bin/env bash
-# Measures `chord serve` beside `redis-server` and an echo server, all by the one client of bench/serve.rs, in one run:
-#     bench/serve.sh [REQUESTS [ROUNDS]]     so many requests a cell (200,000), so many rounds (3)
-# Needs redis-server and redis-cli, rustc, and the toolchain; it installs nothing. Each server is started anew for each cell. Rows are
-# medians of requests a second as multiples of Redis's in the same round: one node, 16 nodes, and the echo server.
+# Measures `chord serve`, `redis-server` and an echo server in one run, all by the client
+# bench/serve.rs:
+#     bench/serve.sh [REQUESTS [ROUNDS]]     requests a cell (200,000), and rounds (3)
+# Needs redis-server, redis-cli, rustc and the toolchain; it installs nothing. Each cell starts its
+# server anew. Rows are medians of requests a second as multiples of Redis's in the same round: one
+# node, 16 nodes, and the echo server.
 set -euo pipefail
 cd "$(dirname "$0")/.."
 requests=${1-200000} rounds=${2-3} port=17400
@@ -23,7 +25,7 @@ plan() {
 plan 1 > "$room/1.toml"
 plan 16 > "$room/16.toml"
 
-# Waits until somebody listens at the port.
+# Waits until a server listens at the port.
 await() {
     for _ in $(seq 200); do
         (exec 3<> "/dev/tcp/127.0.0.1/$port") 2> /dev/null && return
@@ -32,7 +34,8 @@ await() {
     echo "nobody listens" >&2 && exit 1
 }
 
-# cell SERVER KIND CONNECTIONS FLIGHT: into `rate`, the requests a second of a server that is started for it, at a port of its own.
+# cell SERVER KIND CONNECTIONS FLIGHT: sets `rate` to the requests a second of a new server at a
+# port of its own.
 cell() {
     local client=$1 hold='' server
     port=$((port + 1))

@@ -1,9 +1,9 @@
 //! The program `chord`: a Chord key store on the console and over loopback.
 //!
-//! `world` is a world of nodes and callers, which does a step a line ([`world`]); `run` a running ring that does what a
-//! plan says ([`run`]); `serve` a running ring that answers clients ([`serve`], [`stay`]); `ask` and `load` are such
-//! clients ([`start_ask`], [`start_load`]). `chord_command_line` says what a command line has, and [`Finish`] with what
-//! status the program ends.
+//! `world` is the console, which does one step of a world a line ([`world`]); `run` starts a ring
+//! that does what a plan says ([`run`]); `serve` starts a ring that answers clients ([`serve`],
+//! [`stay`]); `ask` and `load` are such clients ([`start_ask`], [`start_load`]).
+//! `chord_command_line` says what a command line has, and [`Finish`] how the program ends.
 #![tactic(auto)]
 
 use chord_client::{start_ask, start_load, told};
@@ -25,7 +25,7 @@ use std::thread::Threads;
 use std::time::Clock;
 use std::{env, io};
 
-/// Does `world`.
+/// Does the command `world`.
 fn start_world(rt: &HostRuntime, alloc: Global, word: &str) -> Result<Finish, Finish> {
     if !names_stores(word) {
         return told(rt, no_stores(alloc, word)?);
@@ -47,7 +47,7 @@ fn start_world(rt: &HostRuntime, alloc: Global, word: &str) -> Result<Finish, Fi
     Ok(world(alloc, stores, &mut rt.stdin(), rt.stdout()))
 }
 
-/// The plan of a file. What is wrong with it is printed.
+/// Reads the plan in a file, and prints what is wrong with it.
 fn plan_of(rt: &HostRuntime, path: &str) -> Result<Plan, Finish> {
     match read_plan(rt, rt.alloc(), path) {
         Ok(plan) => Ok(plan),
@@ -59,16 +59,17 @@ fn plan_of(rt: &HostRuntime, path: &str) -> Result<Plan, Finish> {
     }
 }
 
-/// Where a server listens, for how long it serves, and where it notes how connections end.
+/// Where a server listens, for how long it serves, and where it logs how connections end.
 #[derive(Drop)]
 struct Served<'a> {
     listener: TcpListener,
-    /// So many connections, or until standard input ends.
+    /// How many connections it serves; with none it serves until standard input ends.
     connections: Option<usize>,
     notes: Option<&'a HostRuntime>,
 }
 
-/// Does `run`, or `serve` where there is a listener, over a store for each node of the plan.
+/// Does the command `run`, or `serve` if there is a listener, with a store for each node of the
+/// plan.
 fn start_ring<
     T: Threads
         + Wait
@@ -114,7 +115,7 @@ fn start_ring<
     Ok(Finish::Done)
 }
 
-/// Does `serve`.
+/// Does the command `serve`.
 fn start_serve<
     T: Threads
         + Wait
@@ -152,7 +153,7 @@ fn start_serve<
     start_ring(rt, threads, &plan, Some(served))
 }
 
-/// Does `run`.
+/// Does the command `run`.
 fn start_run<
     T: Threads
         + Wait
@@ -167,7 +168,7 @@ fn start_run<
     start_ring(rt, threads, &plan, None)
 }
 
-/// How a command ended, with its work done or not.
+/// How a command ended, done or with a fault.
 fn ended(command: Result<Finish, Finish>) -> Finish {
     match command {
         Ok(finish) => finish,
@@ -187,7 +188,8 @@ fn words_of(rt: &HostRuntime) -> Result<Vec<String>, Finish> {
     }
 }
 
-/// What the words say. A fault of them and help are printed, and end the program.
+/// Matches the words with the commands. Help, or the fault of the words, is printed and ends the
+/// program.
 fn matched<'a>(rt: &HostRuntime, words: &'a [String]) -> Result<ArgMatches<'a>, Finish> {
     match commands(rt.alloc())?.try_get_matches_from(words) {
         Ok(matches) => Ok(matches),

@@ -1,4 +1,4 @@
--- What a client's call answers is what each caller that it is the core of answers, and an event of that caller.
+-- A client answers as each caller that it is the core of, and its call is a step of that caller.
 use Rattle.std.proofs.Common.{◌≡◌, ◌≢◌, ℕ, ◌+◌, Bool, true, false, cond, not, ◌&&◌, eqb, Option, None, Some, Result, Ok, Err, slice_get, is_some, inl, inr, ⊎_elim, refl, sym, ◌∙◌, ap, subst, arith}
 use Rattle.std.proofs.lemmas.Bool.{ne_eqb, cond-false}
 use Rattle.std.proofs.lemmas.Option.{none-some}
@@ -36,7 +36,7 @@ sent_alike client caller place other request ask core same asked = record {
   hops = asked.hops;
 }
 
--- a refusal of the client's is the caller's
+-- a client's refusal is its caller's
 refused_alike : (request : Request) (fault : SubmitFault) (old new : Client) (caller : Caller) → ClientSubmitIs request old (Err fault) new → IsCoreOf old caller → SubmitIs request caller (Err fault) caller
 refused_alike request (Bad fault) old new caller h core = (h.0, refl)
 refused_alike request WindowFull old new caller h core =
@@ -88,7 +88,7 @@ submit_simulates request old ask new alike caller core =
 
 -- ---- sending again
 
--- a slot where a request waits is a submission that is not taken
+-- a waiting slot is a submission that is not taken
 waits_by : (taken : Bool) (submission : Option Submission) (request : Request) → slot_by taken submission ≡ Some (Waiting request)
     → (taken ≡ false) × (s : Submission) × (submission ≡ Some s) × (s.request ≡ request)
 waits_by true submission request e = cc
@@ -153,7 +153,7 @@ cond_same : (b : Bool) (o : Option Request) → o ≡ None → cond b o None ≡
 cond_same true o e = e
 cond_same false o e = refl
 
--- a reply that fits nothing submitted is not fresh
+-- a reply that fits no submitted request is not fresh
 unfit_stale : (told : Told) (caller : Caller) → fitting told.reply (submission_at told.number caller.submitted) ≡ None → fresh_for told caller ≡ None
 unfolding fresh_for
 unfit_stale told caller e = cond_same (eqb told.caller caller.number && not (is_taken caller told.number)) (fitting told.reply (submission_at told.number caller.submitted)) e
@@ -181,7 +181,7 @@ none_by true submission e = absurd (none-some Over (sym e))
 none_by false None e = refl
 none_by false (Some s) e = absurd (none-some (Waiting s.request) (sym e))
 
--- what is strange to the client is foreign to the caller
+-- a reply that is strange to the client is foreign to the caller
 strange_foreign : (told : Told) (client : Client) (caller : Caller) → IsCoreOf client caller → IsStrange told client → IsForeign told caller
 strange_foreign told client caller core strange =
     ⊎_elim

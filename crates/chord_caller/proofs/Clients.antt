@@ -1,4 +1,4 @@
--- The slots of a client, and that a client stays the core of a caller that goes on with it.
+-- The slots of a client, and that a client stays the core of its callers after the same steps.
 use Rattle.std.proofs.Common.{◌≡◌, ◌≢◌, ℕ, zero, suc, ◌+◌, ◌-◌, ◌<◌, ◌≤◌, Bool, true, false, cond, not, ◌&&◌, ◌||◌, eqb, Option, None, Some, List, [], ◌∷◌, ◌++◌, replicate, length, length-append, length-set, slice_get, slice_set, is_some, option_map, ⊎_elim, refl, sym, ◌∙◌, ap, ap₂, arith}
 use Rattle.std.proofs.lemmas.Bool.{true≢false, cases_lt, ne_eqb}
 use Rattle.std.proofs.lemmas.List.{append_assoc, length-replicate}
@@ -24,7 +24,7 @@ got_over zero slots place low = absurd (omega arith)
 got_over (suc floor) slots zero low = refl
 got_over (suc floor) slots (suc place) low = got_over floor slots place (omega arith)
 
--- those above it are the ones that are kept
+-- the slots above the floor are the stored ones
 pub got_kept : (floor : ℕ) (slots : List Slot) (place : ℕ) → floor ≤ place → slice_get (all_slots floor slots) place ≡ slice_get slots (place - floor)
 got_kept zero slots place high = ap (slice_get slots) (omega arith)
 got_kept (suc floor) slots zero high = absurd (omega arith)
@@ -42,7 +42,7 @@ over_by true submission = refl
 over_by false None = refl
 over_by false (Some submission) = refl
 
--- a number is taken exactly where its slot is over
+-- a number is taken exactly if its slot is over
 pub taken_is : (client : Client) (caller : Caller) → ((number : ℕ) → slot_at number client ≡ slot_in number caller) → (number : ℕ) → is_taken caller number ≡ is_over (slot_at number client)
 taken_is client caller slots number =
     sym (over_by (is_taken caller number) (submission_at number caller.submitted)) ∙ ap is_over (sym (slots number))
@@ -63,7 +63,7 @@ floor_from client caller next count slots =
     below zero low high = absurd (omega arith)
     below (suc place) low high = taken_is client caller slots (suc place) ∙ ap is_over (got_over client.floor client.slots place (omega arith))
 
--- a client is the core of a caller where number, window, count and slots agree
+-- a client is the core of a caller if number, window, count and slots agree
 core_from : (client : Client) (caller : Caller) → client.number ≡ caller.number → client.window ≡ caller.window → is_over (slice_get client.slots 0) ≡ false
     → count_of client ≡ length caller.submitted → ((number : ℕ) → slot_at number client ≡ slot_in number caller) → IsCoreOf client caller
 core_from client caller number window next count slots = record {
@@ -93,7 +93,7 @@ next_pushed : (slots : List Slot) (request : Request) → is_over (slice_get slo
 next_pushed [] request next = refl
 next_pushed (slot ∷ slots) request next = next
 
--- the submission that a request becomes
+-- the submission made of a request
 abbrev pub submission_now : Request → Caller → Submission
 submission_now request caller = record { request = request; mine_seen = length caller.mine; told_seen = length caller.told }
 
@@ -215,7 +215,7 @@ waits_slot None request e = absurd (none-some request e)
 waits_slot (Some (Waiting other)) request e = cc
 waits_slot (Some Over) request e = absurd (none-some request e)
 
--- one that neither waits nor is over was never submitted
+-- a number that neither waits nor is over was never submitted
 pub idle_slot : (o : Option Slot) → is_over o ≡ false → waiting o ≡ None → o ≡ None
 idle_slot None over e = refl
 idle_slot (Some (Waiting request)) over e = absurd (none-some request (sym e))
@@ -244,7 +244,7 @@ raised_rises floor slots floor' slots' raised =
     (λ rises. rises)
     (cases_lt floor' floor)
 
--- what a client keeps stays so as a slot is settled
+-- a client keeps its rules when a slot is settled
 pub settled_keeps : (window floor room : ℕ) (slots : List Slot) (place floor' room' : ℕ) (slots' : List Slot) → IsClient window floor room slots
     → IsRaised floor (slice_set slots place Over) floor' slots' → room' ≡ room → IsClient window floor' room' slots'
 settled_keeps window floor room slots place floor' room' slots' h raised same =
@@ -262,7 +262,7 @@ settled_keeps window floor room slots place floor' room' slots' h raised same =
       next = raised.next;
     }
 
--- a slot that is settled is that of the number
+-- the slot that is settled is that of the number
 pub settled_from : (number window floor : ℕ) (slots : List Slot) (asked : ℕ) (request : Request) (floor' : ℕ) (slots' : List Slot)
     → waiting (slot_of floor slots asked) ≡ Some request → IsRaised floor (slice_set slots (asked - floor - 1) Over) floor' slots'
     → IsEnded asked request (client_of number window floor slots) (client_of number window floor' slots')
@@ -285,7 +285,7 @@ pending_by true (Some submission) = refl
 pending_by false None = refl
 pending_by false (Some submission) = refl
 
--- a number is pending with each caller that the client is the core of exactly where it is with the client
+-- a number is pending in a client exactly if it is in each caller that the client is the core of
 pub pending_is : (client : Client) (caller : Caller) → IsCoreOf client caller → (number : ℕ) → is_some (waiting_at number client) ≡ is_pending number caller
 pending_is client caller core number =
     ap (λ o. is_some (waiting o)) (core.slots_are number) ∙ pending_by (is_taken caller number) (submission_at number caller.submitted)
@@ -299,7 +299,7 @@ low_idle : (client : Client) (number : ℕ) → number ≤ client.floor → wait
 low_idle client zero low = refl
 low_idle client (suc place) low = ap waiting (got_over client.floor client.slots place (omega arith))
 
--- with no slot none is pending
+-- without a slot no request is pending
 pub none_waits : (client : Client) → length client.slots ≡ 0 → ClientPendingIs client None
 none_waits client empty zero = refl
 none_waits client empty (suc place) =
@@ -314,7 +314,7 @@ first_waits [] some next = absurd (omega arith)
 first_waits (Waiting request ∷ slots) some next = refl
 first_waits (Over ∷ slots) some next = absurd (true≢false next)
 
--- with one the first above the floor is the least pending
+-- with a slot the first above the floor is the least pending
 pub one_waits : (client : Client) → 0 < length client.slots → is_over (slice_get client.slots 0) ≡ false → ClientPendingIs client (Some (client.floor + 1))
 one_waits client some next =
     let shift : client.floor + 1 ≡ suc client.floor = omega arith in

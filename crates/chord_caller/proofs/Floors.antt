@@ -14,13 +14,13 @@ use Rattle.chord_caller.specs.declared.submitted.Submitted.{Submitted}
 use Rattle.chord_caller.specs.Caller.{Caller, is_taken, floor_upto, floor_of}
 use Rattle.chord_caller.specs.Submitted.{progress_at, is_over, IsFloor, IsTied, submission_of, caller_of}
 
--- a request is over with a place, or not over
+-- a request is over, with an index, or not over
 pub over_cases : (o : Option Progress) → ((place : ℕ) × (o ≡ Some (Taken place)) × (is_over o ≡ true)) ⊎ (is_over o ≡ false)
 over_cases None = inr refl
 over_cases (Some (Pending request)) = inr refl
 over_cases (Some (Taken place)) = inl (place, refl, refl)
 
--- what is over stands in mine
+-- the call of a request that is over is among the taken calls
 over_found : (caller : ℕ) (submitted : List Submitted) (mine : List Done) → IsTied caller submitted mine → (number place : ℕ)
     → progress_at number submitted ≡ Some (Taken place) → is_some (done_at caller number mine) ≡ true
 unfolding done_at
@@ -30,7 +30,7 @@ over_found caller submitted mine tied number place e =
     (and_from (eqb (s.0).caller caller) (eqb (s.0).number number) (eqb_same (s.0).caller caller s.2) (eqb_same (s.0).number number s.3)) in
     ap is_some found.1
 
--- what is not over does not
+-- the call of a request that is not over is not
 not_over_absent : (caller : ℕ) (submitted : List Submitted) (mine : List Done) → IsTied caller submitted mine → (number : ℕ)
     → is_over (progress_at number submitted) ≡ false → is_some (done_at caller number mine) ≡ false
 not_over_absent caller submitted mine tied number e =
@@ -47,7 +47,7 @@ place_in : Option Progress → ℕ
 place_in (Some (Taken place)) = place
 place_in other = 0
 
--- what is over stands in mine at its place
+-- the call of a request that is over is at its index among the taken calls
 pub found_at : (caller : ℕ) (submitted : List Submitted) (mine : List Done) → IsTied caller submitted mine → (number place : ℕ)
     → progress_at number submitted ≡ Some (Taken place) → slice_get mine place ≡ done_at caller number mine
 unfolding place_in
@@ -61,7 +61,7 @@ found_at caller submitted mine tied number place e =
     let same : place ≡ here.0 = ap place_in (sym e ∙ over) in
     ap (slice_get mine) same ∙ here.1 ∙ sym found)
 
--- and what is not over does not stand there
+-- the call of a request that is not over is not among the taken calls
 pub absent_at : (caller : ℕ) (submitted : List Submitted) (mine : List Done) → IsTied caller submitted mine → (number : ℕ)
     → is_over (progress_at number submitted) ≡ false → None ≡ done_at caller number mine
 absent_at caller submitted mine tied number e =
@@ -69,7 +69,7 @@ absent_at caller submitted mine tied number e =
     (λ none. sym none)
     (λ done found. absurd (true≢false (sym (ap is_some found) ∙ not_over_absent caller submitted mine tied number e)))
 
--- a call is taken exactly where its request is over
+-- a call is taken exactly if its request is over
 pub is_taken_is : (caller window : ℕ) (submitted : List Submitted) (mine told : List Done) → IsTied caller submitted mine → (number : ℕ)
     → is_taken (caller_of caller window submitted mine told) number ≡ is_over (progress_at number submitted)
 unfolding is_taken
@@ -93,7 +93,7 @@ upto_step f n floor false e low here =
     (λ no. rw no.0 (omega arith))
     (eqb_tells f n)
 
--- a number with all up to it taken and the next not is what the floor comes to
+-- the floor is the number with all up to it taken and the next one not
 pub upto_is : (caller : Caller) (floor : ℕ) → ((number : ℕ) → 1 ≤ number → number ≤ floor → is_taken caller number ≡ true) → is_taken caller (suc floor) ≡ false
     → (n : ℕ) → floor_upto caller n ≡ min n floor
 unfolding floor_upto

@@ -20,7 +20,7 @@ some_if : (b : Bool) (done : Done) → is_some (cond b (Some done) None) ≡ b
 some_if true done = refl
 some_if false done = refl
 
--- one call further
+-- one more call
 more_named : (dones : List Done) (i : ℕ) (d : Done) (caller number : ℕ) → i < length dones → d ≡ get_or dones i d
     → is_some (done_at caller number (take (i + 1) dones)) ≡ (is_some (done_at caller number (take i dones)) || (eqb d.caller caller && eqb d.number number))
 unfolding done_at
@@ -35,7 +35,7 @@ or_turned true false = refl
 or_turned false true = refl
 or_turned false false = refl
 
--- one name more
+-- one more name
 pub name_added : (dones : List Done) (i : ℕ) (d : Done) (old new : BTreeSet (ℕ × ℕ)) → i < length dones → d ≡ get_or dones i d → Updates name_cmp old new (d.caller, d.number) true
     → ((caller number : ℕ) → has_name caller number old ≡ is_some (done_at caller number (take i dones)))
     → (caller number : ℕ) → has_name caller number new ≡ is_some (done_at caller number (take (i + 1) dones))
@@ -55,7 +55,7 @@ and_not false true false = refl
 and_not false false true = refl
 and_not false false false = refl
 
--- one name less
+-- one name removed
 pub name_struck : (dones : List Done) (i : ℕ) (d : Done) (first old new : BTreeSet (ℕ × ℕ)) → i < length dones → d ≡ get_or dones i d → Updates name_cmp old new (d.caller, d.number) false
     → ((caller number : ℕ) → has_name caller number old ≡ (has_name caller number first && not (is_some (done_at caller number (take i dones)))))
     → (caller number : ℕ) → has_name caller number new ≡ (has_name caller number first && not (is_some (done_at caller number (take (i + 1) dones))))
@@ -69,7 +69,7 @@ or_true : (a b : Bool) → b ≡ true → (a || b) ≡ true
 or_true true b e = refl
 or_true false b e = e
 
--- a call of the list stands in it
+-- each element of a list is found in it
 stands : (dones : List Done) (i : ℕ) (d : Done) → i < length dones → d ≡ get_or dones i d → is_some (done_at d.caller d.number dones) ≡ true
 stands dones i d low at =
     let itself : (eqb d.caller d.caller && eqb d.number d.number) ≡ true = ap₂ ◌&&◌ (eqb_same d.caller d.caller refl) (eqb_same d.number d.number refl) in
@@ -106,7 +106,7 @@ pub none_struck : (names : BTreeSet (ℕ × ℕ)) (caller number : ℕ) → has_
 unfolding done_at
 none_struck names caller number = and_true (has_name caller number names)
 
--- one call further that does not stand in the list, or does
+-- one more call: it is in the list, or it is not
 pub more_unknown : (listed dones : List Done) (i : ℕ) (d : Done) (left : Bool) → i < length dones → d ≡ get_or dones i d
     → left ≡ not (is_some (done_at d.caller d.number listed)) → left ≡ true → not_in listed (take (i + 1) dones) ≡ not_in listed (take i dones) ++ d ∷ []
 more_unknown listed dones i d left low at is there =

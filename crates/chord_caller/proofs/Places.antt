@@ -1,4 +1,4 @@
--- Elements by place, in lists that grow at the end or change at one place.
+-- Elements by index, in lists that grow at the end or change at one index.
 use Rattle.std.proofs.Common.{◌≡◌, ◌≢◌, ℕ, zero, suc, ◌+◌, ◌<◌, Bool, true, false, ◌||◌, append-nil, take, get_or, Some, is_some, List, [], ◌∷◌, ◌++◌, map, length, slice_get, slice_set, ◌⊎◌, inl, inr, ⊎_elim, refl, sym, ◌∙◌, ap, ap₂}
 use Rattle.std.specs.Prelude.{filter}
 use Rattle.std.proofs.lemmas.Bool.{cond-true, cond-false}
@@ -41,12 +41,12 @@ got_set_other (x ∷ xs) zero (suc other) y apart = refl
 got_set_other (x ∷ xs) (suc place) zero y apart = refl
 got_set_other (x ∷ xs) (suc place) (suc other) y apart = got_set_other xs place other y (λ e. apart (ap suc e))
 
--- maps that agree on the elements are the same
+-- two functions that agree on the elements of a list give equal lists
 pub map_agree : {A B : Type 0} (f g : A → B) (xs : List A) → ((place : ℕ) (x : A) → slice_get xs place ≡ Some x → f x ≡ g x) → map f xs ≡ map g xs
 map_agree f g [] same = refl
 map_agree f g (x ∷ xs) same = ap₂ ◌∷◌ (same zero x refl) (map_agree f g xs (λ place y e. same (suc place) y e))
 
--- an element may change to one with the same image
+-- replacing an element by one with an equal image leaves the mapped list unchanged
 pub map-set_same : {A B : Type 0} (f : A → B) (xs : List A) (place : ℕ) (x y : A) → slice_get xs place ≡ Some x → f y ≡ f x → map f (slice_set xs place y) ≡ map f xs
 map-set_same f [] place x y e same = absurd (none-some x e)
 map-set_same f (z ∷ xs) zero x y e same = ap (λ v. v ∷ map f xs) (same ∙ ap f (sym (same_Some z x e)))
@@ -59,7 +59,7 @@ filter_more_yes p xs i d low h = ap (filter p) (take_more xs i d low) ∙ filter
 pub filter_more_no : {A : Type 0} (p : A → Bool) (xs : List A) (i : ℕ) (d : A) → i < length xs → p (get_or xs i d) ≡ false → filter p (take (i + 1) xs) ≡ filter p (take i xs)
 filter_more_no p xs i d low h = ap (filter p) (take_more xs i d low) ∙ filter-append p (take i xs) (get_or xs i d ∷ []) ∙ ap (λ ys. filter p (take i xs) ++ ys) (cond-false (p (get_or xs i d)) (get_or xs i d ∷ []) [] h) ∙ append-nil (filter p (take i xs))
 
--- a call stands in two lists, one behind the other, where it stands in one of them
+-- a call is in two joined lists if it is in one of them
 pub either_is : (caller number : ℕ) (first second : List Done) → is_some (done_at caller number (first ++ second)) ≡ (is_some (done_at caller number first) || is_some (done_at caller number second))
 either_is caller number first second =
     by_option (done_at caller number first)

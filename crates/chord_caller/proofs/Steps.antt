@@ -1,4 +1,4 @@
--- What a call answers is a caller's event.
+-- Each call of a caller is a step of the caller.
 use Rattle.std.proofs.Common.{◌≡◌, ℕ, ◌++◌, None, Some, Ok, true, sym, ◌∙◌, ap₂, subst}
 use Rattle.chord_map.specs.declared.request.Request.{Request}
 use Rattle.chord_caller.specs.declared.ask.Ask.{Ask}

@@ -1,4 +1,4 @@
--- What a new request does to what a caller keeps.
+-- A caller's fields after a new request.
 use Rattle.std.proofs.Common.{◌≡◌, ℕ, zero, suc, ◌+◌, ◌≤◌, Some, List, [], ◌∷◌, ◌++◌, map, length, length-append, slice_get, refl, ◌∙◌, ap, arith}
 use Rattle.std.proofs.lemmas.List.{map-append}
 use Rattle.std.proofs.lemmas.Option.{none-some}
@@ -46,7 +46,7 @@ progress_left : (submitted more : List Submitted) (number : ℕ) (progress : Pro
 progress_left submitted more zero progress e = e
 progress_left submitted more (suc place) progress e = progress_left_at submitted more place progress e
 
--- what a caller keeps stays so with one more request
+-- a caller keeps its rules with one more request
 pub submit_keeps : (caller window floor : ℕ) (submitted : List Submitted) (mine : List Done) (entry : Submitted) (request : Request) → entry.progress ≡ Pending request
     → length submitted + 1 ≤ floor + window → IsCaller caller window floor submitted mine → IsCaller caller window floor (submitted ++ entry ∷ []) mine
 submit_keeps caller window floor submitted mine entry request new within h =
@@ -67,7 +67,7 @@ submit_keeps caller window floor submitted mine entry request new within h =
       };
     }
 
--- the caller with one more request is the one that it stands for
+-- the fields after a submission are those of the caller with one more request
 pub submitted_is : (caller window : ℕ) (submitted : List Submitted) (mine told : List Done) (entry : Submitted) (request : Request)
     → entry ≡ record { progress = Pending request; mine_seen = length mine; told_seen = length told }
     → caller_of caller window (submitted ++ entry ∷ []) mine told ≡ with_request request (caller_of caller window submitted mine told)

@@ -1,4 +1,4 @@
--- What a taken reply does to what a caller keeps.
+-- A caller's fields after a taken reply.
 use Rattle.std.proofs.Common.{◌≡◌, ◌≢◌, ℕ, zero, suc, ◌<◌, ◌≤◌, Some, List, [], ◌∷◌, ◌++◌, map, length, length-set, slice_get, slice_set, ⊎_elim, refl, sym, ◌∙◌, ap, ap₂, subst, arith}
 use Rattle.std.proofs.lemmas.Bool.{true≢false, cases_lt}
 use Rattle.std.proofs.lemmas.Option.{none-some}
@@ -17,7 +17,7 @@ use Rattle.chord_caller.proofs.Places.{got_left, got_last, got_pushed, got_set_s
 abbrev pub over_entry : List Done → Submitted → Submitted
 over_entry mine entry = record entry { progress = Taken (length mine) }
 
--- a pending request at a place, and the call that it is
+-- a pending request at an index, and the call that its reply makes of it
 pub record IsHere (caller : ℕ) (submitted : List Submitted) (place : ℕ) (entry : Submitted) (done : Done) : Type 0 where
   pub entry_is : slice_get submitted place ≡ Some entry
   pub waits : entry.progress ≡ Pending done.request
@@ -32,7 +32,7 @@ progress_there : (submitted : List Submitted) (mine : List Done) (place : ℕ) (
     → progress_of (slice_get (slice_set submitted place (over_entry mine entry)) other) ≡ progress_of (slice_get submitted other)
 progress_there submitted mine place entry other apart = ap progress_of (got_set_other submitted place other (over_entry mine entry) apart)
 
--- what was over stays so
+-- a request that was over is still over
 pub over_stays : (submitted : List Submitted) (mine : List Done) (place : ℕ) (entry : Submitted) → slice_get submitted place ≡ Some entry → (floor : ℕ)
     → AreTaken floor submitted → AreTaken floor (slice_set submitted place (over_entry mine entry))
 over_stays submitted mine place entry e floor all zero low high = absurd (omega arith)
@@ -71,7 +71,7 @@ taken_after caller submitted mine place entry request e waits (suc other) into t
     (λ (there : other ≢ place). progress_there submitted mine place entry other there ∙ t)
     (same_or_not other place)
 
--- the calls taken are still those that are kept as taken
+-- the entries and the taken calls still agree
 pub tied_after : (caller : ℕ) (submitted : List Submitted) (mine : List Done) (place : ℕ) (entry : Submitted) (done : Done) → IsHere caller submitted place entry done → IsTied caller submitted mine
     → IsTied caller (slice_set submitted place (over_entry mine entry)) (mine ++ done ∷ [])
 tied_after caller submitted mine place entry done h ties = record {
@@ -93,7 +93,7 @@ floor_rises old new submitted all h =
     (λ rises. rises)
     (cases_lt new old)
 
--- what a caller keeps stays so as it takes a reply
+-- a caller keeps its rules when it takes a reply
 pub take_keeps : (caller window floor floor' : ℕ) (submitted : List Submitted) (mine : List Done) (place : ℕ) (entry : Submitted) (done : Done) → IsHere caller submitted place entry done
     → IsCaller caller window floor submitted mine → IsFloor floor' (slice_set submitted place (over_entry mine entry))
     → IsCaller caller window floor' (slice_set submitted place (over_entry mine entry)) (mine ++ done ∷ [])
@@ -108,7 +108,7 @@ take_keeps caller window floor floor' submitted mine place entry done here h ris
       tied = tied_after caller submitted mine place entry done here h.tied;
     }
 
--- the old requests are those that they were, though more was taken
+-- the old requests are unchanged, though more was taken
 same_requests : (caller : ℕ) (submitted : List Submitted) (mine more : List Done) → IsTied caller submitted mine
     → map (submission_of (mine ++ more)) submitted ≡ map (submission_of mine) submitted
 same_requests caller submitted mine more ties =
@@ -121,7 +121,7 @@ same_requests caller submitted mine more ties =
         let stands = ties.stands (suc place) into (ap progress_of e ∙ ap Some is) in
         ap request_in (got_left mine more into stands.0 stands.1) ∙ sym (ap request_in stands.1)
 
--- the caller that took a reply is the one that it stands for
+-- the fields after a reply was taken are those of the caller with that reply
 pub taken_is : (caller window : ℕ) (submitted : List Submitted) (mine told : List Done) (place : ℕ) (entry : Submitted) (done : Done) → IsHere caller submitted place entry done → IsTied caller submitted mine
     → caller_of caller window (slice_set submitted place (over_entry mine entry)) (mine ++ done ∷ []) told
     ≡ (let old = caller_of caller window submitted mine told in record old { mine = mine ++ done ∷ [] })
@@ -141,7 +141,7 @@ here_of : (caller : ℕ) (submitted : List Submitted) (mine : List Done) (submit
     → (h : Settles told submitted mine submitted' mine') → IsHere caller submitted h.place h.entry (done_of told h.request)
 here_of caller submitted mine submitted' mine' told own h = record { entry_is = h.entry_is; waits = h.waits; caller_is = own; number_is = h.number_is }
 
--- what a caller keeps stays so as a reply is settled
+-- a caller keeps its rules when a reply is settled
 pub settled_keeps : (caller window floor floor' : ℕ) (submitted : List Submitted) (mine : List Done) (submitted' : List Submitted) (mine' : List Done) (told : Told) → told.caller ≡ caller
     → Settles told submitted mine submitted' mine' → IsCaller caller window floor submitted mine → IsFloor floor' submitted' → IsCaller caller window floor' submitted' mine'
 settled_keeps caller window floor floor' submitted mine submitted' mine' told own h old risen =

@@ -1,4 +1,4 @@
--- What a caller's fields say of the caller that it is.
+-- What a caller's fields say of the caller of the definitions.
 use Rattle.std.proofs.Common.{◌≡◌, ℕ, zero, suc, ◌+◌, ◌<◌, ◌≤◌, ⊎_elim, Bool, true, false, not, ◌&&◌, eqb, Option, None, Some, is_some, List, [], ◌∷◌, ◌++◌, length, slice_get, option_map, refl, sym, ◌∙◌, ap, ap₂, add-one, arith}
 use Rattle.chord_map.specs.declared.request.Request.{Request}
 use Rattle.chord_caller.specs.declared.submitted.Progress.TheVariants.{Pending, Taken}
@@ -34,13 +34,13 @@ shows number window floor submitted mine told caller view tied floors = record {
   next_is = ap (λ n. n + 1) (sym (length-map submitted (submission_of mine))) ∙ ap next_number view;
 }
 
--- a number is pending where its request waits
+-- a number is pending if its request waits
 pub pending_asked : (number window : ℕ) (submitted : List Submitted) (mine told : List Done) (caller : Caller) → caller_of number window submitted mine told ≡ caller
     → IsTied number submitted mine → (asked : ℕ) (o : Option Submitted) → o ≡ submitted_at asked submitted → is_waiting (progress_of o) ≡ is_pending asked caller
 pending_asked number window submitted mine told caller view tied asked o e =
     ap (λ s. is_waiting (progress_of s)) e ∙ sym (is_pending_is number window submitted mine told tied asked) ∙ ap (is_pending asked) view
 
--- a number is taken where its request is over
+-- a number is taken if its request is over
 pub taken_asked : (number window : ℕ) (submitted : List Submitted) (mine told : List Done) (caller : Caller) → caller_of number window submitted mine told ≡ caller
     → IsTied number submitted mine → (asked : ℕ) (o : Option Submitted) → o ≡ submitted_at asked submitted → is_taken caller asked ≡ is_over (progress_of o)
 taken_asked number window submitted mine told caller view tied asked o e =
@@ -64,19 +64,19 @@ next_waits number window submitted mine told caller view tied request =
     ap₂ (λ o b. is_some o && not b) (submission_last caller.submitted (record { request = request; mine_seen = length caller.mine; told_seen = length caller.told }))
     (taken_before caller request (next_number caller) ∙ free)
 
--- the call of a number stands at the place that is kept
+-- the call of a number is at the index in its entry
 pub found_asked : (number window : ℕ) (submitted : List Submitted) (mine told : List Done) (caller : Caller) → caller_of number window submitted mine told ≡ caller
     → IsTied number submitted mine → (asked place : ℕ) → progress_at asked submitted ≡ Some (Taken place) → slice_get mine place ≡ done_at caller.number asked caller.mine
 found_asked number window submitted mine told caller view tied asked place e =
     found_at number submitted mine tied asked place e ∙ ap (λ (c : Caller). done_at c.number asked c.mine) view
 
--- where none is kept it stands nowhere
+-- a number without an entry that is over has no taken call
 pub absent_asked : (number window : ℕ) (submitted : List Submitted) (mine told : List Done) (caller : Caller) → caller_of number window submitted mine told ≡ caller
     → IsTied number submitted mine → (asked : ℕ) → is_over (progress_at asked submitted) ≡ false → None ≡ done_at caller.number asked caller.mine
 absent_asked number window submitted mine told caller view tied asked e =
     absent_at number submitted mine tied asked e ∙ ap (λ (c : Caller). done_at c.number asked c.mine) view
 
--- the submission of a number is what is kept of it
+-- the submission of a number is that of its entry
 pub submission_asked : (number window : ℕ) (submitted : List Submitted) (mine told : List Done) (caller : Caller) → caller_of number window submitted mine told ≡ caller
     → (asked : ℕ) (o : Option Submitted) → o ≡ submitted_at asked submitted → submission_at asked caller.submitted ≡ option_map (submission_of mine) o
 submission_asked number window submitted mine told caller view asked o e =

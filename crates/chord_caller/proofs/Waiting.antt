@@ -30,7 +30,7 @@ waits mine (Some entry) = by_progress entry.progress
     by_progress (Pending request) = refl
     by_progress (Taken place) = refl
 
--- a request is pending exactly where it waits
+-- a request is pending exactly if it waits
 pub is_pending_is : (caller window : ℕ) (submitted : List Submitted) (mine told : List Done) → IsTied caller submitted mine → (number : ℕ)
     → is_pending number (caller_of caller window submitted mine told) ≡ is_waiting (progress_at number submitted)
 is_pending_is caller window submitted mine told tied number =
@@ -50,7 +50,7 @@ there_waits (Some entry) there e = by_progress entry.progress e
     by_progress (Pending request) e = refl
     by_progress (Taken place) e = absurd (true≢false e)
 
--- a place within a list has an element
+-- an index within a list has an element
 pub got_within : {A : Type 0} (xs : List A) (place : ℕ) → place < length xs → is_some (slice_get xs place) ≡ true
 got_within [] place low = absurd (omega arith)
 got_within (x ∷ xs) zero low = refl
@@ -65,7 +65,7 @@ low_waits : (floor : ℕ) (submitted : List Submitted) → IsFloor floor submitt
 low_waits floor submitted h zero low = refl
 low_waits floor submitted h (suc place) low = over_waits (progress_at (suc place) submitted) (h.taken (suc place) (omega arith) low)
 
--- where a request stands above the floor, the first one there is the least pending
+-- if a request above the floor waits, the first such one is the least pending
 pub pending_some : (caller window floor : ℕ) (submitted : List Submitted) (mine told : List Done) → IsTied caller submitted mine → IsFloor floor submitted
     → floor < length submitted → PendingIs (caller_of caller window submitted mine told) (Some (floor + 1))
 pending_some caller window floor submitted mine told tied h low =
@@ -77,7 +77,7 @@ pending_some caller window floor submitted mine told tied h low =
       λ number below. is number ∙ low_waits floor submitted h number (omega arith),
     )
 
--- where none does, none is pending
+-- if no request waits, none is pending
 pub pending_none : (caller window floor : ℕ) (submitted : List Submitted) (mine told : List Done) → IsTied caller submitted mine → IsFloor floor submitted
     → length submitted ≤ floor → PendingIs (caller_of caller window submitted mine told) None
 pending_none caller window floor submitted mine told tied h high number =

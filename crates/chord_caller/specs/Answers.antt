@@ -23,7 +23,7 @@ new_caller number window = record { number = number; window = window; submitted 
 abbrev pub is_pending : ℕ → Caller → Bool
 is_pending number caller = is_some (submission_at number caller.submitted) && not (is_taken caller number)
 
--- this is the least pending number, if there is one
+-- the least pending number, or None if no request is pending
 abbrev pub PendingIs : Caller → Option ℕ → Type 0
 PendingIs caller None = (number : ℕ) → is_pending number caller ≡ false
 PendingIs caller (Some least) = (is_pending least caller ≡ true) × ((number : ℕ) → number < least → is_pending number caller ≡ false)
@@ -32,7 +32,8 @@ PendingIs caller (Some least) = (is_pending least caller ≡ true) × ((number :
 abbrev pub HasWindow : Caller → Type 0
 HasWindow caller = next_number caller ≤ floor_of caller + caller.window
 
--- The request goes out under the next number, or the first refusal that fits is answered and nothing changes
+-- The request goes out under the next number; or the first refusal that applies is answered, and
+-- nothing changes
 abbrev pub SubmitIs : Request → Caller → Result Ask SubmitFault → Caller → Type 0
 SubmitIs request old (Ok ask) new =
     IsRequest request × HasWindow old × (next_number old < 2 ^ 64) × IsSentNow old (next_number old) request ask × (new ≡ with_request request old)
@@ -41,26 +42,29 @@ SubmitIs request old (Err WindowFull) new = IsRequest request × (floor_of old +
 SubmitIs request old (Err NumbersSpent) new = IsRequest request × HasWindow old × (2 ^ 64 ≤ next_number old) × (new ≡ old)
 SubmitIs request old (Err SubmitMemory) new = IsRequest request × HasWindow old × (next_number old < 2 ^ 64) × (new ≡ old)
 
--- the first refusal that fits, which is never being out of memory; with none, only that can come
+-- Some: `submit` would refuse with this fault, never
+-- Memory. None: `submit` can fail for memory only
 abbrev pub RefusalIs : Request → Caller → Option SubmitFault → Type 0
 RefusalIs request caller None = SubmitIs request caller (Err SubmitMemory) caller
 RefusalIs request caller (Some fault) = SubmitIs request caller (Err fault) caller × (fault ≢ SubmitMemory)
 
--- The pending request of the number goes out again
+-- The pending request of this number is sent again
 abbrev pub ResendIs : ℕ → Caller → Result Ask ResendFault → Type 0
 ResendIs number caller (Ok ask) =
     (submission : Submission) × (submission_at number caller.submitted ≡ Some submission) × (is_taken caller number ≡ false) × IsSentNow caller number submission.request ask
 ResendIs number caller (Err Idle) = is_pending number caller ≡ false
 ResendIs number caller (Err ResendMemory) = is_pending number caller ≡ true
 
--- the reply is another caller's, or to a number never submitted, or does not fit the pending request
+-- the reply is another caller's, is to a number never
+-- submitted, or does not fit its pending request
 abbrev pub IsForeign : Told → Caller → Type 0
 IsForeign told caller =
     (told.caller ≢ caller.number)
     ⊎ (submission_at told.number caller.submitted ≡ None)
     ⊎ ((submission : Submission) × (submission_at told.number caller.submitted ≡ Some submission) × (is_taken caller told.number ≡ false) × (fits told.reply submission.request ≡ false))
 
--- The reply to a pending request is taken, one to a request that was over changes nothing, and no other is heard
+-- A reply to a pending request is taken; one to a request
+-- already over changes nothing; any other is foreign
 abbrev pub TakeIs : Told → Caller → Result Heard TakeFault → Caller → Type 0
 TakeIs told old (Ok Fresh) new = (request : Request) × (fresh_for told old ≡ Some request) × (new ≡ with_reply told request old)
 TakeIs told old (Ok Known) new = (told.caller ≡ old.number) × (is_taken old told.number ≡ true) × (new ≡ old)

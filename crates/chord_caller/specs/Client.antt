@@ -1,4 +1,5 @@
--- A client: a caller by what is above its floor, of which callers it is the core, and how it goes on as they do.
+-- A client: what a caller needs above its floor. Which callers it is the core of, and how its steps
+-- are theirs.
 use Rattle.std.specs.Prelude.{◌≡◌, ℕ, ◌+◌, ◌^◌, ◌<◌, ◌≤◌, false, if◌then◌else◌, Option, None, Some, option_map, List, [], length, slice_get}
 use Rattle.chord_map.specs.declared.request.Request.{Request}
 use Rattle.chord_caller.specs.declared.slot.Slot.{Slot}
@@ -14,11 +15,11 @@ pub record Client : Type 0 where
   pub floor : ℕ
   pub slots : List Slot
 
--- a client by what it keeps
+-- a client with these fields
 abbrev pub client_of : ℕ → ℕ → ℕ → List Slot → Client
 client_of number window floor slots = record { number = number; window = window; floor = floor; slots = slots }
 
--- what every client keeps: it has room for its window and for no more
+-- what holds of every client: it has room for exactly its window
 pub record IsClient (window floor room : ℕ) (slots : List Slot) : Type 0 where
   pub some_window : 1 ≤ window
   pub small_window : window ≤ 16
@@ -35,7 +36,7 @@ new_client number window = client_of number window 0 []
 abbrev pub count_of : Client → ℕ
 count_of client = client.floor + length client.slots
 
--- what it keeps of the request of this number
+-- the slot of this number
 abbrev pub slot_at : ℕ → Client → Option Slot
 slot_at number client = slot_of client.floor client.slots number
 
@@ -43,13 +44,13 @@ slot_at number client = slot_of client.floor client.slots number
 abbrev pub waiting_at : ℕ → Client → Option Request
 waiting_at number client = waiting (slot_at number client)
 
--- what a client keeps of this number of a caller's
+-- the slot that a client would have for this number of the caller
 abbrev pub slot_in : ℕ → Caller → Option Slot
 slot_in number caller =
     if is_taken caller number then Some Over
     else option_map (λ (submission : Submission). Waiting submission.request) (submission_at number caller.submitted)
 
--- the client is what is above the floor of this caller, whatever the caller took, saw and was told
+-- the client has what is above this caller's floor, whatever the caller took, saw and was told
 pub record IsCoreOf (client : Client) (caller : Caller) : Type 0 where
   pub number_is : client.number ≡ caller.number
   pub window_is : client.window ≡ caller.window
@@ -57,16 +58,16 @@ pub record IsCoreOf (client : Client) (caller : Caller) : Type 0 where
   pub count_is : count_of client ≡ length caller.submitted
   pub slots_are : (number : ℕ) → slot_at number client ≡ slot_in number caller
 
--- each caller that the old is the core of may take in and send these letters and go on to one that the new is the core of
+-- each caller with core `old` may take in and send these letters and become one with core `new`
 abbrev pub Simulates : Client → Option Letter → Client → Option Letter → Type 0
 Simulates old taken new sent =
     (caller : Caller) → IsCoreOf old caller → (after : Caller) × IsCoreOf new after × CallerStep caller taken after sent
 
--- the caller after it took the reply, where it is to this request of its own
+-- the caller after it took the reply to this request, if there is one
 abbrev pub taking : Told → Option Request → Caller → Caller
 taking told None caller = caller
 taking told (Some request) caller = with_reply told request caller
 
--- the caller after it heard a reply: the first to a pending request of its own is taken, and any other changes nothing
+-- the caller after it heard a reply: it takes the first reply to each pending request of its own
 abbrev pub hearing : Told → Caller → Caller
 hearing told caller = taking told (fresh_for told caller) caller

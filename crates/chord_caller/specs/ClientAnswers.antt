@@ -21,7 +21,7 @@ use Rattle.chord_caller.specs.Caller.{Caller}
 use Rattle.chord_caller.specs.Slots.{all_slots, is_over}
 use Rattle.chord_caller.specs.Client.{Client, IsCoreOf, count_of, slot_at, waiting_at, hearing}
 
--- the ask is the call of this number, as it is sent now
+-- the ask is the call of this number with the client's present floor and 255 hops
 pub record IsAsked (sender : Client) (place : ℕ) (what : Request) (ask : Ask) : Type 0 where
   pub caller : ask.caller ≡ sender.number
   pub number : ask.number ≡ place
@@ -41,7 +41,8 @@ HasRoom client = next_of client ≤ client.floor + client.window
 abbrev pub with_waiting : Request → Client → Client
 with_waiting request client = record client { slots = client.slots ++ Waiting request ∷ [] }
 
--- the pending request of the number is over, all else stands, and the floor is as high as it can be
+-- the pending request of this number is over, no other
+-- changed, and the floor is as high as it can be
 pub record IsEnded (number : ℕ) (request : Request) (old new : Client) : Type 0 where
   pub place : ℕ
   pub number_is : number ≡ suc place
@@ -51,12 +52,13 @@ pub record IsEnded (number : ℕ) (request : Request) (old new : Client) : Type 
   pub slots_are : all_slots new.floor new.slots ≡ slice_set (all_slots old.floor old.slots) place Over
   pub next : is_over (slice_get new.slots 0) ≡ false
 
--- this is the least pending number, if there is one
+-- the least pending number, or None if no request is pending
 abbrev pub ClientPendingIs : Client → Option ℕ → Type 0
 ClientPendingIs client None = (number : ℕ) → waiting_at number client ≡ None
 ClientPendingIs client (Some least) = (is_some (waiting_at least client) ≡ true) × ((number : ℕ) → number < least → waiting_at number client ≡ None)
 
--- The request goes out under the next number, or the first refusal that fits is answered and nothing changes
+-- The request goes out under the next number; or the first refusal that applies is answered, and
+-- nothing changes
 abbrev pub ClientSubmitIs : Request → Client → Result Ask SubmitFault → Client → Type 0
 ClientSubmitIs request old (Ok ask) new =
     IsRequest request × HasRoom old × (next_of old < 2 ^ 64) × IsAsked old (next_of old) request ask × (new ≡ with_waiting request old)
@@ -65,41 +67,44 @@ ClientSubmitIs request old (Err WindowFull) new = IsRequest request × (old.floo
 ClientSubmitIs request old (Err NumbersSpent) new = IsRequest request × HasRoom old × (2 ^ 64 ≤ next_of old) × (new ≡ old)
 ClientSubmitIs request old (Err SubmitMemory) new = IsRequest request × HasRoom old × (next_of old < 2 ^ 64) × (new ≡ old)
 
--- the first refusal that fits, which is never being out of memory; with none, only that can come
+-- Some: `submit` would refuse with this fault, never
+-- Memory. None: `submit` can fail for memory only
 abbrev pub ClientRefusalIs : Request → Client → Option SubmitFault → Type 0
 ClientRefusalIs request client None = ClientSubmitIs request client (Err SubmitMemory) client
 ClientRefusalIs request client (Some fault) = ClientSubmitIs request client (Err fault) client × (fault ≢ SubmitMemory)
 
--- The pending request of the number goes out again
+-- The pending request of this number is sent again
 abbrev pub ClientResendIs : ℕ → Client → Result Ask ResendFault → Type 0
 ClientResendIs number client (Ok ask) = (request : Request) × (slot_at number client ≡ Some (Waiting request)) × IsAsked client number request ask
 ClientResendIs number client (Err Idle) = waiting_at number client ≡ None
 ClientResendIs number client (Err ResendMemory) = is_some (waiting_at number client) ≡ true
 
--- the reply is another caller's, or to a number never submitted, or does not fit the pending request
+-- the reply is another caller's, is to a number never
+-- submitted, or does not fit its pending request
 abbrev pub IsStrange : Told → Client → Type 0
 IsStrange told client =
     (told.caller ≢ client.number)
     ⊎ (slot_at told.number client ≡ None)
     ⊎ ((request : Request) × (slot_at told.number client ≡ Some (Waiting request)) × (fits told.reply request ≡ false))
 
--- The reply to a pending request is handed out, one to a request that was over changes nothing, and no other is heard
+-- The reply to a pending request is handed out; one to a request already over changes nothing; any
+-- other is foreign
 abbrev pub ClientTakeIs : Told → Client → Outcome → Client → Type 0
 ClientTakeIs told old (Fresh reply) new =
     (request : Request) × (told.caller ≡ old.number) × (fits reply request ≡ true) × (reply ≡ told.reply) × IsEnded told.number request old new
 ClientTakeIs told old Known new = (told.caller ≡ old.number) × (slot_at told.number old ≡ Some Over) × (new ≡ old)
 ClientTakeIs told old Foreign new = IsStrange told old × (new ≡ old)
 
--- each caller that the old is the core of answers the same, and the new is the core of what it is then
+-- each caller with core `old` answers alike, and then has core `new`
 abbrev pub SubmitsAlike : Request → Client → Result Ask SubmitFault → Client → Type 0
 SubmitsAlike request old result new = (caller : Caller) → IsCoreOf old caller → (after : Caller) × IsCoreOf new after × SubmitIs request caller result after
 
--- what a caller that keeps its replies answers
+-- what a caller that records its replies answers
 abbrev pub heard_of : Outcome → Result Heard TakeFault
 heard_of (Fresh reply) = Ok heard.Fresh
 heard_of Known = Ok heard.Known
 heard_of Foreign = Err refused.Foreign
 
--- each caller that the old is the core of answers the same, and the new is the core of what it is then
+-- each caller with core `old` answers alike, and then has core `new`
 abbrev pub TakesAlike : Told → Client → Outcome → Client → Type 0
 TakesAlike told old outcome new = (caller : Caller) → IsCoreOf old caller → IsCoreOf new (hearing told caller) × TakeIs told caller (heard_of outcome) (hearing told caller)

@@ -1,4 +1,5 @@
--- What a caller keeps of each submitted request: while it waits the request, and then its place among the calls taken.
+-- What a caller stores of each submitted request: the request while it waits, then the index of its
+-- taken call.
 use Rattle.std.specs.Prelude.{◌≡◌, ℕ, zero, suc, ◌+◌, ◌≤◌, Bool, true, false, Option, None, Some, List, [], ◌∷◌, ◌++◌, map, length, slice_get, slice_set}
 use Rattle.chord_map.specs.declared.request.Request.{Request}
 use Rattle.chord_map.specs.declared.request.Request.TheVariants.{Retrieve}
@@ -9,12 +10,12 @@ use Rattle.chord_caller.specs.declared.submitted.Submitted.{Submitted}
 use Rattle.chord_caller.specs.declared.told.Told.{Told}
 use Rattle.chord_caller.specs.Caller.{Submission, Caller}
 
--- what is kept of the request of this number
+-- the entry of the request of this number
 abbrev pub submitted_at : ℕ → List Submitted → Option Submitted
 submitted_at zero submitted = None
 submitted_at (suc place) submitted = slice_get submitted place
 
--- how far that request has come
+-- the progress of an entry
 abbrev pub progress_of : Option Submitted → Option Progress
 progress_of None = None
 progress_of (Some entry) = Some entry.progress
@@ -22,29 +23,29 @@ progress_of (Some entry) = Some entry.progress
 abbrev pub progress_at : ℕ → List Submitted → Option Progress
 progress_at number submitted = progress_of (submitted_at number submitted)
 
--- its reply was taken
+-- whether the reply was taken
 abbrev pub is_over : Option Progress → Bool
 is_over None = false
 is_over (Some (Pending request)) = false
 is_over (Some (Taken place)) = true
 
--- all numbers up to this one are taken
+-- the replies to all numbers up to this one were taken
 abbrev pub AreTaken : ℕ → List Submitted → Type 0
 AreTaken floor submitted = (number : ℕ) → 1 ≤ number → number ≤ floor → is_over (progress_at number submitted) ≡ true
 
--- this is the greatest number with all up to it taken
+-- this is the greatest number with the replies to all numbers up to it taken
 pub record IsFloor (floor : ℕ) (submitted : List Submitted) : Type 0 where
   pub within : floor ≤ length submitted
   pub taken : AreTaken floor submitted
   pub next : is_over (progress_at (suc floor) submitted) ≡ false
 
--- the calls taken are those that are kept as taken, each at its place
+-- entries and taken calls agree: each taken entry has the index of its call, and the reverse
 pub record IsTied (caller : ℕ) (submitted : List Submitted) (mine : List Done) : Type 0 where
   pub stands : (number place : ℕ) → progress_at number submitted ≡ Some (Taken place)
       → (done : Done) × (slice_get mine place ≡ Some done) × (done.caller ≡ caller) × (done.number ≡ number)
   pub taken : (place : ℕ) (done : Done) → slice_get mine place ≡ Some done → progress_at done.number submitted ≡ Some (Taken place)
 
--- what every caller keeps
+-- what holds of every caller
 pub record IsCaller (caller window floor : ℕ) (submitted : List Submitted) (mine : List Done) : Type 0 where
   pub some_window : 1 ≤ window
   pub small_window : window ≤ 16
@@ -64,7 +65,7 @@ request_of mine (Taken place) = request_in (slice_get mine place)
 abbrev pub submission_of : List Done → Submitted → Submission
 submission_of mine entry = record { request = request_of mine entry.progress; mine_seen = entry.mine_seen; told_seen = entry.told_seen }
 
--- a caller by what it keeps
+-- a caller made of these fields
 abbrev pub caller_of : ℕ → ℕ → List Submitted → List Done → List Done → Caller
 caller_of number window submitted mine told = record {
   number = number;
@@ -78,7 +79,8 @@ caller_of number window submitted mine told = record {
 abbrev pub IsPending : ℕ → List Submitted → Type 0
 IsPending number submitted = (request : Request) × (progress_at number submitted ≡ Some (Pending request))
 
--- the pending request that a reply is to stands with the reply at the end of the calls taken, and is kept as taken there
+-- The reply's pending request becomes taken: its call with the reply goes to the end of the taken
+-- calls, and its entry has the index there.
 pub record Settles (told : Told) (submitted : List Submitted) (mine : List Done) (submitted' : List Submitted) (mine' : List Done) : Type 0 where
   pub request : Request
   pub place : ℕ

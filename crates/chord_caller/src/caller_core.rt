@@ -15,7 +15,8 @@ use chord_map::{Done, Request, copy_dones};
 use std::alloc::{AllocError, Global};
 use std::marker::Model;
 
-/// What a caller submitted, took and was told of. At most 16 requests wait at a time.
+/// What a caller submitted, what it took, and what
+/// notes told it. At most 16 requests wait at a time.
 #[derive(Debug, Drop)]
 pub struct CallerCore {
     number: u64,
@@ -68,14 +69,14 @@ impl CallerCore {
         self.mine.as_slice()
     }
 
-    /// The calls that others' notes told it of.
+    /// The calls that notes told it of.
     pub fn told(&self) -> &[Done]
         ensures { result.now ≡ self.now.told }
     {
         self.told.as_slice()
     }
 
-    /// The greatest number with all at or below it taken.
+    /// The greatest number with the replies to all numbers up to it taken.
     pub fn floor(&self) -> u64
         ensures { result ≡ floor_of self.now }
     {
@@ -99,7 +100,7 @@ impl CallerCore {
         submission(&self.submitted, number).is_some()
     }
 
-    /// The call of this number, where its reply was taken.
+    /// The call of this number, if its reply was taken.
     pub fn taken(&self, number: u64) -> Option<&Done>
         ensures { option_copied result ≡ done_at self.now.number number self.now.mine }
     {
@@ -123,7 +124,7 @@ impl CallerCore {
         }
     }
 
-    /// Why the request would be refused now, memory apart.
+    /// Why the request would be refused now, apart from memory.
     pub fn refusal(&self, request: &Request) -> Option<SubmitFault>
         ensures { RefusalIs request.now self.now result }
     {
@@ -140,7 +141,7 @@ impl CallerCore {
         None
     }
 
-    /// Submits a request under the next number. What is refused is dropped.
+    /// Submits a request under the next number. A refused request is dropped.
     pub fn submit(&mut self, request: Request) -> Result<Ask, SubmitFault>
         ensures answer { SubmitIs request self.old result self.new }
         ensures waits { IfOk result (λ ask. is_pending ask.number self.new ≡ true) }
@@ -166,7 +167,7 @@ impl CallerCore {
         })
     }
 
-    /// Takes a reply. What is refused is dropped.
+    /// Takes a reply. A refused reply is dropped.
     pub fn take(&mut self, told: Told) -> Result<Heard, TakeFault>
         ensures answer { TakeIs told self.old result self.new }
         ensures step { IfOk result (λ heard. CallerStep self.old (Some (ToldLetter told)) self.new None) }
@@ -189,7 +190,7 @@ impl CallerCore {
         Ok(Heard::Fresh)
     }
 
-    /// Sends a pending request again, under its number and with the floor that it has by now.
+    /// Sends a pending request again, under its number and with the present floor.
     pub fn resend(&self, number: u64) -> Result<Ask, ResendFault>
         ensures answer { ResendIs number self.now result }
         ensures step { IfOk result (λ ask. CallerStep self.now None self.now (Some (AskLetter ask))) }
@@ -210,7 +211,7 @@ impl CallerCore {
         })
     }
 
-    /// Shows what it knows.
+    /// A note of what the caller knows.
     pub fn show(&self) -> Result<Note, AllocError>
         ensures note { IfOk result (λ note. note ≡ record { caller = self.now.number; done = known self.now }) }
         ensures step { IfOk result (λ note. CallerStep self.now None self.now (Some (NoteLetter note))) }
@@ -224,7 +225,7 @@ impl CallerCore {
         })
     }
 
-    /// Learns what a note has and it did not know.
+    /// Learns the calls of a note that it did not know.
     pub fn meet(&mut self, note: &Note) -> Result<(), AllocError>
         ensures ok { OnOk result (self.new ≡ record self.old { told = self.old.told ++ unknown self.old note.now.done }) }
         ensures err { OnErr result (self.new ≡ self.old) }

@@ -1,4 +1,4 @@
-//! The core of a client: a caller that keeps only what is above its floor.
+//! The core of a client: a caller that stores only what is above its floor.
 ghost use Rattle.std.specs.Prelude.{◌≡◌, ◌≤◌, None, Some, is_some, IfOk};
 ghost use Rattle.chord_caller.specs.Caller.{Caller, floor_of, AskLetter, ToldLetter};
 ghost use Rattle.chord_caller.specs.Answers.{new_caller, is_pending, PendingIs, RefusalIs, ResendIs};
@@ -15,7 +15,7 @@ use std::alloc::{AllocError, Global};
 use std::collections::VecDeque;
 use std::marker::Model;
 
-/// The requests of a caller that wait, and the numbers of those that are over. At most 16 are above the floor.
+/// The requests that wait, and which numbers above the floor are over: at most 16 together.
 #[derive(Debug, Drop)]
 pub struct ClientCore {
     number: u64,
@@ -36,7 +36,8 @@ impl Model for ClientCore {
 }
 
 impl ClientCore {
-    /// A client that has submitted nothing. It has room for its window, and takes no more for itself.
+    /// A client that has submitted nothing. Its memory
+    /// is reserved for its window and does not grow.
     pub fn new(alloc: Global, number: u64, window: u64) -> Result<ClientCore, AllocError>
         requires some { 1 ≤ window }
         requires small { window ≤ 16 }
@@ -59,7 +60,7 @@ impl ClientCore {
         self.number
     }
 
-    /// The greatest number with all at or below it taken.
+    /// The greatest number with the replies to all numbers up to it taken.
     pub fn floor(&self) -> u64
         ensures answer { result ≡ self.now.floor }
         ensures callers { (caller : Caller) → IsCoreOf self.now caller → result ≡ floor_of caller }
@@ -87,7 +88,7 @@ impl ClientCore {
         }
     }
 
-    /// Why the request would be refused now, memory apart.
+    /// Why the request would be refused now, apart from memory.
     pub fn refusal(&self, request: &Request) -> Option<SubmitFault>
         ensures answer { ClientRefusalIs request.now self.now result }
         ensures callers { (caller : Caller) → IsCoreOf self.now caller → RefusalIs request.now caller result }
@@ -105,7 +106,7 @@ impl ClientCore {
         None
     }
 
-    /// Submits a request under the next number. What is refused is dropped.
+    /// Submits a request under the next number. A refused request is dropped.
     pub fn submit(&mut self, request: Request) -> Result<Ask, SubmitFault>
         ensures answer { ClientSubmitIs request self.old result self.new }
         ensures waits { IfOk result (λ ask. waiting_at ask.number self.new ≡ Some request) }
@@ -126,7 +127,8 @@ impl ClientCore {
         })
     }
 
-    /// Takes a reply and hands it out. What is not the first reply to a pending request is dropped.
+    /// Takes a reply and hands it out. One that is not
+    /// the first reply to a pending request is dropped.
     pub fn take(&mut self, told: Told) -> Outcome
         ensures answer { ClientTakeIs told self.old result self.new }
         ensures callers { TakesAlike told self.old result self.new }
@@ -148,7 +150,7 @@ impl ClientCore {
         Outcome::Fresh(told.reply)
     }
 
-    /// Sends a pending request again, under its number and with the floor that it has by now.
+    /// Sends a pending request again, under its number and with the present floor.
     pub fn resend(&self, number: u64) -> Result<Ask, ResendFault>
         ensures answer { ClientResendIs number self.now result }
         ensures callers { (caller : Caller) → IsCoreOf self.now caller → ResendIs number caller result }

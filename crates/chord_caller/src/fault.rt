@@ -1,4 +1,4 @@
-//! Why a caller refuses a call.
+//! Refusals of a caller.
 ghost use Rattle.std.specs.Prelude.{◌≡◌};
 ghost use Rattle.chord_caller.specs.declared.fault.SubmitFault.TheVariants.{Memory as SubmitMemory};
 ghost use Rattle.chord_caller.specs.declared.fault.ResendFault.TheVariants.{Memory as ResendMemory};

@@ -1,6 +1,6 @@
-//! What a reply is to the caller that takes it.
+//! How a caller judges a reply.
 
-/// Whether a reply is the first to its request, or one that was taken before.
+/// Whether a reply is the first to its request, or the request was over before.
 #[derive(Clone, Copy, Debug, PartialEq, Eq)]
 pub enum Heard {
     Fresh,

@@ -1,4 +1,4 @@
-//! What a caller shows to others.
+//! Notes, in which callers send what they know.
 ghost use Rattle.std.specs.Prelude.{◌≡◌, ◌++◌, ◌&&◌, ℕ, not, is_some, IfOk};
 ghost use Rattle.chord_map.specs.History.{done_at};
 ghost use Rattle.chord_caller.specs.Names.{has_name};
@@ -9,7 +9,7 @@ use std::alloc::{AllocError, Global};
 use std::collections::BTreeSet;
 use std::marker::Model;
 
-/// What a caller knows: the calls that it took, then those that it was told of.
+/// What a caller knows: the calls that it took, then those that notes told it of.
 #[derive(Debug, Drop)]
 pub struct Note {
     pub caller: u64,
@@ -24,7 +24,7 @@ impl Model for Note {
     ghost view = { λ note. record { caller = note.caller; done = note.done.items } };
 }
 
-/// The names of the calls: who made each, and its number.
+/// The names of the calls: the caller and the number of each.
 fn names_of(alloc: Global, dones: &[Done]) -> Result<BTreeSet<(u64, u64)>, AllocError>
     ensures { IfOk result (λ names. (caller number : ℕ) → has_name caller number names ≡ is_some (done_at caller number dones.now)) }
 {
@@ -35,7 +35,7 @@ fn names_of(alloc: Global, dones: &[Done]) -> Result<BTreeSet<(u64, u64)>, Alloc
     Ok(names)
 }
 
-/// Strikes out the names of the calls.
+/// Removes the names of these calls.
 fn strike_out(names: &mut BTreeSet<(u64, u64)>, dones: &[Done])
     ensures { (caller number : ℕ) → has_name caller number names.new ≡ (has_name caller number names.old && not (is_some (done_at caller number dones.now))) }
 {
@@ -44,7 +44,7 @@ fn strike_out(names: &mut BTreeSet<(u64, u64)>, dones: &[Done])
     }
 }
 
-/// Copies of the calls that stand in neither list.
+/// Copies of the calls that are in neither list.
 pub fn copy_unknown(
     alloc: Global,
     dones: &[Done],

@@ -1,8 +1,9 @@
-//! What a reply is to the client that takes it.
+//! How a client judges a reply.
 
 use chord_map::Reply;
 
-/// The first reply to a pending request, which is handed out, a reply to a request that was over, or one to none.
+/// The first reply to a pending request, handed out;
+/// a reply to a request already over; or any other.
 #[derive(Debug, Drop)]
 pub enum Outcome {
     Fresh(Reply),

@@ -1,4 +1,4 @@
-//! What a client keeps of the numbers above its floor.
+//! What a client stores of the numbers above its floor.
 ghost use Rattle.std.specs.Prelude.{◌≡◌, ◌<◌, ◌≤◌, ◌+◌, ◌-◌, ◌^◌, length, slice_set};
 ghost use Rattle.std.specs.Option.{option_copied};
 ghost use Rattle.std.specs.VecDeque.{deque_capacity};
@@ -15,7 +15,7 @@ pub enum Slot {
     Over,
 }
 
-/// The pending request of this number, where all numbers up to the floor are over.
+/// The pending request of this number; all numbers up to the floor are over.
 pub fn waiting_request(slots: &VecDeque<Slot>, floor: u64, number: u64) -> Option<&Request>
     ensures { option_copied result ≡ waiting (slot_of floor slots.now.items number) }
 {
@@ -38,7 +38,7 @@ pub fn is_number_over(slots: &VecDeque<Slot>, floor: u64, number: u64) -> bool
     matches!(slots.get((number - floor - 1) as usize), Some(Slot::Over))
 }
 
-/// Drops the slots at the front that are over, and raises the floor past their numbers.
+/// Drops the first slots while they are over, and raises the floor past their numbers.
 pub fn raise_front(slots: &mut VecDeque<Slot>, floor: u64) -> u64
     requires { floor + length slots.old.items < 2 ^ 64 }
     ensures raised { IsRaised floor slots.old.items result slots.new.items }

@@ -8,15 +8,16 @@ use crate::told::Told;
 use chord_map::{Done, Request};
 use std::mem::replace;
 
-/// How far a submitted request has come.
+/// The progress of a submitted request.
 #[derive(Debug, Drop)]
 pub enum Progress {
     Pending(Request),
-    /// Its reply was taken. The request stands with it, at this place of the calls taken.
+    /// Its reply was taken. The request is in the taken call at this index.
     Taken(usize),
 }
 
-/// A submitted request, and how many calls its caller had taken and been told of by then.
+/// A submitted request, and how many calls its caller
+/// had taken, and had been told of by notes, before it.
 #[derive(Debug, Drop)]
 pub struct Submitted {
     pub progress: Progress,
@@ -34,14 +35,14 @@ pub fn submission(submitted: &[Submitted], number: u64) -> Option<&Submitted>
     submitted.get((number - 1) as usize)
 }
 
-/// The call that stands at this place.
+/// The call at this index.
 pub fn done_in(dones: &[Done], place: usize) -> Option<&Done>
     ensures { option_copied result ≡ slice_get dones.now place }
 {
     dones.get(place)
 }
 
-/// Raises a floor to the greatest number with all at or below it taken.
+/// Raises a floor to the greatest number with the replies to all numbers up to it taken.
 pub fn raise_floor(submitted: &[Submitted], floor: u64) -> u64
     requires within { floor ≤ length submitted.now }
     requires taken { AreTaken floor submitted.now }
@@ -57,7 +58,7 @@ pub fn raise_floor(submitted: &[Submitted], floor: u64) -> u64
     floor as u64
 }
 
-/// Moves the pending request that the reply is to, with the reply, behind the calls taken.
+/// Moves the reply's pending request to the end of the taken calls, with the reply.
 pub fn settle(submitted: &mut Vec<Submitted>, mine: &mut Vec<Done>, told: Told)
     requires pending { IsPending told.number submitted.old.items }
     requires room { vec_len mine.old < vec_capacity mine.old }

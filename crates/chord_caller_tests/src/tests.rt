@@ -61,7 +61,8 @@ fn submitted(alloc: Global, number: u64, window: u64, keys: &[&[u8]]) -> Option<
     Some(core)
 }
 
-/// The pending request before and after the first submission, whether its call is right, and why a second is refused.
+/// The pending request before and after the first submission,
+/// whether its call is right, and why a second one is refused.
 fn submits_one(alloc: Global) -> (Option<u64>, bool, Option<u64>, Option<SubmitFault>) {
     let mut core = CallerCore::new(alloc, 7, 1);
     let before = core.pending();
@@ -84,7 +85,7 @@ fn a_caller_has_its_number(rt: HostRuntime) {
     assert!(rt; core.number() == 7);
 }
 
-/// Why no call goes out again before one is submitted.
+/// Why no call is sent again before one is submitted.
 fn idle(alloc: Global) -> Option<ResendFault> {
     let core = CallerCore::new(alloc, 7, 1);
     let idle = core.resend(1).err();
@@ -92,7 +93,7 @@ fn idle(alloc: Global) -> Option<ResendFault> {
     idle
 }
 
-/// Whether the call goes out again as it was.
+/// Whether the call is sent again unchanged.
 fn goes_out_again(alloc: Global) -> Option<bool> {
     let core = submitted(alloc, 7, 1, &[b"abc"])?;
     let again = core.resend(1).ok();
@@ -107,7 +108,8 @@ fn a_pending_request_goes_out_again(rt: HostRuntime) {
     assert!(rt; (idle, again) == (Some(ResendFault::Idle), Some(true)));
 }
 
-/// What a caller with one pending request says to two replies that are not its own, and whether it waits then.
+/// How a caller with one pending request judges two replies
+/// that are not its own, and whether it still waits.
 fn hears_others(alloc: Global) -> Option<(Option<TakeFault>, Option<TakeFault>, bool)> {
     let mut core = submitted(alloc, 7, 1, &[b"abc"])?;
     let other = core.take(added(8, 1)).err();
@@ -123,7 +125,7 @@ fn a_foreign_reply_is_not_taken(rt: HostRuntime) {
     assert!(rt; hears_others(rt.alloc()) == Some((foreign, foreign, true)));
 }
 
-/// What a reply is that comes twice, how many replies were taken then, and the floor.
+/// How a caller judges a reply that comes twice, how many replies it took, and its floor.
 fn takes_twice(alloc: Global) -> Option<([Option<Heard>; 2], usize, u64)> {
     let mut core = submitted(alloc, 7, 1, &[b"abc"])?;
     let first = core.take(added(7, 1)).ok();
@@ -139,14 +141,15 @@ fn a_reply_is_taken_once(rt: HostRuntime) {
     assert!(rt; takes_twice(rt.alloc()) == Some(once));
 }
 
-/// A caller that submitted two requests and took the reply to the second, and what that reply is.
+/// A caller that submitted two requests and took the reply to the second, and how it judged that.
 fn second_taken(alloc: Global, number: u64) -> Option<(CallerCore, Option<Heard>)> {
     let mut core = submitted(alloc, number, 2, &[b"a", b"b"])?;
     let heard = core.take(added(number, 2)).ok();
     Some((core, heard))
 }
 
-/// What the reply to the second request is, and which of the numbers 0 to 3 were submitted.
+/// How a caller judges the reply to its second request,
+/// and which of the numbers 0 to 3 were submitted.
 fn numbers(alloc: Global) -> Option<(Option<Heard>, [bool; 4])> {
     let (core, heard) = second_taken(alloc, 7)?;
     let were = [
@@ -165,7 +168,7 @@ fn two_numbers_were_submitted(rt: HostRuntime) {
     assert!(rt; numbers(rt.alloc()) == Some(two));
 }
 
-/// The caller and the number of call 2, and whether it is the insert under `b` that was answered Added.
+/// The caller and the number of call 2, and whether it is the insert under `b`, answered Added.
 fn second_of(core: &CallerCore) -> Option<(u64, u64, bool)> {
     let found = core.taken(2)?;
     let is_added = matches!(&found.reply, Reply::Added);
@@ -173,7 +176,7 @@ fn second_of(core: &CallerCore) -> Option<(u64, u64, bool)> {
     Some((found.caller, found.number, is_b))
 }
 
-/// Whether the calls 1 and 3 are not among those taken, and what call 2 is.
+/// Whether calls 1 and 3 are not taken, and what the taken call 2 is.
 fn finds_the_second(alloc: Global) -> Option<(bool, bool, Option<(u64, u64, bool)>)> {
     let (core, _) = second_taken(alloc, 7)?;
     let (first, third) = (core.taken(1).is_none(), core.taken(3).is_none());
@@ -188,7 +191,7 @@ fn a_taken_call_is_found_by_its_number(rt: HostRuntime) {
     assert!(rt; finds_the_second(rt.alloc()) == Some(second));
 }
 
-/// Why an empty key is refused, and the number of the call that comes then.
+/// Why an empty key is refused, and the number of the next call.
 fn after_an_empty_key(alloc: Global) -> (Option<SubmitFault>, Result<u64, SubmitFault>) {
     let mut core = CallerCore::new(alloc, 0, 1);
     let empty = asks(alloc, &mut core, b"").err();
@@ -203,7 +206,7 @@ fn a_refused_request_takes_no_number(rt: HostRuntime) {
     assert!(rt; after_an_empty_key(rt.alloc()) == (empty, Ok(1)));
 }
 
-/// What a caller says to a set of values for its insert, and whether it waits then.
+/// How a caller judges a set of values as reply to its insert, and whether it still waits.
 fn hears_values(alloc: Global) -> Option<(Option<TakeFault>, bool)> {
     let mut core = submitted(alloc, 0, 1, &[b"a"])?;
     let unfit = Told {
@@ -223,7 +226,7 @@ fn a_reply_of_another_kind_is_not_taken(rt: HostRuntime) {
     assert!(rt; hears_values(rt.alloc()) == Some(foreign));
 }
 
-/// What the caller says of an insert under `c` before it comes.
+/// Why the caller would refuse an insert under `c`, asked beforehand.
 fn refusal(alloc: Global, core: &CallerCore) -> Option<SubmitFault> {
     let Ok(request) = insert(alloc, b"c") else {
         return Some(SubmitFault::Memory);
@@ -233,7 +236,8 @@ fn refusal(alloc: Global, core: &CallerCore) -> Option<SubmitFault> {
     refusal
 }
 
-/// What the caller says of a third request, in words and when it comes, before the reply to the first.
+/// How the second reply was judged, and why a third request
+/// before the first reply would be, and is, refused.
 fn before_the_first(
     alloc: Global,
 ) -> Option<(Option<Heard>, Option<SubmitFault>, Option<SubmitFault>)> {
@@ -244,8 +248,8 @@ fn before_the_first(
     Some((heard, refusal, full))
 }
 
-/// Why a third request is refused before the reply to the first, and the same after it in words, and whether its call
-/// is right.
+/// Why a third request is refused before the reply to the first, how that reply is judged, why the
+/// request would be refused after it, and whether its call is right.
 fn after_the_first(
     alloc: Global,
 ) -> Option<
@@ -272,7 +276,7 @@ fn a_window_of_two(rt: HostRuntime) {
     assert!(rt; after_the_first(rt.alloc()) == Some((full, fresh, None, true)));
 }
 
-/// What caller 1 shows after its first reply, and what that reply was.
+/// The note of caller 1 after its first reply, and how it judged that reply.
 fn shown(alloc: Global) -> Option<(Note, Option<Heard>)> {
     let mut core = submitted(alloc, 1, 1, &[b"a"])?;
     let heard = core.take(added(1, 1)).ok();
@@ -281,7 +285,7 @@ fn shown(alloc: Global) -> Option<(Note, Option<Heard>)> {
     Some((note?, heard))
 }
 
-/// How much caller 0 was told of and took itself after it met the note twice.
+/// How many calls caller 0 was told of, and took itself, after it met the note twice.
 fn met_twice(alloc: Global, note: &Note) -> Option<(usize, usize)> {
     let mut core = CallerCore::new(alloc, 0, 1);
     let has_met = core.meet(note).is_ok() && core.meet(note).is_ok();
@@ -290,7 +294,8 @@ fn met_twice(alloc: Global, note: &Note) -> Option<(usize, usize)> {
     if has_met { Some(known) } else { None }
 }
 
-/// What the reply was, how much the note shows, and how much is known of it where it was met.
+/// How the reply was judged, how many calls the note has,
+/// and how many the caller that met it was told of and took.
 fn shows_and_meets(alloc: Global) -> Option<(Option<Heard>, usize, Option<(usize, usize)>)> {
     let (note, heard) = shown(alloc)?;
     let shows = note.done.len();

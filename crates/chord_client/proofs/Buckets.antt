@@ -1,4 +1,4 @@
--- Buckets one after another, and sums over them.
+-- Lists of buckets, and sums over them.
 use Rattle.std.proofs.Common.{◌≡◌, ℕ, zero, suc, ◌+◌, ◌-◌, ◌*◌, ◌/◌, ◌%◌, ◌^◌, ◌<◌, ◌≤◌, inl, inr, List, [], ◌∷◌, ◌++◌, length, take, get_or, slice_get, Option, Some, refl, sym, ap, subst, ◌∙◌, arith}
 use Rattle.std.proofs.Math.Nat.{pow-le-pow_right, mul-le-mul_right}
 use Rattle.std.proofs.lemmas.Bool.Decides.{leb_tells}
@@ -8,7 +8,7 @@ use Rattle.chord_client.specs.declared.load.histogram.Bucket.{Bucket}
 use Rattle.chord_client.specs.Recorded.{recorded}
 use Rattle.chord_client.specs.Histogram.{bound, IsLeast}
 
--- the greatest value in a bucket fits
+-- the greatest value in a bucket is below 2^64
 pub scaled : (place s : ℕ) → s ≡ 2 ^ (place / 16 - 1) → place < 976 → (place % 16 + 16) * s + (s - 1) < 2 ^ 64
 scaled place s e low =
     let two : 0 < 2 = omega arith in
@@ -61,7 +61,7 @@ there_at [] k d low = let no : ⊥ = omega (arith, low) in absurd no
 there_at (x ∷ xs) zero d low = refl
 there_at (x ∷ xs) (suc k) d low = there_at xs k d (omega (arith, low))
 
--- the first bucket up to which there are enough
+-- the first bucket at which the sum of counts reaches `wanted`
 pub least_at : (xs : List Bucket) (wanted seen k : ℕ) (d : Bucket) → k < length xs → seen ≡ recorded (take k xs) → seen < wanted → wanted ≤ seen + (get_or xs k d).count → IsLeast wanted (get_or xs k d).bound xs
 least_at xs wanted seen k d low is less enough = record {
   place = k;

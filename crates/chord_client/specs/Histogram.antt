@@ -4,7 +4,8 @@ use Rattle.std.specs.List.{position, slice_get, slice_set}
 use Rattle.chord_client.specs.declared.load.histogram.Bucket.{Bucket}
 use Rattle.chord_client.specs.Recorded.{recorded}
 
--- the greatest value in a bucket: 0 to 31 one by one, and then 16 buckets to each doubling
+-- the greatest value in the bucket at this index: 0 to 31 have a value each, and then each doubling
+-- has 16 buckets
 abbrev pub bound : ℕ → ℕ
 bound place = if nat_lt place 32 then place else ((place % 16 + 17) * 2 ^ (place / 16 - 1) - 1)
 
@@ -17,20 +18,21 @@ pub record IsNew (buckets : List Bucket) : Type 0 where
 abbrev pub bucket_of : ℕ → List Bucket → Option ℕ
 bucket_of value buckets = position (λ (b : Bucket). nat_le value b.bound) buckets
 
--- so many more in a bucket
+-- the bucket with this many more values
 abbrev pub with_more : ℕ → Bucket → Bucket
 with_more times b = record { bound = b.bound; count = b.count + times }
 
--- A value is counted in its bucket so many times. Nothing is, where there would be too many values or there is no bucket.
+-- A value is counted this many times in its bucket. Nothing changes if there is no bucket for it,
+-- or the total would be 2^64 or more.
 abbrev pub RecordIs : Bool → ℕ → ℕ → (old new : List Bucket) → Type 0
 RecordIs true value times old new = (place : ℕ) × (b : Bucket) × (bucket_of value old ≡ Some place) × (slice_get old place ≡ Some b) × (recorded old + times < 2 ^ 64) × (new ≡ slice_set old place (with_more times b))
 RecordIs false value times old new = ((2 ^ 64 ≤ recorded old + times) ⊎ (bucket_of value old ≡ None)) × (new ≡ old)
 
--- so many thousandths of all, rounded up
+-- how many values are this many thousandths of all, rounded up
 abbrev pub wanted : ℕ → ℕ → ℕ
 wanted thousandths total = (total * thousandths + 999) / 1000
 
--- the bound of the first bucket up to which there are so many values
+-- the least bound with this many values at or below it
 pub record IsLeast (many found : ℕ) (buckets : List Bucket) : Type 0 where
   pub place : ℕ
   pub bucket : Bucket
@@ -39,7 +41,8 @@ pub record IsLeast (many found : ℕ) (buckets : List Bucket) : Type 0 where
   pub before : recorded (take place buckets) < many
   pub enough : many ≤ recorded (take (place + 1) buckets)
 
--- the bound up to which there are so many thousandths, where any value was recorded
+-- the least bound with this many thousandths of all values at or below it, or none if nothing was
+-- recorded
 abbrev pub PercentileIs : Option ℕ → ℕ → List Bucket → Type 0
 PercentileIs None thousandths buckets = recorded buckets ≡ 0
 PercentileIs (Some found) thousandths buckets = IsLeast (wanted thousandths (recorded buckets)) found buckets

@@ -1,4 +1,4 @@
--- Requests that may act, and how often they are sent. Source: our own.
+-- Requests that may change something, and how often they are sent. Source: our own.
 use Rattle.std.specs.Prelude.{◌≡◌, ℕ, Bool, true, false, not, ◌&&◌, ◌||◌, ◌==◌, nat_le, if◌then◌else◌, Option, Some, None}
 use Rattle.chord_map.specs.declared.request.Request.{Request}
 use Rattle.chord_map.specs.declared.request.Request.TheVariants.{Insert, Retrieve, Remove}
@@ -11,11 +11,13 @@ may_change (Insert key value) = true
 may_change (Retrieve key) = false
 may_change (Remove key value) = true
 
--- What may change something, has no outcome and no number on the connection that stands, was never sent.
+-- An insert or a remove with no outcome was never sent, or has its number on the connection that is
+-- open now.
 abbrev pub IsSentOnce : Request → Option ℕ → ℕ → Option Outcome → Type 0
 IsSentOnce request number times outcome = may_change request ≡ true → outcome ≡ None → number ≡ None → times ≡ 0
 
--- a request with no answer is not sent over a new connection where it was sent often enough, or may have changed something
+-- Once its connection ended, a request with no answer is given up if it has no tries left, or if it
+-- was sent and may have changed something.
 abbrev pub is_lost : Request → ℕ → ℕ → Bool
 is_lost request times tries = nat_le tries times || (not (times == 0) && may_change request)
 

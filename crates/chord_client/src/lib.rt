@@ -1,5 +1,5 @@
-//! Clients of a server over loopback: the command `ask`, which asks requests one after another, and the command `load`,
-//! which asks many over several connections and tells how long they took.
+//! Clients of a server over loopback: the command `ask`, which asks requests one after another, and
+//! the command `load`, which asks many over several connections and reports how long they took.
 #![tactic(auto)]
 
 mod ask;

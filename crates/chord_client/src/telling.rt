@@ -1,11 +1,11 @@
-//! Faults of command lines, and how they are told.
+//! Faults of command lines, and how they are printed.
 
 use chord_command::Finish;
 use clap::Command;
 use clap::error::ErrorKind;
 use std::alloc::AllocError;
 
-/// The fault of a command, under its whole name, whose line has a wrong value.
+/// The fault of a wrong value on the line of the command with this whole name.
 pub fn fault_of(
     command: Result<Command<'_>, AllocError>,
     name: &str,
@@ -17,7 +17,7 @@ pub fn fault_of(
     fault
 }
 
-/// The text of a command line fault goes to standard error, and help to standard output.
+/// Prints a fault of the command line to standard error, or help to standard output.
 pub fn told<R: Print + Eprint>(rt: &R, error: clap::Error) -> Result<Finish, Finish> {
     let finish = print(rt, &error);
     drop(error);

@@ -1,4 +1,5 @@
-//! The commands `ask` and `load`: their lines, and clients of servers that end early or are not there.
+//! The commands `ask` and `load`: their lines, and clients of servers that end early or do not
+//! exist.
 
 use std::alloc::{AllocError, Global};
 

@@ -3,20 +3,20 @@
 use std::alloc::{AllocError, AllocFailed};
 use std::{fmt, io};
 
-/// What stands against a command's input or output.
+/// Why a command can't go on.
 #[derive(Clone, Copy, Debug, PartialEq, Eq)]
 pub enum Fault {
     /// This line, from 1, is outside the grammar.
     Line(u64),
     Read,
     Write,
-    /// The port cannot be had.
+    /// The server can't listen at the port.
     Listen,
-    /// The ring refuses this node of a plan, from 0.
+    /// The ring refuses this node of a plan; nodes count from 0.
     Node(usize),
     /// No server is found at the port.
     Connect,
-    /// So many requests got no reply.
+    /// This many requests got no reply.
     Unanswered(u64),
     /// The time cannot be read.
     Clock,
@@ -42,9 +42,9 @@ impl fmt::Display for Fault {
 pub enum Finish {
     Done,
     Fault(Fault),
-    /// The command line is none of the program's. Its text was printed.
+    /// The command line is wrong. What is wrong was printed.
     BadCommandLine,
-    /// The plan breaks a rule. What is wrong was printed.
+    /// The plan breaks a rule. Which one was printed.
     BadPlan,
     OutOfMemory,
 }
@@ -53,7 +53,8 @@ impl Finish {
     ghost use Rattle.std.specs.Prelude.{◌≡◌};
     ghost use Rattle.chord_command.specs.Ends.{status_of};
 
-    /// The exit status: 0 done, 1 a fault of input or output, 2 a fault of the command line, 3 out of memory.
+    /// The exit status: 0 done, 1 a fault of input, output or the plan, 2 a fault of the command
+    /// line, 3 out of memory.
     pub fn status(self) -> u8
         ensures { result ≡ status_of self }
     {

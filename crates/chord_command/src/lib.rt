@@ -1,5 +1,5 @@
-//! What the commands of the program share: how they end ([`Finish`]), the words of a line ([`Words`]), and how replies
-//! stand on one ([`Shown`]).
+//! What the commands of the program share: how they end ([`Finish`]), the words of a line
+//! ([`Words`]), and how a line shows replies ([`Shown`]).
 #![tactic(auto)]
 
 mod finish;

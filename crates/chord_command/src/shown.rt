@@ -1,10 +1,10 @@
-//! How replies stand on a line.
+//! How a line shows replies.
 
 use chord_map::Reply;
 use std::fmt;
 
-/// A reply as it stands on a line: `values` with their count and each value as hexadecimal digits, `-` for an empty
-/// one.
+/// A reply as a line shows it: `values` with their count and each value as hexadecimal digits, `-`
+/// for an empty one.
 #[derive(Clone, Copy, Debug)]
 pub struct Shown<'a>(pub &'a Reply);
 

@@ -4,7 +4,7 @@ use chord_ident::Id;
 use chord_map::Bytes;
 use std::alloc::{AllocError, AllocFailed, Global};
 
-/// Why a line is not read.
+/// Why a line can't be read.
 #[derive(Clone, Copy, Debug, PartialEq, Eq)]
 pub enum LineFault {
     /// It is outside the grammar.
@@ -24,7 +24,7 @@ impl<T: Drop> From<AllocFailed<T>> for LineFault {
     }
 }
 
-/// The words of a line that are still to be read. One space stands between two words.
+/// The words of a line that are still to be read, with one space between words.
 #[derive(Clone, Copy, Debug)]
 pub struct Words<'a> {
     rest: Option<&'a str>,
@@ -53,7 +53,7 @@ impl<'a> Words<'a> {
         }
     }
 
-    /// That there is no further word.
+    /// Succeeds if there is no further word.
     pub fn end(&self) -> Result<(), LineFault> {
         match self.rest {
             Some(_) => Err(LineFault::Grammar),

@@ -1,4 +1,4 @@
--- What the program takes as a number, and as stores, on a command line. Source: our own.
+-- The words that a command line takes as a number and as stores. Source: our own.
 use Rattle.std.specs.Prelude.{◌≡◌, ℕ, ◌≤◌, ◌<◌, ◌⊎◌, ◌^◌, List, length}
 use Rattle.std.specs.List.{All}
 use Rattle.std.specs.Str.Parse.{IsNumeral, digits_value, without_leading_plus}

@@ -1,4 +1,4 @@
-//! The commands of `chord` and what each takes.
+//! The commands of `chord` and their arguments.
 ghost use Rattle.std.specs.Prelude.{ℕ, ◌↔◌, IsTrue, IfSome, IsSome};
 ghost use Rattle.chord_command_line.specs.Words.{IsSmall, NameStores};
 
@@ -6,7 +6,7 @@ use chord_client::{ask_command, fault_of, load_command};
 use clap::{Arg, ArgAction, ArgGroup, Command};
 use std::alloc::{AllocError, Global};
 
-/// The stores that nodes take where none are named.
+/// The stores of nodes if the command line names none.
 pub const DEFAULT_STORES: &str = "tltltltl";
 
 /// How many stores may be named at most.
@@ -25,7 +25,7 @@ fn stores_option<'a>(alloc: Global) -> Arg<'a> {
         .help("The nodes' stores in their order: t tree, l list, n noted, c capped at one pair")
 }
 
-/// The command `world` and what it takes.
+/// The command `world` and its arguments.
 fn world_command<'a>(alloc: Global) -> Result<Command<'a>, AllocError> {
     Command::new(alloc, "world")
         .about("Does the steps on standard input, one line out for each line in")
@@ -42,7 +42,7 @@ fn plan_option<'a>(alloc: Global, help: &'a str) -> Arg<'a> {
         .help(help)
 }
 
-/// The command `run` and what it takes.
+/// The command `run` and its arguments.
 fn run_command<'a>(alloc: Global) -> Result<Command<'a>, AllocError> {
     Command::new(alloc, "run")
         .about("Runs a ring by a plan, and writes what its callers were answered")
@@ -79,7 +79,7 @@ fn notes_option<'a>(alloc: Global) -> Arg<'a> {
         .help("Notes on standard error how each connection ends, as it ends")
 }
 
-/// How long to serve: one of the two options.
+/// For how long to serve: exactly one of the two options.
 fn until_group<'a>(alloc: Global) -> Result<ArgGroup<'a>, AllocError> {
     let until = ArgGroup::new(alloc, "until")
         .arg("connections")?
@@ -87,7 +87,7 @@ fn until_group<'a>(alloc: Global) -> Result<ArgGroup<'a>, AllocError> {
     Ok(until.required(true))
 }
 
-/// The command `serve` and what it takes.
+/// The command `serve` and its arguments.
 fn serve_command<'a>(alloc: Global) -> Result<Command<'a>, AllocError> {
     let serve = Command::new(alloc, "serve")
         .about("Serves clients over loopback, and writes how each connection ended")
@@ -100,7 +100,7 @@ fn serve_command<'a>(alloc: Global) -> Result<Command<'a>, AllocError> {
     serve.group(until)
 }
 
-/// Both, or the first one's fault.
+/// Both results, or the fault of the first that failed.
 fn both<A: Drop, B: Drop>(
     a: Result<A, AllocError>,
     b: Result<B, AllocError>,
@@ -108,7 +108,7 @@ fn both<A: Drop, B: Drop>(
     Ok((a?, b?))
 }
 
-/// A command with one more below it.
+/// A command with a subcommand added.
 fn with<'a>(
     command: Result<Command<'a>, AllocError>,
     below: Result<Command<'a>, AllocError>,
@@ -117,7 +117,7 @@ fn with<'a>(
     command.subcommand(below)
 }
 
-/// The program and its version, with no command yet.
+/// The program and its version, without commands.
 fn program<'a>(alloc: Global) -> Result<Command<'a>, AllocError> {
     let chord = Command::new(alloc, "chord").bin_name("chord")?;
     Ok(
@@ -128,7 +128,7 @@ fn program<'a>(alloc: Global) -> Result<Command<'a>, AllocError> {
     )
 }
 
-/// The commands of `chord` and what they take.
+/// The commands of `chord` and their arguments.
 pub fn commands<'a>(alloc: Global) -> Result<Command<'a>, AllocError> {
     let chord = with(program(alloc), world_command(alloc));
     let chord = with(chord, run_command(alloc));
@@ -145,7 +145,7 @@ pub fn no_stores(alloc: Global, word: &str) -> Result<clap::Error, AllocError> {
     fault_of(world_command(alloc), "chord world", message.as_str())
 }
 
-/// The number from 1 to 65,535 that a word is, if it is one.
+/// The number from 1 to 65,535 that the word is, if any.
 pub fn small_number(word: &str) -> Option<u16>
     ensures some { IfSome result (IsSmall word.now) }
     ensures none { (number : ℕ) → IsSmall word.now number → IsSome result }
@@ -156,7 +156,7 @@ pub fn small_number(word: &str) -> Option<u16>
     }
 }
 
-/// The fault of a word that is no such number.
+/// The fault of a word that is no number from 1 to 65,535.
 pub fn no_number(alloc: Global, option: &str, word: &str) -> Result<clap::Error, AllocError> {
     let message = format!(in alloc;
         "invalid value '{word}' for '--{option}': a number from 1 to 65535"

@@ -1,7 +1,8 @@
 //! The command lines of the program `chord`.
 //!
-//! [`commands`] has all of them, for `clap` to match a line's words with. What `clap` takes as text and the program
-//! does not take at all, [`names_stores`] and [`small_number`] find out; [`no_stores`] and [`no_number`] are the faults.
+//! [`commands`] has all of them, for `clap` to match a line's words with. [`names_stores`] and
+//! [`small_number`] check words that `clap` takes as plain text; [`no_stores`] and [`no_number`]
+//! are the faults.
 #![tactic(auto)]
 
 mod command_lines;

@@ -6,7 +6,7 @@ use chord_command_line::{names_stores, no_stores};
 mod command;
 mod serve_lines;
 
-/// The text of a command line without a command, and the status that the program ends with.
+/// A command line without a command is refused, with this text and status.
 #[test]
 fn a_command_is_wanted(rt: HostRuntime) {
     let wanted =
@@ -20,7 +20,7 @@ fn the_version(rt: HostRuntime) {
     assert!(rt; printed == Some((true, 0)));
 }
 
-/// What is written where the stores are no word of the option.
+/// The text and status if the word names no stores.
 #[test]
 fn faults_of_words(rt: HostRuntime) {
     let wanted =

@@ -1,6 +1,6 @@
-//! The console: one step or call of a world on a line, and one line out for each line in.
+//! The console: one step or query of a world on a line, and one line out for each line in.
 //!
-//! [`world`] does a whole session over the stores that it is handed, one for each node that may join.
+//! [`world`] does a whole session over the stores that it gets, one for each node that may join.
 #![tactic(auto)]
 
 mod line;

@@ -6,7 +6,7 @@ use chord_map::Request;
 use chord_world::Step;
 use std::alloc::Global;
 
-/// What a line asks for.
+/// What a line of the console asks for.
 #[derive(Debug, Drop)]
 pub enum Line {
     Step(Step),
@@ -16,7 +16,7 @@ pub enum Line {
     Holder(Id),
     /// The successors that this node lists.
     List(u64),
-    /// A member copies the list of its first entry, whichever that is.
+    /// A node copies the list of its first entry, whichever that is.
     Stabilise(u64),
 }
 
@@ -36,7 +36,7 @@ impl Line {
     }
 }
 
-/// What a line asks for that begins with this word.
+/// The line that begins with this word.
 fn line_of(alloc: Global, word: &str, words: &mut Words) -> Result<Line, LineFault> {
     match word {
         "history" => Ok(Line::History),
@@ -86,7 +86,7 @@ fn create(words: &mut Words) -> Result<Step, LineFault> {
     Ok(Step::Create { id: words.id()? })
 }
 
-/// A caller of the window that stands there, else 1.
+/// A caller with the window on the line, or else with window 1.
 fn caller(words: &mut Words) -> Result<Step, LineFault> {
     let window = if words.has_more() { words.number()? } else { 1 };
     Ok(Step::OpenCaller { window })
@@ -127,7 +127,7 @@ fn remove(alloc: Global, words: &mut Words) -> Result<Step, LineFault> {
     })
 }
 
-/// A request again: the one of the number that stands there, else the least pending one.
+/// Sends a request again: that of the number on the line, or else the least pending one.
 fn resend(words: &mut Words) -> Result<Step, LineFault> {
     let caller = words.number()?;
     let via = words.number()?;
@@ -180,7 +180,7 @@ fn give(words: &mut Words) -> Result<Step, LineFault> {
     Ok(Step::Give { node, place, to })
 }
 
-/// A part of a handover, again.
+/// Sends a part of a handover again.
 fn part(words: &mut Words) -> Result<Step, LineFault> {
     let node = words.number()?;
     let to = words.number()?;

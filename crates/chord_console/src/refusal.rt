@@ -1,9 +1,9 @@
-//! How refusals stand on a line.
+//! How a line shows refusals.
 
 use chord_map::RequestFault;
 use chord_world::{Refusal, StepFault};
 
-/// The name of a refusal, as it stands on a line.
+/// The name of a refusal on a line.
 pub fn name_of(refusal: Refusal) -> &'static str {
     match refusal {
         Refusal::AlreadyCreated => "AlreadyCreated",

@@ -18,7 +18,7 @@ const SUCCESSORS: usize = 3;
 /// How many reads a session makes at most.
 const READS: u32 = 1_048_576;
 
-/// A world with the line that is not whole yet, and how many lines were.
+/// A world, the line that is not whole yet, and how many lines were.
 #[derive(Drop)]
 struct Session<S: EntryStore> {
     alloc: Global,
@@ -27,7 +27,7 @@ struct Session<S: EntryStore> {
     lines: u64,
 }
 
-/// The word that what came of a step is told by, and the number behind it, if there is one.
+/// The word that a line shows for the outcome of a step, and the number after it, if any.
 fn word_of(outcome: Outcome) -> (&'static str, Option<u64>) {
     match outcome {
         Outcome::Node(number) => ("node", Some(number)),
@@ -60,7 +60,7 @@ fn last_of<S: EntryStore>(world: &World<S>, caller: u64) -> Option<&Done> {
     world.mine(caller)?.last()
 }
 
-/// Writes what came of a step.
+/// Writes the outcome of a step.
 fn write_outcome<S: EntryStore, W: Write>(
     world: &World<S>,
     outcome: Outcome,
@@ -89,7 +89,7 @@ fn write_holder<W: Write>(holder: Option<Holder>, writer: &mut W) -> io::Result<
     }
 }
 
-/// The first entry of a node, 0 where there is no such node.
+/// The first entry of a node, or 0 if there is no such node.
 fn head_of<S: EntryStore>(world: &World<S>, node: u64) -> u64 {
     match world.links(node) {
         Some(links) => links.first().no,
@@ -114,7 +114,7 @@ fn write_list<S: EntryStore, W: Write>(
     writeln!(writer)
 }
 
-/// Writes a refusal, but for being out of memory, which ends the session.
+/// Writes a refusal. Out of memory is not written: it ends the session.
 fn write_refusal<W: Write>(refusal: Refusal, writer: &mut W) -> Result<(), Finish> {
     if refusal == Refusal::Memory {
         return Err(Finish::OutOfMemory);
@@ -124,7 +124,7 @@ fn write_refusal<W: Write>(refusal: Refusal, writer: &mut W) -> Result<(), Finis
     written(writeln!(writer, "refused {number} {name}"))
 }
 
-/// A failed write as the end of the session.
+/// Ends the session if a write failed.
 fn written(wrote: io::Result<()>) -> Result<(), Finish> {
     match wrote {
         Ok(()) => Ok(()),
@@ -141,7 +141,7 @@ fn read_line(alloc: Global, line: &[u8]) -> Result<Line, LineFault> {
 }
 
 impl<S: EntryStore> Session<S> {
-    /// Does the line that is whole, and begins the next.
+    /// Does a whole line, and begins the next.
     fn finish_line<W: Write>(&mut self, stores: &mut Vec<S>, writer: &mut W) -> Result<(), Finish>
         requires { All (λ s. S.content s ≡ []) stores.old.items }
         ensures { All (λ s. S.content s ≡ []) stores.new.items }
@@ -156,7 +156,7 @@ impl<S: EntryStore> Session<S> {
         self.do_line(stores, line, writer)
     }
 
-    /// Does what a line asks for, and writes what came of it.
+    /// Does what a line asks for, and writes the outcome.
     fn do_line<W: Write>(
         &mut self,
         stores: &mut Vec<S>,
@@ -181,7 +181,7 @@ impl<S: EntryStore> Session<S> {
         }
     }
 
-    /// Does a step, and writes what came of it.
+    /// Does a step, and writes the outcome.
     fn do_step<W: Write>(
         &mut self,
         stores: &mut Vec<S>,
@@ -220,7 +220,8 @@ impl<S: EntryStore> Session<S> {
     }
 }
 
-/// Reads lines to the end of the input, in pieces of at most 4,096 bytes, and does each when it is whole.
+/// Reads lines to the end of the input, at most 4,096 bytes at a time, and does each when it is
+/// whole.
 fn serve<S: EntryStore, R: Read, W: Write>(
     session: &mut Session<S>,
     stores: &mut Vec<S>,
@@ -246,8 +247,8 @@ fn serve<S: EntryStore, R: Read, W: Write>(
     Err(Finish::Fault(Fault::Read))
 }
 
-/// Does the command `world`: steps of a world on the input, one line out for each line in. The nodes take their
-/// stores from the list, the first one first.
+/// Does the command `world`: steps of a world on the input, one line out for each line in. Nodes
+/// take their stores from the front of the list.
 pub fn world<S: EntryStore, R: Read, W: Write + Drop>(
     alloc: Global,
     mut stores: Vec<S>,

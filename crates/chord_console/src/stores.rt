@@ -15,7 +15,7 @@ pub fn add_store<S: EntryStore>(stores: &mut Vec<S>, store: S) -> Result<(), All
     Ok(())
 }
 
-/// Those of the stores that have no pair.
+/// The stores that have no pair.
 pub fn empty_ones<S: EntryStore>(alloc: Global, stores: Vec<S>) -> Result<Vec<S>, AllocError>
     ensures { IfOk result (λ kept. All (λ s. S.content s ≡ []) kept.items) }
 {

@@ -1,4 +1,4 @@
-//! Scripts of the console with what they must write.
+//! Scripts of the console with the lines that they should write.
 ghost use Rattle.std.specs.Prelude.{◌≡◌, [], IfOk};
 ghost use Rattle.std.specs.List.{All};
 
@@ -10,10 +10,10 @@ use std::fmt::Write;
 
 mod worlds;
 
-/// How a session ended, and whether it wrote what it was to write.
+/// How a session ended, and whether it wrote the right lines.
 type Ran = (Finish, bool);
 
-/// It is done, and wrote that.
+/// The session is done, and wrote the right lines.
 const DONE: Option<Ran> = Some((Finish::Done, true));
 
 /// Runs the script over these stores.
@@ -26,14 +26,14 @@ fn runs<S: EntryStore>(alloc: Global, stores: Vec<S>, script: &str, wanted: &str
     (finish, written.as_slice() == wanted.as_bytes())
 }
 
-/// Runs the script over one list.
+/// Runs the script over one list store.
 fn over_a_list(alloc: Global, script: &str, wanted: &str) -> Option<Ran> {
     let mut stores = Vec::new(alloc);
     add_store(&mut stores, ListStore::new(alloc)).ok()?;
     Some(runs(alloc, stores, script, wanted))
 }
 
-/// One store of one pair.
+/// A list of one store with room for one pair.
 fn one_pair(alloc: Global) -> Result<Vec<CappedStore>, AllocError>
     ensures { IfOk result (λ stores. All (λ s. s.pairs ≡ []) stores.items) }
 {
@@ -42,7 +42,7 @@ fn one_pair(alloc: Global) -> Result<Vec<CappedStore>, AllocError>
     Ok(stores)
 }
 
-/// Runs the script over one store of one pair.
+/// Runs the script over one store with room for one pair.
 fn over_one_pair(alloc: Global, script: &str, wanted: &str) -> Option<Ran> {
     let stores = one_pair(alloc).ok()?;
     Some(runs(alloc, stores, script, wanted))
@@ -114,7 +114,7 @@ const FULL_STORE_WRITES: &str = concat!(
     "refused 9 WindowFull\nfull 4\n",
 );
 
-/// Sessions over one list.
+/// Sessions over one list store.
 const OVER_A_LIST: &[(&str, &str)] = &[
     (FIRST_RUN, FIRST_RUN_WRITES),
     (ONE_NODE_WORLD, ONE_NODE_WORLD_WRITES),
@@ -126,7 +126,7 @@ const OVER_A_LIST: &[(&str, &str)] = &[
     (MORE_REFUSALS, MORE_REFUSALS_WRITES),
 ];
 
-/// Each session is done, and writes its lines.
+/// Each session ends as done, with the lines that it should write.
 #[test]
 fn sessions_over_a_list(rt: HostRuntime) {
     for (script, wanted) in OVER_A_LIST {
@@ -134,13 +134,13 @@ fn sessions_over_a_list(rt: HostRuntime) {
     }
 }
 
-/// Sessions over a store of one pair: calls that a full store refuses come again.
+/// Sessions over a store for one pair, in which calls that found the store full are sent again.
 const OVER_ONE_PAIR: &[(&str, &str)] = &[
     (FULL_STORE, FULL_STORE_WRITES),
     (FULL_STORE_RETRY, FULL_STORE_RETRY_WRITES),
 ];
 
-/// Each session is done, and writes its lines.
+/// Each session ends as done, with the lines that it should write.
 #[test]
 fn sessions_over_one_pair(rt: HostRuntime) {
     for (script, wanted) in OVER_ONE_PAIR {
@@ -173,7 +173,7 @@ const NO_LINES: &[&str] = &[
     "create 4000000000000000000000000000000\n",
 ];
 
-/// Each is the first line of its script.
+/// Each of these lines is the first of its script, and ends the session.
 #[test]
 fn lines_outside_the_grammar(rt: HostRuntime) {
     let fault = Finish::Fault(Fault::Line(1));
@@ -195,7 +195,7 @@ fn a_world_with_no_stores(rt: HostRuntime) {
     assert!(rt; ran == (Finish::Done, true));
 }
 
-/// A set of 1,000 values of two bytes, which are added one by one, and what is written.
+/// Adds 1,000 values of two bytes to a set: the script, and the lines that it should write.
 fn full_set(alloc: Global) -> Result<(String, String), AllocError> {
     let mut script = String::from_str(alloc, "create 40000000000000000000000000000000\ncaller\n")?;
     let mut wanted = String::from_str(alloc, "node 0\ncaller 0\n")?;
@@ -257,14 +257,14 @@ const MORE_REFUSALS_WRITES: &str = concat!(
     "refused 9 Idle\ntold 5\ntold 6\nrefused 5 NoSuchMessage\nrefused 4 NoSuchCaller\nnone\n",
 );
 
-/// What is asked of the full set, and what is written.
+/// Requests to the full set, and the lines that they should write.
 const AT_THE_LIMIT: &str =
     "insert 0 0 61 1000\ndeliver 2000\ndeliver 2001\ninsert 0 0 61 0999\ndeliver 2002\ndeliver 2003\nremove 0 0 61 0000\ndeliver 2004\ndeliver 2005\ninsert 0 0 61 1000\ndeliver 2006\ndeliver 2007\n";
 
 const AT_THE_LIMIT_WRITES: &str =
     "message 2000\ntold 2001\nfresh setfull\nmessage 2002\ntold 2003\nfresh present\nmessage 2004\ntold 2005\nfresh removed\nmessage 2006\ntold 2007\nfresh added\n";
 
-/// Runs a script that fills a set and then asks for more.
+/// Runs a script that fills a set, followed by requests to the full set.
 fn over_a_full_set(alloc: Global) -> Option<Ran> {
     let (mut script, mut wanted) = full_set(alloc).ok()?;
     script.push_str(AT_THE_LIMIT).ok()?;
@@ -277,7 +277,7 @@ fn full_sets(rt: HostRuntime) {
     assert!(rt; over_a_full_set(rt.alloc()) == DONE);
 }
 
-/// Memory for all lines.
+/// A vector with room for all lines, tried twice.
 fn with_room(alloc: Global) -> Result<Vec<u8>, AllocError> {
     match Vec::with_capacity(alloc, 1000) {
         Ok(room) => Ok(room),
@@ -285,7 +285,8 @@ fn with_room(alloc: Global) -> Result<Vec<u8>, AllocError> {
     }
 }
 
-/// How a session over one pair ends, and whether it writes its lines, or out of memory whole ones alone.
+/// How a session over a store for one pair ends, and whether it wrote all its lines, or if out of
+/// memory only whole ones.
 fn over_one_pair_at_most(alloc: Global) -> Option<Ran> {
     let stores = match one_pair(alloc) {
         Ok(stores) => stores,
@@ -302,7 +303,7 @@ fn over_one_pair_at_most(alloc: Global) -> Option<Ran> {
     Some((finish, ends_a_line && wanted.starts_with(&written)))
 }
 
-/// Out of memory the session ends, and the line of that step is not written.
+/// Out of memory ends the session, and the line of that step is not written.
 #[test]
 fn a_refused_growth_ends_the_session(rt: HostRuntime) {
     let ran = over_one_pair_at_most(rt.alloc());

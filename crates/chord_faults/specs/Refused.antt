@@ -1,4 +1,4 @@
--- Which refusal stands for which.
+-- How refusals of one call appear as refusals of another.
 use Rattle.chord_caller.specs.declared.fault.SubmitFault.{SubmitFault}
 use Rattle.chord_caller.specs.declared.fault.SubmitFault.TheVariants as submit
 use Rattle.chord_faults.specs.declared.caller.AskFault.{AskFault}
@@ -33,13 +33,13 @@ waited_ask wait.Full = ask.Full
 waited_ask wait.NoAnswer = ask.NoAnswer
 waited_ask wait.Memory = ask.Memory
 
--- the same of `collect`
+-- why a wait ended, as `collect` gives it
 abbrev pub waited_collect : WaitFault → CollectFault
 waited_collect wait.Full = collect.Full
 waited_collect wait.NoAnswer = collect.NoAnswer
 waited_collect wait.Memory = collect.Memory
 
--- the same of `retry`
+-- why a wait ended, as `retry` gives it
 abbrev pub waited_retry : WaitFault → RetryFault
 waited_retry wait.Full = retry.Full
 waited_retry wait.NoAnswer = retry.NoAnswer

@@ -110,7 +110,7 @@ impl From<WaitFault> for AskFault {
     }
 }
 
-/// Why a request that was begun has no reply.
+/// Why `collect` has no reply to a request that was submitted before.
 #[derive(Clone, Copy, Debug, PartialEq, Eq, Error)]
 pub enum CollectFault {
     #[error("no request of the number was submitted")]
@@ -135,7 +135,7 @@ impl From<WaitFault> for CollectFault {
     }
 }
 
-/// Why a request that was sent again has no reply.
+/// Why `retry` has no reply to a request.
 #[derive(Clone, Copy, Debug, PartialEq, Eq, Error)]
 pub enum RetryFault {
     #[error("no request of the number is pending")]

@@ -29,12 +29,12 @@ impl Clients {
         Ok(())
     }
 
-    /// Lets go of a connection.
+    /// Removes a connection.
     pub fn forget(&self, rt: &impl Wait, number: u64) {
         self.open.lock(rt).retain(|client| client.0 != number);
     }
 
-    /// Ends all connections. Nothing is read or written afterwards.
+    /// Shuts all connections down, so that nothing more is read or written.
     pub fn end_all(&self, rt: &impl Wait) {
         for (_, stream) in self.open.lock(rt).iter() {
             let _ = stream.shutdown(Shutdown::Both).is_ok();

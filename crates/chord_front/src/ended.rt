@@ -7,7 +7,7 @@ use std::fmt;
 #[derive(Clone, Copy, Debug, PartialEq, Eq)]
 pub enum Ended {
     Served(Served),
-    /// No caller was left, and the connection was closed.
+    /// There was no caller for it, and it was closed.
     CallersSpent,
     /// It could not be accepted.
     NotAccepted,

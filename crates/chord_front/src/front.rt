@@ -6,7 +6,7 @@ use chord_plan::Plan;
 use std::alloc::Global;
 use std::net::{Ipv4Addr, Net, TcpListener};
 
-/// A plan, where clients come, and where it is noted how their connections end.
+/// A plan, where clients connect, and where to log how connections end.
 #[derive_where(Clone, Copy)]
 pub struct Front<'a, L> {
     pub alloc: Global,
@@ -15,7 +15,7 @@ pub struct Front<'a, L> {
     pub notes: &'a L,
 }
 
-/// Listens at a port of 127.0.0.1, where it can be had.
+/// Listens at a port of 127.0.0.1, if it is free.
 pub fn listen<R: Net>(rt: &R, port: u16) -> Result<R::Listener, Finish>
     ensures { IfErr result (λ finish. finish ≡ Finish.Fault Fault.Listen) }
 {

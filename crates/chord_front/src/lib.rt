@@ -1,5 +1,6 @@
-//! What a server has beside its ring: where it listens ([`Front`]), the connections that are open ([`Clients`]) and how
-//! each ends ([`Ended`]), the lines that it writes ([`Lines`]), and how it is stopped ([`Stop`]).
+//! What a server needs besides its ring: where it listens ([`Front`]), the open connections
+//! ([`Clients`]) and how each ends ([`Ended`]), the lines that it writes ([`Lines`]), and how it is
+//! stopped ([`Stop`]).
 #![tactic(auto)]
 
 mod clients;

@@ -1,4 +1,4 @@
-//! What a server that stays writes.
+//! What `serve --stay` writes.
 
 use crate::ended::Ended;
 use chord_command::Finish;
@@ -6,20 +6,21 @@ use std::io::{self, Write};
 use std::net::TcpListener;
 use std::sync::{Mutex, Wait};
 
-/// A writer, and why it failed, if it did.
+/// A writer, and the fault at which it failed, if any.
 #[derive(Drop)]
 struct Out<W> {
     writer: W,
     failed: Option<Finish>,
 }
 
-/// The lines of connections, in the order in which they end. None is written behind one that failed.
+/// The lines of connections, in the order in which they end. After one that failed no more are
+/// written.
 #[derive(Drop)]
 pub struct Lines<W> {
     out: Mutex<Out<W>>,
 }
 
-/// Writes where clients are served.
+/// Writes the address at which clients are served.
 pub fn write_address<W: Write>(listener: &TcpListener, writer: &mut W) -> io::Result<()> {
     let address = listener.local_addr()?;
     writeln!(writer, "listening on {address}")?;
@@ -42,7 +43,7 @@ impl<W: Write> Lines<W> {
         }
     }
 
-    /// Writes where clients are served.
+    /// Writes the address at which clients are served.
     pub fn begin(&self, rt: &impl Wait, listener: &TcpListener) -> io::Result<()> {
         write_address(listener, &mut self.out.lock(rt).writer)
     }
@@ -62,7 +63,7 @@ impl<W: Write> Lines<W> {
         }
     }
 
-    /// Whether all lines were written.
+    /// Succeeds if all lines were written.
     pub fn finish(self) -> Result<(), Finish>
     where
         W: Drop,

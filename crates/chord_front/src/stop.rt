@@ -1,4 +1,4 @@
-//! The end of a server that stays.
+//! How `serve --stay` is stopped.
 
 use std::io::{self, Read};
 use std::net::{Net, SocketAddr, TcpStream};
@@ -6,10 +6,10 @@ use std::sync::atomic::{AtomicBool, Ordering};
 use std::thread;
 use std::time::{Clock, Duration};
 
-/// How often a server is woken at most.
+/// How many times stopping tries to wake the server.
 const WAKES: u64 = 1_000;
 
-/// Whether the server at this address is to take no more connections.
+/// Tells the server at this address to take no more connections.
 #[derive(Drop)]
 pub struct Stop {
     address: SocketAddr,
@@ -28,7 +28,7 @@ impl Stop {
         self.stopped.load(Ordering::SeqCst)
     }
 
-    /// Stops the server. A connection wakes it where it waits for one.
+    /// Stops the server, and connects to it, so that it wakes if it waits for a connection.
     pub fn stop<R: Net + Clock>(&self, rt: &R) {
         self.stopped.store(true, Ordering::SeqCst);
         for _ in 0..WAKES {
@@ -39,7 +39,7 @@ impl Stop {
         }
     }
 
-    /// Stops the server once the input ends or cannot be read. What it says is not looked at.
+    /// Stops the server once the input ends or can't be read. The bytes of the input are ignored.
     pub fn stop_behind<I: Read, R: Net + Clock>(&self, rt: &R, input: &mut I) {
         let mut buffer = [0u8; 512];
         for _ in 0..u64::MAX {

@@ -1,4 +1,4 @@
--- How parts of one place each, with as many pairs as these ask for, are those of the pairs of all.
+-- Parts with one of each number, each filled as its number asks, are the parts of all their pairs.
 use Rattle.std.proofs.Common.{◌≡◌, ℕ, zero, suc, ◌+◌, ◌-◌, ◌*◌, ◌<◌, ◌≤◌, true, false, cond, eqb, Option, Some, None, List, [], ◌++◌, length, take, drop, is_some, append-nil, append_assoc, inl, inr, ⊎_elim, refl, sym, ◌∙◌, ap, ap₂, subst, arith, All, length-append, filter}
 use Rattle.std.proofs.lemmas.Bool.{cond-true, cond-false, cases_lt, and_parts}
 use Rattle.std.proofs.lemmas.List.{take_all, length-drop, length-take}
@@ -13,11 +13,11 @@ use Rattle.chord_handover.specs.Parcelled.{IsParcelled, handed}
 use Rattle.chord_handover.proofs.GatherRules.{is_like, at_place, all_gathered, IsPartOf}
 use Rattle.chord_handover.proofs.PassRules.{front}
 
--- the parts tell so many and have as many pairs as their places ask for
+-- the parts say that they are `of`, and each is filled as its number asks
 abbrev pub AreFilled : ℕ → List Part → Type 0
 AreFilled of parts = (x : Part) → Has parts x → (x.of ≡ of) × IsFilled x
 
--- the pairs before a place are full parts
+-- the parts before this one are full: 64 pairs each
 upto_length : (of place : ℕ) (parts : List Part) → AreAllThere of parts → AreFilled of parts → place < of → length (pairs_upto place parts) ≡ 64 * place
 unfolding pairs_upto
 upto_length of zero parts there filled low = omega arith
@@ -31,7 +31,7 @@ upto_length of (suc place) parts there filled low =
     let pairs : length (pairs_of (part_in (suc place) parts)) ≡ length (a.0).pairs = ap (λ o. length (pairs_of o)) a.1 in
     omega (arith, length-append (pairs_upto place parts) (pairs_of (part_in (suc place) parts)))
 
--- the pairs behind a place
+-- the pairs of further parts come behind
 pub further : (place more : ℕ) (parts : List Part) → (rest : List Pair) × (pairs_upto (place + more) parts ≡ pairs_upto place parts ++ rest)
 unfolding pairs_upto
 further place zero parts =
@@ -43,7 +43,7 @@ further place (suc more) parts =
     let at : place + suc more ≡ suc (place + more) = omega arith in
     (r.0 ++ next, ap (λ n. pairs_upto n parts) at ∙ ap (λ ps. ps ++ next) r.1 ∙ append_assoc (pairs_upto place parts) r.0 next)
 
--- pairs up to a place that make no parcel leave all pairs without one
+-- if the pairs of the first parts make no payload, neither do all pairs
 pub none_further : (segment : Segment) (place of : ℕ) (parts : List Part) → place ≤ of → ¬ IsParcelled (record { segment = segment; pairs = pairs_upto place parts })
     → ¬ IsParcelled (record { segment = segment; pairs = pairs_upto of parts })
 none_further segment place of parts upto none rules =
@@ -56,7 +56,7 @@ last_split : (k : ℕ) (parts : List Part) → pairs_upto (suc k) parts ≡ pair
 unfolding pairs_upto
 last_split k parts = refl
 
--- the pairs of a place are those that a part of it has
+-- the 64 pairs from this part's start are the pairs of the part
 chunk_is : (of k : ℕ) (parts : List Part) → AreAllThere of parts → AreFilled of parts → k < of → take 64 (drop (64 * k) (pairs_upto of parts)) ≡ pairs_of (part_in (suc k) parts)
 chunk_is of k parts there filled low =
     let a = at_place of (suc k) parts there (omega arith) (omega arith) in
@@ -83,7 +83,7 @@ chunk_is of k parts there filled low =
           ap₂ (λ n ps. take 64 (drop n ps)) start whole ∙ ap (take 64) (drop-append_seam (pairs_upto k parts) here) ∙ take_all 64 here (omega arith)
     ]
 
--- so many parts are sent of all pairs
+-- all pairs make just this many parts
 count_is : (of k : ℕ) (parts : List Part) → AreAllThere of parts → AreFilled of parts → of ≡ suc k → of ≡ parts_in (pairs_upto of parts)
 count_is of k parts there filled e =
     let a = at_place of of parts there (omega arith) (omega arith) in
@@ -102,7 +102,7 @@ count_is of k parts there filled e =
       | inr alone ↦ omega arith
     ]
 
--- what parts of one handover have alike
+-- what the parts of one handover have in common
 like_part : (part : Part) (noted : List Part) (x : Part) → Has (gathered part noted) x → (x.from ≡ part.from) × (x.number ≡ part.number)
 like_part part noted x there =
     ⊎_elim
@@ -131,7 +131,7 @@ segment_is part noted segment x first here rule =
     sym (ap segment_of at) ∙ first ∙ sym (cond-true (eqb x.place 1) (Some segment) None t))
     (λ f. not_some x.segment (rule ∙ f) ∙ sym (cond-false (eqb x.place 1) (Some segment) None f))
 
--- parts that are fitting are those of the first one's segment and the pairs of all
+-- parts that fit are those of the first one's segment with the pairs of all
 pub fitting_are : (part : Part) (noted : List Part) (segment : Segment) → AreOf part.of (gathered part noted) → AreAllThere part.of (gathered part noted)
     → segment_of (part_in 1 (gathered part noted)) ≡ Some segment → ((x : Part) → Has (gathered part noted) x → IsPart x × IsFitting part (gathered part noted) x)
     → All (IsPartOf (ticket_of_part part) segment (pairs_upto part.of (gathered part noted))) (gathered part noted)
@@ -152,7 +152,7 @@ fitting_are part noted segment agree there first fitting =
     part_is x part.from part.to part.number (parts_in (pairs_upto part.of all)) (cond (eqb x.place 1) (Some segment) None) (chunk x.place (pairs_upto part.of all))
     like.0 fits.receiver like.1 (of ∙ count_is part.of (part.of - 1) all there filled last) (segment_is part noted segment x first fits.found rules.first) pairs)
 
--- a part of a handover has as many pairs as its place asks for
+-- a part of a handover is filled as its number asks
 part_filled : (x : Part) (pairs : List Pair) → IsPart x → x.of ≡ parts_in pairs → x.pairs ≡ chunk x.place pairs → IsFilled x
 part_filled x pairs rules of is =
     let some = rules.some in
@@ -162,7 +162,7 @@ part_filled x pairs rules of is =
     let taken = length-take 64 (drop (64 * (x.place - 1)) pairs) in
     record { full = λ low. omega arith; most = λ high. omega arith; some = λ high more. omega arith }
 
--- where each part is one of a segment and some pairs, each is fitting
+-- if each part is one of a segment with some pairs, each fits
 pub are_fitting : (part : Part) (noted : List Part) (segment : Segment) (pairs : List Pair) → All (IsPartOf (ticket_of_part part) segment pairs) (gathered part noted)
     → (x : Part) → Has (gathered part noted) x → IsPart x → IsFitting part (gathered part noted) x
 are_fitting part noted segment pairs each x h rules =
@@ -180,6 +180,6 @@ are_fitting part noted segment pairs each x h rules =
       found = r.1 ∙ ap Some same;
     }
 
--- what holds of the part, and of each noted one of its handover
+-- a property of the part and of each buffered part of its handover holds of all gathered parts
 pub each_gathered : (P : Part → Type 0) (part : Part) (noted : List Part) → ((other : Part) → Has noted other → is_like part other ≡ true → P other) → P part → (x : Part) → Has (gathered part noted) x → P x
 each_gathered P part noted each here x there = each_all P (gathered part noted) (all_gathered P part noted each here) x there

@@ -20,7 +20,7 @@ use Rattle.chord_handover.specs.Handover.{Handover, Part, parts_in, part_at, IsW
 use Rattle.chord_handover.specs.Parcelled.{Parcelled, IsParcelled, handed}
 use Rattle.chord_handover.proofs.Counting.{count}
 
--- a part of the same handover
+-- whether another part is of the same handover
 abbrev pub is_like : Part → Part → Bool
 is_like part other = eqb other.from part.from && eqb other.number part.number
 
@@ -30,7 +30,7 @@ has_itself part noted = has_last (filter (is_like part) noted) part
 pub has_noted : (part : Part) (noted : List Part) (other : Part) → Has noted other → is_like part other ≡ true → Has (gathered part noted) other
 has_noted part noted other there like = has_left (filter (is_like part) noted) (part ∷ []) other (has_filter_back (is_like part) noted other there like)
 
--- what holds of the part, and of each noted one of its handover
+-- a property of the part and of each buffered part of its handover holds of all gathered parts
 pub all_gathered : (P : Part → Type 0) (part : Part) (noted : List Part) → ((other : Part) → Has noted other → is_like part other ≡ true → P other) → P part → All P (gathered part noted)
 all_gathered P part noted each here =
     all_each P (gathered part noted) (λ other there.
@@ -57,7 +57,7 @@ from_false : (b : Bool) → b ≡ false → not b ≡ true
 from_false true h = absurd (true≢false h)
 from_false false h = refl
 
--- a noted part with another number of parts
+-- whether a buffered part of the handover says another number of parts
 abbrev pub tells_other : Part → Part → Bool
 tells_other part other = is_like part other && not (eqb other.of part.of)
 
@@ -79,7 +79,7 @@ they_agree part noted h =
     absurd (true≢false (sym (has_any (tells_other part) noted other there tells) ∙ h))))
     refl
 
--- the part of a place
+-- ---- the part of a number
 
 find_step : {A : Type 0} (a b : Bool) (x : A) (xs ys : Option A) → xs ≡ ys → cond a (cond b (Some x) xs) xs ≡ cond (a && b) (Some x) ys
 find_step true b x xs ys e = ap (cond b (Some x)) e
@@ -93,18 +93,18 @@ find_filter : {A : Type 0} (p q : A → Bool) (xs : List A) → find p (filter q
 find_filter p q [] = refl
 find_filter p q (x ∷ xs) = filter_step p (q x) x (filter q xs) ∙ find_step (q x) (p x) x (find p (filter q xs)) (find (λ x. q x && p x) xs) (find_filter p q xs)
 
--- a noted part of this place
+-- whether a buffered part of the handover has this number
 abbrev pub is_noted_at : Part → ℕ → Part → Bool
 is_noted_at part place other = is_like part other && eqb other.place place
 
--- the part of a place is noted, or is this one
+-- the part of a number is a buffered one, or this one
 pub part_in_is : (part : Part) (noted : List Part) (place : ℕ) → part_in place (gathered part noted) ≡ option_or (find (is_noted_at part place) noted) (cond (eqb part.place place) (Some part) None)
 part_in_is part noted place =
     find-append (λ (p : Part). eqb p.place place) (filter (is_like part) noted) (part ∷ [])
     ∙ ap (λ o. option_or o (cond (eqb part.place place) (Some part) None))
     (find_filter (λ (p : Part). eqb p.place place) (is_like part) noted)
 
--- places
+-- ---- part numbers
 
 pub at_place : (of place : ℕ) (parts : List Part) → AreAllThere of parts → 1 ≤ place → place ≤ of → (x : Part) × (part_in place parts ≡ Some x) × (x.place ≡ place) × Has parts x
 at_place of place parts there from upto =
@@ -119,7 +119,7 @@ place_there place parts x e =
     let c = contains_has parts x f.1 in
     (c.0, x, c.1, c.2, eqb_is x.place place f.0)
 
--- a handover has no more parts than are there
+-- ---- if every part number has a part, there are at least that many parts
 
 within : ℕ → ℕ → Bool
 within n k = leb 1 k && leb k n
@@ -157,7 +157,7 @@ enough_parts part noted there =
     let low = enough_places part.of part.of all there (omega arith) in
     omega (arith, count_upto (λ (p : Part). leb 1 p.place && leb p.place part.of) all, length-append (filter (is_like part) noted) (part ∷ []))
 
--- the parts of a handover are the parts of one parcel alone
+-- ---- the parts of a handover are those of one payload only
 
 found_part : (of : ℕ) (parts : List Part) (handover : Handover) (place : ℕ) → AreAllThere of parts → IsWhole parts handover → 1 ≤ place → place ≤ of
     → part_in place parts ≡ Some (part_at handover place)
@@ -188,7 +188,7 @@ whole_is part noted parcelled there whole =
       pairs_are part.of all handover part.of there whole (omega arith) ∙ take_all (64 * part.of) parcelled.pairs (omega arith),
     )
 
--- where each part is the segment's and the pairs', they are the parts of that parcel
+-- if each part is of this segment with these pairs, they are the parts of that payload
 pub whole_from : (part : Part) (noted : List Part) (parcelled : Parcelled) → AreAllThere part.of (gathered part noted)
     → All (λ (other : Part). other ≡ part_at (handed (ticket_of_part part) parcelled) other.place) (gathered part noted) → IsWhole (gathered part noted) (handed (ticket_of_part part) parcelled)
 whole_from part noted parcelled there each =
@@ -204,7 +204,7 @@ whole_from part noted parcelled there each =
           (subst (Has all) (each_all (λ (p : Part). p ≡ part_at handover p.place) all each a.0 a.3 ∙ ap (part_at handover) a.2) a.3);
     }
 
--- so they make one where these are a parcel
+-- they make a payload if the segment with the pairs is one
 pub are_whole : (part : Part) (noted : List Part) (segment : Segment) → AreAllThere part.of (gathered part noted)
     → IsParcelled (record { segment = segment; pairs = pairs_upto part.of (gathered part noted) })
     → All (λ (other : Part). other ≡ part_at (handed (ticket_of_part part) (record { segment = segment; pairs = pairs_upto part.of (gathered part noted) })) other.place) (gathered part noted) → AreWhole part noted
@@ -212,7 +212,7 @@ are_whole part noted segment there rules each =
     let parcelled : Parcelled = record { segment = segment; pairs = pairs_upto part.of (gathered part noted) } in
     (parcelled, rules, whole_from part noted parcelled there each)
 
--- no other parcel is sent in these parts
+-- no other payload is sent in these parts
 pub makes_none : (part : Part) (noted : List Part) (segment : Segment) (pairs : List Pair) → AreAllThere part.of (gathered part noted)
     → segment_of (part_in 1 (gathered part noted)) ≡ Some segment → pairs_upto part.of (gathered part noted) ≡ pairs
     → ¬ (IsParcelled (record { segment = segment; pairs = pairs }) × All (λ (other : Part). other ≡ part_at (handed (ticket_of_part part) (record { segment = segment; pairs = pairs })) other.place) (gathered part noted))
@@ -227,14 +227,14 @@ makes_none part noted segment pairs there first all unfit parcelled rules whole 
       subst (λ (p : Parcelled). All (λ (other : Part). other ≡ part_at (handed (ticket_of_part part) p) other.place) (gathered part noted)) same whole.each,
     )
 
--- nor any where the first part has no segment
+-- no payload is, if the first part has no segment
 pub makes_none_without : (part : Part) (noted : List Part) → AreAllThere part.of (gathered part noted) → segment_of (part_in 1 (gathered part noted)) ≡ None
     → MakeNone (ticket_of_part part) (gathered part noted)
 makes_none_without part noted there none parcelled rules whole =
     let is = whole_is part noted parcelled there whole in
     absurd (none-some parcelled.segment (sym none ∙ is.0))
 
--- what a search for the noted part of a place finds
+-- ---- what a search for the buffered part of a number finds
 
 pub noted_at : (part : Part) (noted : List Part) (place : ℕ) (found : Part) → Some found ≡ find (is_noted_at part place) noted → Some found ≡ part_in place (gathered part noted)
 noted_at part noted place found e =
@@ -250,7 +250,7 @@ none_at part noted place e apart =
     sym (part_in_is part noted place ∙ ap (λ o. option_or o (cond (eqb part.place place) (Some part) None)) (sym e)
     ∙ cond-false (eqb part.place place) (Some part) None (by_test (eqb part.place place) (λ t. absurd (apart (eqb_is part.place place t))) (λ f. f)))
 
--- what a reference that may be there points to
+-- the value behind an optional reference
 pub none_there : {A : Type 0} (o : Option (Bor A)) (p : Option A) → option_copied o ≡ p → is_some o ≡ false → p ≡ None
 none_there None p e h = sym e
 none_there (Some x) p e h = absurd (true≢false h)
@@ -273,17 +273,17 @@ pub no_pairs_yet : (parts : List Part) → [] ≡ pairs_upto 0 parts
 unfolding pairs_upto
 no_pairs_yet parts = refl
 
--- it is one of the parts of that segment and those pairs
+-- the part is one of those of this segment with these pairs
 abbrev pub IsPartOf : Ticket → Segment → List Pair → Part → Type 0
 IsPartOf ticket segment pairs other = other ≡ part_at (handed ticket (record { segment = segment; pairs = pairs })) other.place
 
--- what holds of each element passed holds of one more
+-- a property of each element passed, and of one more
 pub one_further : {A : Type 0} (P : A → Type 0) (xs : List A) (i : ℕ) (x : A) → i < length xs → x ≡ get_or xs i x → ((y : A) → Has (take i xs) y → P y) → P x → (y : A) → Has (take (i + 1) xs) y → P y
 one_further P xs i x within is before here y there =
     ⊎_elim (λ old. before y old) (λ same. subst P (is ∙ same) here)
     (has_pushed (take i xs) (get_or xs i x) y (subst (λ ys. Has ys y) (take_more xs i x within) there))
 
--- what holds, holds where a call failed
+-- what holds anyway also holds where a call failed
 pub on_err : {A E : Type 0} (result : Result A E) (P : Type 0) → P → OnErr result P
 on_err (Ok x) P h = tt
 on_err (Err e) P h = h

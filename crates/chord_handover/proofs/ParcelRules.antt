@@ -1,4 +1,4 @@
--- How a walk over pairs finds out whether they rise, and how many each key has.
+-- How a scan over pairs checks that they are sorted, and how many each key has.
 use Rattle.std.proofs.Common.{◌≡◌, ℕ, zero, suc, ◌+◌, ◌-◌, ◌<◌, ◌≤◌, Bool, true, false, cond, List, [], ◌∷◌, ◌++◌, length, get_or, take, drop, min, map, filter, Ordering, Less, Equal, Greater, refl, sym, ◌∙◌, ap, arith, bytes_eq, length-append, take-append-drop, inl, inr, nat_cmp}
 use Rattle.std.specs.Bool.{Decides}
 use Rattle.std.specs.Ordering.{ordering_then, ordering_reverse, is_eq, is_gt}
@@ -15,7 +15,7 @@ use Rattle.chord_map.specs.Pairs.{IsRising}
 use Rattle.chord_map.proofs.Lists.{by_test}
 use Rattle.chord_map.proofs.MapLemmas.{bytes_same, same_is, is_same, pairs_total, values_total}
 
--- pairs of which each is below the next rise
+-- pairs are sorted if each is below the next
 pub rising_from_next : (pairs : List Pair) → ((d : Pair) (k : ℕ) → k + 1 < length pairs → pair_cmp (get_or pairs k d) (get_or pairs (k + 1) d) ≡ Less) → IsRising pairs
 rising_from_next pairs next = sorted_from_all_adjacent pairs_total pairs (record { key = []; value = [] }) (next (record { key = []; value = [] }))
 
@@ -40,7 +40,7 @@ none_before key d (suc n) [] others = refl
 none_before key d (suc n) (x ∷ xs) others =
     no_value key x (take n xs) (others 0 (omega arith) (omega arith)) (none_before key d n xs (λ j below within. others (suc j) (omega arith) (omega arith)))
 
--- a key that is not the one before is no earlier one
+-- a key other than the last one's is none of the earlier ones
 pub new_key : (pairs : List Pair) (i : ℕ) (d : Pair) → IsRising pairs → 0 < i → i < length pairs → bytes_eq (get_or pairs (i - 1) d).key (get_or pairs i d).key ≡ false
     → (j : ℕ) → j < i → bytes_eq (get_or pairs j d).key (get_or pairs i d).key ≡ false
 new_key pairs i d rises positive within apart j below =
@@ -69,7 +69,7 @@ pub length_step : (b : Bool) (value : List ℕ) (values : List (List ℕ)) → l
 length_step true value values = length-append values (value ∷ [])
 length_step false value values = refl
 
--- what a key has up to a place it has in all
+-- a key has no more values in a prefix than in all pairs
 pub has_upto : (key : List ℕ) (pairs : List Pair) (n : ℕ) → length (values_at key (take n pairs)) ≤ length (values_at key pairs)
 has_upto key pairs n =
     let under : Pair → Bool = λ (pair : Pair). bytes_eq pair.key key in
@@ -79,11 +79,11 @@ has_upto key pairs n =
     let first : length (values_at key (take n pairs)) ≡ length (filter under (take n pairs)) = length-map (filter under (take n pairs)) (λ (pair : Pair). pair.value) in
     omega (arith, length-append (filter under (take n pairs)) (filter under (drop n pairs)))
 
--- pairs with the same bytes are the same
+-- pairs with equal bytes are equal
 pub pairs_same : (a b : Pair) → Decides (same_pair a b) (a ≡ b)
 pairs_same a b = (same_is a b, is_same a b)
 
--- the first 64 of what is left behind a place
+-- the first 64 of the pairs left from an index on
 pub chunk_at : (start size : ℕ) (pairs : List Pair) → size ≡ min (length (take (length pairs - start) (drop start pairs))) 64
     → take size (take (length pairs - start) (drop start pairs)) ≡ take 64 (drop start pairs)
 chunk_at start size pairs is =
@@ -92,6 +92,6 @@ chunk_at start size pairs is =
     let turned : size ≡ min 64 (length rest) = is ∙ (let l = ap length all in omega arith) in
     ap (take size) all ∙ ap (λ n. take n rest) turned ∙ take_min 64 rest
 
--- behind all pairs there is none
+-- no pairs come after all pairs
 pub none_behind : (start : ℕ) (pairs : List Pair) → length pairs ≤ start → [] ≡ take 64 (drop start pairs)
 none_behind start pairs low = sym (ap (take 64) (drop_of_length-le pairs low))

@@ -1,11 +1,11 @@
--- What parcels keep.
+-- What holds of payloads.
 use Rattle.std.proofs.Common.{◌≡◌, List, [], sym, subst, arith}
 use Rattle.chord_map.specs.declared.pair.Pair.{Pair}
 use Rattle.std.specs.List.Sorted.{IsStrictlySortedBy}
 use Rattle.chord_segment.specs.Segment.{Segment}
 use Rattle.chord_handover.specs.Parcelled.{IsParcelled}
 
--- a segment without pairs is a parcel
+-- a segment without pairs is a payload
 pub no_pairs : (segment : Segment) (pairs : List Pair) → pairs ≡ [] → IsParcelled (record { segment = segment; pairs = pairs })
 unfolding IsStrictlySortedBy
 no_pairs segment pairs e =

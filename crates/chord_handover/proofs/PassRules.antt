@@ -1,4 +1,4 @@
--- What a walk over pairs finds out of one more.
+-- What a scan over pairs learns from one more pair.
 use Rattle.std.proofs.Common.{◌≡◌, ℕ, ◌+◌, ◌-◌, ◌<◌, ◌≤◌, Bool, true, false, cond, not, None, Some, List, [], ◌∷◌, ◌++◌, length, get_or, slice_get, Less, inl, inr, ⊎_elim, refl, sym, ◌∙◌, ap, ap₂, subst, arith, bytes_eq, length-append}
 use Rattle.std.specs.Option.{option_copied}
 use Rattle.std.proofs.lemmas.Bool.{true≢false, cond-true, cond-false, cases_lt}
@@ -66,7 +66,7 @@ rises_on passed pair last rises e =
     sym (ap₂ pair_cmp (get_or-append passed (pair ∷ []) pair (length passed - 1) (omega (arith, at.0)) ∙ at.1) (get_or-append_seam passed pair [] pair))
     ∙ Less-from_sorted pair_cmp (passed ++ pair ∷ []) (length passed - 1) (length passed) pair rises (omega (arith, at.0)) (omega (arith, length-append passed (pair ∷ [])))
 
--- how many have a key
+-- the number of pairs with a key
 
 count_pushed : (key : List ℕ) (passed : List Pair) (pair : Pair)
     → length (values_at key (passed ++ pair ∷ [])) ≡ cond (bytes_eq pair.key key) (length (values_at key passed) + 1) (length (values_at key passed))
@@ -90,7 +90,7 @@ none_yet passed pair last rises e apart =
     sym (ap₂ (λ (a b : Pair). bytes_eq a.key b.key) (get_or-append passed (pair ∷ []) pair j within) here)
     ∙ new_key all (length passed) pair rises at.0 (omega (arith, length-append passed (pair ∷ []))) differ j below)
 
--- a front of a parcel's pairs is one too
+-- a prefix of a payload's pairs makes a payload too
 pub front : (segment : Segment) (xs ys : List Pair) → IsParcelled (record { segment = segment; pairs = xs ++ ys }) → IsParcelled (record { segment = segment; pairs = xs })
 front segment xs ys rules = record {
   rising = rising_front xs ys rules.rising;
@@ -137,7 +137,7 @@ first_goes segment passed pair old run has inside none last one =
     let zero : length (values_at pair.key passed) ≡ 0 = ap (λ ps. length (values_at pair.key ps)) empty in
     pushed segment passed pair run has.rules inside (λ other e. absurd (none-some other (sym none ∙ has.last ∙ e))) last (omega arith) (omega arith)
 
--- one with another key than the last one's
+-- one more pair with another key than the last one's
 pub apart_goes : (segment : Segment) (passed : List Pair) (pair before : Pair) (old run : Run) → HasPassed segment passed old → in_span segment.span (key_id pair.key) ≡ true
     → option_copied old.last ≡ Some before → pair_cmp before pair ≡ Less → bytes_eq before.key pair.key ≡ false → option_copied run.last ≡ Some pair → run.count ≡ 1
     → HasPassed segment (passed ++ pair ∷ []) run
@@ -151,7 +151,7 @@ same_count : (segment : Segment) (passed : List Pair) (pair before : Pair) (old 
     → old.count ≡ length (values_at pair.key passed)
 same_count segment passed pair before old has at same = has.count ∙ ap (λ o. count_like o passed) at ∙ ap (λ k. length (values_at k passed)) same
 
--- one with the same key
+-- one more pair with the same key
 pub along_goes : (segment : Segment) (passed : List Pair) (pair before : Pair) (old run : Run) → HasPassed segment passed old → in_span segment.span (key_id pair.key) ≡ true
     → option_copied old.last ≡ Some before → pair_cmp before pair ≡ Less → before.key ≡ pair.key → old.count < 1000 → option_copied run.last ≡ Some pair → run.count ≡ old.count + 1
     → HasPassed segment (passed ++ pair ∷ []) run
@@ -160,7 +160,7 @@ along_goes segment passed pair before old run has inside some less same low last
     let above : (other : Pair) → last_of passed ≡ Some other → pair_cmp other pair ≡ Less = λ other e. subst (λ (p : Pair). pair_cmp p pair ≡ Less) (same_Some before other (sym at ∙ e)) less in
     pushed segment passed pair run has.rules inside above last (omega (arith, same_count segment passed pair before old has at same)) (omega arith)
 
--- pairs that make no parcel
+-- ---- pairs that make no payload
 
 pub outside : (segment : Segment) (passed : List Pair) (pair : Pair) → in_span segment.span (key_id pair.key) ≡ false → ¬ IsParcelled (record { segment = segment; pairs = passed ++ pair ∷ [] })
 outside segment passed pair out rules =
@@ -176,7 +176,7 @@ too_many segment passed pair before old has some same full rules =
     let most = rules.few pair.key in
     absurd (omega (arith, own_count passed pair, same_count segment passed pair before old has (sym has.last ∙ some) same))
 
--- what a test that keys differ tells
+-- a test that keys differ
 
 no_test : (b : Bool) → true ≡ not b → b ≡ false
 no_test true h = absurd (true≢false h)

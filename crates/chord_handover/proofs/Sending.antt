@@ -1,4 +1,4 @@
--- What a give and a removal do to an outbox.
+-- The outbox after a give and after a removal.
 use Rattle.std.proofs.Common.{◌≡◌, ℕ, suc, ◌+◌, ◌<◌, ◌≤◌, Bool, true, false, cond, not, nat_lt, ltb, None, Some, List, [], ◌∷◌, ◌++◌, length, slice_get, remove, ⊎_elim, refl, sym, ◌∙◌, ap, subst, arith}
 use Rattle.std.specs.Prelude.{position}
 use Rattle.std.specs.List.{position_or_len}
@@ -22,7 +22,7 @@ remove_step false x rest left n here further low =
     let next : 1 + n ≡ suc n = omega arith in
     ap (remove (x ∷ rest)) next ∙ ap (λ items. x ∷ items) (further refl (omega arith))
 
--- the first such item taken out leaves what is without it
+-- removing the first such item leaves the outbox without it
 remove_first : (to number : ℕ) (items : List Item) → AreApart items → position_or_len (is_item to number) items < length items
     → remove items (position_or_len (is_item to number) items) ≡ without to number items
 unfolding without
@@ -46,7 +46,7 @@ no_place false n e = refl
 past_end : (m n : ℕ) → ltb m n ≡ false → n ≤ m
 past_end m n h = grind (arith, nat_tests)
 
--- an item that has a place is the one of its receiver and number, and leaves what is without it
+-- the item at an index has its receiver and number; removing it leaves the outbox without that item
 pub removed_is : (to number : ℕ) (items : List Item) (place : ℕ) → Some place ≡ position (is_item to number) items → AreApart items
     → (place < length items) × (item_at to number items ≡ slice_get items place) × (remove items place ≡ without to number items)
 unfolding item_at
@@ -62,7 +62,7 @@ not_at : (to number : ℕ) (items : List Item) → length items ≤ position_or_
 unfolding item_at
 not_at to number items high = find_at (is_item to number) items ∙ slice_get_past items (position_or_len (is_item to number) items) high
 
--- an item that has none is not there
+-- an item without an index is not in the outbox
 pub absent_is : (to number : ℕ) (items : List Item) → None ≡ position (is_item to number) items → (item_at to number items ≡ None) × (without to number items ≡ items)
 absent_is to number items e =
     let high : length items ≤ position_or_len (is_item to number) items =
@@ -74,7 +74,7 @@ item_has : (to number : ℕ) (items : List Item) (item : Item) → item_at to nu
 unfolding item_at
 item_has to number items item e = (found (is_item to number) items item e).1
 
--- the next number to a receiver names no item
+-- the next number to a receiver is that of no item
 next_free : (given : List Mark) (items : List Item) (to number : ℕ) → IsOutbox given items → number ≡ mark_of to given + 1 → item_at to number items ≡ None
 next_free given items to number h e =
     by_option (item_at to number items) (λ none. none)
@@ -85,7 +85,7 @@ next_free given items to number h e =
     let number_is = parts.1 in
     absurd (omega arith))
 
--- an outbox stays one as a parcel is given
+-- an outbox keeps its rules when a payload is given
 pub gave_keeps : (given : List Mark) (items : List Item) (item : Item) → IsOutbox given items → item.number ≡ mark_of item.to given + 1
     → IsOutbox (raise item.to item.number given) (items ++ item ∷ [])
 gave_keeps given items item h e = record {
@@ -106,7 +106,7 @@ left_has : (to number : ℕ) (items : List Item) (other : Item) → Has (without
 unfolding without
 left_has to number items other there = (has_filter (λ (i : Item). not (is_item to number i)) items other there).0
 
--- and as one leaves
+-- an outbox keeps its rules when an item leaves
 pub left_keeps : (given : List Mark) (items : List Item) (to number : ℕ) → IsOutbox given items → IsOutbox given (without to number items)
 left_keeps given items to number h = record {
   numbered = all_each (λ (i : Item). i.number ≤ mark_of i.to given) (without to number items) (λ other there. each_all (λ (i : Item). i.number ≤ mark_of i.to given) items h.numbered other (left_has to number items other there));

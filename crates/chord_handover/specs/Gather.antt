@@ -1,4 +1,4 @@
--- What parts make together.
+-- What the parts that arrived make together.
 use Rattle.std.specs.Prelude.{◌≡◌, ◌≤◌, ℕ, zero, suc, ◌==◌, ◌++◌, ◌⊎◌, Option, None, Some, List, [], find, All, Any}
 use Rattle.chord_map.specs.declared.pair.Pair.{Pair}
 use Rattle.chord_segment.specs.Segment.{Segment}
@@ -8,39 +8,39 @@ use Rattle.chord_handover.specs.declared.ticket.Ticket.{Ticket}
 use Rattle.chord_handover.specs.Handover.{Part, IsFilled, IsWhole, gathered, ticket_of_part}
 use Rattle.chord_handover.specs.Parcelled.{Parcelled, IsParcelled, handed}
 
--- they tell the same number of parts
+-- all the parts say that the handover has `of` parts
 abbrev pub AreOf : ℕ → List Part → Type 0
 AreOf of parts = All (λ part. part.of ≡ of) parts
 
--- each place of so many has its part
+-- each of the part numbers 1 to `of` has a part
 abbrev pub AreAllThere : ℕ → List Part → Type 0
 AreAllThere of parts = (place : ℕ) → 1 ≤ place → place ≤ of → Any (λ part. part.place ≡ place) parts
 
--- no parcel is sent in just these parts
+-- no payload is sent in exactly these parts
 abbrev pub MakeNone : Ticket → List Part → Type 0
 MakeNone ticket parts = (parcelled : Parcelled) → IsParcelled parcelled → ¬ IsWhole parts (handed ticket parcelled)
 
--- More: a part is missing. Unfit: they tell different numbers of parts, or are all there and make no parcel. Whole: the parcel
--- that they are the parts of
+-- More: a part is missing. Unfit: the parts say different counts, or are all there and make no
+-- payload. Whole: the payload that they are the parts of
 abbrev pub Make : Ticket → ℕ → List Part → Gather → Type 0
 Make ticket of parts More = AreOf of parts × ¬ AreAllThere of parts
 Make ticket of parts Unfit = (¬ AreOf of parts) ⊎ (AreAllThere of parts × MakeNone ticket parts)
 Make ticket of parts (Whole parcelled) = IsWhole parts (handed ticket parcelled)
 
--- the noted parts of a part's handover, with that part
+-- gathers the buffered parts of a part's handover, with that part
 abbrev pub GatherIs : Part → List Part → Gather → Type 0
 GatherIs part noted gather = Make (ticket_of_part part) part.of (gathered part noted) gather
 
--- a whole that is told is a parcel
+-- a payload that is answered keeps the rules of one
 abbrev pub TellsParcel : Gather → Type 0
 TellsParcel (Whole parcelled) = IsParcelled parcelled
 TellsParcel gather = Unit {0}
 
--- they make a parcel
+-- the parts make a payload
 abbrev pub AreWhole : Part → List Part → Type 0
 AreWhole part noted = (parcelled : Parcelled) × IsParcelled parcelled × GatherIs part noted (Whole parcelled)
 
--- the part of a place
+-- the part of this number
 abbrev pub part_in : ℕ → List Part → Option Part
 part_in place parts = find (λ (part : Part). part.place == place) parts
 
@@ -52,12 +52,12 @@ abbrev pub pairs_of : Option Part → List Pair
 pairs_of None = []
 pairs_of (Some part) = part.pairs
 
--- the pairs of the parts up to a place, one part's behind another's
+-- the pairs of the parts 1 to `place`, in order
 unfoldable pub pairs_upto : ℕ → List Part → List Pair
 pairs_upto zero parts = []
 pairs_upto (suc place) parts = pairs_upto place parts ++ pairs_of (part_in (suc place) parts)
 
--- a part of the same receiver as another, which is the one of its place and has as many pairs as that asks for
+-- another part: for the same receiver, filled as its number asks, and found under that number
 pub record IsFitting (part : Part) (parts : List Part) (other : Part) : Type 0 where
   pub receiver : other.to ≡ part.to
   pub filled : IsFilled other

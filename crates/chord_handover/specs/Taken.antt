@@ -1,4 +1,4 @@
--- What a node took of others' handovers, and the parts that it noted of the next ones.
+-- What a node took from other nodes, and the buffered parts of their next handovers.
 use Rattle.std.specs.Prelude.{◌≡◌, ℕ, ◌+◌, ◌<◌, ◌≤◌, Bool, not, ◌&&◌, ◌==◌, if◌then◌else◌, List, [], ◌∷◌, ◌++◌, filter}
 use Rattle.std.specs.List.{list_any}
 use Rattle.chord_segment.specs.declared.mark.Mark.{Mark}
@@ -7,12 +7,12 @@ use Rattle.chord_handover.specs.declared.verdict.Verdict.{Verdict}
 use Rattle.chord_handover.specs.declared.verdict.Verdict.TheVariants.{Next, Again, Early}
 use Rattle.chord_handover.specs.Handover.{Part}
 
--- the last number taken from each sender, and the noted parts
+-- the last number taken from each sender, and the buffered parts
 pub record Taken : Type 0 where
   pub last : List Mark
   pub noted : List Part
 
--- this as the program holds it, and whether its memory has room for one more sender
+-- `Taken` as the program holds it, and whether its memory has room for one more sender
 pub record RoomyTaken : Type 0 where
   pub taken : Taken
   pub has_room : Bool
@@ -20,23 +20,23 @@ pub record RoomyTaken : Type 0 where
 abbrev pub nothing_taken : Taken
 nothing_taken = record { last = []; noted = [] }
 
--- a number is the next one, was taken, or comes too early
+-- whether a number is the next one, was taken before, or comes too early
 abbrev pub JudgeIs : ℕ → ℕ → Taken → Verdict → Type 0
 JudgeIs from number taken Next = number ≡ mark_of from taken.last + 1
 JudgeIs from number taken Again = number ≤ mark_of from taken.last
 JudgeIs from number taken Early = mark_of from taken.last + 1 < number
 
--- the sender's next handover was taken, and its noted parts dropped
+-- the sender's next handover was taken, and its buffered parts dropped
 abbrev pub marked : ℕ → Taken → Taken
 marked from taken = record {
   last = raise from (mark_of from taken.last + 1) taken.last;
   noted = filter (λ (part : Part). not (part.from == from)) taken.noted;
 }
 
--- whether a part of that sender, number and place is noted
+-- whether a part of this sender, handover number and part number is buffered
 abbrev pub is_noted : Part → List Part → Bool
 is_noted part noted = list_any (λ (other : Part). (other.from == part.from) && (other.number == part.number) && (other.place == part.place)) noted
 
--- the part noted, which changes nothing where it was noted
+-- the part buffered; nothing changes if it was buffered before
 abbrev pub with_noted : Part → Taken → Taken
 with_noted part taken = if is_noted part taken.noted then taken else record taken { noted = taken.noted ++ part ∷ [] }

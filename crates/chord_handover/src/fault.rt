@@ -3,7 +3,7 @@
 use crate::parcelled::Parcelled;
 use thiserror::Error;
 
-/// Why a parcel does not go into the outbox.
+/// Why a payload is not put into the outbox.
 #[derive(Clone, Copy, Debug, PartialEq, Eq, Error)]
 pub enum GiveFault {
     #[error("the numbers of this receiver are spent")]
@@ -12,7 +12,7 @@ pub enum GiveFault {
     Memory,
 }
 
-/// A parcel that was not given, handed back.
+/// A payload that was not given, given back.
 #[derive(Debug, Drop)]
 pub struct Ungiven {
     pub fault: GiveFault,

@@ -1,9 +1,9 @@
-//! What parts make together.
+//! What the parts that arrived make together.
 
 use crate::parcelled::Parcelled;
 
-/// What the noted parts of a handover and one more make: not yet all of them, parts that do not belong together, or
-/// the whole handover.
+/// What a part makes with the buffered parts of its handover: an incomplete handover, parts that do
+/// not fit together, or the whole payload.
 #[derive(Debug, Drop)]
 pub enum Gather {
     More,

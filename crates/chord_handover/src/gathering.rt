@@ -1,4 +1,4 @@
-//! Parts of a handover, put together.
+//! Putting the parts of a handover together.
 ghost use Rattle.std.specs.Prelude.{◌≡◌, ◌↔◌, ◌-◌, ◌≤◌, ◌&&◌, ◌==◌, ◌++◌, not, All, IsTrue, IfOk, OnOk, OnErr, List, length, filter, find, Some};
 ghost use Rattle.std.specs.List.{list_any};
 ghost use Rattle.std.specs.Option.{option_copied};
@@ -16,7 +16,7 @@ use chord_map::Pair;
 use chord_segment::Segment;
 use std::alloc::{AllocError, Global};
 
-/// What the noted parts of a part's handover make with that part. Only a parcel takes memory.
+/// What the part makes with the buffered parts of its handover. Only a whole payload needs memory.
 pub fn gather(alloc: Global, noted: &[Part], part: &Part) -> Result<Gather, AllocError>
     ensures made { IfOk result (λ gather. GatherIs part.now noted.now gather) }
     ensures parcel { IfOk result (λ gather. TellsParcel gather) }
@@ -39,7 +39,7 @@ pub fn gather(alloc: Global, noted: &[Part], part: &Part) -> Result<Gather, Allo
     Ok(Gather::Whole(Parcelled::new(segment, pairs)))
 }
 
-/// Whether a noted part of the handover tells another number of parts.
+/// Whether a buffered part of the handover says another number of parts.
 fn has_other_count(noted: &[Part], part: &Part) -> bool
     ensures { result ≡ list_any (λ (other : PartOf). (other.from == part.now.from) && (other.number == part.now.number) && not (other.of == part.now.of)) noted.now }
 {
@@ -48,7 +48,7 @@ fn has_other_count(noted: &[Part], part: &Part) -> bool
         && other.of != part.of)
 }
 
-/// How many parts of the handover are noted.
+/// The number of buffered parts of the handover.
 fn count_noted(noted: &[Part], part: &Part) -> usize
     ensures { result ≡ length (filter (λ (other : PartOf). (other.from == part.now.from) && (other.number == part.now.number)) noted.now) }
 {
@@ -58,7 +58,7 @@ fn count_noted(noted: &[Part], part: &Part) -> usize
         .count()
 }
 
-/// The noted part of this place.
+/// The buffered part of this number.
 fn find_noted<'a>(noted: &'a [Part], part: &Part, place: u64) -> Option<&'a Part>
     ensures { option_copied result ≡ find (λ (other : PartOf). (other.from == part.now.from) && (other.number == part.now.number) && (other.place == place)) noted.now }
 {
@@ -67,7 +67,7 @@ fn find_noted<'a>(noted: &'a [Part], part: &Part, place: u64) -> Option<&'a Part
         && other.place == place)
 }
 
-/// The handover's part of this place.
+/// The handover's part of this number.
 fn find_part<'a>(noted: &'a [Part], part: &'a Part, place: u64) -> Option<&'a Part>
     ensures { option_copied result ≡ part_in place (gathered part.now noted.now) }
 {
@@ -78,7 +78,7 @@ fn find_part<'a>(noted: &'a [Part], part: &'a Part, place: u64) -> Option<&'a Pa
     }
 }
 
-/// Whether each place of the handover has a part.
+/// Whether each part number of the handover has a part.
 fn are_all_there(noted: &[Part], part: &Part) -> bool
     ensures { IsTrue result ↔ AreAllThere part.now.of (gathered part.now noted.now) }
 {
@@ -93,7 +93,7 @@ fn are_all_there(noted: &[Part], part: &Part) -> bool
     true
 }
 
-/// The segment that came with the first part.
+/// The segment in the first part.
 fn first_segment<'a>(noted: &'a [Part], part: &'a Part) -> Option<&'a Segment>
     ensures { segment_in (option_copied result) ≡ segment_of (part_in 1 (gathered part.now noted.now)) }
 {
@@ -124,7 +124,7 @@ fn push_copies(pairs: &mut Vec<Pair>, more: &[Pair]) -> Result<(), AllocError>
     Ok(())
 }
 
-/// The walk over the parts before a place with that of the place too.
+/// Continues the scan over the parts before `place` with the pairs of part `place`.
 fn pass_place<'a>(
     run: Run<'a>,
     noted: &'a [Part],
@@ -141,7 +141,7 @@ fn pass_place<'a>(
     }
 }
 
-/// Whether the pairs of all parts, in order, are those of a parcel with this segment.
+/// Whether the pairs of all parts, in order, make a payload with this segment.
 fn are_parcelled<'a>(noted: &'a [Part], part: &'a Part, segment: &Segment) -> bool
     ensures { IsTrue result ↔ IsParcelled (record { segment = segment.now.segment; pairs = pairs_upto part.now.of (gathered part.now noted.now) }) }
 {
@@ -155,8 +155,8 @@ fn are_parcelled<'a>(noted: &'a [Part], part: &'a Part, segment: &Segment) -> bo
     true
 }
 
-/// Whether a part of the handover goes to this part's receiver, has as many pairs as its place asks for, and is the one
-/// of that place.
+/// Whether another part of the handover goes to this part's receiver, is filled as its number asks,
+/// and is the part found under that number.
 fn is_fitting(noted: &[Part], part: &Part, other: &Part) -> bool
     ensures test { IsTrue result ↔ IsFitting part.now (gathered part.now noted.now) other.now }
     ensures rules { IsPart other.now }
@@ -167,7 +167,8 @@ fn is_fitting(noted: &[Part], part: &Part, other: &Part) -> bool
     other.to == part.to && other.is_filled() && other.equals(found)
 }
 
-/// Whether all parts of the handover are those of this segment and of the pairs of all parts.
+/// Whether all parts of the handover are those of a
+/// payload of this segment with the pairs of all parts.
 fn are_parts_of(noted: &[Part], part: &Part, segment: &Segment) -> bool
     requires agree { AreOf part.now.of (gathered part.now noted.now) }
     requires there { AreAllThere part.now.of (gathered part.now noted.now) }

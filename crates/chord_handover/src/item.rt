@@ -1,9 +1,9 @@
-//! Handovers that are kept.
+//! Items of the outbox.
 
 use crate::parcelled::Parcelled;
 use std::marker::Model;
 
-/// A parcel on its way to a node, under its number there.
+/// A payload on its way to a node, under its number there.
 #[derive(Debug, Drop)]
 pub struct Item {
     pub to: u64,

@@ -1,4 +1,4 @@
-//! Handovers that are kept until their receivers have or have declined them.
+//! The outbox: handovers until their receivers answer Got or Declined.
 ghost use Rattle.std.specs.Prelude.{◌≡◌, ◌↔◌, true, [], IsTrue, IfOk, OnOk, OnErr, IfSome, IfNone, ◌<◌, ◌≤◌, ◌^◌, IsOk, is_some, length, slice_get, position};
 ghost use Rattle.std.specs.Option.{option_copied};
 ghost use Rattle.chord_handover.specs.Handover.{is_item, item_at};
@@ -13,7 +13,7 @@ use chord_segment::{Mark, number_of, raise_mark};
 use std::alloc::{AllocError, Global};
 use std::marker::Model;
 
-/// The handovers of a node that are under way, and the last number given to each receiver.
+/// The open handovers of a node, and the last number given to each receiver.
 #[derive(Debug, Drop)]
 pub struct Outbox {
     owner: u64,
@@ -45,21 +45,21 @@ impl Outbox {
         }
     }
 
-    /// How many items are under way.
+    /// The number of items.
     pub fn len(&self) -> usize
         ensures { result ≡ length self.now.outbox.items }
     {
         self.items.len()
     }
 
-    /// Whether nothing is under way.
+    /// Whether the outbox is empty.
     pub fn is_empty(&self) -> bool
         ensures { IsTrue result ↔ (self.now.outbox.items ≡ []) }
     {
         self.items.is_empty()
     }
 
-    /// The receiver and the number of an item, from 0 in the order given.
+    /// The receiver and the number of item `i`, counted from 0 in the order given.
     pub fn nth(&self, i: u64) -> Option<(u64, u64)>
         ensures value { result ≡ named (slice_get self.now.outbox.items i) }
         ensures rules { IsOutbox self.now.outbox.given self.now.outbox.items }
@@ -68,7 +68,7 @@ impl Outbox {
         Some((item.to, item.number))
     }
 
-    /// What the item of this receiver and number hands over.
+    /// The payload of the item of this receiver and number.
     #[tactic(auto, unfolding(crate::specs::Handover::item_at))]
     pub fn item(&self, to: u64, number: u64) -> Option<&Parcelled>
         ensures { option_copied result ≡ parcel_of (item_at to number self.now.outbox.items) }
@@ -80,7 +80,8 @@ impl Outbox {
         Some(&item.parcelled)
     }
 
-    /// The part of this place, from 1, of the item of this receiver and number. `None` where there is no such item or part.
+    /// Part number `part`, from 1, of the item of this receiver
+    /// and number; `None` if there is no such item or part.
     pub fn part(&self, to: u64, number: u64, part: u64) -> Result<Option<Part>, AllocError>
         ensures found { IfOk result (λ found. found ≡ part_of_item self.now.outbox.owner to number part (parcel_of (item_at to number self.now.outbox.items))) }
         ensures there { OnErr result (is_some (part_of_item self.now.outbox.owner to number part (parcel_of (item_at to number self.now.outbox.items))) ≡ true) }
@@ -100,7 +101,7 @@ impl Outbox {
         Ok(Some(found))
     }
 
-    /// The number that the next item for this receiver gets, none where they are spent.
+    /// The number of the next item for this receiver; `None` once all are used up.
     pub fn next_number(&self, to: u64) -> Option<u64>
         ensures some { IfSome result (λ number. (number ≡ next_to to self.now.outbox) × (number < 2 ^ 64)) }
         ensures none { IfNone result (2 ^ 64 ≤ next_to to self.now.outbox) }
@@ -108,7 +109,7 @@ impl Outbox {
         number_of(&self.given, to).checked_add(1)
     }
 
-    /// Makes room for one more item, which the next `give` then cannot lack.
+    /// Reserves room for one more item, so that the next `give` can't lack it.
     pub fn reserve(&mut self) -> Result<(), AllocError>
         ensures same { self.new.outbox ≡ self.old.outbox }
         ensures room { OnOk result (self.new.has_room ≡ true) }
@@ -118,7 +119,7 @@ impl Outbox {
         Ok(())
     }
 
-    /// Puts a parcel into the outbox and answers its number, from 1 for each receiver.
+    /// Puts a payload into the outbox and answers its number, from 1 for each receiver.
     pub fn give(&mut self, to: u64, parcelled: Parcelled) -> Result<u64, Ungiven>
         ensures answer { GiveIs to parcelled self.old.outbox result self.new.outbox }
         ensures succeeds { self.old.has_room ≡ true → next_to to self.old.outbox < 2 ^ 64 → IsOk result }
@@ -146,7 +147,7 @@ impl Outbox {
         Ok(number)
     }
 
-    /// The receiver has the handover: it leaves the outbox, if it is there.
+    /// The receiver took the handover: its item leaves the outbox, if it is there.
     pub fn got(&mut self, to: u64, number: u64) -> Option<Parcelled>
         ensures item { result ≡ parcel_of (item_at to number self.old.outbox.items) }
         ensures left { self.new.outbox ≡ with_none to number self.old.outbox }
@@ -156,7 +157,7 @@ impl Outbox {
         Some(item.parcelled)
     }
 
-    /// The receiver has declined the handover: it leaves the outbox, if it is there.
+    /// The receiver declined the handover: its item leaves the outbox, if it is there.
     pub fn declined(&mut self, to: u64, number: u64) -> Option<Parcelled>
         ensures item { result ≡ parcel_of (item_at to number self.old.outbox.items) }
         ensures left { self.new.outbox ≡ with_none to number self.old.outbox }
@@ -165,7 +166,7 @@ impl Outbox {
     }
 }
 
-/// The place of the item of this receiver and number.
+/// The index of the item of this receiver and number.
 fn place_of(items: &[Item], to: u64, number: u64) -> Option<usize>
     ensures { result ≡ position (is_item to number) items.now }
 {

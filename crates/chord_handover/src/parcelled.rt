@@ -1,4 +1,4 @@
-//! What is handed over.
+//! Payloads of handovers.
 ghost use Rattle.std.specs.Prelude.{◌≡◌, ◌≤◌, ◌==◌, if◌then◌else◌, Some, None, IfOk};
 ghost use Rattle.chord_handover.specs.Handover.{parts_in, part_at};
 ghost use Rattle.chord_handover.specs.Known.{segment_in};
@@ -11,7 +11,8 @@ use chord_segment::Segment;
 use std::alloc::{AllocError, Global};
 use std::marker::Model;
 
-/// A segment with its pairs, which rise strictly, lie in its span, and are at most 1,000 for each key.
+/// A segment with its pairs, which are strictly sorted,
+/// lie in its span, and are at most 1,000 for each key.
 #[derive(Debug, Drop)]
 pub struct Parcelled {
     segment: Segment,
@@ -37,14 +38,14 @@ impl Parcelled {
         Parcelled { segment, pairs }
     }
 
-    /// Its segment.
+    /// The segment of the payload.
     pub fn segment(&self) -> &Segment
         ensures { result.now.segment ≡ self.now.segment }
     {
         &self.segment
     }
 
-    /// Its pairs.
+    /// The pairs of the payload.
     pub fn pairs(&self) -> &[Pair]
         ensures value { result.now ≡ self.now.pairs }
         ensures rules { IsParcelled self.now }
@@ -61,7 +62,7 @@ impl Parcelled {
         (self.segment, self.pairs)
     }
 
-    /// One of the parts that it is sent in.
+    /// One of the parts of the payload's handover.
     pub fn part(&self, ticket: Ticket, part: u64) -> Result<Part, AllocError>
         requires some { 1 ≤ part }
         requires within { part ≤ parts_in self.now.pairs }
@@ -80,7 +81,7 @@ impl Parcelled {
         })
     }
 
-    /// The segment goes with the first part.
+    /// A copy of the segment for the first part; none for the others.
     fn segment_for(&self, part: u64) -> Result<Option<Segment>, AllocError>
         ensures { IfOk result (λ segment. segment_in segment ≡ (if part == 1 then Some self.now.segment else None)) }
     {
@@ -101,7 +102,7 @@ impl Parcelled {
     }
 }
 
-/// Equal copies.
+/// Equal copies of the pairs.
 pub fn copy_pairs(alloc: Global, pairs: &[Pair]) -> Result<Vec<Pair>, AllocError>
     ensures { IfOk result (λ copies. copies.items ≡ pairs.now) }
 {

@@ -13,7 +13,7 @@ use std::marker::Model;
 /// The most pairs in a part.
 pub const PART_PAIRS: usize = 64;
 
-/// One of the parts, counted from 1, that a handover is sent in. The first has the segment.
+/// One of the parts of a handover, counted from 1. The first has the segment.
 #[derive(Debug, Drop)]
 pub struct Part {
     pub from: u64,
@@ -37,7 +37,7 @@ impl Model for Part {
 }
 
 impl Part {
-    /// Whether it has as many pairs as its place asks for.
+    /// Whether it has as many pairs as its number asks for.
     pub(crate) fn is_filled(&self) -> bool
         ensures { IsTrue result ↔ IsFilled self.now }
     {
@@ -91,7 +91,7 @@ pub fn copy_segment(segment: &Option<Segment>) -> Result<Option<Segment>, AllocE
     }
 }
 
-/// Whether both are equal, or neither is there.
+/// Whether both segments are equal, or both are `None`.
 fn same_segments(first: &Option<Segment>, second: &Option<Segment>) -> bool
     ensures { IsTrue result ↔ (segment_in first.now ≡ segment_in second.now) }
 {
@@ -102,14 +102,14 @@ fn same_segments(first: &Option<Segment>, second: &Option<Segment>) -> bool
     }
 }
 
-/// How many parts so many pairs make.
+/// The number of parts for these pairs.
 pub fn count_parts(pairs: &[Pair]) -> u64
     ensures { result ≡ parts_in pairs.now }
 {
     (pairs.len() as u64).div_ceil(64).max(1)
 }
 
-/// The pairs of a part, counted from 1. There are none behind the last.
+/// The pairs of a part, counted from 1; none for a part after the last.
 pub fn chunk_of(pairs: &[Pair], part: u64) -> &[Pair]
     ensures { result.now ≡ chunk part pairs.now }
 {

@@ -1,4 +1,4 @@
-//! Whether pairs are those of a parcel, found out on the way.
+//! A scan that checks whether pairs belong to a payload.
 ghost use Rattle.std.specs.Prelude.{◌≡◌, ◌++◌, List, [], ◌∷◌};
 ghost use Rattle.chord_map.specs.declared.pair.Pair.{Pair};
 ghost use Rattle.chord_map.specs.Map.{pair_cmp};
@@ -11,7 +11,7 @@ use chord_map::limits::SET_VALUES;
 use chord_segment::Segment;
 use std::cmp::Ordering;
 
-/// The last pair that a walk has passed, and how many with its key.
+/// The last pair that the scan has passed, and how many have its key.
 #[derive(Clone, Copy, Debug)]
 pub(crate) struct Run<'a> {
     last: Option<&'a Pair>,
@@ -19,7 +19,7 @@ pub(crate) struct Run<'a> {
 }
 
 impl<'a> Run<'a> {
-    /// Nothing is passed yet.
+    /// A scan that has passed nothing.
     pub(crate) fn new() -> Run<'a>
         ensures { (segment : SegmentOf) → HasPassed segment [] result }
     {
@@ -29,7 +29,8 @@ impl<'a> Run<'a> {
         }
     }
 
-    /// The walk with these pairs too. `None` where all of them are no pairs of a parcel of this segment.
+    /// The scan after these pairs; `None` if they can't
+    /// be the next pairs of a payload of this segment.
     pub(crate) fn walk(self, segment: &Segment, pairs: &'a [Pair]) -> Option<Run<'a>>
         ensures { (passed : List Pair) → HasPassed segment.now.segment passed self.entry → Goes segment.now.segment (passed ++ pairs.now) result }
     {
@@ -43,7 +44,7 @@ impl<'a> Run<'a> {
         Some(run)
     }
 
-    /// The walk with one more pair.
+    /// The scan after one more pair.
     fn step(self, segment: &Segment, pair: &'a Pair) -> Option<Run<'a>>
         ensures { (passed : List Pair) → HasPassed segment.now.segment passed self.entry → Goes segment.now.segment (passed ++ pair.now ∷ []) result }
     {
@@ -76,7 +77,7 @@ impl<'a> Run<'a> {
     }
 }
 
-/// How the first pair stands to the second.
+/// Compares the pairs by key and then by value.
 fn compare(first: &Pair, second: &Pair) -> Ordering
     ensures { result ≡ pair_cmp first.now second.now }
 {

@@ -1,4 +1,4 @@
-//! Handovers that are taken whole.
+//! The handovers that a node took, and the buffered parts of the next ones.
 ghost use Rattle.std.specs.Prelude.{◌≡◌, ◌+◌, ◌<◌, ◌^◌, [], true, false, IfOk, OnOk, OnErr};
 ghost use Rattle.chord_segment.specs.Marks.{mark_of};
 ghost use Rattle.chord_handover.specs.Gather.{GatherIs, AreWhole, TellsParcel};
@@ -12,7 +12,7 @@ use chord_segment::{Mark, number_of, raise_mark};
 use std::alloc::{AllocError, Global};
 use std::marker::Model;
 
-/// The last number taken from each sender, and the parts noted of the next handovers.
+/// The last number taken from each sender, and the buffered parts of the next handovers.
 #[derive(Debug, Drop)]
 pub struct Taken {
     last: Vec<Mark>,
@@ -30,7 +30,7 @@ impl Model for Taken {
 }
 
 impl Taken {
-    /// Nothing taken and nothing noted.
+    /// Nothing taken and nothing buffered.
     pub fn new(alloc: Global) -> Taken
         ensures { result.taken ≡ nothing_taken }
     {
@@ -47,7 +47,7 @@ impl Taken {
         number_of(&self.last, from)
     }
 
-    /// How a number stands to the last one taken from its sender.
+    /// Whether a number is the next of its sender, was taken before, or comes too early.
     pub fn judge(&self, from: u64, number: u64) -> Verdict
         ensures { JudgeIs from number self.now.taken result }
     {
@@ -61,7 +61,7 @@ impl Taken {
         }
     }
 
-    /// Makes room for a sender, which the next `mark` asks for.
+    /// Reserves room for one more sender, as the next `mark` requires.
     pub fn reserve(&mut self) -> Result<(), AllocError>
         ensures same { self.new.taken ≡ self.old.taken }
         ensures room { OnOk result (self.new.has_room ≡ true) }
@@ -70,7 +70,8 @@ impl Taken {
         Ok(())
     }
 
-    /// The next handover of a sender was taken: its number becomes the last, and its noted parts are dropped.
+    /// The sender's next handover was taken: its number
+    /// becomes the last, and its buffered parts are dropped.
     pub fn mark(&mut self, from: u64)
         requires room { self.old.has_room ≡ true }
         requires more { mark_of from self.old.taken.last + 1 < 2 ^ 64 }
@@ -81,15 +82,15 @@ impl Taken {
         self.noted.retain(|part| part.from != from);
     }
 
-    /// Drops the noted parts of all senders.
+    /// Drops the buffered parts of all senders.
     pub fn forget_noted(&mut self)
         ensures { self.new.taken ≡ record self.old.taken { noted = [] } }
     {
         self.noted.clear();
     }
 
-    /// What the noted parts of a sender's next handover make with this one. Nothing is noted by it, and only a parcel
-    /// takes memory.
+    /// What this part makes together with the buffered parts of its sender's next handover. It
+    /// buffers nothing, and only a whole payload needs memory.
     pub fn whole_with(&self, part: &Part) -> Result<Gather, AllocError>
         requires { part.now.number ≡ mark_of part.now.from self.now.taken.last + 1 }
         ensures made { IfOk result (λ gather. GatherIs part.now self.now.taken.noted gather) }
@@ -100,7 +101,7 @@ impl Taken {
         Ok(made)
     }
 
-    /// Notes a part of a sender's next handover. A part noted again changes nothing.
+    /// Buffers a part of a sender's next handover. A part that is buffered already changes nothing.
     pub fn note(&mut self, part: &Part) -> Result<(), AllocError>
         requires { part.now.number ≡ mark_of part.now.from self.old.taken.last + 1 }
         ensures ok { OnOk result (self.new.taken ≡ with_noted part.now self.old.taken) }
@@ -116,7 +117,7 @@ impl Taken {
     }
 }
 
-/// Whether a part of the same sender, number and place is in the list.
+/// Whether the list has a part of this sender, handover number and part number.
 pub fn has_part(noted: &[Part], part: &Part) -> bool
     ensures { result ≡ is_noted part.now noted.now }
 {

@@ -11,18 +11,18 @@ use std::alloc::{AllocError, Global};
 
 pub const A: u128 = 0x40000000000000000000000000000000;
 
-/// The whole circle with no pairs.
+/// The whole circle with no pairs, as a payload.
 pub fn empty_parcel(alloc: Global) -> Parcelled {
     let span = Span::new(Id::new(A), Id::new(A));
     Parcelled::new(Segment::empty(alloc, span), Vec::new(alloc))
 }
 
-/// Puts in an empty parcel for node 1 and answers its number.
+/// Gives an empty payload to node 1 and answers its number.
 fn give_one(alloc: Global, outbox: &mut Outbox) -> Option<u64> {
     outbox.give(1, empty_parcel(alloc)).ok()
 }
 
-/// The outbox of this node with one empty parcel for node 1.
+/// The outbox of this node with one empty payload for node 1.
 fn outbox_of(alloc: Global, owner: u64) -> Option<Outbox> {
     let mut outbox = Outbox::new(alloc, owner);
     let is_given = outbox.reserve().is_ok() && give_one(alloc, &mut outbox).is_some();
@@ -50,12 +50,13 @@ fn items_are_shown(rt: HostRuntime) {
     assert!(rt; shown(rt.alloc()) == Some((Some((1, 1)), Some(2), Some(true))));
 }
 
-/// Whether it is there.
+/// Whether there is a value.
 fn is_there<T: Drop>(value: Option<T>) -> bool {
     value.is_some()
 }
 
-/// Whether an outbox is empty before its item is got and after it was got twice, and whether the item was there each time.
+/// Whether the outbox is empty before its item is got, and after it was got twice; and whether the
+/// item was there each time.
 fn got_twice(alloc: Global) -> Option<(bool, bool, bool, bool)> {
     let mut outbox = outbox_of(alloc, 0)?;
     let before = outbox.is_empty();
@@ -71,7 +72,7 @@ fn items_stay_until_got(rt: HostRuntime) {
     assert!(rt; got_twice(rt.alloc()) == Some((false, true, false, true)));
 }
 
-/// Whether the second item comes back, the whole circle with no pairs.
+/// Whether the second item is given back as the whole circle with no pairs.
 fn comes_back(outbox: &mut Outbox) -> Option<bool> {
     let (segment, pairs) = outbox.declined(1, 2)?.into_parts();
     let is_empty = (segment.span().upto == Id::new(A)) & (pairs.len() == 0);
@@ -80,7 +81,8 @@ fn comes_back(outbox: &mut Outbox) -> Option<bool> {
     Some(is_empty)
 }
 
-/// The number of a second item, whether that comes back, and whether the outbox is empty then.
+/// The number of a second item, whether it is given back
+/// when declined, and whether the outbox is empty then.
 fn declined(alloc: Global) -> Option<(Option<u64>, Option<bool>, bool)> {
     let mut outbox = outbox_of(alloc, 0)?;
     let second = give_one(alloc, &mut outbox);
@@ -103,7 +105,8 @@ fn part_of_item(alloc: Global, number: u64, part: u64) -> Option<Option<Part>> {
     part.ok()
 }
 
-/// From whom the part goes to whom and in which handover, which one it is of how many, and whether it has a segment.
+/// The sender, the receiver and the handover of the part; its number and how many there are; and
+/// whether it has a segment.
 fn names(part: Option<Part>) -> Option<((u64, u64, u64), (u64, u64), bool)> {
     let part = part?;
     let handover = (part.from, part.to, part.number);
@@ -136,14 +139,15 @@ fn take_first(taken: &mut Taken) {
     }
 }
 
-/// What the second and the first handover of node 0 are before the first is taken, and what that is then.
+/// The verdicts on the second and the first handover of node
+/// 0 before the first is taken, and on the first after that.
 fn judged(taken: &mut Taken) -> (Verdict, Verdict, Verdict) {
     let before = (taken.judge(0, 2), taken.judge(0, 1));
     take_first(taken);
     (before.0, before.1, taken.judge(0, 1))
 }
 
-/// The same, and the last handovers of nodes 0 and 1 that were taken then.
+/// These verdicts, and then the last numbers taken from nodes 0 and 1.
 fn in_order(mut taken: Taken) -> ((Verdict, Verdict, Verdict), (u64, u64)) {
     let judged = judged(&mut taken);
     let last = (taken.last(0), taken.last(1));
@@ -157,7 +161,7 @@ fn numbers_are_taken_in_order(rt: HostRuntime) {
     assert!(rt; in_order(Taken::new(rt.alloc())) == (judged, (1, 0)));
 }
 
-/// Adds this value under one key.
+/// Adds a pair of this value under `abc`.
 fn push(pairs: &mut Vec<Pair>, alloc: Global, value: &[u8]) -> Result<(), AllocError> {
     let key = Bytes::from_slice(alloc, b"abc")?;
     let value = Bytes::from_slice(alloc, value)?;
@@ -165,7 +169,7 @@ fn push(pairs: &mut Vec<Pair>, alloc: Global, value: &[u8]) -> Result<(), AllocE
     Ok(())
 }
 
-/// So many pairs under one key, whose values rise.
+/// `count` pairs under one key, with rising values.
 pub fn pairs(alloc: Global, count: u8) -> Result<Vec<Pair>, AllocError> {
     let mut pairs = Vec::new(alloc);
     for i in 0..count {
@@ -174,7 +178,7 @@ pub fn pairs(alloc: Global, count: u8) -> Result<Vec<Pair>, AllocError> {
     Ok(pairs)
 }
 
-/// The whole circle as part i of two, with these pairs.
+/// The whole circle as part i of 2, with these pairs.
 pub fn part(alloc: Global, i: u64, pairs: Vec<Pair>) -> Part
     requires low { 1 ≤ i }
     requires high { i ≤ 2 }
@@ -182,7 +186,7 @@ pub fn part(alloc: Global, i: u64, pairs: Vec<Pair>) -> Part
     part_of(alloc, i, 2, pairs)
 }
 
-/// The same as part i of so many.
+/// The whole circle as part i of `of`, with these pairs.
 fn part_of(alloc: Global, i: u64, of: u64, pairs: Vec<Pair>) -> Part
     requires low { 1 ≤ i }
     requires high { i ≤ of }
@@ -204,7 +208,7 @@ fn part_of(alloc: Global, i: u64, of: u64, pairs: Vec<Pair>) -> Part
     }
 }
 
-/// What it makes with what is noted, in a word.
+/// What the part makes with the buffered parts, in a word.
 pub fn makes(taken: &Taken, part: &Part) -> Result<&'static str, AllocError> {
     if taken.judge(part.from, part.number) != Verdict::Next {
         return Ok("not next");
@@ -219,12 +223,12 @@ pub fn makes(taken: &Taken, part: &Part) -> Result<&'static str, AllocError> {
     Ok(made)
 }
 
-/// The word, also where memory was refused.
+/// The word, or that memory was refused.
 pub fn said(word: Result<&'static str, AllocError>) -> &'static str {
     word.unwrap_or("out of memory")
 }
 
-/// Notes a part of the next handover.
+/// Buffers a part of the next handover.
 pub fn note(taken: &mut Taken, part: &Part) -> Result<(), AllocError> {
     if taken.judge(part.from, part.number) == Verdict::Next {
         taken.note(part)?;
@@ -232,7 +236,7 @@ pub fn note(taken: &mut Taken, part: &Part) -> Result<(), AllocError> {
     Ok(())
 }
 
-/// The word for what it makes with what is noted, and that it is noted then.
+/// The word for what the part makes with the buffered parts; then it is buffered.
 fn take_in(taken: &mut Taken, part: &Part) -> &'static str {
     let made = makes(taken, part);
     let noted = note(taken, part);
@@ -249,7 +253,8 @@ pub fn two_parts(alloc: Global) -> Result<(Part, Part), AllocError> {
     Ok((part(alloc, 1, all), part(alloc, 2, rest)))
 }
 
-/// What the second part makes with nothing noted, and once it is noted, and what the first and the second make then.
+/// What the second part makes with nothing buffered, and with itself buffered, and then what the
+/// first and the second make.
 fn made_in_turn(
     alloc: Global,
 ) -> Option<((&'static str, &'static str), (&'static str, &'static str))> {
@@ -268,7 +273,7 @@ fn two_parts_make_it_whole(rt: HostRuntime) {
     assert!(rt; made_in_turn(rt.alloc()) == Some(made));
 }
 
-/// What the second part makes once the handover was taken.
+/// What the second part makes after the handover was taken.
 fn made_too_late(alloc: Global) -> Option<&'static str> {
     let parts = two_parts(alloc).ok()?;
     let mut taken = Taken::new(alloc);
@@ -284,7 +289,7 @@ fn a_part_of_a_handover_that_was_taken_is_not_next(rt: HostRuntime) {
     assert!(rt; made_too_late(rt.alloc()) == Some("not next"));
 }
 
-/// Whether it makes the whole circle with these pairs.
+/// Whether the part makes the whole circle with these pairs.
 fn makes_whole(taken: &Taken, part: &Part, pairs: &[Pair]) -> bool {
     if taken.judge(part.from, part.number) != Verdict::Next {
         return false;
@@ -299,7 +304,8 @@ fn makes_whole(taken: &Taken, part: &Part, pairs: &[Pair]) -> bool {
     is_whole
 }
 
-/// What the second part of 65 pairs makes, and whether the first makes the whole circle with all of them then.
+/// What the second part of 65 pairs makes, and whether
+/// the first then makes the whole circle with all pairs.
 fn made_whole(alloc: Global) -> Option<(&'static str, bool)> {
     let (all, parts) = pairs(alloc, 65).ok().zip(two_parts(alloc).ok())?;
     let mut taken = Taken::new(alloc);
@@ -316,7 +322,7 @@ fn what_is_whole_has_all_pairs(rt: HostRuntime) {
     assert!(rt; made_whole(rt.alloc()) == Some(("more", true)));
 }
 
-/// What the part makes with what is noted, where it is there.
+/// What the part, if it was made, makes with the buffered parts.
 fn makes_of(taken: &Taken, part: Option<Part>) -> &'static str {
     let Some(part) = part else {
         return "out of memory";
@@ -326,7 +332,7 @@ fn makes_of(taken: &Taken, part: Option<Part>) -> &'static str {
     said(made)
 }
 
-/// What part i of so many, with so many pairs, makes with what is noted.
+/// What part i of `of`, with `count` pairs, makes with the buffered parts.
 fn makes_with(taken: &Taken, alloc: Global, i: u64, of: u64, count: u8) -> &'static str
     requires low { 1 ≤ i }
     requires high { i ≤ of }
@@ -337,7 +343,7 @@ fn makes_with(taken: &Taken, alloc: Global, i: u64, of: u64, count: u8) -> &'sta
     }
 }
 
-/// A receiver that was given the first of two parts, with 64 pairs, and what that made.
+/// A receiver that got the first of two parts, with 64 pairs, and what that made.
 fn given_first(alloc: Global) -> Option<(Taken, &'static str)> {
     let first = part(alloc, 1, pairs(alloc, 64).ok()?);
     let mut taken = Taken::new(alloc);
@@ -346,7 +352,7 @@ fn given_first(alloc: Global) -> Option<(Taken, &'static str)> {
     Some((taken, made))
 }
 
-/// What the first part makes, and what four others make then.
+/// What the first part makes, and then what four others make.
 fn misfits(alloc: Global) -> Option<(&'static str, [&'static str; 4])> {
     let (taken, first) = given_first(alloc)?;
     let others = [
@@ -364,7 +370,7 @@ fn parts_that_do_not_fit(rt: HostRuntime) {
     assert!(rt; misfits(rt.alloc()) == Some(("more", ["unfit"; 4])));
 }
 
-/// So many pairs under one key, whose values rise from this one.
+/// `count` pairs under one key, with values rising from `first`.
 fn pairs_from(alloc: Global, first: u64, count: u64) -> Result<Vec<Pair>, AllocError>
     requires { first + count ≤ 1024 }
 {
@@ -376,7 +382,7 @@ fn pairs_from(alloc: Global, first: u64, count: u64) -> Result<Vec<Pair>, AllocE
     Ok(pairs)
 }
 
-/// A receiver that has noted 15 of 16 parts, each with 64 pairs under one key.
+/// A receiver that buffered 15 of 16 parts, each with 64 pairs under one key.
 fn all_but_the_last(alloc: Global) -> Result<Taken, AllocError> {
     let mut taken = Taken::new(alloc);
     for i in 1..16 {
@@ -389,14 +395,14 @@ fn all_but_the_last(alloc: Global) -> Result<Taken, AllocError> {
     Ok(taken)
 }
 
-/// The last of 16 parts, with so many pairs.
+/// The last of 16 parts, with `count` pairs.
 fn last_part(alloc: Global, count: u64) -> Result<Part, AllocError>
     requires { count ≤ 64 }
 {
     Ok(part_of(alloc, 16, 16, pairs_from(alloc, 960, count)?))
 }
 
-/// Whether the last part with 40 pairs makes the whole circle with these.
+/// Whether the last part with 40 pairs makes the whole circle with all of these.
 fn is_whole_with_forty(taken: &Taken, alloc: Global, all: &[Pair]) -> Option<bool> {
     let last = last_part(alloc, 40).ok()?;
     let is_whole = makes_whole(taken, &last, all);
@@ -404,7 +410,7 @@ fn is_whole_with_forty(taken: &Taken, alloc: Global, all: &[Pair]) -> Option<boo
     Some(is_whole)
 }
 
-/// Whether it makes it whole with the thousand pairs, and what the last part makes with 41.
+/// Whether the last part makes a payload of the thousand pairs, and what it makes with 41 pairs.
 fn made_of_a_thousand(alloc: Global) -> Option<(Option<bool>, &'static str)> {
     let all = pairs_from(alloc, 0, 1000).ok();
     let (all, taken) = all.zip(all_but_the_last(alloc).ok())?;
@@ -420,7 +426,7 @@ fn a_set_of_a_parcel_has_at_most_a_thousand_values(rt: HostRuntime) {
     assert!(rt; made_of_a_thousand(rt.alloc()) == Some((Some(true), "unfit")));
 }
 
-/// Whether it equals the other, where that is there.
+/// Whether the part equals the other, if that was made.
 fn equals(part: &Part, other: Option<Part>) -> Option<bool> {
     let other = other?;
     let is_equal = part.equals(&other);
@@ -428,7 +434,7 @@ fn equals(part: &Part, other: Option<Part>) -> Option<bool> {
     Some(is_equal)
 }
 
-/// Whether it equals part i of so many, with so many pairs.
+/// Whether the part equals part i of `of` with `count` pairs.
 fn equals_part(part: &Part, alloc: Global, i: u64, of: u64, count: u8) -> Option<bool>
     requires low { 1 ≤ i }
     requires high { i ≤ of }
@@ -437,7 +443,7 @@ fn equals_part(part: &Part, alloc: Global, i: u64, of: u64, count: u8) -> Option
     equals(part, Some(part_of(alloc, i, of, pairs)))
 }
 
-/// Whether a part equals its copy and one that is made alike, and whether three others.
+/// Whether a part equals its copy and one made alike, and whether it equals three others.
 fn compared(alloc: Global) -> Option<([Option<bool>; 2], [Option<bool>; 3])> {
     let first = part(alloc, 1, pairs(alloc, 64).ok()?);
     let alike = [
@@ -471,7 +477,7 @@ fn only_part(alloc: Global) -> Result<Part, AllocError> {
     part
 }
 
-/// What the part makes once it was noted and forgotten.
+/// What the part makes after it was buffered and the buffered parts were dropped.
 fn made_when_forgotten(alloc: Global, part: Part) -> &'static str {
     let mut taken = Taken::new(alloc);
     let noted = note(&mut taken, &part);

@@ -1,4 +1,4 @@
--- A session that asks again through a caller is answered by replies of its requests' kinds.
+-- A session that sends a request again through a caller gets a reply of the request's kind.
 use Rattle.std.proofs.Common.{◌≡◌, ◌⊎◌, ⊎_elim, ℕ, zero, suc, Bool, true, not, ◌&&◌, eqb, List, Option, Some, None, map, slice_get, refl, sym, ap, ◌∙◌, subst, option_map, ◌+◌, [], ◌∷◌, drop, arith}
 use Rattle.std.proofs.lemmas.Bool.{cond-true, cond-false}
 use Rattle.std.proofs.lemmas.Option.{none-some, slice_get-map}
@@ -27,7 +27,7 @@ kind_of reply answer request told fit =
     (λ none. subst (λ a. IsReplyTo a request) (sym none) tt)
     told
 
--- where no request is known, an answer may be of any kind
+-- if no request is known, any kind of answer fits
 of_none : (answer : Asked) → IsReplyTo answer None
 of_none (asked.Reply reply) = tt
 of_none asked.Full = tt
@@ -50,7 +50,7 @@ fitting_kind reply (Some s) request e =
     (λ t. (s, refl, t))
     (λ f. absurd (none-some request (sym (cond-false (fits reply s.request) (Some s.request) None f) ∙ e)))
 
--- so is one that a caller takes
+-- a fresh reply is of its request's kind
 fresh_kind : (told : Told) (caller : Caller) (request : Request) → fresh_for told caller ≡ Some request
     → (s : Submission) × (submission_at told.number caller.submitted ≡ Some s) × (fits told.reply s.request ≡ true)
 unfolding fresh_for
@@ -61,14 +61,14 @@ fresh_kind told caller request e =
     (λ t. fitting_kind told.reply (submission_at told.number caller.submitted) request (sym (cond-true test found None t) ∙ e))
     (λ f. absurd (none-some request (sym (cond-false test found None f) ∙ e)))
 
--- a reply that was taken is of the kind of the request with its number
+-- a reply that the caller took is of the kind of the request with its number
 fits_taken : (number : ℕ) (reply : Reply) (old new : CallerSight) → TookReply number reply old.caller new.caller → IsReplyTo (asked.Reply reply) (request_at number (asked_by old))
 fits_taken number reply old new (request, fresh, is) =
     let kind = fresh_kind (told_to old.caller number reply) old.caller request fresh in
     let at : request_at number (asked_by old) ≡ Some (kind.0).request = request_at_is number old.caller.submitted ∙ ap request_with kind.1 in
     subst (λ o. IsReplyTo (asked.Reply reply) o) (sym at) kind.2
 
--- the request with a number, behind the first ones
+-- an element of a list without its first ones is the element that many places later in the list
 slice_get_behind : {A : Type 0} (xs : List A) (before place : ℕ) → slice_get (drop before xs) place ≡ slice_get xs (before + place)
 slice_get_behind xs zero place = ap (λ n. slice_get xs n) (let e : place ≡ 0 + place = omega arith in e)
 slice_get_behind [] (suc before) place = refl
@@ -79,12 +79,12 @@ request_behind : (before place : ℕ) (requests : List Request) → request_at (
 request_behind before place requests =
     slice_get_behind requests before place ∙ ap (λ n. request_at n requests) (let e : suc (before + place) ≡ before + suc place = omega arith in e)
 
--- the kind of a session's request is that of the caller's, behind those of earlier sessions
+-- an answer that fits request `before + number` of the caller fits request `number` of the session
 kind_behind : (before number : ℕ) (answer : Asked) (requests : List Request) → IsReplyTo answer (request_at (before + number) requests) → IsReplyTo answer (request_at number (drop before requests))
 kind_behind before zero answer requests fit = of_none answer
 kind_behind before (suc place) answer requests fit = subst (λ o. IsReplyTo answer o) (sym (request_behind before place requests)) fit
 
--- a reply to a number that is asked about again
+-- the reply to a request that is sent again is of its kind
 pub heard_again : (before number submitted : ℕ) (reply : Reply) (answer : Asked) (old new : CallerSight) → submitted ≡ before + number → TookReply submitted reply old.caller new.caller
     → IsTold reply answer → IsHeard (Retry number) answer (asked_since before old) (asked_since before new)
 heard_again before number submitted reply answer old new place took told =

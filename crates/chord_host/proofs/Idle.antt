@@ -1,4 +1,5 @@
--- The floor of a caller with nothing pending is its last number, so its next session begins with no request.
+-- The floor of a caller with nothing pending is its last number, so its next session begins with no
+-- request.
 use Rattle.std.proofs.Common.{◌≡◌, ℕ, zero, suc, ◌<◌, ◌≤◌, true, false, [], length, refl, arith}
 use Rattle.std.proofs.lemmas.List.{length-map}
 use Rattle.std.proofs.Math.ListN.{drop_of_length-le}
@@ -23,11 +24,11 @@ all_upto caller idle (suc n) within =
     let taken : is_taken caller (suc n) ≡ true = taken_if_idle caller n (omega (arith, within)) (idle (suc n)) in
     grind (arith, below, taken)
 
--- the floor of an idle caller is the number of its requests
+-- the floor of an idle caller is how many requests it submitted
 pub idle_floor : (caller : Caller) → ((number : ℕ) → is_pending number caller ≡ false) → floor_of caller ≡ length caller.submitted
 idle_floor caller idle = all_upto caller idle (length caller.submitted) (omega arith)
 
--- behind that floor nothing was asked
+-- no request was asked after that floor
 pub idle_begins : (before : ℕ) (sight : CallerSight) → ((number : ℕ) → is_pending number sight.caller ≡ false) → before ≡ floor_of sight.caller → asked_since before sight ≡ []
 idle_begins before sight idle floor =
     let all = idle_floor sight.caller idle in

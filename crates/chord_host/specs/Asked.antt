@@ -1,4 +1,4 @@
--- What a session asked through a caller.
+-- The requests of a session, as its caller submitted them.
 use Rattle.std.specs.Prelude.{ℕ, List, map, drop}
 use Rattle.chord_caller.specs.Caller.{Submission}
 use Rattle.chord_map.specs.declared.request.Request.{Request}
@@ -8,6 +8,6 @@ use Rattle.chord_table.specs.Views.{CallerSight}
 abbrev pub asked_by : CallerSight → List Request
 asked_by sight = map (λ (submission : Submission). submission.request) sight.caller.submitted
 
--- those that it submitted behind its first ones, so many
+-- the requests that the caller submitted after its first `before` ones
 abbrev pub asked_since : ℕ → CallerSight → List Request
 asked_since before sight = drop before (asked_by sight)

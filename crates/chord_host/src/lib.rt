@@ -1,7 +1,8 @@
-//! Running rings of a plan's nodes: the command `run`, which does what the plan asks, and the command `serve`, whose
-//! clients ask over loopback.
+//! Running rings of a plan's nodes: the command `run`, which does what the plan asks, and the
+//! command `serve`, whose clients ask over loopback.
 //!
-//! [`run`] and [`serve`] end by themselves; [`stay`] serves until its input ends. Each takes a store for each node.
+//! [`run`] and [`serve`] end by themselves; [`stay`] serves until its input ends. Each takes a
+//! store for each node.
 #![tactic(auto)]
 
 mod plan_run;

@@ -16,7 +16,7 @@ use std::thread;
 use std::thread::{JoinHandle, Scope, Threads};
 use std::time::Clock;
 
-/// What came of an ask.
+/// How an ask ended.
 #[derive(Debug, Drop)]
 enum Answer {
     Reply(Reply),
@@ -24,10 +24,10 @@ enum Answer {
     NoAnswer,
 }
 
-/// What one caller was answered, by number.
+/// How the asks of one caller ended, in order.
 type Answers = Result<Vec<Answer>, Finish>;
 
-/// A caller asks a request of the plan.
+/// Asks one request of the plan.
 fn ask_once<J: Naming, S: EntryStore, R: Wait + Clock>(
     rt: &R,
     client: &mut Client<'_, J, S>,
@@ -42,7 +42,7 @@ fn ask_once<J: Naming, S: EntryStore, R: Wait + Clock>(
     }
 }
 
-/// The caller of this number asks what the plan has for it.
+/// Asks the plan's requests of one caller in order, until one gets no reply.
 fn ask_each<J: Naming, S: EntryStore, R: Wait + Clock>(
     rt: &R,
     client: &mut Client<'_, J, S>,
@@ -63,7 +63,7 @@ fn ask_each<J: Naming, S: EntryStore, R: Wait + Clock>(
     Ok(())
 }
 
-/// One caller asks what the plan has for it, one request after another, and no more where it has no reply.
+/// Asks the plan's requests of one caller, and gives how they ended.
 fn ask_in_turn<J: Naming, S: EntryStore, R: Wait + Clock>(
     rt: &R,
     alloc: Global,
@@ -106,7 +106,7 @@ fn start_callers<
     Ok(callers)
 }
 
-/// What all callers were answered, once they are done.
+/// How the asks of all callers ended, once they are done.
 fn join_callers(
     rt: &(impl Threads + Wait),
     alloc: Global,
@@ -141,7 +141,7 @@ fn ask_at_once<
     join_callers(rt, alloc, callers)
 }
 
-/// Writes what came of an ask.
+/// Writes how an ask ended.
 fn write_answer<W: Write>(
     caller: usize,
     number: usize,
@@ -168,7 +168,8 @@ fn write_answers<W: Write>(all: &[Vec<Answer>], writer: &mut W) -> io::Result<()
     writer.flush()
 }
 
-/// Starts the nodes, and stops the ring when all callers are done. The first handle starts the threads.
+/// Starts the nodes, and stops the ring once all callers are done. The first handle starts the
+/// threads.
 fn run_ring<'x, J: Naming + Send + Sync, S: EntryStore + Send, R: Threads + Wait + Clock + Sync>(
     starter: &R,
     rt: &'x R,
@@ -187,7 +188,7 @@ fn run_ring<'x, J: Naming + Send + Sync, S: EntryStore + Send, R: Threads + Wait
     })
 }
 
-/// Runs a ring under its name.
+/// Gives the ring its name, and runs it.
 fn run_named<J: Naming + Send + Sync, S: EntryStore + Send, R: Threads + Wait + Clock + Sync>(
     rt: &R,
     alloc: Global,
@@ -226,7 +227,7 @@ pub fn blank_of(alloc: Global, plan: &Plan) -> Result<Blank, Finish> {
     }
 }
 
-/// Writes the same through a buffer.
+/// Writes the answers through a buffer.
 fn write_buffered<W: Write + Drop>(
     alloc: Global,
     all: &[Vec<Answer>],
@@ -237,8 +238,8 @@ fn write_buffered<W: Write + Drop>(
     Ok(())
 }
 
-/// Runs a ring of the plan's nodes over these stores, one for each, until all its callers are done, and writes what
-/// they were answered.
+/// Runs a ring of the plan's nodes over these stores, one for each, until all its callers are done,
+/// and writes their answers.
 fn run_and_write<S: EntryStore + Send, R: Threads + Wait + Clock + Sync, W: Write + Drop>(
     rt: &R,
     alloc: Global,

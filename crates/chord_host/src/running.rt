@@ -10,10 +10,11 @@ use std::thread;
 use std::thread::{Scope, Threads};
 use std::time::{Clock, Duration};
 
-/// So many rounds of upkeep come after each node that enters.
+/// How many rounds of upkeep follow each node that joins.
 const ROUNDS: u64 = 8;
 
-/// A node of the plan enters the ring, by node 0. A node that the ring refuses is a fault of the plan.
+/// Adds a node of the plan to the ring, by way of node 0. A node that the ring refuses is a fault
+/// of the plan.
 fn enter<J: Naming, S: EntryStore>(
     rt: &impl Wait,
     ring: &Ring<J, S>,
@@ -38,8 +39,8 @@ fn enter<J: Naming, S: EntryStore>(
     }
 }
 
-/// One round of upkeep of the first so many nodes, by number. What is out of memory is left for a later round. Says
-/// whether the ring still runs.
+/// One round of upkeep of nodes 0 to `nodes` - 1. Out of memory leaves the rest for a later round.
+/// Says whether the ring still runs.
 fn tick_round<J: Naming, S: EntryStore>(rt: &impl Wait, ring: &Ring<J, S>, nodes: u64) -> bool {
     for number in 0..nodes {
         if ring.tick(rt, number) == Err(TickFault::Stopped) {
@@ -49,7 +50,7 @@ fn tick_round<J: Naming, S: EntryStore>(rt: &impl Wait, ring: &Ring<J, S>, nodes
     true
 }
 
-/// Ticks the nodes in turn, with a pause of a millisecond after each round, until the ring is stopped.
+/// Ticks all nodes in rounds, with a pause of a millisecond after each, until the ring is stopped.
 pub fn tick_in_turn<J: Naming, S: EntryStore, R: Wait + Clock>(
     rt: &R,
     ring: &Ring<J, S>,
@@ -63,7 +64,7 @@ pub fn tick_in_turn<J: Naming, S: EntryStore, R: Wait + Clock>(
     }
 }
 
-/// A node enters, with a worker from its start and eight rounds of upkeep after it.
+/// Adds a node, starts its worker, and does eight rounds of upkeep.
 fn start_node<
     's,
     E: 's,
@@ -92,7 +93,7 @@ fn start_node<
     Ok(())
 }
 
-/// The nodes enter in their order.
+/// Adds the nodes in their order.
 pub fn start_nodes<
     's,
     E: 's,

@@ -15,7 +15,7 @@ use std::thread;
 use std::thread::Threads;
 use std::time::Clock;
 
-/// Serves so many connections over these stores, with no notes.
+/// Serves `connections` connections over these stores, without a log.
 fn served_by<R: Threads + Wait + Clock + Sync, S: EntryStore + Send>(
     rt: &R,
     alloc: Global,
@@ -41,8 +41,8 @@ const REQUESTS: &str =
 const REPLIES: &str =
     "added\nadded\npresent\nvalues 2 78 79\nremoved\nabsent\nadded\nvalues 1 -\nvalues 0\n";
 
-/// Asks a ring of two nodes whose stores have room for so many pairs each, over so many connections in turn. Gives how
-/// asking ended, and whether it wrote what it was to write.
+/// Asks a ring of two nodes over `connections` connections, one after another; each store has room
+/// for `room` pairs. Gives how asking ended, and whether it wrote the right lines.
 fn asks_a_ring<R: Threads + Wait + Clock + Net<Listener = TcpListener, Stream = TcpStream> + Sync>(
     rt: &R,
     alloc: Global,
@@ -77,7 +77,7 @@ fn asks_a_ring<R: Threads + Wait + Clock + Net<Listener = TcpListener, Stream = 
     Some((asked, is_written))
 }
 
-/// The same lines come of each version and window.
+/// Each version and window gives the same lines.
 #[test]
 fn each_kind_of_request(rt: HostRuntime) {
     for how in [(1, 1, 3), (2, 1, 3), (2, 4, 1), (2, 16, 3)] {
@@ -86,7 +86,7 @@ fn each_kind_of_request(rt: HostRuntime) {
     }
 }
 
-/// The lines before one that is no request are asked.
+/// The requests before a line outside the grammar are asked.
 #[test]
 fn a_line_outside_the_grammar(rt: HostRuntime) {
     let lines = ("insert abc x\nretrieve\nretrieve abc\n", "added\n");
@@ -95,7 +95,7 @@ fn a_line_outside_the_grammar(rt: HostRuntime) {
     assert!(rt; asked == Some((fault, true)));
 }
 
-/// A full store refuses at each try. What comes then goes over another connection, where the window is 1.
+/// A full store refuses each try. With window 1 the next request goes over another connection.
 #[test]
 fn a_full_store(rt: HostRuntime) {
     let lines = ("insert abc x\nretrieve abc\n", "full\nvalues 0\n");
@@ -106,12 +106,12 @@ fn a_full_store(rt: HostRuntime) {
     }
 }
 
-/// Whether a line of the table begins with the word and ends with the number.
+/// Checks that a line of the table begins with the word and ends with the number.
 fn has_line(table: &str, word: &str, number: &str) -> bool {
     table.lines().any(|line| line.starts_with(word) && line.trim_end().ends_with(number))
 }
 
-/// Whether it is a table with so many answers and faults.
+/// Checks that it is a table with these counts of answers and faults.
 fn is_table(table: &[u8], answered: &str, faults: &str) -> bool {
     match str::from_utf8(table) {
         Ok(table) => {
@@ -123,8 +123,8 @@ fn is_table(table: &[u8], answered: &str, faults: &str) -> bool {
     }
 }
 
-/// How a load of 21 requests ended on a ring whose stores have room for so many pairs, and whether its table has so many
-/// answers and faults.
+/// How a load of 21 requests ended on a ring whose stores have room for `room` pairs, and whether
+/// its table has these counts of answers and faults.
 fn loaded<R: Threads + Wait + Clock + Net<Listener = TcpListener, Stream = TcpStream> + Sync>(
     rt: &R,
     alloc: Global,

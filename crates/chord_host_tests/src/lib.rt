@@ -1,4 +1,5 @@
-//! The tests of the commands `run` and `serve --connections`, and of `ask` and `load` with a ring behind the server.
+//! The tests of the commands `run` and `serve --connections`, and of `ask` and `load` with a ring
+//! behind the server.
 #![tactic(auto)]
 
 #[cfg(test)]

@@ -8,7 +8,7 @@ use std::sync::Wait;
 use std::thread::Threads;
 use std::time::Clock;
 
-/// How a plan runs over two stores with room for so many pairs, and whether it writes these lines.
+/// How a plan ended over two stores with room for `room` pairs, and whether it wrote these lines.
 fn runs<R: Threads + Wait + Clock + Sync>(
     rt: &R,
     alloc: Global,
@@ -23,7 +23,7 @@ fn runs<R: Threads + Wait + Clock + Sync>(
     Some((finish, written.as_slice() == wanted.as_bytes()))
 }
 
-/// The plan is run. Over stores without room the caller asks no more after the first request.
+/// Runs the plan. Over stores without room the caller asks nothing after its first request.
 #[test]
 fn plan_run(rt: HostRuntime) {
     for (room, wanted) in [
@@ -35,7 +35,7 @@ fn plan_run(rt: HostRuntime) {
     }
 }
 
-/// The same of a plan whose second node the ring refuses.
+/// How a plan ended whose second node the ring refuses, and whether it wrote nothing.
 fn runs_refused<R: Threads + Wait + Clock + Sync>(rt: &R, alloc: Global) -> Option<(Finish, bool)> {
     let twice = changed(alloc, "id = \"c0", "id = \"40").ok()?;
     runs(rt, alloc, twice.as_str(), 4, "")

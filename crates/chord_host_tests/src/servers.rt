@@ -1,4 +1,4 @@
-//! The command `serve` over loopback, for so many connections.
+//! The command `serve --connections` over loopback.
 
 use chord_command::{Fault, Finish};
 use chord_front::{Front, listen};
@@ -21,7 +21,8 @@ use std::thread;
 use std::thread::Threads;
 use std::time::Clock;
 
-/// Four clients, one after another, which say no more before they read: the server is to answer all the same.
+/// Four clients, one after another, each of which closes its sending side before it reads and is
+/// answered all the same.
 const FOUR: Acts = &[
     (0, Act::Connect),
     (0, Act::Ask(1, Ask::Insert(b"x"))),
@@ -40,7 +41,7 @@ const FOUR: Acts = &[
     (3, Act::Leave),
 ];
 
-/// Who asks a server.
+/// What the clients of a server do.
 #[derive(Clone, Copy)]
 enum Clients {
     Acting(Acts),
@@ -58,7 +59,7 @@ impl Clients {
     }
 }
 
-/// Serves so many connections over two stores with room, and gives what was written.
+/// Serves `connections` connections over two stores with room, and gives what was written.
 fn served<R: Threads + Wait + Clock + Sync, L: Log + Sync>(
     rt: &R,
     alloc: Global,
@@ -79,8 +80,8 @@ fn served<R: Threads + Wait + Clock + Sync, L: Log + Sync>(
     Ok(written)
 }
 
-/// Whether the clients are answered, and these lines written, by a server with so many callers that serves so many
-/// connections.
+/// Checks that the clients are answered, and these lines written, by a server with this many
+/// callers and connections.
 fn writes<
     R: Threads + Wait + Clock + Net<Listener = TcpListener, Stream = TcpStream> + Sync,
     L: Log + Sync,
@@ -104,7 +105,7 @@ fn writes<
     Some(is_served(alloc, address, answered, written, wanted))
 }
 
-/// Also how the notes look.
+/// Checks the lines that are logged, too.
 #[test]
 fn loopback_server(rt: HostRuntime) {
     let alloc = rt.alloc();
@@ -119,7 +120,7 @@ fn loopback_server(rt: HostRuntime) {
     assert!(rt; noted.as_slice() == wanted.as_bytes());
 }
 
-/// Refused bytes, another version, half of a frame that waits, and a client that never reads.
+/// Refused bytes, another version, half of a frame, and a client that never reads.
 #[test]
 fn faulty_clients(rt: HostRuntime) {
     for (counts, clients, wanted) in [
@@ -149,7 +150,7 @@ fn faulty_clients(rt: HostRuntime) {
     }
 }
 
-/// One client is served while others, one after another, send a frame that is refused.
+/// One client is served while others, one after another, send frames that are refused.
 const HOSTILE: Acts = &[
     (0, Act::Connect),
     (0, Act::Ask(1, Ask::Insert(b"x"))),
@@ -207,7 +208,7 @@ const HOSTILE: Acts = &[
     (0, Act::Leave),
 ];
 
-/// A client asks in another version than at first: its request 2, with floor 1, for the set of `a`.
+/// A client changes the version: its request 2, with floor 1, retrieves the set of `a`.
 const TWO_VERSIONS: Acts = &[
     (0, Act::Connect),
     (0, Act::Ask(1, Ask::Insert(b"x"))),
@@ -222,12 +223,12 @@ const TWO_VERSIONS: Acts = &[
     (0, Act::End),
 ];
 
-/// The text of a number of two digits.
+/// A number as two digits.
 fn two_digits(alloc: Global, number: u64) -> Result<String, AllocError> {
     format!(in alloc; "{number:02}")
 }
 
-/// Values of two digits, from 00 on.
+/// A reply of `count` values of two digits, from 00 on.
 fn values(alloc: Global, count: u64) -> Result<Reply, AllocError> {
     let mut values = Values::new(alloc);
     for number in 0..count {
@@ -237,7 +238,7 @@ fn values(alloc: Global, count: u64) -> Result<Reply, AllocError> {
     Ok(Reply::Values(values))
 }
 
-/// The frame that inserts the number as a value, under the number 1.
+/// The frame of request 1, which inserts this number as a value.
 fn insert_frame(alloc: Global, number: u64) -> io::Result<Vec<u8>> {
     let text = two_digits(alloc, number)?;
     let request = insert(alloc, text.as_bytes());
@@ -245,7 +246,7 @@ fn insert_frame(alloc: Global, number: u64) -> io::Result<Vec<u8>> {
     request_frame(alloc, 1, &*request?)
 }
 
-/// A connection that has sent the number as a value.
+/// A connection over which request 1 was sent, to insert this number.
 fn open_connection<R: Net>(
     rt: &R,
     alloc: Global,
@@ -260,7 +261,7 @@ fn open_connection<R: Net>(
     Ok(stream)
 }
 
-/// Each reads these bytes.
+/// Expects these bytes on each connection.
 fn each_hears<S: Read>(alloc: Global, streams: &mut [S], wanted: &[u8]) -> io::Result<()> {
     for stream in streams.iter_mut() {
         expect(alloc, stream, wanted)?;
@@ -268,7 +269,7 @@ fn each_hears<S: Read>(alloc: Global, streams: &mut [S], wanted: &[u8]) -> io::R
     Ok(())
 }
 
-/// Each asks the request under the number 2, is told the reply, and leaves.
+/// Sends request 2 on each connection, expects this reply, and leaves.
 fn each_sees<S: Read + Write + OpenStream>(
     alloc: Global,
     streams: &mut [S],
@@ -282,7 +283,7 @@ fn each_sees<S: Read + Write + OpenStream>(
     Ok(())
 }
 
-/// Each adds the value that it sent, and then sees all of them.
+/// Expects Added on each connection, and then all values.
 fn add_and_see<S: Read + Write + OpenStream>(alloc: Global, streams: &mut [S]) -> io::Result<()> {
     let added = Answer::Added.frame(alloc, 1)?;
     each_hears(alloc, streams, &added)?;
@@ -294,7 +295,7 @@ fn add_and_see<S: Read + Write + OpenStream>(alloc: Global, streams: &mut [S]) -
     seen
 }
 
-/// So many connections are open at once.
+/// Opens `count` connections at once, and uses all of them.
 fn many_clients<R: Net>(rt: &R, alloc: Global, address: SocketAddr, count: u64) -> io::Result<()> {
     let mut streams = Vec::new(alloc);
     for number in 0..count {
@@ -303,7 +304,7 @@ fn many_clients<R: Net>(rt: &R, alloc: Global, address: SocketAddr, count: u64) 
     add_and_see(alloc, &mut streams)
 }
 
-/// The lines of 64 connections that end in turn.
+/// The lines of 64 connections that end in the order of their numbers.
 fn sixty_four_ends(alloc: Global) -> Option<String> {
     let mut ends = String::new(alloc);
     for number in 0..64u32 {
@@ -312,7 +313,7 @@ fn sixty_four_ends(alloc: Global) -> Option<String> {
     Some(ends)
 }
 
-/// Whether 64 clients are answered at once, and their lines written.
+/// Checks that 64 clients are answered at once, and their lines written.
 fn writes_sixty_four<
     R: Threads + Wait + Clock + Net<Listener = TcpListener, Stream = TcpStream> + Sync,
 >(rt: &R, alloc: Global) -> Option<bool> {
@@ -326,7 +327,8 @@ fn sixty_four_at_once(rt: HostRuntime) {
     assert!(rt; writes_sixty_four(&rt, rt.alloc()) == Some(true));
 }
 
-/// A client sends half of the frame that inserts `x` under `abc`, and another is served meanwhile.
+/// A client sends half of a frame that inserts `x` under `abc`, and another client is served
+/// meanwhile.
 const HALF_A_FRAME: Acts = &[
     (0, Act::Connect),
     (0, Act::Say(b"\x00\x00\x00\x11\x01\x01\x00\x00\x00\x00")),
@@ -337,7 +339,7 @@ const HALF_A_FRAME: Acts = &[
     (0, Act::Leave),
 ];
 
-/// 32 values of 4,096 bytes are added, which fill 128 KiB.
+/// Adds 32 values of 4,096 bytes, 128 KiB together.
 fn fill<S: Read + Write>(alloc: Global, stream: &mut S) -> io::Result<()> {
     for number in 0..32u8 {
         let value = vec![in alloc; number; 4_096]?;
@@ -354,7 +356,8 @@ const ANOTHER: Acts = &[
     (0, Act::Leave),
 ];
 
-/// They are asked for 4,096 times and never read. Another client is served meanwhile.
+/// A client sends 4,096 retrieves of 128 KiB each and never reads. Checks that another client is
+/// served.
 fn never_reads<R: Net>(rt: &R, alloc: Global, address: SocketAddr) -> io::Result<()> {
     let mut greedy = TcpStream::connect(rt, address)?;
     fill(alloc, &mut greedy)?;
@@ -365,7 +368,7 @@ fn never_reads<R: Net>(rt: &R, alloc: Global, address: SocketAddr) -> io::Result
     do_acts(rt, alloc, address, &mut Vec::new(alloc), ANOTHER)
 }
 
-/// Why a plan whose second node the ring refuses is not served.
+/// Why a plan is not served whose second node the ring refuses.
 fn not_served<R: Threads + Wait + Clock + Net<Listener = TcpListener, Stream = TcpStream> + Sync>(
     rt: &R,
     alloc: Global,
@@ -387,7 +390,7 @@ fn served_refused_node(rt: HostRuntime) {
     assert!(rt; not_served(&rt, rt.alloc()) == Some(fault));
 }
 
-/// Why a port that is taken is not listened at, and whether it is once it is free.
+/// Why listening at a taken port fails, and whether it succeeds once the port is free.
 fn listens<R: Net<Listener = TcpListener, Stream = TcpStream>>(rt: &R) -> Option<(Finish, bool)> {
     let (listener, address) = bound(rt)?;
     let refused = listen(rt, address.port()).err();

@@ -4,7 +4,7 @@ use Rattle.std.proofs.lemmas.List.{set_at, length-take-le, length_push, append_a
 use Rattle.chord_links.specs.declared.peer.Peer.{Peer}
 use Rattle.chord_links.specs.PeerList.{blank, padded}
 
--- one more peer in the first free place
+-- one more peer in the first free element
 pub padded-push : (peers : List Peer) (peer : Peer) → length peers < 16 → set (padded peers) (length peers) peer ≡ padded (peers ++ peer ∷ [])
 padded-push peers peer room =
     let free : 16 - length peers ≡ suc (16 - length (peers ++ peer ∷ [])) = omega (arith, length_push peers peer) in
@@ -13,7 +13,7 @@ padded-push peers peer room =
     ∙ set_at peers blank rest peer (length peers) refl
     ∙ sym (append_assoc peers (peer ∷ []) rest)
 
--- the same of an array and a length
+-- one more peer in an array with a length
 pub padded_more : (slots : List Peer) (len : ℕ) (peer : Peer) → len < 16 → length slots ≡ 16 → slots ≡ padded (take len slots)
     → set slots len peer ≡ padded (take (len + 1) (set slots len peer))
 padded_more slots len peer room whole is_padded =

@@ -8,14 +8,14 @@ use Rattle.chord_links.proofs.Clockwise.{circle, walk_range, walk_positive, walk
 use Rattle.chord_links.specs.declared.peer.Peer.{Peer}
 use Rattle.chord_links.specs.Successors.{Rises, rising_front, behind_successor, behind_predecessor, Skips}
 
--- a front of a list skips no more than the list
+-- a prefix of a list skips no more than the list
 pub Skips-take : (n before : ℕ) (peers : List Peer) (x : ℕ) → Skips before (take n peers) x → Skips before peers x
 Skips-take zero before peers x skips = elim skips [ ]
 Skips-take (suc n) before [] x skips = elim skips [ ]
 Skips-take (suc n) before (peer ∷ peers) x (inl between) = inl between
 Skips-take (suc n) before (peer ∷ peers) x (inr rest) = inr (Skips-take n peer.id.number peers x rest)
 
--- nor does its rising front
+-- the rising prefix of a list skips no more than the list
 pub Skips-rising_front : (owner past before : ℕ) (peers : List Peer) (x : ℕ) → Skips before (rising_front owner past peers) x → Skips before peers x
 Skips-rising_front owner past before [] x skips = elim skips [ ]
 Skips-rising_front owner past before (peer ∷ peers) x skips =
@@ -24,7 +24,7 @@ Skips-rising_front owner past before (peer ∷ peers) x skips =
       | false ↦ λ s. elim s [ ]
     ]) skips
 
--- what is copied of a list skips no more than the pair in front of it and the list
+-- a copied list skips no more than the new first entry and its list
 pub Skips-behind_successor : (owner r : ℕ) (head : Peer) (entries : List Peer) (x : ℕ)
     → Skips owner (behind_successor owner r head entries) x → IsBetween owner x head.id.number ⊎ Skips head.id.number entries x
 Skips-behind_successor owner r head entries x skips =
@@ -33,20 +33,20 @@ Skips-behind_successor owner r head entries x skips =
       | inr rest ↦ inr (Skips-rising_front owner (walk owner head.id.number) head.id.number entries x rest)
     ]
 
--- the rising front rises
+-- the rising prefix rises
 pub Rises-rising_front : (owner past : ℕ) (peers : List Peer) → Rises owner past (rising_front owner past peers)
 Rises-rising_front owner past [] = tt
 Rises-rising_front owner past (peer ∷ peers) =
     cond_both (ltb past (walk owner peer.id.number)) (peer ∷ rising_front owner (walk owner peer.id.number) peers) [] (Rises owner past)
     (λ nearer. (ltb-true past (walk owner peer.id.number) nearer, Rises-rising_front owner (walk owner peer.id.number) peers)) (λ _. tt)
 
--- a front of what rises rises
+-- a prefix of a rising list rises
 pub Rises-take : (n owner past : ℕ) (peers : List Peer) → Rises owner past peers → Rises owner past (take n peers)
 Rises-take zero owner past peers rises = tt
 Rises-take (suc n) owner past [] rises = tt
 Rises-take (suc n) owner past (peer ∷ peers) rises = (rises.0, Rises-take n owner (walk owner peer.id.number) peers rises.1)
 
--- the rising front of what rises is all of it
+-- the rising prefix of a rising list is all of it
 pub rising_front_all : (owner past : ℕ) (peers : List Peer) → Rises owner past peers → rising_front owner past peers ≡ peers
 rising_front_all owner past [] rises = refl
 rising_front_all owner past (peer ∷ peers) rises =
@@ -57,7 +57,7 @@ rising_front_all owner past (peer ∷ peers) rises =
 abbrev pub OnCircle : List Peer → Type 0
 OnCircle = AllByRecursion (λ peer. peer.id.number < circle)
 
--- what rises past a nearer node rises seen from that node too
+-- peers that rise past a nearer node also rise seen from that node
 pub Rises-nearer : (owner nearer gone : ℕ) (past : ℕ) (peers : List Peer) → owner < circle → nearer < circle → OnCircle peers
     → walk owner nearer + gone ≡ past → Rises owner past peers → Rises nearer gone peers
 Rises-nearer owner nearer gone past [] owner_in nearer_in on sum rises = tt
@@ -67,7 +67,7 @@ Rises-nearer owner nearer gone past (peer ∷ peers) owner_in nearer_in on sum r
     walk_nearer owner nearer peer.id.number owner_in nearer_in on.0 (omega arith) in
     (omega arith, Rises-nearer owner nearer (walk nearer peer.id.number) (walk owner peer.id.number) peers owner_in nearer_in on.1 (sym over) rises.1)
 
--- what rises seen from a node rises seen from a node that joins before its first entry
+-- peers that rise seen from a node also rise seen from one that joins before its first entry
 pub Rises-joined : (new pred : ℕ) (first : Peer) (rest : List Peer) → new < circle → pred < circle → OnCircle (first ∷ rest)
     → IsBetween pred new first.id.number → Rises pred 0 (first ∷ rest) → Rises new 0 (first ∷ rest)
 Rises-joined new pred first rest new_in pred_in on between rises =
@@ -116,7 +116,7 @@ Skips-without_head owner first (second ∷ rest) x owner_in on x_in other rises 
           ]
     ]
 
--- the list behind a first entry, where the front of what rises has this length
+-- the list behind a first entry, if the rising prefix has this length
 pub behind_successor_front : (owner r : ℕ) (head : Peer) (entries : List Peer) (rising : ℕ) → 0 < r
     → rising_front owner (walk owner head.id.number) entries ≡ take rising entries
     → behind_successor owner r head entries ≡ head ∷ take (min rising (r - 1)) entries
@@ -131,13 +131,14 @@ behind_successor_front owner (suc r) head entries rising positive front =
           take_all r (take rising entries) (omega (arith, length-take rising entries)) ∙ ap (λ n. take n entries) (omega arith)
     ])
 
--- it is not empty, and rises
+-- the list behind a first entry is not empty, and rises
 pub Rises-behind_successor : (owner r : ℕ) (head : Peer) (entries : List Peer) → Rises owner 0 (behind_successor owner r head entries)
 Rises-behind_successor owner r head entries =
     Rises-take r owner 0 (head ∷ rising_front owner (walk owner head.id.number) entries)
     (walk_positive owner head.id.number, Rises-rising_front owner (walk owner head.id.number) entries)
 
--- a list that is filled with a first entry and then a part of another list is the list behind that first entry, and may stand as one
+-- a list filled with a first entry and then a part of another's list is the list behind that first
+-- entry, and keeps the rules of a list
 pub filled_behind_successor : (owner r : ℕ) (head : Peer) (entries others none one filled : List Peer) (rising copied : ℕ) → 0 < r
     → others ≡ entries → rising_front owner (walk owner head.id.number) others ≡ take rising others → copied ≡ min rising (r - 1)
     → none ≡ [] → one ≡ none ++ head ∷ [] → filled ≡ one ++ take copied others

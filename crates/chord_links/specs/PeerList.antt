@@ -1,11 +1,11 @@
--- A list of at most 16 peers in an array, whose free places are blank.
+-- A list of at most 16 peers in an array, filled up with a free peer.
 use Rattle.std.specs.Prelude.{◌-◌, List, ◌++◌, length, replicate}
 use Rattle.chord_links.specs.declared.peer.Peer.{Peer}
 
--- what stands in a free place
+-- the peer in each free element of the array
 abbrev pub blank : Peer
 blank = record { no = 0; id = record { number = 0 } }
 
--- the array of these peers
+-- these peers as an array of 16
 abbrev pub padded : List Peer → List Peer
 padded peers = peers ++ replicate (16 - length peers) blank

@@ -3,32 +3,33 @@ use Rattle.std.specs.Prelude.{ℕ, ◌<◌, List, [], ◌∷◌, take, nat_lt, i
 use Rattle.chord_ident.specs.Circle.{walk, IsBetween}
 use Rattle.chord_links.specs.declared.peer.Peer.{Peer}
 
--- a list of successors: whose it is, and its peers in order
+-- a list of successors: the identifier of its owner, and its peers in order
 pub record Successors : Type 0 where
   pub owner : ℕ
   pub entries : List Peer
 
--- seen from the owner each of these peers lies farther than the one before it, and the first farther than `past`
+-- seen from the owner, each peer is farther than the one before, and the first farther than `past`
 abbrev pub Rises : ℕ → ℕ → List Peer → Type 0
 Rises owner past [] = Unit {0}
 Rises owner past (peer ∷ peers) = (past < walk owner peer.id.number) × Rises owner (walk owner peer.id.number) peers
 
--- the longest front of these peers that rises past `past`
+-- the longest prefix of these peers in which each is farther than the one before, all beyond `past`
 abbrev pub rising_front : ℕ → ℕ → List Peer → List Peer
 rising_front owner past [] = []
 rising_front owner past (peer ∷ peers) =
     if nat_lt past (walk owner peer.id.number) then peer ∷ rising_front owner (walk owner peer.id.number) peers else []
 
--- the owner's list where `head` comes first, and then what rises of the list of `head`: at most r entries
+-- the owner's list made from its first entry: `head`, then the rising prefix of the list of `head`,
+-- cut to r entries
 abbrev pub behind_successor : ℕ → ℕ → Peer → List Peer → List Peer
 behind_successor owner r head entries = take r (head ∷ rising_front owner (walk owner head.id.number) entries)
 
--- the owner's list made of its predecessor's in the same way, beginning with the first entry of that
+-- the owner's list made from its predecessor's in the same way, starting with its first entry
 abbrev pub behind_predecessor : ℕ → ℕ → List Peer → List Peer
 behind_predecessor owner r [] = []
 behind_predecessor owner r (head ∷ rest) = behind_successor owner r head rest
 
--- some two neighbours in `before` and then `peers` have x strictly between them
+-- x is strictly between two neighbours of `before` followed by `peers`
 abbrev pub Skips : ℕ → List Peer → ℕ → Type 0
 Skips before [] x = ⊥
 Skips before (peer ∷ peers) x = IsBetween before x peer.id.number ⊎ Skips peer.id.number peers x

@@ -5,7 +5,7 @@ ghost use Rattle.std.specs.Prelude.{◌≡◌, ◌-◌, ◌<◌, ◌≤◌};
 use crate::Peer;
 use chord_ident::{Id, between};
 
-/// The 128 fingers of a node, each with its node where one was found.
+/// The 128 fingers of a node, each with its node if one was found.
 #[derive(Clone, Copy, Debug, PartialEq, Eq)]
 pub struct Fingers {
     me: Peer,
@@ -27,7 +27,7 @@ impl Fingers {
         }
     }
 
-    /// Where finger `i` starts.
+    /// The identifier where finger `i` starts.
     pub fn start(&self, i: usize) -> Id
         requires { (1 ≤ i) × (i ≤ 128) }
         ensures { result.number ≡ start_of self.now.me.id.number i }
@@ -51,7 +51,7 @@ impl Fingers {
         self.nodes[i - 1] = Some(node);
     }
 
-    /// The finger of greatest number that stands between its owner and `target`, else the owner.
+    /// The finger of greatest number that lies between its owner and `target`, else the owner.
     pub fn closest_preceding(&self, target: Id) -> Peer
         ensures { IsClosestPreceding self.now target.number result }
     {

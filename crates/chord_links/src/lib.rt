@@ -1,7 +1,8 @@
-//! What a node knows of the others: its neighbours on the circle, and its fingers.
+//! What a node knows of other nodes: its neighbours on the circle, and its fingers.
 //!
-//! [`Links`] has a node's predecessor, its list of successors ([`SuccList`]) and a finger for each power of two
-//! ([`Fingers`]). Each neighbour is a [`Peer`]: a number to reach it by, and its identifier.
+//! [`Links`] has a node's predecessor, its list of successors
+//! ([`SuccList`]) and a finger for each power of two ([`Fingers`]). Each
+//! neighbour is a [`Peer`]: a number to reach it by, and its identifier.
 #![tactic(auto)]
 
 mod fingers;

@@ -1,11 +1,11 @@
-//! What a node knows of the others.
+//! What a node knows of other nodes.
 
 ghost use Rattle.std.specs.Prelude.{◌≡◌, ◌<◌, ◌≤◌, length, None};
 
 use crate::{Fingers, Peer, SuccList};
 use std::marker::Model;
 
-/// A node's links: its predecessor, where it knows one, its list of at most r successors, and its fingers.
+/// A node's links: its predecessor, if known, its list of at most r successors, and its fingers.
 #[derive(Clone, Copy, Debug, PartialEq, Eq)]
 pub struct Links {
     me: Peer,
@@ -55,7 +55,7 @@ impl Links {
     ghost use Rattle.chord_links.specs.Fingers.{with_finger};
     ghost use Rattle.chord_links.specs.NodeLinks.{alone, first_entry, with_entries};
 
-    /// The links of a node that knows no other, whose list may have r entries.
+    /// The links of a node that knows no other node, with room for r entries in its list.
     pub fn alone(me: Peer, r: usize) -> Self
         requires low { 2 ≤ r }
         requires high { r ≤ 16 }
@@ -77,7 +77,7 @@ impl Links {
         self.me
     }
 
-    /// How many entries its list may have.
+    /// The most entries of its list.
     pub fn r(&self) -> usize
         ensures value { result ≡ self.now.r }
         ensures low { 2 ≤ self.now.r }
@@ -86,14 +86,14 @@ impl Links {
         self.r
     }
 
-    /// Its predecessor, where it knows one.
+    /// The predecessor, if known.
     pub fn predecessor(&self) -> Option<Peer>
         ensures { result ≡ self.now.predecessor }
     {
         self.predecessor
     }
 
-    /// Its list of successors.
+    /// The list of successors.
     pub fn list(&self) -> &SuccList
         ensures value { result.now ≡ record { owner = self.now.me.id.number; entries = self.now.entries } }
         ensures short { length self.now.entries ≤ self.now.r }
@@ -101,7 +101,7 @@ impl Links {
         &self.list
     }
 
-    /// Its fingers.
+    /// The node's fingers.
     pub fn fingers(&self) -> &Fingers
         ensures value { result.now ≡ self.now.fingers }
         ensures owner { self.now.fingers.me ≡ self.now.me }
@@ -109,21 +109,21 @@ impl Links {
         &self.fingers
     }
 
-    /// The first entry of its list.
+    /// The first entry of the list.
     pub fn first(&self) -> Peer
         ensures { result ≡ first_entry self.now }
     {
         self.list.first()
     }
 
-    /// Another predecessor.
+    /// Sets the predecessor.
     pub fn set_predecessor(&mut self, predecessor: Option<Peer>)
         ensures { self.new ≡ record self.old { predecessor = predecessor } }
     {
         self.predecessor = predecessor;
     }
 
-    /// Another list, of the same owner and at most r entries.
+    /// Sets the list; it has the same owner and at most r entries.
     pub fn set_list(&mut self, list: SuccList)
         requires owner { list.owner ≡ self.old.me.id.number }
         requires short { length list.entries ≤ self.old.r }
@@ -132,7 +132,7 @@ impl Links {
         self.list = list;
     }
 
-    /// Another node for finger `i`.
+    /// Sets the node of finger `i`.
     pub fn set_finger(&mut self, i: usize, node: Peer)
         requires { (1 ≤ i) × (i ≤ 128) }
         ensures { self.new ≡ record self.old { fingers = with_finger self.old.fingers i node } }

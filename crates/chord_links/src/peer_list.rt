@@ -1,4 +1,4 @@
-//! A list of at most 16 peers that lies in the value itself.
+//! A list of at most 16 peers, stored inline.
 ghost use Rattle.std.specs.Prelude.{◌≡◌, ◌+◌, ◌<◌, ◌≤◌, List, [], ◌∷◌, ◌++◌, length};
 
 use crate::Peer;
@@ -21,7 +21,7 @@ impl Model for PeerList {
 
     ghost view = { λ peers. take peers.len peers.slots };
 
-    // Free places are blank, so that the peers alone tell the array.
+    // Free elements are blank, so equal peers have equal arrays.
     ghost invariant = { λ peers. (peers.len ≤ 16) × (length peers.slots ≡ 16)
         × (peers.slots ≡ padded (take peers.len peers.slots)) };
 
@@ -35,7 +35,7 @@ impl Model for PeerList {
     } };
 }
 
-/// What stands in a free place.
+/// The peer in each free element.
 const BLANK: Peer = Peer {
     no: 0,
     id: Id { number: 0 },
@@ -60,7 +60,7 @@ impl PeerList {
         &self.slots[..self.len]
     }
 
-    /// One more peer, behind the others.
+    /// Adds a peer at the end.
     pub fn push(&mut self, peer: Peer)
         requires { length self.old < 16 }
         ensures { self.new ≡ self.old ++ peer ∷ [] }
@@ -69,7 +69,7 @@ impl PeerList {
         self.len += 1;
     }
 
-    /// More peers, behind the others.
+    /// Adds peers at the end.
     pub fn extend_from_slice(&mut self, more: &[Peer])
         requires { length self.old + length more.now ≤ 16 }
         ensures { self.new ≡ self.old ++ more.now }

@@ -9,8 +9,8 @@ use chord_ident::{Id, between};
 use std::marker::Model;
 use thiserror::Error;
 
-/// At least one peer, at strictly rising distance from the owner. The owner itself is the whole circle away, so it
-/// can only be last.
+/// At least one peer, at strictly rising distances from the owner. The owner itself is the whole
+/// circle away, so it can only be last.
 #[derive(Clone, Copy, Debug, PartialEq, Eq)]
 pub struct SuccList {
     owner: Id,
@@ -30,14 +30,15 @@ impl Model for SuccList {
     ghost inverse = { λ list. record { owner = record { number = list.owner }; peers = list.entries } };
 }
 
-/// Whether the owner meets `last` before `next`, going clockwise.
+/// Whether `next` is farther from the owner than `last`, going clockwise.
 fn is_farther(owner: Id, last: Id, next: Id) -> bool
     ensures { IsTrue result ↔ (walk owner.number last.number < walk owner.number next.number) }
 {
     between(owner, last, next)
 }
 
-/// How many of these peers from the first on lie farther and farther from the owner, the first beyond `past`.
+/// The length of the longest prefix of the peers at
+/// rising distances from the owner, all beyond `past`.
 fn rising_len(owner: Id, past: Id, peers: &[Peer]) -> usize
     ensures within { result ≤ length peers.now }
     ensures front { rising_front owner.number (walk owner.number past.number) peers.now ≡ take result peers.now }
@@ -52,13 +53,13 @@ fn rising_len(owner: Id, past: Id, peers: &[Peer]) -> usize
     peers.len()
 }
 
-/// There is no entry to drop but the last one.
+/// The list has one entry only, so none can be dropped.
 #[derive(Clone, Copy, Debug, PartialEq, Eq, Error)]
 #[error("the list has one entry")]
 pub struct Empty;
 
 impl SuccList {
-    /// The list of a node that is alone: itself.
+    /// The list of a node that knows no other: itself.
     pub fn alone(me: Peer) -> Self
         ensures { result ≡ record { owner = me.id.number; entries = me ∷ [] } }
     {
@@ -87,7 +88,8 @@ impl SuccList {
         self.entries()[0]
     }
 
-    /// My list where `head` comes first: `head`, and what rises of its list, at most r entries.
+    /// My list if `head` comes first: `head`, then the
+    /// rising prefix of its list, at most r entries.
     pub fn behind_successor(me: Peer, r: usize, head: Peer, list: &SuccList) -> SuccList
         requires low { 0 < r }
         requires high { r ≤ 16 }
@@ -96,7 +98,7 @@ impl SuccList {
         Self::behind_head(me.id, r, head, list.entries())
     }
 
-    /// My list made in the same way of my predecessor's, beginning with the first entry of that.
+    /// My list made from my predecessor's in the same way, starting with the first entry of that.
     pub fn behind_predecessor(me: Peer, r: usize, list: &SuccList) -> SuccList
         requires low { 0 < r }
         requires high { r ≤ 16 }
@@ -106,7 +108,7 @@ impl SuccList {
         Self::behind_head(me.id, r, entries[0], &entries[1..])
     }
 
-    /// `head`, and what rises of the rest, at most r entries.
+    /// `head`, then the rising prefix of the rest, at most r entries.
     fn behind_head(owner: Id, r: usize, head: Peer, rest: &[Peer]) -> SuccList
         requires low { 0 < r }
         requires high { r ≤ 16 }
@@ -119,7 +121,7 @@ impl SuccList {
         SuccList { owner, peers }
     }
 
-    /// Drops the first entry, where there is another.
+    /// Drops the first entry, if there is another.
     pub fn drop_head(&mut self) -> Result<(), Empty>
         ensures variant { IsOk result ↔ (1 < length self.old.entries) }
         ensures ok { OnOk result (self.new ≡ record self.old { entries = drop 1 self.old.entries }) }

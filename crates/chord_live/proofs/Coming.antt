@@ -6,7 +6,7 @@ use Rattle.chord_model.specs.Letters.{message_of}
 use Rattle.chord_model.specs.declared.message.Message.{Message}
 use Rattle.chord_table.specs.Views.{CallerSight, MayCall}
 
--- a caller that took a message in may become what it is then
+-- a caller's step with a message that its seat just took in is one that the seat allows
 pub took : (old new : CallerSight) (parcel : Message) (letter : Letter) (core after : Caller) → new ≡ record old { messages = old.messages ++ parcel ∷ [] }
     → message_of letter ≡ parcel → core ≡ new.caller → CallerStep core (Some letter) after None → MayCall new.caller new.messages after None
 took old new parcel letter core after is same mine step = (

@@ -1,4 +1,4 @@
--- Replies that a caller takes while it waits for one.
+-- A caller takes other replies too while it waits for one.
 use Rattle.std.proofs.Common.{◌≡◌, ◌≢◌, ℕ, Bool, true, false, not, ◌&&◌, ◌||◌, eqb, None, Some, is_some, Result, Ok, Err, [], ◌∷◌, ◌++◌, append-nil, inr, sym, ◌∙◌, ap, subst}
 use Rattle.std.proofs.Math.Bool.{or-false}
 use Rattle.std.proofs.lemmas.Bool.{cond-false, and_parts, eqb-true, not-true, true≢false}
@@ -32,7 +32,7 @@ none_more caller = ap (λ mine. record caller { mine = mine }) (sym (append-nil 
 pub waits_same : (number : ℕ) (old new : Caller) → new ≡ old → WaitsStill number old new
 waits_same number old new same = (([], same ∙ none_more old), ap (is_pending number) same)
 
--- one reply after others
+-- taking replies twice is taking replies
 pub took_on : (first middle last : Caller) → TookReplies first middle → TookReplies middle last → TookReplies first last
 took_on first middle last (rest, is) (more, is') =
     (rest ++ more, is' ∙ ap (λ (c : Caller). record c { mine = c.mine ++ more }) is ∙ ap (λ mine. record first { mine = mine }) (append_assoc first.mine rest more))
@@ -40,7 +40,7 @@ took_on first middle last (rest, is) (more, is') =
 pub waits_on : (number : ℕ) (first middle last : Caller) → WaitsStill number first middle → WaitsStill number middle last → WaitsStill number first last
 waits_on number first middle last (took, is) (took', is') = (took_on first middle last took took', is' ∙ is)
 
--- a reply that is taken is to a request of the caller's own that waits
+-- a fresh reply is to one of the caller's own pending requests
 fresh_own : (told : Told) (caller : Caller) (request : Request) → fresh_for told caller ≡ Some request → (told.caller ≡ caller.number) × (is_taken caller told.number ≡ false)
 unfolding fresh_for
 fresh_own told caller request e =
@@ -51,7 +51,7 @@ fresh_own told caller request e =
     (eqb-true told.caller caller.number tests.0, not-true (is_taken caller told.number) tests.1))
     (λ f. absurd (none-some request (sym (cond-false test (fitting told.reply (submission_at told.number caller.submitted)) None f) ∙ e)))
 
--- the reply that the caller waits for
+-- taking the reply that the caller waits for
 pub took_fresh : (number : ℕ) (told : Told) (copy : Reply) (old new : Caller) → told.number ≡ number → copy ≡ told.reply → TakeIs told old (Ok Fresh) new
     → TookReplies old new × IsTaken new number copy
 took_fresh number told copy old new same copied (request, fresh, is) =
@@ -66,7 +66,7 @@ took_fresh number told copy old new same copied (request, fresh, is) =
       (done, ap (λ (c : Caller). done_at c.number number c.mine) is ∙ found, sym copied),
     )
 
--- a call of another number is not found in a list with it alone
+-- a list of one call has no call of another number
 other_alone : (caller number : ℕ) (done : Done) → done.number ≢ number → is_some (done_at caller number (done ∷ [])) ≡ false
 unfolding done_at
 other_alone caller number done other =
@@ -82,7 +82,7 @@ taken_apart told request old number other =
     ∙ ap (λ b. is_some (done_at old.number number old.mine) || b) (other_alone old.number number done other)
     ∙ or-false (is_some (done_at old.number number old.mine))
 
--- any other reply
+-- taking any other reply
 pub took_other : (number : ℕ) (told : Told) (old new : Caller) (taken : Result TakenAs TakeFault) → told.number ≢ number → TakeIs told old taken new → WaitsStill number old new
 took_other number told old new (Ok Fresh) other (request, fresh, is) =
     let done : Done = record { caller = told.caller; number = told.number; request = request; reply = told.reply } in (

@@ -1,4 +1,4 @@
--- Whether a message that came to a caller says that a store has no room for its request.
+-- Which messages to a caller say that a store has no room for its request.
 use Rattle.std.proofs.Common.{◌≡◌, ◌≢◌, ℕ, [], ◌∷◌, ◌++◌, ap}
 use Rattle.std.specs.Prelude.{◌↔◌}
 use Rattle.chord_caller.specs.Caller.{Caller}
@@ -18,7 +18,7 @@ heard_number number heard.Full old new ((rest, is), still) = ap (λ (c : Caller)
 heard_number number heard.Other old new ((rest, is), still) = ap (λ (c : Caller). c.number) is
 heard_number number heard.Memory old new ((rest, is), still) = ap (λ (c : Caller). c.number) is
 
--- what a caller hears when one message comes
+-- what a caller hears of one message, and whether that counts as told Full
 pub heard_full : (number : ℕ) (one : Heard) (message : Message) (old new : CallerSight) → new.messages ≡ old.messages ++ message ∷ [] → HeardIs number old.caller one new.caller
     → (one ≡ heard.Full) ↔ (message ≡ Full new.caller.number number) → one ≡ heard.Full → WasToldFull number old new
 heard_full number one message old new came is means full = told_full number old new message came (heard_number number one old.caller new.caller is) (means.0 full)

@@ -41,11 +41,12 @@ abbrev pub WaitIs : ℕ → Caller → Result Reply WaitFault → Caller → Typ
 WaitIs number old (Ok reply) new = TookReplies old new × IsTaken new number reply
 WaitIs number old (Err fault) new = WaitsStill number old new
 
--- the request is one that may go out now: it stood under the next number, and replies were taken since
+-- the request was one that may be submitted; it was, under the next number, and replies may have
+-- been taken since
 abbrev pub WasSubmitted : Request → Caller → Caller → Type 0
 WasSubmitted request old new = IsRequest request × HasWindow old × (next_number old < 2 ^ 64) × TookReplies (with_request request old) new
 
--- the reply to the request stands among the calls taken, or the first refusal that fits is answered
+-- the reply to the request is among the calls taken, or the first refusal that applies is answered
 abbrev pub AskIs : Request → Caller → Result Reply AskFault → Caller → Type 0
 AskIs request old (Ok reply) new = WasSubmitted request old new × IsTaken new (next_number old) reply
 AskIs request old (Err (ask.Bad fault)) new = SubmitIs request old (Err (submit.Bad fault)) new
@@ -57,20 +58,21 @@ AskIs request old (Err ask.NoAnswer) new = WasSubmitted request old new × (is_p
 AskIs request old (Err ask.Memory) new =
     SubmitIs request old (Err submit.Memory) new ⊎ (WasSubmitted request old new × (is_pending (next_number old) new ≡ true))
 
--- the reply to the request of the number stands among the calls taken, or the request is as it was
+-- the reply to the request of the number is among the calls taken, or the request is as it was
 abbrev pub CollectIs : ℕ → Caller → Result Reply CollectFault → Caller → Type 0
 CollectIs number old (Ok reply) new = TookReplies old new × IsTaken new number reply
 CollectIs number old (Err collect.NotBegun) new = (submission_at number old.submitted ≡ None) × (new ≡ old)
 CollectIs number old (Err fault) new = (is_some (submission_at number old.submitted) ≡ true) × WaitsStill number old new
 
--- the same of a request that was pending
+-- the reply to the request of the number, which was pending, is among the calls taken, or the
+-- request is as it was
 abbrev pub RetryIs : ℕ → Caller → Result Reply RetryFault → Caller → Type 0
 RetryIs number old (Ok reply) new = (is_pending number old ≡ true) × TookReplies old new × IsTaken new number reply
 RetryIs number old (Err retry.Idle) new = (is_pending number old ≡ false) × (new ≡ old)
 RetryIs number old (Err retry.NoSuchNode) new = (is_pending number old ≡ true) × (new ≡ old)
 RetryIs number old (Err fault) new = (is_pending number old ≡ true) × WaitsStill number old new
 
--- the calls of the note that the caller did not know stand after those that it was told of
+-- the calls of the note that the caller did not know come after those that it learned before
 abbrev pub MeetIs : Note → Caller → Result (Unit {0}) AllocError → Caller → Type 0
 MeetIs note old (Ok done) new = new ≡ record old { told = old.told ++ unknown old note.done }
 MeetIs note old (Err fault) new = new ≡ old

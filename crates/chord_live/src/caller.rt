@@ -72,14 +72,14 @@ impl<'a, J: Naming, S: EntryStore> Caller<'a, J, S> {
         self.own.mine()
     }
 
-    /// The calls that others' notes told it of.
+    /// The calls that it learned by others' notes.
     pub fn told(&self) -> &[Done]
         ensures { result.now ≡ self.now.caller.told }
     {
         self.own.told()
     }
 
-    /// The greatest number with all at or below it taken.
+    /// The greatest number such that the replies to it and to all below it were taken.
     pub fn floor(&self) -> u64
         ensures { result ≡ floor_of self.now.caller }
     {
@@ -100,7 +100,8 @@ impl<'a, J: Naming, S: EntryStore> Caller<'a, J, S> {
         self.own.is_pending(number)
     }
 
-    /// A witness of the caller as it is now. One look of joined witnesses speaks of all their callers in one world.
+    /// A witness of the caller as it is now. One look of joined witnesses proves something of all
+    /// their callers in one world.
     pub fn witness(&mut self) -> Witness<J>
         ensures same { self.new ≡ self.old }
         ensures noted { result ≡ self.old.caller ∷ [] }
@@ -108,7 +109,7 @@ impl<'a, J: Naming, S: EntryStore> Caller<'a, J, S> {
         self.own.witness(self.ring.table())
     }
 
-    /// All that it took and was told of stands in one legal history.
+    /// Proves that all calls it took or learned by notes are in one legal history.
     pub fn look(&mut self)
         ensures same { self.new ≡ self.old }
         ensures shown { CallerShown self.old }
@@ -116,7 +117,7 @@ impl<'a, J: Naming, S: EntryStore> Caller<'a, J, S> {
         self.own.look(self.ring.table());
     }
 
-    /// Shows what the caller knows, for another caller of the same ring to meet.
+    /// A note of all that the caller knows, for another caller of the same ring to meet.
     pub fn show(&mut self) -> Result<NoteParcel<J>, AllocError>
         ensures same { self.new ≡ self.old }
         ensures note { IfOk result (λ shown. shown ≡ record { caller = self.old.caller.number; done = known self.old.caller }) }
@@ -124,7 +125,8 @@ impl<'a, J: Naming, S: EntryStore> Caller<'a, J, S> {
         self.own.show(self.ring.table())
     }
 
-    /// Learns what another caller showed and this one did not know. A refused note is lost.
+    /// Learns the calls of another caller's note that it did not know. A note that it refuses is
+    /// lost.
     pub fn meet(&mut self, shown: NoteParcel<J>) -> Result<(), AllocError>
         ensures messages { self.new.messages ≡ self.old.messages ++ NoteMessage shown ∷ [] }
         ensures answer { MeetIs shown self.old.caller result self.new.caller }
@@ -135,7 +137,8 @@ impl<'a, J: Naming, S: EntryStore> Caller<'a, J, S> {
         met
     }
 
-    /// Submits a request, if it would be taken and there is such a node. Its number comes with the parcel.
+    /// Submits a request, if the caller takes it and there is such a node. Gives its number and its
+    /// envelope.
     fn submit(&mut self, via: u64, request: Request) -> Result<(u64, Parcel<J>), BeginFault>
         ensures ok { IfOk result (λ sent. BeginIs request self.old.caller (Ok sent.0) self.new.caller) }
         ensures waits { IfOk result (λ sent. is_pending sent.0 self.new.caller ≡ true) }
@@ -159,7 +162,7 @@ impl<'a, J: Naming, S: EntryStore> Caller<'a, J, S> {
         }
     }
 
-    /// Submits a request, sends it once, and waits for nothing. Answers its number.
+    /// Submits a request, sends it once, and gives its number without waiting.
     pub fn begin(&mut self, rt: &impl Wait, via: u64, request: Request) -> Result<u64, BeginFault>
         ensures answer { BeginIs request self.old.caller result self.new.caller }
         ensures placed { J.name.slots ≤ via → MaySubmit request self.old.caller → result ≡ Err BeginFault.NoSuchNode }
@@ -177,7 +180,7 @@ impl<'a, J: Naming, S: EntryStore> Caller<'a, J, S> {
         begun
     }
 
-    /// Waits for one message, no longer than this. None where none came.
+    /// Waits for one message, no longer than `limit`.
     fn hear<R: Wait + Clock>(&mut self, rt: &R, limit: Duration, number: u64) -> Option<Heard>
         ensures some { IfSome result (λ heard. HeardIs number self.old.caller heard self.new.caller) }
         ensures none { result ≡ None → self.new ≡ self.old }
@@ -192,7 +195,7 @@ impl<'a, J: Naming, S: EntryStore> Caller<'a, J, S> {
         }
     }
 
-    /// Waits for the reply to a pending request, as long as one try is to wait.
+    /// Waits for the reply to a pending request, as long as one try may wait.
     fn wait<R: Wait + Clock>(&mut self, rt: &R, number: u64) -> Result<Reply, WaitFault>
         ensures answer { WaitIs number self.old.caller result self.new.caller }
         ensures came { TookMessages self.old self.new }
@@ -228,7 +231,7 @@ impl<'a, J: Naming, S: EntryStore> Caller<'a, J, S> {
         self.wait(rt, number)
     }
 
-    /// Sends a pending request again and again, so many times at most.
+    /// Sends a pending request again, at most `times` times.
     fn insist<R: Wait + Clock>(
         &mut self,
         rt: &R,
@@ -251,7 +254,8 @@ impl<'a, J: Naming, S: EntryStore> Caller<'a, J, S> {
         Err(WaitFault::NoAnswer)
     }
 
-    /// Waits for the reply to a pending request, which was sent once, and sends it again where none comes.
+    /// Waits for the reply to a pending request that was sent once, and sends it again while none
+    /// comes.
     fn fetch<R: Wait + Clock>(&mut self, rt: &R, via: u64, number: u64) -> Result<Reply, WaitFault>
         requires { is_pending number self.old.caller ≡ true }
         ensures answer { WaitIs number self.old.caller result self.new.caller }
@@ -291,8 +295,8 @@ impl<'a, J: Naming, S: EntryStore> Caller<'a, J, S> {
         }
     }
 
-    /// Submits a request and waits for its reply. It is sent up to as many times as the ring's settings say, with a
-    /// wait after each; a worker of the node has to run.
+    /// Submits a request and waits for its reply. It is sent up to as many times as the ring's
+    /// settings say, with a wait after each; a worker of the node has to run.
     pub fn ask<R: Wait + Clock>(
         &mut self,
         rt: &R,
@@ -327,7 +331,7 @@ impl<'a, J: Naming, S: EntryStore> Caller<'a, J, S> {
         Err(WaitFault::NoAnswer)
     }
 
-    /// The reply to a submitted request: the one that was taken, or the one that comes.
+    /// The reply to a submitted request: taken before, or one that comes now.
     fn find_or_wait<R: Wait + Clock>(&mut self, rt: &R, number: u64) -> Result<Reply, CollectFault>
         ensures answer { CollectIs number self.old.caller result self.new.caller }
         ensures came { TookMessages self.old self.new }
@@ -348,7 +352,8 @@ impl<'a, J: Naming, S: EntryStore> Caller<'a, J, S> {
         }
     }
 
-    /// The reply to a request that was submitted before. It waits as long as `ask` does, and sends nothing.
+    /// The reply to a request that was submitted before. It waits as long as `ask` does, and sends
+    /// nothing.
     pub fn collect<R: Wait + Clock>(&mut self, rt: &R, number: u64) -> Result<Reply, CollectFault>
         ensures answer { CollectIs number self.old.caller result self.new.caller }
         ensures came { TookMessages self.old self.new }
@@ -406,7 +411,8 @@ impl<'a, J: Naming, S: EntryStore> Caller<'a, J, S> {
         answered
     }
 
-    /// Carries a parcel from node to node, each event under that node's lock, and takes what comes back.
+    /// Carries an envelope from node to node, each event under that node's lock, and takes the
+    /// reply.
     fn carry(&mut self, rt: &impl Wait, via: u64, parcel: Parcel<J>, number: u64) -> Heard
         ensures answer { HeardIs number self.old.caller result self.new.caller }
         ensures came { TookMessages self.old self.new }
@@ -426,7 +432,7 @@ impl<'a, J: Naming, S: EntryStore> Caller<'a, J, S> {
         }
     }
 
-    /// Carries a pending request, and waits where its reply does not come back at once.
+    /// Carries a pending request, and waits if its reply does not come back at once.
     fn carry_or_wait<R: Wait + Clock>(
         &mut self,
         rt: &R,
@@ -448,7 +454,7 @@ impl<'a, J: Naming, S: EntryStore> Caller<'a, J, S> {
         self.wait(rt, number)
     }
 
-    /// Carries a pending request again.
+    /// Carries a pending request again, and waits if no reply comes back.
     fn carry_again<R: Wait + Clock>(
         &mut self,
         rt: &R,
@@ -467,7 +473,7 @@ impl<'a, J: Naming, S: EntryStore> Caller<'a, J, S> {
         }
     }
 
-    /// Carries a pending request again and again, so many times at most.
+    /// Carries a pending request again, at most `times` times.
     fn carry_on<R: Wait + Clock>(
         &mut self,
         rt: &R,
@@ -490,7 +496,7 @@ impl<'a, J: Naming, S: EntryStore> Caller<'a, J, S> {
         Err(WaitFault::NoAnswer)
     }
 
-    /// Carries a pending request up to as many times as the ring's settings say.
+    /// Carries a pending request as often as the ring's settings allow.
     fn bring<R: Wait + Clock>(
         &mut self,
         rt: &R,
@@ -535,8 +541,9 @@ impl<'a, J: Naming, S: EntryStore> Caller<'a, J, S> {
         }
     }
 
-    /// As `ask`, but the calling thread itself does each node's event, under that node's lock: no worker is needed.
-    /// Where no reply comes back, as while a handover is under way, it waits and tries again as `ask` does.
+    /// Does what `ask` does, but the calling thread itself does each node's event, under that
+    /// node's lock: no worker is needed. If no reply comes back, as while a handover is under way,
+    /// it waits and tries again.
     pub fn call<R: Wait + Clock>(
         &mut self,
         rt: &R,

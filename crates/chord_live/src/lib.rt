@@ -1,13 +1,14 @@
 //! Callers of a running ring.
 //!
-//! A [`Ring`] has a place for each node and an inbox for each node and each caller. It starts no thread: its user calls
-//! [`Ring::work`] for each node on a thread of its own, and [`Ring::tick`] now and then. A [`Caller`] asks by
-//! `caller.ask(&rt, 0, request)`, through inboxes and workers, or by `caller.call(&rt, 0, request)`, which does each
-//! node's event on the calling thread. It keeps all that it took, and shows what it knows for others to meet. A
-//! [`Client`] keeps no reply.
+//! A [`Ring`] has a slot for each node and an inbox for each node and each caller. It starts no
+//! thread: its user calls [`Ring::work`] for each node on a thread of its own, and [`Ring::tick`]
+//! now and then. A [`Caller`] asks by `caller.ask(&rt, 0, request)`, through inboxes and workers,
+//! or by `caller.call(&rt, 0, request)`, which does each node's event on the calling thread. It
+//! keeps all that it took, and gives notes of what it knows for others to meet. A [`Client`] keeps
+//! no reply.
 //!
-//! Each caller stands beside its seat of the table. So all that callers took stands in one history of one map of sets.
-//! The ring and its clients are those of `chord_running`, and are offered here too.
+//! Each caller has its seat of the table. So all that callers took is in one history of one map of
+//! sets. The ring and its clients are those of `chord_running`, and are offered here too.
 #![tactic(auto)]
 
 mod caller;

@@ -6,7 +6,7 @@ ghost use Rattle.chord_live.specs.Noted.{note_in};
 use chord_table::{Naming, Parcel};
 use std::marker::Model;
 
-/// What a caller knew when it showed it. Only callers of the same ring can meet it. Contracts see the note.
+/// A note of what a caller knew. Only callers of the same ring can meet it. Contracts see the note.
 #[derive(Drop)]
 pub struct NoteParcel<J: Naming> {
     pub(crate) parcel: Parcel<J>,

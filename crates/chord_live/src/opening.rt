@@ -9,7 +9,7 @@ use chord_store::EntryStore;
 use chord_table::Naming;
 use std::sync::Wait;
 
-/// What opens callers: a ring.
+/// Opens callers. A ring implements it.
 pub trait OpenCaller<J: Naming, S: EntryStore> {
     /// A caller under the next free number, with a window of 1 to 16 requests.
     fn open_caller(&self, rt: &impl Wait, window: u64) -> Result<Caller<'_, J, S>, OpenFault>

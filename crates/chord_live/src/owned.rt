@@ -1,4 +1,4 @@
-//! A caller beside its seat.
+//! A caller with its seat.
 ghost use Rattle.std.specs.Prelude.{◌≡◌, ◌≢◌, ◌↔◌, ◌++◌, [], ◌∷◌, Contains, IfOk, IfErr, IfSome, OnErr, Ok, Err, None, true, is_some};
 ghost use Rattle.chord_caller.specs.Answers.{SubmitIs, RefusalIs, TakeIs, PendingIs, is_pending};
 ghost use Rattle.chord_caller.specs.Caller.{known, floor_of, submission_at};
@@ -19,7 +19,7 @@ use chord_table::{CallerSeat, Naming, Parcel, Shared, Witness};
 use std::alloc::AllocError;
 use std::marker::Model;
 
-/// A caller, and the seat that shows it. Contracts see what the seat shows.
+/// A caller's core, and the seat that shows it. Contracts see what the seat shows.
 #[derive(Drop)]
 pub struct Owned<J: Naming> {
     core: CallerCore,
@@ -38,7 +38,7 @@ impl<J: Naming> Model for Owned<J> {
 }
 
 impl<J: Naming> Owned<J> {
-    /// A caller with the seat that it was admitted with.
+    /// A core with the seat that it was admitted with.
     pub fn new(core: CallerCore, seat: CallerSeat<J>) -> Owned<J>
         requires { core ≡ seat.caller }
         ensures { result ≡ seat }
@@ -53,7 +53,7 @@ impl<J: Naming> Owned<J> {
         self.core.refusal(request)
     }
 
-    /// Submits a request, and sends it. Its number comes with the parcel.
+    /// Submits a request, and gives its number and its envelope.
     pub fn submit(
         &mut self,
         table: &Shared<J>,
@@ -94,14 +94,14 @@ impl<J: Naming> Owned<J> {
         self.core.mine()
     }
 
-    /// The calls that others' notes told the caller of.
+    /// The calls that the caller learned by others' notes.
     pub fn told(&self) -> &[Done]
         ensures { result.now ≡ self.now.caller.told }
     {
         self.core.told()
     }
 
-    /// The greatest number with all at or below it taken.
+    /// The greatest number such that the replies to it and to all below it were taken.
     pub fn floor(&self) -> u64
         ensures { result ≡ floor_of self.now.caller }
     {
@@ -129,7 +129,7 @@ impl<J: Naming> Owned<J> {
         self.core.was_submitted(number)
     }
 
-    /// A copy of the reply that was taken to the request of this number, if one was.
+    /// A copy of the reply to the request of this number, if it was taken.
     pub fn reply_to(&self, number: u64) -> Result<Option<Reply>, AllocError>
         ensures some { IfOk result (λ found. IfSome found (IsTaken self.now.caller number)) }
         ensures none { result ≡ Ok None → done_at self.now.caller.number number self.now.caller.mine ≡ None }
@@ -152,7 +152,7 @@ impl<J: Naming> Owned<J> {
         self.seat.witness(table)
     }
 
-    /// All that the caller took stands in one legal history.
+    /// Proves that all that the caller took is in one legal history.
     pub fn look(&mut self, table: &Shared<J>)
         ensures same { self.new ≡ self.old }
         ensures shown { CallerShown self.old }
@@ -175,8 +175,8 @@ impl<J: Naming> Owned<J> {
         }
     }
 
-    /// Takes a reply that came, and says what it was to one that waits for this number. It is copied first, so that
-    /// nothing is taken that cannot be answered.
+    /// Takes a reply that came, and says what it is to a caller that waits for this number. It
+    /// copies the reply first, so that nothing is taken that it cannot hand out.
     fn take_reply(&mut self, table: &Shared<J>, told: Told, number: u64) -> Heard
         requires { Contains self.old.messages (ToldMessage told) }
         ensures messages { self.new.messages ≡ self.old.messages }
@@ -204,7 +204,8 @@ impl<J: Naming> Owned<J> {
         }
     }
 
-    /// Takes a message in, and says what it was to one that waits for the reply to the request of this number.
+    /// Takes a message in, and says what it is to a caller that waits for the reply to the request
+    /// of this number.
     pub fn take(&mut self, table: &Shared<J>, parcel: Parcel<J>, number: u64) -> Heard
         ensures messages { self.new.messages ≡ self.old.messages ++ parcel ∷ [] }
         ensures heard { HeardIs number self.old.caller result self.new.caller }
@@ -221,7 +222,7 @@ impl<J: Naming> Owned<J> {
         }
     }
 
-    /// Shows what the caller knows.
+    /// A note of all that the caller knows.
     pub fn show(&mut self, table: &Shared<J>) -> Result<NoteParcel<J>, AllocError>
         ensures same { self.new ≡ self.old }
         ensures ok { IfOk result (λ shown. shown ≡ record { caller = self.old.caller.number; done = known self.old.caller }) }
@@ -231,7 +232,7 @@ impl<J: Naming> Owned<J> {
         Ok(NoteParcel { parcel })
     }
 
-    /// Learns what a note has and the caller did not know.
+    /// Learns the calls of a note that the caller did not know.
     pub fn meet(&mut self, table: &Shared<J>, shown: NoteParcel<J>) -> Result<(), AllocError>
         ensures messages { self.new.messages ≡ self.old.messages ++ NoteMessage shown ∷ [] }
         ensures answer { MeetIs shown self.old.caller result self.new.caller }

@@ -1,4 +1,4 @@
-//! The tests of `chord_live`, and of the ring that it stands on, `chord_running`.
+//! The tests of `chord_live`, and of its ring, `chord_running`.
 #![tactic(auto)]
 
 #[cfg(test)]

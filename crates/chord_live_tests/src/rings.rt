@@ -1,4 +1,5 @@
-//! Rings, with threads and without. Each test ends by itself, and what it finds does not depend on the schedule.
+//! Rings, with threads and without. Each test ends by itself, and its results do not depend on the
+//! schedule.
 ghost use Rattle.std.specs.Prelude.{◌≡◌, ◌≤◌, []};
 
 use chord_ident::Id;
@@ -23,10 +24,10 @@ pub const B: u128 = 0x80000000000000000000000000000000;
 
 pub const C: u128 = 0xc0000000000000000000000000000000;
 
-/// A store in a box, as programs choose it.
+/// A boxed store, as in the program.
 pub type Store = Box<dyn EntryStore + Send>;
 
-/// Whether the reply is a set of this value alone.
+/// Checks that the reply is a set of this value alone.
 pub fn is_one_value(reply: &Reply, value: &[u8]) -> bool {
     match reply {
         Reply::Values(values) => match values.as_slice() {
@@ -37,21 +38,21 @@ pub fn is_one_value(reply: &Reply, value: &[u8]) -> bool {
     }
 }
 
-/// Whether it succeeded.
+/// Checks that it succeeded.
 pub fn succeeds<T: Drop, F: Drop>(done: Result<T, F>) -> bool {
     let is_ok = done.is_ok();
     drop(done);
     is_ok
 }
 
-/// Whether the request was answered Added.
+/// Checks that the answer is Added.
 pub fn is_added<F: Copy>(answer: Result<Reply, F>) -> bool {
     let is_added = matches!(&answer, Ok(Reply::Added));
     drop(answer);
     is_added
 }
 
-/// Whether the request was answered with this value alone.
+/// Checks that the answer is this value alone.
 pub fn is_told<F: Copy>(answer: Result<Reply, F>, value: &[u8]) -> bool {
     let is_told = match &answer {
         Ok(reply) => is_one_value(reply, value),
@@ -88,7 +89,7 @@ pub fn founded<J: Naming, S: EntryStore, R: Wait>(
     None
 }
 
-/// What node `via` answers a caller that inserts this value under this key.
+/// The answer at node `via` to an insert of this pair.
 pub fn inserted<J: Naming, S: EntryStore, R: Wait + Clock>(
     rt: &R,
     alloc: Global,
@@ -102,7 +103,7 @@ pub fn inserted<J: Naming, S: EntryStore, R: Wait + Clock>(
     }
 }
 
-/// What node `via` answers a caller that retrieves this key.
+/// The answer at node `via` to a retrieve of this key.
 pub fn retrieved<J: Naming, S: EntryStore, R: Wait + Clock>(
     rt: &R,
     alloc: Global,
@@ -116,7 +117,7 @@ pub fn retrieved<J: Naming, S: EntryStore, R: Wait + Clock>(
     }
 }
 
-/// What node `via` answers a call.
+/// The answer to a request that is carried from node `via`.
 pub fn call<J: Naming, S: EntryStore, R: Wait + Clock>(
     rt: &R,
     caller: &mut Caller<'_, J, S>,
@@ -129,7 +130,7 @@ pub fn call<J: Naming, S: EntryStore, R: Wait + Clock>(
     }
 }
 
-/// The number of a retrieve of this key that is begun at node `via`.
+/// Begins a retrieve of this key at node `via`, and gives its number.
 pub fn begin<J: Naming, S: EntryStore, R: Wait + Clock>(
     rt: &R,
     alloc: Global,

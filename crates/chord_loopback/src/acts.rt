@@ -28,7 +28,7 @@ impl Ask {
     }
 }
 
-/// What comes for a request.
+/// What answers a request.
 #[derive(Clone, Copy)]
 pub enum Answer {
     Added,
@@ -40,7 +40,7 @@ pub enum Answer {
 }
 
 impl Answer {
-    /// The frame of the answer to the request of this number.
+    /// The frame of this answer to the request of the number.
     pub fn frame(self, alloc: Global, number: u64) -> io::Result<Vec<u8>> {
         match self {
             Answer::Added => told_frame(alloc, number, Reply::Added),
@@ -53,33 +53,33 @@ impl Answer {
     }
 }
 
-/// The frame of a reply, which is let go.
+/// The frame of a reply, which is dropped.
 fn told_frame(alloc: Global, number: u64, reply: Reply) -> io::Result<Vec<u8>> {
     let frame = reply_frame(alloc, number, &reply);
     drop(reply);
     frame
 }
 
-/// What a client does.
+/// What a client does, or expects.
 #[derive(Clone, Copy)]
 pub enum Act {
     Connect,
     /// It sends a request under this number.
     Ask(u64, Ask),
-    /// It sends these bytes.
+    /// It sends bytes as they are.
     Say(&'static [u8]),
-    /// This comes for the request of this number.
+    /// It expects this answer to the request of the number.
     Hear(u64, Answer),
-    /// It says no more.
+    /// It closes its sending side.
     Hush,
-    /// The server closes the connection.
+    /// It expects the server to close the connection.
     End,
-    /// It says no more, and the server closes the connection.
+    /// It closes its sending side, and expects the server to close the connection.
     Leave,
 }
 
 impl Act {
-    /// Does it on an open stream.
+    /// Does the act on an open stream.
     fn on<S: Read + Write + OpenStream>(self, alloc: Global, stream: &mut S) -> io::Result<()> {
         match self {
             Act::Connect => Ok(()),
@@ -104,10 +104,10 @@ fn hear<S: Read>(alloc: Global, stream: &mut S, number: u64, answer: Answer) -> 
     expect(alloc, stream, &wanted)
 }
 
-/// Acts, each of the client of this place. Clients connect in the order of their places, from 0 on.
+/// Acts, each with the index of its client. Clients connect in the order of their index, from 0.
 pub type Acts = &'static [(usize, Act)];
 
-/// The clients do these acts in turn.
+/// Does the acts in order.
 pub fn do_acts<R: Net>(
     rt: &R,
     alloc: Global,

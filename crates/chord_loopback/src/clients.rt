@@ -9,12 +9,12 @@ use std::alloc::{AllocError, Global};
 use std::io::{self, Read, Write};
 use std::net::{Net, OpenStream, Shutdown, SocketAddr, TcpListener, TcpStream};
 
-/// The plan of a text.
+/// The plan in a text.
 pub fn plan_of(alloc: Global, text: &str) -> Option<Plan> {
     Plan::parse(alloc, text.as_bytes()).ok()
 }
 
-/// A plan of two nodes, with so many callers.
+/// A plan of two nodes, with `callers` callers.
 pub fn plan_with(alloc: Global, callers: u64) -> Option<Plan> {
     let line = format!(in alloc; "callers = {callers}").ok()?;
     let text = changed(alloc, "callers = 1", line.as_str()).ok()?;
@@ -30,7 +30,7 @@ pub fn bound<R: Net<Listener = TcpListener, Stream = TcpStream>>(
     Some((listener, address))
 }
 
-/// All requests have one key.
+/// An insert of this value; all requests have the key abc.
 pub fn insert(alloc: Global, value: &[u8]) -> Result<Box<Request>, AllocError> {
     Ok(Box::new(alloc, Request::insert(alloc, b"abc", value)?)?)
 }
@@ -69,7 +69,7 @@ pub fn fault_frame(alloc: Global, number: u64, code: FaultCode) -> io::Result<Ve
     }
 }
 
-/// The next bytes are these.
+/// Expects these bytes next.
 pub fn expect<S: Read>(alloc: Global, stream: &mut S, wanted: &[u8]) -> io::Result<()> {
     let mut got = vec![in alloc; 0u8; wanted.len()]?;
     stream.read_exact(&mut got)?;
@@ -80,7 +80,7 @@ pub fn expect<S: Read>(alloc: Global, stream: &mut S, wanted: &[u8]) -> io::Resu
     }
 }
 
-/// No more bytes come.
+/// Expects no more bytes.
 pub fn expect_end<S: Read>(stream: &mut S) -> io::Result<()> {
     let mut more = [0u8; 1];
     if stream.read(&mut more)? == 0 {
@@ -90,7 +90,7 @@ pub fn expect_end<S: Read>(stream: &mut S) -> io::Result<()> {
     }
 }
 
-/// The request is answered by this reply.
+/// Sends the request, and expects this reply.
 pub fn ask<S: Read + Write>(
     alloc: Global,
     stream: &mut S,
@@ -102,7 +102,7 @@ pub fn ask<S: Read + Write>(
     expect(alloc, stream, &reply_frame(alloc, number, reply)?)
 }
 
-/// An insert of this value is answered by this reply.
+/// Sends an insert of this value, and expects this reply.
 pub fn ask_insert<S: Read + Write>(
     alloc: Global,
     stream: &mut S,
@@ -128,7 +128,7 @@ fn lines(alloc: Global, address: SocketAddr, rest: &str) -> Result<String, Alloc
     format!(in alloc; "listening on {address}\n{rest}")
 }
 
-/// Whether clients were answered, and a server wrote its address and these lines.
+/// Checks that the clients were answered, and that the server wrote its address and these lines.
 pub fn is_served(
     alloc: Global,
     address: SocketAddr,
@@ -146,7 +146,7 @@ pub fn is_served(
     answered.is_ok() && is_written
 }
 
-/// The client says no more, and the server closes the connection.
+/// Closes the client's sending side, and expects the server to close the connection.
 pub fn leave<S: Read + OpenStream>(stream: &mut S) -> io::Result<()> {
     stream.shutdown(Shutdown::Write)?;
     expect_end(stream)

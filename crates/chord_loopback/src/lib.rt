@@ -1,4 +1,5 @@
-//! What tests of servers share: a plan of two nodes, clients over loopback, and what they do, one act after another.
+//! What tests of servers share: a plan of two nodes, clients over loopback, and lists of what these
+//! do.
 #![tactic(auto)]
 
 mod acts;

@@ -13,7 +13,7 @@ pub const TWO_NODES: &str = concat!(
     "key = \"abc\"\nvalue = \"y\"\n",
 );
 
-/// The plan with the first such piece replaced, or as it is where there is none.
+/// The plan with the first `old` replaced by `new`; unchanged if it has none.
 pub fn changed(alloc: Global, old: &str, new: &str) -> Result<String, AllocError> {
     match TWO_NODES.split_once(old) {
         None => String::from_str(alloc, TWO_NODES),
@@ -21,7 +21,7 @@ pub fn changed(alloc: Global, old: &str, new: &str) -> Result<String, AllocError
     }
 }
 
-/// A store for each of two nodes, with room for so many pairs.
+/// A store for each of two nodes, with room for `limit` pairs.
 pub fn two_stores(alloc: Global, limit: u64) -> Result<Vec<CappedStore>, AllocError> {
     let mut stores = Vec::new(alloc);
     stores.push(CappedStore::new(alloc, limit))?;

@@ -1,9 +1,9 @@
--- Whether two numbers are the same.
+-- Whether two numbers are equal.
 use Rattle.std.proofs.Common.{◌≡◌, ◌≢◌, ℕ, true, false, eqb, ◌⊎◌, inl, inr, ⊎_elim, sym, ◌∙◌}
 use Rattle.std.proofs.lemmas.Bool.{true≢false}
 use Rattle.std.proofs.lemmas.Bool.Decides.{eqb_tells}
 
--- whether two numbers are the same, to split on
+-- two numbers are equal or not, to split on
 pub same_or_not : (a b : ℕ) → (a ≡ b) ⊎ (a ≢ b)
 same_or_not a b = ⊎_elim (λ yes. inl yes.1) (λ no. inr no.1) (eqb_tells a b)
 

@@ -14,7 +14,7 @@ use Rattle.chord_map.specs.History.{replay, Replies, done_at, EachOnce, IsLegal,
 abbrev pub is_call : ℕ → ℕ → Done → Bool
 is_call caller number done = eqb done.caller caller && eqb done.number number
 
--- what is found is that call
+-- the call found is the one looked up
 pub done_is : (caller number : ℕ) (dones : List Done) (done : Done) → done_at caller number dones ≡ Some done
     → (done.caller ≡ caller) × (done.number ≡ number) × Has dones done
 unfolding done_at
@@ -33,7 +33,7 @@ pub done_right : (caller number : ℕ) (dones more : List Done) → done_at call
 unfolding done_at
 done_right caller number dones more e = find_right (is_call caller number) dones more e
 
--- a call that is looked up is in the list if any such call is
+-- a call is found in the list if the list has it
 pub done_absent : (caller number : ℕ) (dones : List Done) (done : Done) → done_at caller number dones ≡ None → Has dones done
     → done.caller ≡ caller → done.number ≡ number → ⊥
 unfolding done_at
@@ -63,7 +63,7 @@ stands_found caller number dones done e =
     let r = done_is caller number dones done e in
     ap₂ (λ c n. done_at c n dones) r.0 r.1 ∙ e
 
--- with one more at the end, what stands there is that one or stood there before
+-- a call in a list with one more at the end is that one, or was in the list
 pub stands_pushed : (dones : List Done) (last done : Done) → StandsIn (dones ++ last ∷ []) done → StandsIn dones done ⊎ (last ≡ done)
 stands_pushed dones last done e =
     by_option (done_at done.caller done.number dones)
@@ -71,7 +71,7 @@ stands_pushed dones last done e =
     inr (⊎_elim (λ same. same) (λ n. absurd n) (done_is done.caller done.number (last ∷ []) done alone).2))
     (λ other some. inl (some ∙ sym (done_left done.caller done.number dones (last ∷ []) other some) ∙ e))
 
--- if all that is kept stands in the history, so does what is looked up there, and it is the same
+-- if all kept calls are in the history, a call that is in both is found in both alike
 pub kept_found : (history kept : List Done) (done : Done) → Each (StandsIn history) kept → StandsIn history done → Has kept done
     → done_at done.caller done.number kept ≡ Some done
 kept_found history kept done all stands h =

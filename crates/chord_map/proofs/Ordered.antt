@@ -1,4 +1,4 @@
--- Lists in order: what a search finds in them, and what an edit at that place does.
+-- Sorted lists: what a search finds in them, and what a change at that index does.
 use Rattle.std.proofs.Common.{◌≡◌, ℕ, zero, suc, ◌<◌, ◌≤◌, Bool, true, false, cond, not, ◌||◌, ◌&&◌, List, [], ◌∷◌, ◌++◌, length, get_or, take, drop, Result, Ok, Err, IfOk, IfErr, Ordering, Less, Equal, Greater, refl, sym, ap, ◌∙◌, subst, ⊎_elim, inl, inr, arith}
 use Rattle.std.specs.Bool.{Decides}
 use Rattle.std.specs.Ordering.{ordering_index, ordering_reverse}
@@ -33,7 +33,7 @@ unfolding IsStrictlySortedBy
 rising_from_rises R [] r = tt
 rising_from_rises R (x ∷ xs) r = (each_back (λ y. R x y ≡ Less) xs r.0, rising_from_rises R xs r.1)
 
--- a list that is kept in part rises still
+-- a filtered sorted list is sorted
 
 all_kept : {A : Type 0} (P : A → Type 0) (bs : List Bool) (xs : List A) → AllByRecursion P xs → AllByRecursion P (items_where_true bs xs)
 all_kept P [] xs all = tt
@@ -66,7 +66,7 @@ or_turn false b c = refl
 
 -- a total order in which only equal elements tie, and the test of equality
 module _ {A : Type 0} (R : A → A → Ordering) (total : IsTotalOrder R) (only : (x y : A) → R x y ≡ Equal → x ≡ y) (same : A → A → Bool) (decides : (x y : A) → Decides (same x y) (x ≡ y)) where
-  -- where x is below y, it compares with e no higher
+  -- if x is below y, x compares with e no higher than y does
   compares_no_higher : (x y e : A) → R x y ≡ Less → ordering_index (R x e) ≤ ordering_index (R y e)
   compares_no_higher x y e less =
       index_le (R x e) (R y e)
@@ -91,14 +91,14 @@ module _ {A : Type 0} (R : A → A → Ordering) (total : IsTotalOrder R) (only 
     };
   }
 
-  -- elements in order are not the same
+  -- an element below another is not equal to it
   pub apart_below : (x e : A) → R x e ≡ Less → same e x ≡ false
   apart_below x e less = by_test (same e x) (λ t. absurd (less_apart R total x e less (sym ((decides e x).0 t)))) (λ f. f)
 
   pub apart_above : (x e : A) → R e x ≡ Less → same e x ≡ false
   apart_above x e less = by_test (same e x) (λ t. absurd (less_apart R total e x less ((decides e x).0 t))) (λ f. f)
 
-  -- the element is there, and is not there
+  -- ---- the element is in the list, or it is not
   pub has_at_place : (xs : List A) (e : A) (place : ℕ) → IsAt xs e place → list_any (same e) xs ≡ true
   has_at_place xs e place at = list_any_at (same e) xs place e at.in_range ((decides e _).1 (sym (at.is_element e)))
 
@@ -117,7 +117,7 @@ module _ {A : Type 0} (R : A → A → Ordering) (total : IsTotalOrder R) (only 
   keeps_above e (x ∷ xs) above =
       ap (λ b. cond (not b) (x ∷ others e xs) (others e xs)) (apart_above x e above.0) ∙ ap (λ ys. x ∷ ys) (keeps_above e xs above.1)
 
-  -- to take the element out at its place is to keep the others
+  -- removing the element at its index keeps all others
   pub remove_at_place : (xs : List A) (e : A) (place : ℕ) → IsStrictlySortedBy R xs → IsAt xs e place → remove_at xs place ≡ filter (λ (x : A). not (same e x)) xs
   remove_at_place [] e place rises at = absurd (omega (arith, at.in_range))
   remove_at_place (x ∷ xs) e zero rises at =
@@ -130,7 +130,7 @@ module _ {A : Type 0} (R : A → A → Ordering) (total : IsTotalOrder R) (only 
       ap (λ ys. x ∷ ys) (remove_at_place xs e place (sorted_tail R x xs rises) (record { in_range = within; is_element = at.is_element }))
       ∙ sym (ap (λ b. cond (not b) (x ∷ others e xs) (others e xs)) (apart_below x e below))
 
-  -- the element in its gap keeps the order
+  -- inserting the element at its gap keeps the order
   pub rises_at_gap : (xs : List A) (e : A) (place : ℕ) → IsGapFor R xs e place → Rises R xs → Rises R (insert_at xs place e)
   rises_at_gap [] e zero gap r = (λ y h. absurd h, tt)
   rises_at_gap [] e (suc place) gap r = absurd (omega (arith, gap.in_range))
@@ -145,7 +145,7 @@ module _ {A : Type 0} (R : A → A → Ordering) (total : IsTotalOrder R) (only 
       } in
       (λ y h. ⊎_elim (λ old. r.0 y old) (λ is. subst (λ z. R x z ≡ Less) is (gap.smaller_before 0 x (omega arith))) (has_inserted xs place e y h), rises_at_gap xs e place rest r.1)
 
-  -- what is there after the element was put in
+  -- the elements after an insert
   pub has_after_insert : (xs : List A) (place : ℕ) (e q : A) → list_any (same q) (insert_at xs place e) ≡ (same q e || list_any (same q) xs)
   has_after_insert xs place e q =
       list_any-append (same q) (take place xs) (e ∷ drop place xs) ∙ or_turn (list_any (same q) (take place xs)) (same q e) (list_any (same q) (drop place xs))
@@ -162,7 +162,7 @@ module _ {A : Type 0} (R : A → A → Ordering) (total : IsTotalOrder R) (only 
       ap (λ b. b || list_any (same q) (others e xs)) qs ∙ sym (ap (λ b. not b && true) apart)
   has_among_more e q x xs more false false es qs = ap (λ b. b || list_any (same q) (others e xs)) qs ∙ more
 
-  -- what is there without the element
+  -- the elements without this one
   pub has_among_others : (e q : A) (xs : List A) → list_any (same q) (filter (λ (x : A). not (same e x)) xs) ≡ (not (same q e) && list_any (same q) xs)
   has_among_others e q [] = elim (same q e) as (λ b. false ≡ (not b && false)) [ true ↦ refl | false ↦ refl ]
   has_among_others e q (x ∷ xs) = has_among_more e q x xs (has_among_others e q xs) (same e x) (same q x) refl refl

@@ -1,4 +1,4 @@
--- What a search finds among rising pairs, and what an edit at that place does.
+-- What a search finds in sorted pairs, and what a change at that index does.
 use Rattle.std.proofs.Common.{◌≡◌, ℕ, zero, suc, ◌+◌, ◌<◌, ◌≤◌, Bool, true, false, cond, not, ◌||◌, List, [], ◌∷◌, length, Result, IfOk, IfErr, Less, Equal, Greater, refl, sym, ap, ◌∙◌, subst, arith}
 use Rattle.std.specs.Bool.{Decides}
 use Rattle.std.specs.Ordering.{ordering_reverse}
@@ -28,7 +28,7 @@ has_at_place = ordered.has_at_place pair_cmp pairs_total tied_same same_pair dec
 pub has_not_in_gap : (ps : List Pair) (e : Pair) (place : ℕ) → IsGapFor pair_cmp ps e place → has_pair e ps ≡ false
 has_not_in_gap = ordered.has_not_in_gap pair_cmp pairs_total tied_same same_pair decides
 
--- to take the pair out at its place is to remove it
+-- removing the pair at its index removes it from the map
 pub remove_at_place : (xs : List Pair) (e : Pair) (place : ℕ) → IsRising xs → IsAt xs e place → remove_at xs place ≡ remove_pair e xs
 unfolding remove_pair
 remove_at_place xs e place rises at = ordered.remove_at_place pair_cmp pairs_total tied_same same_pair decides xs e place rises at
@@ -36,7 +36,7 @@ remove_at_place xs e place rises at = ordered.remove_at_place pair_cmp pairs_tot
 greater_from : (x e : Pair) → pair_cmp x e ≡ Less → pair_cmp e x ≡ Greater
 greater_from x e less = pairs_total.antisymm e x ∙ ap ordering_reverse less
 
--- a list without the pair is as it was
+-- removing a pair that is not there changes nothing
 pub remove_absent : (e : Pair) (xs : List Pair) → has_pair e xs ≡ false → remove_pair e xs ≡ xs
 unfolding remove_pair
 remove_absent e [] none = refl
@@ -46,7 +46,7 @@ remove_absent e (x ∷ xs) none =
     (λ f. ap (λ b. cond (not b) (x ∷ remove_pair e xs) (remove_pair e xs)) f
     ∙ ap (λ ys. x ∷ ys) (remove_absent e xs (sym (ap (λ b. b || has_pair e xs) f) ∙ none)))
 
--- a pair that is there changes nothing
+-- inserting a pair that is there changes nothing
 pub insert_present : (xs : List Pair) (e : Pair) (place : ℕ) → IsRising xs → IsAt xs e place → insert_pair e xs ≡ xs
 unfolding insert_pair
 insert_present [] e place rises at = absurd (omega (arith, at.in_range))
@@ -58,7 +58,7 @@ insert_present (x ∷ xs) e (suc place) rises at =
     ap (λ o. by_order o (e ∷ (x ∷ xs)) (x ∷ xs) (x ∷ insert_pair e xs)) (greater_from x e below)
     ∙ ap (λ ys. x ∷ ys) (insert_present xs e place (sorted_tail pair_cmp x xs rises) (record { in_range = within; is_element = at.is_element }))
 
--- the pair in its gap is the pair put in
+-- inserting the pair at its gap inserts it into the map
 pub insert_in_gap : (xs : List Pair) (e : Pair) (place : ℕ) → IsGapFor pair_cmp xs e place → insert_at xs place e ≡ insert_pair e xs
 unfolding insert_pair
 insert_in_gap [] e zero gap = refl
@@ -83,14 +83,14 @@ pub rising-remove : (e : Pair) (xs : List Pair) → IsRising xs → IsRising (re
 unfolding remove_pair
 rising-remove e xs rises = IsStrictlySortedBy-filter pair_cmp (λ (other : Pair). not (same_pair e other)) xs rises
 
--- two maps with the same pairs are one
+-- two maps with the same pairs are equal
 pub same_pairs : (a b : List Pair) → RisingPairs a → RisingPairs b → ((q : Pair) → has_pair q a ≡ has_pair q b) → a ≡ b
 same_pairs a b ra rb agree =
     same_rising pair_cmp pairs_total a b ra rb
     (λ v h. has_of v b (sym (agree v) ∙ of_has v a h))
     (λ v h. has_of v a (agree v ∙ of_has v b h))
 
--- a new pair is one more
+-- inserting a new pair adds one
 pub length-insert_new : (e : Pair) (xs : List Pair) → has_pair e xs ≡ false → length (insert_pair e xs) ≡ length xs + 1
 unfolding insert_pair
 length-insert_new e [] none = refl
@@ -103,7 +103,7 @@ length-insert_new e (x ∷ xs) none =
       | Greater ↦ λ is. omega arith
     ] refl
 
--- at most one more
+-- inserting a pair adds at most one
 pub length-insert_le : (e : Pair) (xs : List Pair) → length (insert_pair e xs) ≤ length xs + 1
 unfolding insert_pair
 length-insert_le e [] = omega arith
@@ -115,7 +115,7 @@ length-insert_le e (x ∷ xs) =
       | Greater ↦ omega arith
     ]
 
--- a pair that goes is one less
+-- removing a pair that is there takes one away
 pub length-remove_there : (e : Pair) (xs : List Pair) → IsRising xs → has_pair e xs ≡ true → length (remove_pair e xs) + 1 ≡ length xs
 unfolding remove_pair
 length-remove_there e [] rises there = absurd (cc)
@@ -132,7 +132,7 @@ same_or : (e q : Pair) (xs : List Pair) → has_pair e xs ≡ true → (b : Bool
 same_or e q xs there true is = sym (ap (λ (p : Pair). has_pair p xs) (same_is q e is) ∙ there)
 same_or e q xs there false is = refl
 
--- a pair that is there is no change
+-- inserting a pair that is there changes nothing
 pub insert_there : (e : Pair) (xs : List Pair) → IsRising xs → has_pair e xs ≡ true → insert_pair e xs ≡ xs
 insert_there e xs rises there =
     let r = rises_from_rising pair_cmp xs rises in

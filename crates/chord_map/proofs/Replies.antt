@@ -1,4 +1,4 @@
--- When each reply is due, and what the map has after it.
+-- When the map gives each reply, and the map after it.
 use Rattle.std.proofs.Common.{◌≡◌, ℕ, ◌<◌, ◌≤◌, Bool, true, false, cond, leb, List, [], ◌∷◌, length, refl, sym, ap, ◌∙◌, arith}
 use Rattle.std.proofs.lemmas.Bool.{lt-ltb}
 use Rattle.std.proofs.lemmas.Bool.Decides.{nat_tests}
@@ -37,7 +37,7 @@ pub due_removed : (key value : List ℕ) (pairs : List Pair) (b : Bool) → b �
 unfolding reply_to
 due_removed key value pairs b e = ap (λ t. cond t Removed Absent) (sym e)
 
--- the map after a reply that was due
+-- the map after a reply that it gave
 pub after_reply : (request : Request) (reply : Reply) (pairs : List Pair) → reply_to request pairs ≡ reply → pairs_after request pairs ≡ pairs_by request reply pairs
 unfolding pairs_after
 after_reply request reply pairs due = ap (λ r. pairs_by request r pairs) due
@@ -48,12 +48,12 @@ after_remove key value pairs true e = after_reply (Remove key value) Removed pai
 after_remove key value pairs false e =
     after_reply (Remove key value) Absent pairs (due_removed key value pairs false e) ∙ sym (remove_absent (pair_of key value) pairs (sym e))
 
--- a reply that was due, with its change
+-- a reply that the map gave, with its change
 pub applied : (request : Request) (reply : Reply) (pairs pairs' : List Pair) → reply_to request pairs ≡ reply → pairs' ≡ pairs_by request reply pairs
     → (reply ≡ reply_to request pairs) × (pairs' ≡ pairs_after request pairs)
 applied request reply pairs pairs' due change = (sym due, change ∙ sym (after_reply request reply pairs due))
 
--- values that are not few take memory
+-- values that are not few need memory
 pub many_take : (values : List (List ℕ)) → ¬ AreFew values → takes_memory (Values values) ≡ true
 many_take [] many = absurd (many tt)
 many_take (value ∷ []) many = lt-ltb 16 (length value) (omega (arith, many))

@@ -1,4 +1,4 @@
--- The values under a key, as far as a walk over the pairs has come.
+-- The values under a key in the pairs that a scan has passed.
 use Rattle.std.proofs.Common.{◌≡◌, ℕ, ◌+◌, ◌<◌, Bool, true, false, cond, List, [], ◌∷◌, ◌++◌, length, get_or, take, map, refl, ap, ◌∙◌, bytes_eq}
 use Rattle.std.specs.List.{filter}
 use Rattle.std.proofs.lemmas.List.{take_more}
@@ -22,7 +22,7 @@ pub values_at-push : (key : List ℕ) (pairs : List Pair) (x : Pair)
 values_at-push key [] x = elim (bytes_eq x.key key) as (λ c. map (λ (pair : Pair). pair.value) (cond c (x ∷ []) []) ≡ cond c (x.value ∷ []) []) [ true ↦ refl | false ↦ refl ]
 values_at-push key (first ∷ rest) x = under_first key first rest x (bytes_eq first.key key) (values_at-push key rest x)
 
--- one pair further
+-- one more pair
 pub values_at-more : (key : List ℕ) (pairs : List Pair) (i : ℕ) (d : Pair) → i < length pairs
     → values_at key (take (i + 1) pairs) ≡ cond (bytes_eq (get_or pairs i d).key key) (values_at key (take i pairs) ++ (get_or pairs i d).value ∷ []) (values_at key (take i pairs))
 values_at-more key pairs i d within = ap (values_at key) (take_more pairs i d within) ∙ values_at-push key (take i pairs) (get_or pairs i d)

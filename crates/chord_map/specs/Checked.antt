@@ -1,4 +1,4 @@
--- Which requests keep the limits, what is wrong with the others, and what a map answers.
+-- Which requests keep the limits, the faults of the others, and what a map answers.
 use Rattle.std.specs.Prelude.{◌≡◌, ℕ, Bool, true, false, ◌<◌, ◌≤◌, nat_lt, List, [], ◌∷◌, length, Result, Ok, Err}
 use Rattle.chord_map.specs.declared.pair.Pair.{Pair}
 use Rattle.chord_map.specs.declared.request.Request.{Request}
@@ -17,7 +17,7 @@ IsKey key = (1 ≤ length key) × (length key ≤ 255)
 abbrev pub IsValue : List ℕ → Type 0
 IsValue value = length value ≤ 4096
 
--- the value that a request names, where it names one
+-- the value that a request names; empty for a Retrieve
 abbrev pub value_of : Request → List ℕ
 value_of (Insert key value) = value
 value_of (Retrieve key) = []
@@ -27,18 +27,19 @@ value_of (Remove key value) = value
 abbrev pub IsRequest : Request → Type 0
 IsRequest request = IsKey (key_of request) × IsValue (value_of request)
 
--- the first thing that is wrong with the request: its key's length, then its value's
+-- the first fault of the request: of its key's length, then of its value's
 abbrev pub HasFault : Request → RequestFault → Type 0
 HasFault request KeyEmpty = length (key_of request) ≡ 0
 HasFault request KeyLong = 255 < length (key_of request)
 HasFault request ValueLong = IsKey (key_of request) × (4096 < length (value_of request))
 
--- a check passes the requests that keep the limits, and tells the fault of the others
+-- a check passes a request that keeps the limits, and answers the fault of any other
 abbrev pub CheckIs : {A : Type 0} → Request → Result A RequestFault → Type 0
 CheckIs request (Ok passed) = IsRequest request
 CheckIs request (Err fault) = HasFault request fault
 
--- a reply takes memory where a value is added, and where values are told, but not for a single one of up to 16 bytes
+-- whether giving this reply needs memory: it adds a value, or returns values other than a single
+-- one of up to 16 bytes
 abbrev pub takes_memory : Reply → Bool
 takes_memory Added = true
 takes_memory (Values []) = false
@@ -46,7 +47,8 @@ takes_memory (Values (value ∷ [])) = nat_lt 16 (length value)
 takes_memory (Values (value ∷ other ∷ values)) = true
 takes_memory reply = false
 
--- the map gives the reply and has the pairs that are then due, or a reply that takes memory lacked it and nothing changed
+-- The map gives its reply and changes as the request says;
+-- or the reply needs memory, none is left, and nothing changes.
 abbrev pub ApplyIs : {E : Type 0} → Request → List Pair → Result Reply E → List Pair → Type 0
 ApplyIs request pairs (Ok reply) pairs' = (reply ≡ reply_to request pairs) × (pairs' ≡ pairs_after request pairs)
 ApplyIs request pairs (Err fault) pairs' = (takes_memory (reply_to request pairs) ≡ true) × (pairs' ≡ pairs)

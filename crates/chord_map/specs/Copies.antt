@@ -1,4 +1,4 @@
--- What is copied without memory: it stands in the value itself. Source: our own.
+-- What is copied without allocating: values of up to 16 bytes, stored inline. Source: our own.
 use Rattle.std.specs.Prelude.{ℕ, ◌≤◌, List, [], ◌∷◌, length}
 use Rattle.chord_map.specs.Checked.{value_of}
 use Rattle.chord_map.specs.Map.{key_of}
@@ -16,11 +16,11 @@ AreFew [] = Unit {0}
 AreFew (value ∷ []) = IsShort value
 AreFew (value ∷ other ∷ values) = ⊥
 
--- its key and its value are short
+-- the request's key and value are short
 abbrev pub IsShortRequest : Request → Type 0
 IsShortRequest request = IsShort (key_of request) × IsShort (value_of request)
 
--- it has no value, or a single short one
+-- the reply has no value, or a single short one
 abbrev pub IsShortReply : Reply → Type 0
 IsShortReply (Values values) = AreFew values
 IsShortReply reply = Unit {0}

@@ -1,4 +1,4 @@
--- When two requests, or two replies, are the same, byte for byte.
+-- When two requests, or two replies, are equal, byte for byte.
 use Rattle.std.specs.Prelude.{◌≡◌, ℕ, Bool, true, false, ◌&&◌, List, [], refl}
 use Rattle.std.specs.Bool.{Decides}
 use Rattle.std.specs.Str.{bytes_eq}
@@ -16,14 +16,14 @@ use Rattle.chord_map.specs.declared.reply.Reply.TheVariants.{Added, Present, Set
 abbrev pub same_values : List (List ℕ) → List (List ℕ) → Bool
 same_values xs ys = pointwise bytes_eq xs ys
 
--- both ask the same
+-- both requests are equal
 abbrev pub same_request : Request → Request → Bool
 same_request (Insert key value) (Insert key' value') = bytes_eq key key' && bytes_eq value value'
 same_request (Retrieve key) (Retrieve key') = bytes_eq key key'
 same_request (Remove key value) (Remove key' value') = bytes_eq key key' && bytes_eq value value'
 same_request request request' = false
 
--- both tell the same
+-- both replies are equal
 abbrev pub same_reply : Reply → Reply → Bool
 same_reply Added Added = true
 same_reply Present Present = true
@@ -33,7 +33,7 @@ same_reply Removed Removed = true
 same_reply Absent Absent = true
 same_reply reply reply' = false
 
--- a test that decides whether two things are one is an equivalence
+-- a test that decides equality is an equivalence
 module _ {A : Type 0} (test : A → A → Bool) (decides : (x y : A) → Decides (test x y) (x ≡ y)) where
   turned : (x y : A) (a b : Bool) → test x y ≡ a → test y x ≡ b → a ≡ b
   turned x y true true p q = refl
@@ -48,7 +48,7 @@ module _ {A : Type 0} (test : A → A → Bool) (decides : (x y : A) → Decides
     congr = λ x y z same. ap (λ v. test v z) ((decides x y).0 same);
   }
 
--- two pairs of byte strings are the same where both tests say so
+-- two pairs of byte strings are equal if the test of each half says so
 both_decide : {B : Type 0} (make : List ℕ → List ℕ → B) (key_in value_in : B → List ℕ)
     → ((k v : List ℕ) → key_in (make k v) ≡ k) → ((k v : List ℕ) → value_in (make k v) ≡ v)
     → (key value key' value' : List ℕ) → Decides (bytes_eq key key' && bytes_eq value value') (make key value ≡ make key' value')
@@ -140,7 +140,7 @@ same_reply-Decides Absent Absent = (λ h. refl, λ e. refl)
 pub same_reply-equiv : IsEquivalence same_reply
 same_reply-equiv = equivalence same_reply same_reply-Decides
 
--- an answer that is a test's decides what the test decides
+-- a result that equals this test's decides equality too
 pub tells_values : (b : Bool) (xs ys : List (List ℕ)) → b ≡ same_values xs ys → Decides b (xs ≡ ys)
 tells_values b xs ys e = subst (λ (t : Bool). Decides t (xs ≡ ys)) (sym e) (same_values-Decides xs ys)
 

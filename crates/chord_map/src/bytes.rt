@@ -1,4 +1,4 @@
-//! Byte strings that contracts see as lists.
+//! Byte strings; contracts see them as lists.
 ghost use Rattle.std.specs.Prelude.{◌≡◌, ◌↔◌, ◌≤◌, ℕ, List, [], length, IsTrue, IsOk, IfOk, Some, refl};
 ghost use Rattle.std.specs.Str.{bytes_eq};
 ghost use Rattle.std.specs.Ordering.{nat_cmp};
@@ -10,7 +10,7 @@ use std::alloc::{AllocError, Global};
 use std::cmp::Ordering;
 use std::marker::Model;
 
-/// A key or a value. Up to 16 bytes stand in the value itself, more of them are allocated.
+/// A key or a value. Up to 16 bytes are stored inline, more are allocated.
 #[derive(Debug, Drop)]
 pub struct Bytes {
     storage: Storage,
@@ -32,7 +32,7 @@ impl Model for Bytes {
 }
 
 impl Bytes {
-    /// The bytes of a vector, which keeps its allocation.
+    /// The bytes of a vector, whose allocation is reused.
     pub fn from_vec(items: Vec<u8>) -> Bytes
         ensures { result ≡ items.items }
     {
@@ -104,7 +104,7 @@ impl PartialOrd for Bytes {
     }
 }
 
-/// Bytes rise as their lists do, byte by byte.
+/// The order of the bytes, byte by byte.
 impl Ord for Bytes {
     ghost cmp = { slice_cmp nat_cmp };
 

@@ -32,7 +32,7 @@ impl Done {
     }
 }
 
-/// What the list has of a call, if it has the call.
+/// The entry of a call in the list, if the list has the call.
 #[tactic(auto, unfolding(crate::specs::History::done_at))]
 pub fn find_done(dones: &[Done], caller: u64, number: u64) -> Option<&Done>
     ensures { option_copied result ≡ done_at caller number dones.now }
@@ -42,7 +42,7 @@ pub fn find_done(dones: &[Done], caller: u64, number: u64) -> Option<&Done>
         .find(|done| done.caller == caller && done.number == number)
 }
 
-/// Equal copies.
+/// Equal copies of the calls.
 pub fn copy_dones(alloc: Global, dones: &[Done]) -> Result<Vec<Done>, AllocError>
     ensures { IfOk result (λ copies. copies.items ≡ dones.now) }
 {

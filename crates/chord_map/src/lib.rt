@@ -1,8 +1,8 @@
-//! Requests, replies and the plain map of sets: what a key store is, with no ring in sight.
+//! Requests, replies and the plain map of sets: a key store without a ring.
 //!
-//! A [`PlainMap`] has a set of values for each key, and [`PlainMap::apply`] does a [`Request`] and gives its
-//! [`Reply`]. It is what all else is held to: whatever the nodes of a ring do, their replies are those of one such
-//! map.
+//! A [`PlainMap`] has a set of values for each key, and [`PlainMap::apply`] executes a [`Request`]
+//! and gives its [`Reply`]. All else is measured by it: whatever the nodes of a ring do, their
+//! replies are those of one such map.
 //!
 //! Keys have 1 to 255 bytes, values up to 4,096, and a set at most 1,000 values ([`limits`]).
 #![tactic(auto)]

@@ -1,6 +1,6 @@
 //! The limits of keys, values and sets.
 
-/// The most bytes of a key, which has at least one.
+/// The most bytes of a key. A key has at least one.
 pub const KEY_BYTES: usize = 255;
 
 /// The most bytes of a value.

@@ -1,4 +1,4 @@
-//! Pairs in order.
+//! Sorted pairs.
 ghost use Rattle.std.specs.Prelude.{◌≡◌, ◌<◌, ◌^◌, ℕ, List, [], length, IfOk, IfErr, IsOk, OnOk, OnErr};
 ghost use Rattle.std.specs.Fn.{CalledAt};
 ghost use Rattle.std.specs.List.Retain.{IsFiltered};
@@ -15,8 +15,8 @@ use std::alloc::{AllocError, Global};
 use std::cmp::Ordering;
 use std::marker::Model;
 
-/// The pairs of a map, each below all behind it. A place is found by a binary search, a change
-/// moves the pairs behind it.
+/// The pairs of a map, strictly sorted. A binary search
+/// finds a pair; a change moves the pairs behind it.
 #[derive(Debug, Drop)]
 pub struct PairList {
     pairs: Vec<Pair>,
@@ -30,7 +30,7 @@ impl Model for PairList {
     ghost invariant = { λ list. IsRising list.pairs.items };
 }
 
-// How the pair stands to the one of this key and value.
+// Compares the pair with the one of this key and value.
 fn compare(pair: &Pair, key: &[u8], value: &[u8]) -> Ordering
     ensures { result ≡ pair_cmp pair.now (record { key = key.now; value = value.now }) }
 {
@@ -40,7 +40,7 @@ fn compare(pair: &Pair, key: &[u8], value: &[u8]) -> Ordering
     }
 }
 
-// Where the pair of this key and value is, or where it would go.
+// The index of the pair of this key and value, or the index at which to insert it.
 fn place_of(pairs: &[Pair], key: &[u8], value: &[u8]) -> Result<usize, usize>
     requires { IsRising pairs.now }
     ensures found { IfOk result (IsAt pairs.now (record { key = key.now; value = value.now })) }
@@ -62,7 +62,7 @@ impl PairList {
         }
     }
 
-    /// How many pairs there are: fewer than 2 ^ 63.
+    /// The number of pairs, below 2 ^ 63.
     pub fn len(&self) -> usize
         ensures count { result ≡ length self.now }
         ensures small { result < 2 ^ 63 }
@@ -77,14 +77,14 @@ impl PairList {
         self.pairs.as_slice()
     }
 
-    /// Whether the value stands under the key.
+    /// Whether the key has the value.
     pub fn contains(&self, key: &[u8], value: &[u8]) -> bool
         ensures { result ≡ has_pair (record { key = key.now; value = value.now }) self.now }
     {
         place_of(self.pairs.as_slice(), key, value).is_ok()
     }
 
-    /// How many values stand under the key.
+    /// The number of values under the key.
     pub fn count_under(&self, key: &[u8]) -> usize
         ensures { result ≡ length (values_at key.now self.now) }
     {
@@ -97,8 +97,8 @@ impl PairList {
         count
     }
 
-    /// Copies of the values under the key, in byte order. No value takes no memory, nor does a single one of up to 16
-    /// bytes.
+    /// Copies of the values under the key, in byte order. None,
+    /// or a single one of up to 16 bytes, needs no memory.
     pub fn values(&self, alloc: Global, key: &[u8]) -> Result<Values, AllocError>
         ensures copy { IfOk result (λ values. values ≡ values_at key.now self.now) }
         ensures few { AreFew (values_at key.now self.now) → IsOk result }
@@ -112,7 +112,7 @@ impl PairList {
         Ok(values)
     }
 
-    /// Puts the value under the key, unless it is there.
+    /// Adds the value under the key, unless it is there.
     pub fn insert(&mut self, key: &[u8], value: &[u8]) -> Result<(), AllocError>
         ensures ok { OnOk result (self.new ≡ insert_pair (record { key = key.now; value = value.now }) self.old) }
         ensures err { OnErr result (self.new ≡ self.old) }
@@ -129,7 +129,7 @@ impl PairList {
         }
     }
 
-    /// Takes the value out from under the key, and says whether it was there.
+    /// Removes the value under the key, and answers whether it was there.
     pub fn remove(&mut self, key: &[u8], value: &[u8]) -> bool
         ensures was_there { result ≡ has_pair (record { key = key.now; value = value.now }) self.old }
         ensures change { self.new ≡ remove_pair (record { key = key.now; value = value.now }) self.old }

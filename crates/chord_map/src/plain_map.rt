@@ -12,7 +12,7 @@ use crate::request::Request;
 use std::alloc::{AllocError, Global};
 use std::marker::Model;
 
-/// A map from keys to sets of values, empty at first. It is slow: each call may go over all pairs.
+/// A map from keys to sets of values, empty at first. It is slow: each call may scan all pairs.
 #[derive(Debug, Drop)]
 pub struct PlainMap {
     alloc: Global,
@@ -48,7 +48,7 @@ impl PlainMap {
     }
 }
 
-// Puts the value under the key, where it is new and the set has room.
+// Adds the value under the key, if it is new and the set has room.
 fn insert(pairs: &mut PairList, key: &Bytes, value: &Bytes) -> Result<Reply, AllocError>
     ensures { ApplyIs (Request.Insert key.now value.now) pairs.old result pairs.new }
 {

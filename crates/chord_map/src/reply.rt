@@ -1,4 +1,4 @@
-//! What a caller may be told.
+//! The replies to a caller.
 ghost use Rattle.std.specs.Prelude.{◌≡◌, ◌↔◌, IsTrue, IfOk, IsOk, OnErr};
 ghost use Rattle.chord_map.specs.Copies.{IsShortReply};
 ghost use Rattle.chord_map.specs.Map.{IsValues, fits};
@@ -18,7 +18,7 @@ pub enum Reply {
 }
 
 impl Reply {
-    /// An equal copy. Only that of values takes memory, of two or more or of a long one.
+    /// An equal copy. Only values need memory: two or more of them, or a single one above 16 bytes.
     pub fn try_copy(&self) -> Result<Reply, AllocError>
         ensures copy { IfOk result (λ copy. copy ≡ self.now) }
         ensures memory { OnErr result (IsValues self.now) }
@@ -34,7 +34,7 @@ impl Reply {
         }
     }
 
-    /// Whether it is of the request's kind.
+    /// Whether the reply is of the request's kind.
     pub fn fits(&self, request: &Request) -> bool
         ensures { result ≡ fits self.now request.now }
     {

@@ -1,12 +1,12 @@
-//! Byte strings that take no memory.
+//! Byte strings that need no memory.
 ghost use Rattle.std.specs.Prelude.{◌≡◌, ◌≤◌, length, take};
 
 use std::marker::Model;
 
-/// How many bytes a short string has at most.
+/// The most bytes of a short string.
 pub const LIMIT: usize = 16;
 
-/// Up to 16 bytes, which stand in the value itself.
+/// Up to 16 bytes, stored inline.
 #[derive(Debug, Drop)]
 pub struct Short {
     len: u8,

@@ -7,7 +7,7 @@ use std::alloc::{AllocError, Global};
 use std::marker::Model;
 use std::{mem, slice};
 
-/// The values under a key. A single one stands in the value itself, more of them are allocated.
+/// The values under a key. A single one is stored inline, more are allocated.
 #[derive(Debug, Drop)]
 pub struct Values {
     items: Items,
@@ -63,7 +63,7 @@ impl Values {
         }
     }
 
-    /// Adds a value at the end. The first one takes no memory.
+    /// Adds a value at the end. The first one needs no memory.
     pub fn push(&mut self, value: Bytes) -> Result<(), AllocError>
         ensures ok { OnOk result (self.new ≡ self.old ++ value ∷ []) }
         ensures err { OnErr result (self.new ≡ self.old) }
@@ -73,7 +73,7 @@ impl Values {
         self.insert(end, value)
     }
 
-    /// Puts a value at the place, before those from there on. The first one takes no memory.
+    /// Inserts a value at the index `place`. The first one needs no memory.
     pub fn insert(&mut self, place: usize, value: Bytes) -> Result<(), AllocError>
         requires { place ≤ length self.old }
         ensures ok { OnOk result (self.new ≡ insert self.old place value) }
@@ -102,7 +102,7 @@ impl Values {
         Ok(())
     }
 
-    /// Takes the value at the place out.
+    /// Removes the value at the index `place`.
     pub fn remove(&mut self, place: usize) -> Bytes
         requires { place < length self.old }
         ensures value { slice_get self.old place ≡ Some result }
@@ -123,7 +123,7 @@ impl Values {
         }
     }
 
-    /// An equal copy. No value takes no memory, nor does a single one of up to 16 bytes.
+    /// An equal copy. No value, or a single one of up to 16 bytes, needs no memory.
     pub fn try_copy(&self) -> Result<Values, AllocError>
         ensures copy { IfOk result (λ copy. copy ≡ self.now) }
         ensures few { AreFew self.now → IsOk result }

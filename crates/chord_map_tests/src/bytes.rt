@@ -3,7 +3,7 @@ use chord_map::Bytes;
 use std::alloc::Global;
 use std::cmp::Ordering;
 
-// How the two compare, and whether they are equal, where both are there.
+// How the two compare, and whether they are equal, if both were made.
 fn compared_all<T: Ord + Drop>(left: Option<T>, right: Option<T>) -> Option<(Ordering, bool)> {
     let (left, right) = left.zip(right)?;
     Some((left.cmp(&right), left == right))
@@ -31,7 +31,7 @@ fn bytes_compare_one_by_one(rt: HostRuntime) {
     assert!(rt; found == [same, less, Some((Ordering::Greater, false)), less]);
 }
 
-// Sixteen bytes stand in the value, seventeen are allocated.
+// Sixteen bytes are stored inline, seventeen are allocated.
 #[test]
 fn short_and_long_bytes_compare(rt: HostRuntime) {
     let alloc = rt.alloc();
@@ -44,7 +44,7 @@ fn short_and_long_bytes_compare(rt: HostRuntime) {
     assert!(rt; found == [less, less, Some((Ordering::Equal, true))]);
 }
 
-// Whether the copy is there and has these bytes.
+// Whether the copy was made and has these bytes.
 fn is_copy(copy: Option<Bytes>, bytes: &[u8]) -> Option<bool> {
     let copy = copy?;
     let is_same = copy.as_slice() == bytes;

@@ -67,7 +67,7 @@ fn copy_is_equal(alloc: Global) -> Option<bool> {
     equal(copy, Some(done))
 }
 
-/// Whether two calls are equal of which each has the other's number as its caller.
+/// Whether two calls are equal if each has the other's number as its caller.
 fn others_are_equal(alloc: Global) -> Option<bool> {
     equal(added(alloc, 1, 2).ok(), added(alloc, 2, 1).ok())
 }

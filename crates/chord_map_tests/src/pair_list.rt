@@ -1,7 +1,7 @@
 use chord_map::{Pair, PairList, Values};
 use std::alloc::AllocError;
 
-// Puts in the pairs (a, x), (a, y) and (b, x), from the last to the first.
+// Adds the pairs (a, x), (a, y) and (b, x), from the last to the first.
 fn put_three(pairs: &mut PairList) -> Result<(), AllocError> {
     for (key, value) in [(b"b", b"x"), (b"a", b"y"), (b"a", b"x"), (b"a", b"x")] {
         pairs.insert(key, value)?;
@@ -23,7 +23,7 @@ fn keeps_a_pair_once(rt: HostRuntime) {
     drop(pairs);
 }
 
-// Whether the pair and a copy of it are of this key and value.
+// Whether the pair and a copy of it have this key and value.
 fn is_of_as_copied(pair: &Pair, key: &[u8], value: &[u8]) -> bool {
     let Ok(copy) = pair.try_copy() else {
         return false;
@@ -33,7 +33,7 @@ fn is_of_as_copied(pair: &Pair, key: &[u8], value: &[u8]) -> bool {
     are_of
 }
 
-// Whether these and a copy of each are the three pairs in order.
+// Whether these, and a copy of each, are the three pairs in order.
 fn are_in_order(pairs: &[Pair]) -> bool {
     match pairs {
         [first, second, third] => {
@@ -95,12 +95,12 @@ fn retains_pairs(rt: HostRuntime) {
     drop(pairs);
 }
 
-// Whether this is the pair of the key [n].
+// Whether this is the pair with the key [n].
 fn has_key(pair: &Pair, n: u8) -> bool {
     pair.key.as_slice() == [n].as_slice()
 }
 
-// Whether these are the pairs of the keys [0], [1] and so on, below `end`.
+// Whether these are the pairs with the keys [0], [1] and so on, below `end`.
 fn ends_at(pairs: &PairList, end: u8) -> bool {
     let mut rest = pairs.as_slice().iter();
     for n in 0..end {
@@ -112,12 +112,13 @@ fn ends_at(pairs: &PairList, end: u8) -> bool {
     rest.next().is_none()
 }
 
-// Whether the pair of [n] is put in; where there was no memory, the others have to be there, and it is put in then.
+// Whether the pair of [n] is added. If memory was refused,
+// the others must be unchanged, and a second try adds it.
 fn adds_at_last(pairs: &mut PairList, n: u8) -> bool {
     pairs.insert(&[n], b"x").is_ok() || (ends_at(pairs, n) && pairs.insert(&[n], b"x").is_ok())
 }
 
-// With ample memory no growth is refused.
+// With ample memory nothing is refused.
 #[test]
 fn a_refused_growth_leaves_the_pairs(rt: HostRuntime) {
     let mut pairs = PairList::new(rt.alloc());

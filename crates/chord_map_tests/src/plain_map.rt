@@ -2,7 +2,7 @@ use crate::samples::{equal, one_value};
 use chord_map::{Bytes, PlainMap, Reply, Request, Values};
 use std::alloc::{AllocError, Global};
 
-// The reply to the request, where it is one and memory is there.
+// The reply to the request, if the request is valid and memory does not run out.
 fn told(map: &mut PlainMap, request: &Request) -> Option<Reply> {
     if request.check().is_err() {
         return None;
@@ -109,7 +109,7 @@ fn fills_a_set(rt: HostRuntime) {
     assert!(rt; are_told == [Some(true); 5]);
 }
 
-// The request to add the value [n], made again where there was no memory.
+// The request to add the value [n], tried again if memory was refused.
 fn insert_of(alloc: Global, n: u8) -> Result<Request, AllocError> {
     match Request::insert(alloc, b"a", &[n]) {
         Ok(request) => Ok(request),
@@ -134,7 +134,7 @@ fn are_below(values: &Values, end: u8) -> bool {
     rest.next().is_none()
 }
 
-// Whether the values under `a` are those below `end`, asked for again where there was no memory.
+// Whether the values under `a` are those below `end`. A retrieve refused memory is tried again.
 fn ends_at(alloc: Global, map: &mut PlainMap, end: u8) -> bool {
     let Ok(request) = Request::retrieve(alloc, b"a") else {
         return false;
@@ -152,12 +152,13 @@ fn ends_at(alloc: Global, map: &mut PlainMap, end: u8) -> bool {
     is_end
 }
 
-// Whether Added is the reply, where memory is there.
+// Whether the reply is Added, with memory for it.
 fn adds(map: &mut PlainMap, request: &Request) -> Option<bool> {
     equal(told(map, request), Some(Reply::Added))
 }
 
-// Whether [n] is added; where there was no memory, the values have to be those below it, and it is added then.
+// Whether [n] is added. If memory was refused, the values
+// must be those below it, and a second try adds it.
 fn adds_at_last(alloc: Global, map: &mut PlainMap, n: u8) -> bool {
     let Ok(request) = insert_of(alloc, n) else {
         return false;
@@ -170,7 +171,7 @@ fn adds_at_last(alloc: Global, map: &mut PlainMap, n: u8) -> bool {
     is_added
 }
 
-// With ample memory no growth is refused.
+// With ample memory nothing is refused.
 #[test]
 fn a_refused_growth_leaves_the_map(rt: HostRuntime) {
     let alloc = rt.alloc();

@@ -2,7 +2,7 @@ use crate::samples::{equal, one_value};
 use chord_map::{Reply, Request, RequestFault};
 use std::alloc::{AllocError, Global};
 
-/// What the check says of a request.
+/// The result of the request's check.
 fn checked(request: Result<Request, AllocError>) -> Option<Result<(), RequestFault>> {
     let request = request.ok()?;
     let checked = request.check();
@@ -137,7 +137,7 @@ fn fitting(alloc: Global, reply: Reply) -> [Option<bool>; 3] {
     fitting
 }
 
-/// The same of the reply with the value x.
+/// Whether the reply with the value x fits an insert, a retrieve and a remove.
 fn fitting_values(alloc: Global) -> Option<[Option<bool>; 3]> {
     Some(fitting(alloc, one_value(alloc, b"x").ok()?))
 }

@@ -14,7 +14,7 @@ pub fn one_value(alloc: Global, value: &[u8]) -> Result<Reply, AllocError> {
     Ok(Reply::Values(values))
 }
 
-/// Whether the two are equal, where both are there.
+/// Whether the two are equal, if both were made.
 pub fn equal<T: PartialEq + Drop>(first: Option<T>, second: Option<T>) -> Option<bool> {
     let (first, second) = first.zip(second)?;
     Some(first == second)

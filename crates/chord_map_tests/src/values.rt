@@ -44,7 +44,7 @@ fn holds_values_in_the_order_given(rt: HostRuntime) {
     }
 }
 
-// Puts the letter at the place, where there is one.
+// Inserts the letter at the index `place`, if that is in range.
 fn put(values: &mut Values, place: usize, alloc: Global, letter: u8) -> Result<(), AllocError> {
     if place > values.as_slice().len() {
         return Ok(());
@@ -70,7 +70,7 @@ fn a_value_goes_before_the_only_one(rt: HostRuntime) {
     assert!(rt; is_filled & is_put & end_as(values, b"yz"));
 }
 
-// Takes the value at the place out, which is that of the letter.
+// Whether the value removed at the index `place` is that of the letter.
 fn takes(values: &mut Values, place: usize, letter: u8) -> bool {
     if place >= values.as_slice().len() {
         return false;
@@ -150,7 +150,7 @@ fn copies_bytes(rt: HostRuntime) {
     assert!(rt; bytes_are_copied(rt.alloc()) == Some(true));
 }
 
-// Adds the value of the letter, where memory is there.
+// Whether the value of the letter is added, with memory for it.
 fn is_pushed(alloc: Global, values: &mut Values, letter: u8) -> bool {
     match Bytes::from_slice(alloc, &[letter]) {
         Ok(value) => values.push(value).is_ok(),
@@ -158,7 +158,8 @@ fn is_pushed(alloc: Global, values: &mut Values, letter: u8) -> bool {
     }
 }
 
-// Whether each letter is pushed; where there was no memory, the values have to be as they were, and it is pushed then.
+// Whether each letter is added. If memory was refused,
+// the values must be unchanged, and a second try adds it.
 fn push_each(alloc: Global, values: &mut Values, letters: &[u8]) -> bool {
     for n in 0..letters.len() {
         if !is_pushed(alloc, values, letters[n])
@@ -170,7 +171,7 @@ fn push_each(alloc: Global, values: &mut Values, letters: &[u8]) -> bool {
     true
 }
 
-// With ample memory no growth is refused.
+// With ample memory nothing is refused.
 #[test]
 fn a_refused_push_leaves_the_values(rt: HostRuntime) {
     let letters = b"abcdefghijkl";
@@ -180,7 +181,7 @@ fn a_refused_push_leaves_the_values(rt: HostRuntime) {
     assert!(rt; are_pushed & end_as(values, letters));
 }
 
-// Whether each letter is put first, from the last on, as each is pushed above.
+// Whether each letter is inserted first, from the last on, as `push_each` adds each.
 fn put_each_first(alloc: Global, values: &mut Values, letters: &[u8]) -> bool {
     for n in (0..letters.len()).rev() {
         if put(values, 0, alloc, letters[n]).is_err()

@@ -1,4 +1,4 @@
--- Callers that grow: what was submitted and taken stays so.
+-- Callers that grow: submitted requests and taken calls stay.
 use Rattle.std.proofs.Common.{◌≡◌, ◌≢◌, ℕ, zero, suc, ◌+◌, ◌≤◌, Bool, true, cond, ◌&&◌, eqb, ◌⊎◌, inl, inr, ⊎_elim, refl, sym, ◌∙◌, ap, ap₂, subst, arith, List, [], ◌∷◌, ◌++◌, length, take, find, Option, Some, None, is_some, slice_get, length-append}
 use Rattle.std.proofs.lemmas.Bool.{and_parts, and_from, eqb-true, eq-eqb, ne_eqb, cond-true, cond-false, cases_eq}
 use Rattle.std.proofs.lemmas.Option.{same_Some, none-some}
@@ -58,7 +58,7 @@ has_put_caller after (first ∷ rest) caller h =
     (λ f. ⊎_elim (λ e. inl (inl e)) (λ more. ⊎_elim (λ a. inl (inr a)) (λ e. inr e) (has_put_caller after rest caller more))
     (subst (λ cs. Has cs caller) (cond-false (eqb first.number after.number) (after ∷ rest) (first ∷ put_caller after rest) f) h))
 
--- a caller that has grown has at least what it had
+-- a caller that has grown has at least its old calls
 pub record Grown (old new : Caller) : Type 0 where
   pub number : new.number ≡ old.number
   pub window : new.window ≡ old.window
@@ -183,7 +183,7 @@ floor_upto_taken caller (suc upto) place low high =
 pub floor_taken : (caller : Caller) (place : ℕ) → 1 ≤ place → place ≤ floor_of caller → is_taken caller place ≡ true
 floor_taken caller place low high = floor_upto_taken caller (length caller.submitted) place low high
 
--- what was seen stays so as its caller grows
+-- what a submission had seen is unchanged as its caller grows
 pub seen_grown : (old new : Caller) → Grown old new → (submission : Submission) → submission.mine_seen ≤ length old.mine → submission.told_seen ≤ length old.told
     → seen_at new submission ≡ seen_at old submission
 seen_grown old new grown submission mine_low told_low =

@@ -1,4 +1,4 @@
--- A caller's step keeps what is good.
+-- A caller's step keeps the invariant.
 use Rattle.std.proofs.Common.{◌≡◌, ℕ, zero, suc, ◌+◌, ◌<◌, ◌≤◌, Bool, true, false, not, ◌&&◌, eqb, ◌⊎◌, inl, inr, ⊎_elim, refl, sym, ◌∙◌, ap, subst, arith, List, [], ◌∷◌, ◌++◌, length, Option, Some, None, is_some, slice_get, length-append, add-one}
 use Rattle.std.proofs.lemmas.Bool.{and_parts, eqb-true, cond-true, cond-false, not-true, cases_lt}
 use Rattle.std.proofs.lemmas.Option.{same_Some, none-some}
@@ -21,7 +21,7 @@ use Rattle.chord_map.proofs.HistoryLemmas.{once_pushed}
 use Rattle.chord_map.specs.declared.done.Done.{Done}
 use Rattle.chord_map.specs.History.{done_at, StandsIn}
 
--- what holds of each message and of one more, if there is one
+-- a property of each message holds with one more, if there is one
 pub each_with_one : {A : Type 0} (P : A → Type 0) (xs : List A) (o : Option A) → Each P xs → ((x : A) → o ≡ Some x → P x) → Each P (with_one xs o)
 each_with_one P xs None each one x h = each x h
 each_with_one P xs (Some y) each one x h = ⊎_elim (λ a. each x a) (λ e. subst P e (one y refl)) (has_pushed xs y x h)

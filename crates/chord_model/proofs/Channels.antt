@@ -1,4 +1,4 @@
--- The handovers between nodes: what each message that was sent says of its sender and its receiver now.
+-- The handovers between nodes: what each sent message says of its sender and its receiver now.
 use Rattle.std.proofs.Common.{◌≡◌, ℕ, ◌<◌, ◌≤◌, Bool, true, false, Option, Some, None, List, ⊎_elim, refl, ◌∙◌, ap, arith}
 use Rattle.std.specs.Prelude.{Contains}
 use Rattle.std.proofs.lemmas.List.Elements.{Contains-push_cases}
@@ -37,30 +37,31 @@ taken_in nodes to from = taken_by (node_at to nodes) from
 abbrev pub given_in : List Node → ℕ → ℕ → ℕ
 given_in nodes from to = given_by (node_at from nodes) to
 
--- the item that `from` keeps for `to` under a number
+-- the item for `to` under a number in the outbox of `from`
 abbrev pub item_in : List Node → ℕ → ℕ → ℕ → Option Item
 item_in nodes from to number = item_by (node_at from nodes) to number
 
 abbrev pub gone_in : List Node → ℕ → Bool
 gone_in nodes number = gone_by (node_at number nodes)
 
--- the item that a handover is of
+-- the item of a handover
 abbrev pub item_from : Handover → Item
 item_from handover = record { to = handover.to; number = handover.number; segment = handover.segment; pairs = handover.pairs }
 
--- What a message says. A handover: its number was given, and until it is taken its item is kept, unless the receiver is
--- gone. A Got: it was taken. A Declined: the receiver is gone and did not take it.
+-- What each message says. A part: its handover's number was given, and until the handover is taken
+-- its item is in the outbox, unless the receiver is gone. A Got: it was taken. A Declined: the
+-- receiver is gone and did not take it.
 pub record GiveOk (nodes : List Node) (handover : Handover) : Type 0 where
   pub given : handover.number ≤ given_in nodes handover.from handover.to
   pub kept : gone_in nodes handover.to ≡ false → taken_in nodes handover.to handover.from < handover.number → item_in nodes handover.from handover.to handover.number ≡ Some (item_from handover)
 
--- of a part: the same, and it is a part of that item
+-- GiveOk of a part's handover, and the part is one of that item's
 pub record PartOk (nodes : List Node) (part : Part) : Type 0 where
   pub given : part.number ≤ given_in nodes part.from part.to
   pub kept : gone_in nodes part.to ≡ false → taken_in nodes part.to part.from < part.number
       → (item : Item) × (item_in nodes part.from part.to part.number ≡ Some item) × (part ≡ part_at (handover_of part.from item) part.place)
 
--- a part of a handover that is so is so
+-- each part of a handover that is GiveOk is PartOk
 pub part_ok : (nodes : List Node) (handover : Handover) (place : ℕ) → GiveOk nodes handover → PartOk nodes (part_at handover place)
 part_ok nodes handover place ok = record { given = ok.given; kept = λ here above. (item_from handover, ok.kept here above, refl) }
 
@@ -80,11 +81,11 @@ MessageOk nodes (NoteMessage note) = Unit {0}
 pub record Channels (nodes : List Node) (sent : List Message) : Type 0 where
   -- no more was taken than given
   pub behind : (to from : ℕ) → taken_in nodes to from ≤ given_in nodes from to
-  -- a kept item has a number that was given
+  -- an item in the outbox has a number that was given
   pub numbered : (from to number : ℕ) (item : Item) → item_in nodes from to number ≡ Some item → number ≤ given_in nodes from to
   pub messages : (message : Message) → Contains sent message → MessageOk nodes message
 
--- what later nodes keep of earlier ones
+-- in later nodes no number fell, and a gone node is still gone
 pub record Later (nodes nodes' : List Node) : Type 0 where
   pub taken_grows : (to from : ℕ) → taken_in nodes to from ≤ taken_in nodes' to from
   pub gone_takes_none : (to from : ℕ) → gone_in nodes to ≡ true → taken_in nodes' to from ≡ taken_in nodes to from
@@ -97,7 +98,7 @@ not_gone_before : (b c : Bool) → (b ≡ true → c ≡ true) → c ≡ false �
 not_gone_before true c h f = let yes = h refl in cc
 not_gone_before false c h f = refl
 
--- so every message goes on saying it
+-- every message goes on saying it
 pub MessageOk-later : (nodes nodes' : List Node) → Later nodes nodes' → (message : Message) → MessageOk nodes message → MessageOk nodes' message
 MessageOk-later nodes nodes' later (AskMessage ask) ok = tt
 MessageOk-later nodes nodes' later (ToldMessage told) ok = tt
@@ -118,7 +119,7 @@ MessageOk-later nodes nodes' later (DeclinedMessage ticket) ok = record {
 }
 MessageOk-later nodes nodes' later (NoteMessage note) ok = tt
 
--- what a node's step does to its own numbers and items, among these nodes
+-- a node's own numbers and items after its step, among these nodes
 pub record Change (nodes : List Node) (node after : Node) : Type 0 where
   pub same_number : after.number ≡ node.number
   pub taken_grows : (from : ℕ) → mark_of from node.taken ≤ mark_of from after.taken
@@ -162,7 +163,7 @@ Channels-later nodes sent node after channels at change =
       messages = λ message was. MessageOk-later nodes (put_node after nodes) later message (channels.messages message was);
     }
 
--- and with what was sent in it
+-- the channels after a step and its message
 pub Channels_with : (nodes : List Node) (sent : List Message) (out : Option Message) → Channels nodes sent → ((message : Message) → out ≡ Some message → MessageOk nodes message)
     → Channels nodes (with_one sent out)
 Channels_with nodes sent None channels ok = channels

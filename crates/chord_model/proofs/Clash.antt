@@ -1,4 +1,4 @@
--- No handover that is taken, or taken back, meets what its node holds.
+-- No handover that is taken, or taken back, overlaps what its node holds.
 use Rattle.std.proofs.Common.{◌≡◌, ◌≢◌, ℕ, suc, zero, ◌+◌, ◌^◌, ◌<◌, ◌≤◌, Bool, true, false, cond, eqb, Option, Some, None, List, [], ◌∷◌, ◌++◌, ⊎_elim, refl, sym, ◌∙◌, ap, subst, arith}
 use Rattle.std.specs.Prelude.{Contains, slice_get}
 use Rattle.chord_handover.proofs.Counting.{count, count_push}
@@ -46,7 +46,7 @@ at_place x place segment [] e = cc
 at_place x zero segment (first ∷ held) e = let same : first ≡ segment = cc in let w = ap (λ s. one_if (has x s)) same in omega arith
 at_place x (suc place) segment (first ∷ held) e = omega (arith, at_place x place segment held e)
 
--- what nobody holds is in no segment
+-- an identifier that nobody holds is in no segment
 has_none : (x place : ℕ) (segment : Segment) (held : List Segment) → count (has x) held ≡ 0 → slice_get held place ≡ Some segment → has x segment ≡ false
 has_none x place segment held none e =
     not_true (has x segment) (λ yes. let one = ap one_if yes in let c = at_place x place segment held e in absurd (omega arith))
@@ -80,7 +80,7 @@ put_some after (node ∷ rest) h = put_cons (eqb node.number after.number)
     put_cons true = λ e. cc
     put_cons false = λ e. cc
 
--- the spans of a node do not meet
+-- the spans of a node do not overlap
 pub held_apart : (world : World) → Reached world → (number : ℕ) (node : Node) → node_at number world.nodes ≡ Some node → AllApart node.held
 held_apart world reached number node at place other segment more e e' apart x x_in here =
     let sound = sound_reached world reached in
@@ -88,7 +88,7 @@ held_apart world reached number node at place other segment more e e' apart x x_
     let w = weight-le-total x (taken_in world.nodes) number node world.nodes at in
     one_place x place other segment more node.held (omega arith) e e' apart here
 
--- a step after which its node holds one more segment met nothing
+-- if a step leaves its node one more segment, that overlaps none of the others
 clear_by : (nodes : List Node) (node after : Node) (out : Option Message) → node_at node.number nodes ≡ Some node → Event nodes node after out
     → (x : ℕ) → x < 2 ^ 128 → total x (taken_in nodes) nodes ≡ 1 → count (has x) node.held + 1 ≡ count (has x) after.held → count (has x) node.held ≡ 0
 clear_by nodes node after out at event x x_in one more =
@@ -97,7 +97,7 @@ clear_by nodes node after out at event x x_in one more =
     let t = event.totals x x_in in
     omega arith
 
--- a handover that a node takes next meets nothing that it holds
+-- a handover that a node takes next overlaps nothing that it holds
 pub taken_clear : (world : World) → Reached world → (part : Part) (handover : Handover) (node : Node) → Contains world.sent (PartMessage part) → IsWhole (gathered part node.noted) handover → node_at handover.to world.nodes ≡ Some node
     → node.phase ≢ Gone → handover.number ≡ mark_of handover.from node.taken + 1 → MeetsNone handover.segment.span node.held
 taken_clear world reached part handover node was whole at stays next place segment e x x_in here =
@@ -112,7 +112,7 @@ taken_clear world reached part handover node was whole at stays next place segme
     let none = clear_by world.nodes node (with_given handover node) _ at' event x x_in (sound.one x x_in (some_nodes handover.to node world.nodes at)) (omega arith) in
     has_none x place segment node.held none e
 
--- nor does a handover that it takes back
+-- a handover that a node takes back does not overlap what it holds either
 pub back_clear : (world : World) → Reached world → (ticket : Ticket) (node : Node) (item : Item) → Contains world.sent (DeclinedMessage ticket)
     → node_at ticket.from world.nodes ≡ Some node → item_at ticket.to ticket.number node.outbox ≡ Some item → MeetsNone item.segment.span node.held
 back_clear world reached ticket node item was at found place segment e x x_in here =
@@ -153,7 +153,7 @@ placed_world_step old new sound placed (Acts number node after taken out did at 
     let at'' : node_at after.number old.nodes ≡ Some node = rw event.change.same_number at' in
     all_placed_put after node old.nodes at'' (placed_step old.nodes old.sent node taken after out did sound placed at' was step) placed
 
--- in every reached world all nodes are placed
+-- in every reachable world all nodes are placed
 pub placed_reached : (world : World) → Reached world → (number : ℕ) (node : Node) → node_at number world.nodes ≡ Some node → Placed node
 placed_reached world Stays = λ number node e. let i : None ≡ Some node = sym (none_at number) ∙ e in cc
 placed_reached world (Goes_on {middle} run step) = placed_world_step middle world (sound_reached middle run) (placed_reached middle run) step

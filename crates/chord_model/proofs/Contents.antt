@@ -117,7 +117,7 @@ or_false : (a b : Bool) → b ≡ false → (a || b) ≡ a
 or_false true b e = refl
 or_false false b e = e
 
--- what was there stays as it was, where no pair that came lies
+-- the values of a segment stay unchanged if the pairs that come lie elsewhere
 pub stays_current : (history : List Done) (segment : Segment) (more pairs : List Pair)
     → ((pair : Pair) → has_pair pair more ≡ true → in_span segment.span (key_id pair.key) ≡ true → ⊥)
     → Current history segment pairs → Current history segment (put_all more pairs)
@@ -128,7 +128,7 @@ stays_current history segment more pairs apart current = record {
   covered = current.covered;
 }
 
--- what came is as it was, where no pair lay before
+-- the values that come stay unchanged if no pair was in their segment before
 pub comes_current : (history : List Done) (segment : Segment) (more pairs : List Pair)
     → ((pair : Pair) → has_pair pair pairs ≡ true → in_span segment.span (key_id pair.key) ≡ true → ⊥)
     → Current history segment more → Current history segment (put_all more pairs)

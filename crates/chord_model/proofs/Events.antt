@@ -1,4 +1,4 @@
--- What each step of a node keeps of the nodes, one lemma a kind of step.
+-- What holds of the nodes after each step of a node, one lemma a kind of step.
 use Rattle.std.proofs.Common.{◌≡◌, ◌≢◌, ℕ, suc, zero, ◌+◌, ◌^◌, ◌<◌, ◌≤◌, Bool, true, false, cond, not, Option, Some, None, List, [], ◌∷◌, ◌++◌, set, ◌⊎◌, inl, inr, ⊎_elim, refl, sym, ◌∙◌, ap, subst, arith}
 use Rattle.std.specs.Prelude.{slice_get}
 use Rattle.chord_handover.proofs.Counting.{count, count_push, count-set, count-insert, count-remove}
@@ -36,20 +36,20 @@ SegmentOn segment = OnCircle segment.span
 abbrev pub ItemOn : Item → Type 0
 ItemOn item = OnCircle item.segment.span
 
--- what is so of each node by itself
+-- what holds of each node by itself
 pub record Local (node : Node) : Type 0 where
   pub items : DistinctItems node.outbox
   pub held_on : Each SegmentOn node.held
   pub outbox_on : Each ItemOn node.outbox
 
--- what is so of a step of a node
+-- what holds of a step of a node
 pub record Event (nodes : List Node) (node after : Node) (out : Option Message) : Type 0 where
   pub change : Change nodes node after
   pub local : Local after
   pub totals : (x : ℕ) → x < 2 ^ 128 → total x (taken_in (put_node after nodes)) (put_node after nodes) ≡ total x (taken_in nodes) nodes
   pub says : (message : Message) → out ≡ Some message → MessageOk (put_node after nodes) message
 
--- a step that takes no handover and leaves its node its weight leaves the total
+-- a step that takes no handover and leaves its node's weight leaves the total
 untaken : (nodes : List Node) (node after : Node) → node_at node.number nodes ≡ Some node → after.number ≡ node.number → after.taken ≡ node.taken
     → (x : ℕ) → weight x (taken_in nodes) after ≡ weight x (taken_in nodes) node
     → total x (taken_in (put_node after nodes)) (put_node after nodes) ≡ total x (taken_in nodes) nodes
@@ -61,7 +61,7 @@ untaken nodes node after at number taken x weights =
     let put = total-put x (taken_in nodes) after node nodes at' in
     omega arith
 
--- a step that leaves the numbers and the items as they are
+-- a step that leaves the numbers and the items unchanged
 quiet : (nodes : List Node) (sent : List Message) (node after : Node) → Channels nodes sent → node_at node.number nodes ≡ Some node
     → after.number ≡ node.number → after.taken ≡ node.taken → after.given ≡ node.given → after.outbox ≡ node.outbox
     → (is_gone node.phase ≡ true → is_gone after.phase ≡ true) → Change nodes node after
@@ -102,7 +102,7 @@ quiet_event nodes sent node after out channels at number taken given outbox gone
       says = λ message e. MessageOk-later nodes (put_node after nodes) (later_from nodes node after at change) message (says message e);
     }
 
--- a step that leaves the node as it is
+-- a step that leaves the node unchanged
 pub same_event : (nodes : List Node) (sent : List Message) (node : Node) (out : Option Message) → Channels nodes sent → node_at node.number nodes ≡ Some node
     → Local node → ((message : Message) → out ≡ Some message → MessageOk nodes message) → Event nodes node node out
 same_event nodes sent node out channels at local says =
@@ -168,13 +168,13 @@ pub joined_on : (first second : Segment) → SegmentOn first → SegmentOn secon
 unfolding joined
 joined_on first second on on' = (on.0, on'.1)
 
--- ---- a segment goes into the outbox
+-- ---- a segment is put into the outbox
 
 pub none_or_some : {A : Type 0} (o : Option A) → ((x : A) → o ≡ Some x → ⊥) → o ≡ None
 none_or_some None h = refl
 none_or_some (Some x) h = absurd (h x refl)
 
--- an item is the one of its own receiver and number alone
+-- an item is found only under its own receiver and number
 not_item : (to number : ℕ) (item : Item) → (item.to ≡ to → item.number ≢ number) → is_item to number item ≡ false
 not_item to number item apart = not_true (is_item to number item) (λ yes. let parts = is_item_parts to number item yes in apart parts.0 parts.1)
 
@@ -219,7 +219,7 @@ give_change nodes sent node place segment to channels at =
           (same_or_not other to);
     }
 
--- the number of a kept item was given
+-- the number of an item in the outbox was given
 pub kept_was_given : (nodes : List Node) (sent : List Message) (node : Node) → Channels nodes sent → node_at node.number nodes ≡ Some node
     → (to number : ℕ) (item : Item) → item_at to number node.outbox ≡ Some item → number ≤ mark_of to node.given
 kept_was_given nodes sent node channels at to number item e =
@@ -272,7 +272,7 @@ apart_or_same a b to number =
     ⊎_elim (λ (x : a ≡ to). ⊎_elim (λ (y : b ≡ number). inr (x, y)) (λ (y : b ≢ number). inl (inr y)) (same_or_not b number))
     (λ (x : a ≢ to). inl (inl x)) (same_or_not a to)
 
--- an item that was taken awaits nobody, so the outbox weighs as much without it
+-- an item that was taken awaits nobody, so the outbox weighs the same without it
 freed_by : (x : ℕ) (t : ℕ → ℕ) (to number : ℕ) (outbox : List Item) → DistinctItems outbox → number ≤ t to
     → (found : Option Item) → item_at to number outbox ≡ found → count (awaits x t) (without to number outbox) ≡ count (awaits x t) outbox
 freed_by x t to number outbox d taken None e = ap (count (awaits x t)) (without_none to number outbox e)
@@ -357,7 +357,7 @@ takes_back_event nodes sent node ticket item channels at local me found declined
 
 -- ---- a handover is taken
 
--- a kept item has its sender
+-- an item in an outbox has a node that gives it
 pub sender_of : (found : Option Node) (to number : ℕ) (item : Item) → item_by found to number ≡ Some item → (sender : Node) × (found ≡ Some sender) × (item_at to number sender.outbox ≡ Some item)
 sender_of None to number item e = cc
 sender_of (Some sender) to number item e = (sender, refl, e)

@@ -1,4 +1,4 @@
--- A run that uses every rule: a handover is taken, one is declined and taken back, and calls are executed.
+-- A run that uses every rule: one handover is taken, one is declined, and calls are executed.
 use Rattle.std.proofs.Common.{◌≡◌, ℕ, cond, ⊎_elim, Option, Some, None, List, [], ◌∷◌, ◌++◌, refl, ◌∙◌, ap, subst, arith, Contains}
 use Rattle.std.specs.Prelude.{slice_get}
 use Rattle.chord_caller.specs.declared.ask.Ask.{Ask}
@@ -90,7 +90,7 @@ noting = record second { noted = second.noted ++ part ∷ [] }
 abbrev taking : Node
 taking = with_given handover noting
 
--- the second gives it back, too late, and takes it back
+-- the second gives its segment back, too late, and takes it back
 abbrev late_item : Item
 late_item = item_of whole 0 taking
 

@@ -46,7 +46,7 @@ module _ (old : World) (good : Good old) (facts : HolderFacts old) (number : ℕ
   ask_good : AskGood old.callers ask
   ask_good = good.messages (AskMessage ask) was
 
-  -- the call does not stand in the history
+  -- the call is not in the history
   unexecuted : done_at ask.caller ask.number old.history ≡ None
   unexecuted = by_option (done_at ask.caller ask.number old.history) (λ none. none)
       (λ done there.

@@ -1,4 +1,4 @@
--- What comes next at a node, or comes back to it, fits there.
+-- The next handover at a node, or one that comes back to it, fits there.
 use Rattle.std.proofs.Common.{◌≡◌, ◌<◌, eqb, false, ⊎_elim, Some, List, [], ◌∷◌, refl, sym, ◌∙◌, ap, subst, arith, Contains}
 use Rattle.std.proofs.lemmas.Bool.{and_parts}
 use Rattle.std.proofs.lemmas.Option.{same_Some}
@@ -24,12 +24,12 @@ use Rattle.chord_model.specs.Stock.{IsClash}
 use Rattle.chord_map.proofs.Equal.{eqb_is}
 use Rattle.chord_segment.specs.Marks.{mark_of}
 
--- the parts are some of a parcel's, under this name
+-- the parts are some of the parts of a payload, under this name
 record ArePartsOf (ticket : Ticket) (parts : List Part) (parcelled : Parcelled) : Type 0 where
   rules : IsParcelled parcelled
   each : (part : Part) → Has parts part → part ≡ part_at (handed ticket parcelled) part.place
 
--- so they tell its number of parts, and are all of them where each place has its part
+-- they say its number of parts, and are all of them if each part number has its part
 module _ (part : Part) (noted : List Part) (parcelled : Parcelled) (are : ArePartsOf (ticket_of_part part) (gathered part noted) parcelled) where
   tells : (other : Part) → Has (gathered part noted) other → other.of ≡ parts_in parcelled.pairs
   tells other h = ap (λ (p : Part). p.of) (are.each other h)
@@ -51,7 +51,7 @@ module _ (part : Part) (noted : List Part) (parcelled : Parcelled) (are : ArePar
       (λ none. none.1 parcelled are.rules (whole none.0))
       unfit
 
--- a part of an item that is kept under this name is a part of its parcel
+-- a part of an item in the outbox under this name is a part of its payload
 same_name : (nodes : List Node) (ticket : Ticket) (item theirs : Item) (part : Part) → item.to ≡ ticket.to → item.number ≡ ticket.number
     → item_in nodes ticket.from ticket.to ticket.number ≡ Some item → part.from ≡ ticket.from → part.to ≡ ticket.to → part.number ≡ ticket.number
     → item_in nodes part.from part.to part.number ≡ Some theirs → part ≡ part_at (handover_of part.from theirs) part.place
@@ -70,7 +70,7 @@ module _ (world : World) (reached : Reached world) (part : Part) (node : Node) (
   above : taken_in world.nodes part.to part.from < part.number
   above = let e : taken_in world.nodes part.to part.from ≡ mark_of part.from node.taken = ap (λ o. taken_by o part.from) at in let n = next.0 in omega arith
 
-  -- the parts noted of its handover, and itself, are parts of the item that its sender keeps
+  -- the part and the buffered parts of its handover are parts of the item in the giver's outbox
   parts_of : (parcelled : Parcelled) × ArePartsOf (ticket_of_part part) (gathered part node.noted) parcelled
   parts_of =
       let sound = sound_reached world reached in

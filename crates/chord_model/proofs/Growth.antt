@@ -1,4 +1,4 @@
--- What was good stays good as the callers grow and the history gets more calls.
+-- The invariant still holds as the callers grow and the history gets more calls.
 use Rattle.std.proofs.Common.{◌≡◌, true, inl, inr, ⊎_elim, refl, sym, ◌∙◌, ap, ap₂, subst, List, [], ◌∷◌, take, Some, None, All}
 use Rattle.std.proofs.lemmas.Bool.{cond-true, cond-false}
 use Rattle.std.proofs.lemmas.Option.{same_Some}
@@ -64,7 +64,7 @@ module _ (callers more_callers : List Caller) (history more_history : List Done)
     near = good.near;
   }
 
--- in a list with each call once, what is in it stands in it
+-- in a list with each call once, each of its calls is found in it
 pub once_stands : (dones : List Done) (done : Done) → EachOnce dones → Has dones done → StandsIn dones done
 unfolding done_at
 once_stands [] done once h = absurd h
@@ -78,7 +78,7 @@ once_stands (first ∷ rest) done once (inr h) =
     absurd (done_absent first.caller first.number rest done once.0 h (sym r.0) (sym r.1)))
     (λ f. cond-false (is_call done.caller done.number first) (Some first) (done_at done.caller done.number rest) f ∙ once_stands rest done once.1 h)
 
--- all that a caller has seen stands in the history
+-- all that a caller has seen is in the history
 pub seen_stands : (history : List Done) (caller : Caller) (submission : Submission) → CallerGood history caller → Each (StandsIn history) (seen_at caller submission)
 seen_stands history caller submission good done h =
     ⊎_elim (λ a. good.mine_stand done (has_taken submission.mine_seen caller.mine done a)) (λ b. good.told_stand done (has_taken submission.told_seen caller.told done b))

@@ -1,4 +1,4 @@
--- What every good world says.
+-- What follows from the invariant of a world.
 use Rattle.std.proofs.Common.{◌≡◌, ℕ, true, not, ◌&&◌, eqb, ⊎_elim, sym, ◌∙◌, ap, arith, List, [], Some, None, Contains, ap₂, subst}
 use Rattle.std.proofs.lemmas.Bool.{and_from, eq-eqb, cond-true, cases_Bool, not_from_false}
 use Rattle.std.proofs.lemmas.Option.{none-some, same_Some}
@@ -29,7 +29,7 @@ use Rattle.chord_map.specs.declared.done.Done.{Done}
 use Rattle.chord_map.specs.History.{replay, StandsIn, done_at}
 use Rattle.chord_segment.specs.Segment.{id_of, Segment}
 
--- a fitting reply that is no news was taken before
+-- a fitting reply that is not fresh was taken before
 fresh_none : (caller : Caller) (told : Told) (submission : Submission) → told.caller ≡ caller.number → submission_at told.number caller.submitted ≡ Some submission
     → fits told.reply submission.request ≡ true → fresh_for told caller ≡ None → is_taken caller told.number ≡ true
 unfolding fresh_for
@@ -48,7 +48,7 @@ module _ (world : World) (good : Good world) where
   node_good : (number : ℕ) (node : Node) → node_at number world.nodes ≡ Some node → NodeGood world.callers world.history node
   node_good number node here = good.nodes node (node_has number world.nodes node here)
 
-  -- of what is held
+  -- what follows for a held segment
   record HeldGood (segment : Segment) (pairs : List Pair) : Type 0 where
     current : Current world.history segment pairs
     rising : RisingPairs pairs
@@ -117,15 +117,15 @@ module _ (world : World) (good : Good world) where
         ap (λ o. was_taken o place) t.is_caller ∙ t.taken;
   }
 
--- the headline, if no reached world holds an identifier twice
+-- the headline, if no reachable world holds an identifier twice
 pub history_from : ((world : World) → Reached world → HolderFacts world) → (world : World) → Reached world → OneHistory world
 history_from facts world reached = history_of world (reached_good facts world reached)
 
--- every reached world
+-- every reachable world
 pub one_history : (world : World) → Reached world → OneHistory world
 one_history world reached = history_from holder_facts world reached
 
--- what two of a node's segments keep is apart
+-- no call is kept in two of a node's segments
 pub none_twice : (world : World) → Reached world → (number : ℕ) (node : Node) → node_at number world.nodes ≡ Some node → KeepNoneTwice node.held
 none_twice world reached number node here place other segment more caller k done got got_other apart kept =
     by_option (done_at caller k more.kept) (λ none. none)

@@ -1,4 +1,4 @@
--- No identifier is held twice: the facts of the other part of the theorem, in the form that the history's part uses.
+-- No identifier is held twice: the facts about holders, in the form that the history's part uses.
 use Rattle.std.proofs.Common.{◌≡◌, ◌≢◌, ℕ, ◌+◌, ◌^◌, ◌<◌, ◌≤◌, Bool, true, false, eqb, ◌⊎◌, inl, inr, ⊎_elim, refl, sym, ◌∙◌, ap, subst, arith, List, [], ◌∷◌, Some}
 use Rattle.std.proofs.lemmas.Bool.{cases_eq, true≢false, eq-eqb, ne_eqb, cond-true, cond-false}
 use Rattle.std.proofs.lemmas.Option.{none-some, same_Some}
@@ -60,7 +60,7 @@ one_weight x taken number node (first ∷ rest) e =
     (λ further. omega (arith, one_weight x taken number node rest further.1))
     (first_or_rest number first rest node e)
 
--- nor do two
+-- two nodes together weigh no more than all
 two_weights : (x : ℕ) (taken : ℕ → ℕ → ℕ) (one_number other_number : ℕ) (one other : Node) (nodes : List Node) → one_number ≢ other_number
     → node_at one_number nodes ≡ Some one → node_at other_number nodes ≡ Some other → weight x taken one + weight x taken other ≤ total x taken nodes
 unfolding node_at

@@ -1,4 +1,4 @@
--- What every reached world keeps of callers, messages, the history and the segments.
+-- What holds in every reachable world of callers, messages, the history and the segments.
 use Rattle.std.specs.Prelude.{◌≡◌, ◌≢◌, ℕ, ◌+◌, ◌^◌, ◌≤◌, ◌<◌, true, ◌⊎◌, Some, List, [], length, slice_get}
 use Rattle.chord_caller.specs.declared.ask.Ask.{Ask}
 use Rattle.chord_caller.specs.declared.told.Told.{Told}
@@ -62,7 +62,7 @@ pub record CallerGood (history : List Done) (caller : Caller) : Type 0 where
 abbrev pub IsNear : List Mark → Done → Type 0
 IsNear floors done = (mark_of done.caller floors < done.number) × (done.number ≤ mark_of done.caller floors + 16)
 
--- of a segment, wherever it stands: its floors were taken, and what it keeps was executed
+-- of a segment, wherever it is: its floors were taken, and its kept calls were executed
 pub record SegmentGood (callers : List Caller) (history : List Done) (segment : Segment) : Type 0 where
   pub floors : EachMark (TakenUpto callers) segment.floors
   pub kept : Each (StandsIn history) segment.kept
@@ -97,7 +97,7 @@ pub record NodeGood (callers : List Caller) (history : List Done) (node : Node) 
   pub outbox : Each (λ (item : Item). SegmentGood callers history item.segment) node.outbox
   pub outbox_rising : Each (λ (item : Item). RisingPairs item.pairs) node.outbox
 
--- pairs and segment are what the history leaves in the segment's span
+-- the pairs and the kept calls are those that the history leaves in the segment's span
 pub record Current (history : List Done) (segment : Segment) (pairs : List Pair) : Type 0 where
   pub content : (pair : Pair) → in_span segment.span (key_id pair.key) ≡ true → has_pair pair pairs ≡ has_pair pair (replay [] history)
   pub covered : (done : Done) → StandsIn history done → in_span segment.span (id_of done.request) ≡ true
@@ -113,23 +113,23 @@ pub record Good (world : World) : Type 0 where
   -- what a node holds is current
   pub held : (number : ℕ) (node : Node) (segment : Segment) → node_at number world.nodes ≡ Some node → Has node.held segment
       → Current world.history segment node.entries
-  -- and so is what is under way
+  -- the same holds of handovers under way
   pub under_way : (number : ℕ) (node : Node) (item : Item) → node_at number world.nodes ≡ Some node → Has node.outbox item
       → last_taken world.nodes item.to number < item.number → Current world.history item.segment item.pairs
-  -- where there is no node yet nothing was executed
+  -- while there is no node nothing was executed
   pub unbegun : world.nodes ≡ [] → world.history ≡ []
 
--- What the other part of the theorem proves of every reached world: no identifier is held twice.
+-- What the other part of the theorem proves of every reachable world: no identifier is held twice.
 pub record HolderFacts (world : World) : Type 0 where
   -- a node holds no identifier in two segments
   pub apart_at_node : (number : ℕ) (node : Node) (first second : ℕ) (one other : Segment) (x : ℕ) → node_at number world.nodes ≡ Some node
       → slice_get node.held first ≡ Some one → slice_get node.held second ≡ Some other → x < 2 ^ 128
       → in_span one.span x ≡ true → in_span other.span x ≡ true → first ≡ second
-  -- nor do two nodes
+  -- two nodes do not hold one identifier
   pub apart_nodes : (first second : ℕ) (one other : Node) (mine theirs : Segment) (x : ℕ) → node_at first world.nodes ≡ Some one
       → node_at second world.nodes ≡ Some other → Has one.held mine → Has other.held theirs → x < 2 ^ 128
       → in_span mine.span x ≡ true → in_span theirs.span x ≡ true → first ≡ second
-  -- nor a node and a handover that was not taken
+  -- a node and a handover that was not taken do not either
   pub apart_under_way : (number from : ℕ) (node sender : Node) (segment : Segment) (item : Item) (x : ℕ) → node_at number world.nodes ≡ Some node
       → node_at from world.nodes ≡ Some sender → Has node.held segment → Has sender.outbox item
       → last_taken world.nodes item.to from < item.number → x < 2 ^ 128

@@ -28,20 +28,20 @@ use Rattle.chord_segment.specs.Marks.{mark_of}
 use Rattle.chord_segment.specs.Segment.{id_of, before, behind}
 use Rattle.chord_map.specs.declared.done.Done.{Done}
 
--- what is so of all nodes and messages
+-- what holds of all nodes and messages
 pub record Sound (nodes : List Node) (sent : List Message) : Type 0 where
   pub distinct : DistinctNodes nodes
   pub channels : Channels nodes sent
   pub locals : (number : ℕ) (node : Node) → node_at number nodes ≡ Some node → Local node
   pub one : (x : ℕ) → x < 2 ^ 128 → nodes ≢ [] → total x (taken_in nodes) nodes ≡ 1
-  -- a noted part was sent
+  -- a buffered part was sent
   pub noted : (number : ℕ) (node : Node) → node_at number nodes ≡ Some node → (part : Part) → Has node.noted part → Contains sent (PartMessage part)
 
 contained_more : (sent : List Message) (out : Option Message) (message : Message) → Contains sent message → Contains (with_one sent out) message
 contained_more sent None message c = c
 contained_more sent (Some other) message c = Contains-append_left sent (other ∷ []) message c
 
--- what is noted was noted, or is taken in
+-- a buffered part was buffered before, or is taken in now
 noted_step : (node : Node) (taken : Option Message) (after : Node) (out : Option Message) (did : Option Done) → NodeStep node taken after out did
     → (sent : List Message) → WasSent sent taken → ((part : Part) → Has node.noted part → Contains sent (PartMessage part))
     → (part : Part) → Has after.noted part → Contains sent (PartMessage part)
@@ -190,7 +190,7 @@ fresh_item : (node : Node) → IsFresh node → (to number : ℕ) → item_at to
 unfolding item_at
 fresh_item node fresh to number = ap (item_at to number) fresh.outbox
 
--- a new node keeps all, but that what it holds is held
+-- a new node keeps all, except that its segments are now held
 fresh_channels : (nodes : List Node) (sent : List Message) (new : Node) → Channels nodes sent → node_at new.number nodes ≡ None → IsFresh new → Channels (nodes ++ new ∷ []) sent
 fresh_channels nodes sent new channels none fresh =
     let nodes' = nodes ++ new ∷ [] in
@@ -250,7 +250,7 @@ fresh_sound nodes sent new sound none fresh on counts = record {
       (λ number other h. h) number (sound.noted number) other e;
 }
 
--- a caller sends asks and notes alone
+-- a caller sends only asks and notes
 caller_says : (nodes : List Node) (caller : Caller) (taken : Option Letter) (after : Caller) (out : Option Letter) → CallerStep caller taken after out
     → (message : Message) → letter_sent out ≡ Some message → MessageOk nodes message
 caller_says nodes caller taken after out (Submits request ask room sends) = saying nodes _ tt

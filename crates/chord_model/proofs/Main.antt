@@ -1,4 +1,4 @@
--- Every reached world is good.
+-- Every reachable world has the invariant.
 use Rattle.std.proofs.lemmas.Bool.{cond-true, cond-false}
 use Rattle.std.proofs.Common.{◌≡◌, ℕ, zero, suc, ◌≤◌, ⊎_elim, refl, sym, subst, List, [], ◌∷◌, ◌++◌, Option, Some, lt_of_le_of_lt, cond, eqb, None, ◌∙◌}
 use Rattle.std.proofs.lemmas.Option.{none-some, same_Some}
@@ -104,7 +104,7 @@ founder_good callers history links limit = record {
   outbox_rising = λ item h. absurd h;
 }
 
--- with no call executed, nothing is current
+-- while no call is executed, an empty segment without pairs is current
 nothing_current : (span : Span) → Current [] (empty_segment span) []
 unfolding done_at
 nothing_current span = record { content = λ pair inside. refl; covered = λ done stands inside. absurd (none-some done stands) }
@@ -181,7 +181,7 @@ opens old good number window high =
       unbegun = good.unbegun;
     }
 
--- each step keeps what is good
+-- each step keeps the invariant
 pub keeps : (old new : World) → Good old → HolderFacts old → WorldStep old new → Good new
 keeps old new good facts (WorldStep.Creates links limit id_in none) = creates old good links limit none
 keeps old new good facts (WorldStep.Joins links limit id_in some is_new) = joins old good links limit
@@ -203,7 +203,7 @@ empty_is_good = record {
   unbegun = λ e. refl;
 }
 
--- every reached world is good, if no reached world holds an identifier twice
+-- every reachable world has the invariant, if none holds an identifier twice
 pub reached_good : ((world : World) → Reached world → HolderFacts world) → (world : World) → Reached world → Good world
 reached_good facts world Stays = empty_is_good
 reached_good facts world (Goes_on {middle = middle} run step) = keeps middle world (reached_good facts middle run) (facts middle run) step

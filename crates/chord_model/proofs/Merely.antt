@@ -1,4 +1,4 @@
--- It is enough that some run exists: what the headline says of the history has one proof at most.
+-- It is enough that some run exists: the headline's part on the history has at most one proof.
 use Rattle.std.proofs.Common.{◌≡◌, ◌≢◌, ℕ, ◌+◌, ◌<◌, ◌^◌, Some, List, [], ◌∷◌}
 use Rattle.std.specs.Prelude.{Contains}
 use Rattle.std.specs.List.{AllByRecursion-prop}
@@ -56,7 +56,7 @@ stands_prop dones done = hlevel (props, done_set)
 pub history_prop : (world : World) → IsProp (OneHistory world)
 history_prop world = hlevel (props, reply_set, request_set, done_set, legal_prop world.history, once_prop)
 
--- one history where merely some run is known
+-- one history if only the existence of a run is known
 pub history_merely : (world : World) → ∥ Reached world ∥₁ → OneHistory world
 history_merely world reached = ∥∥₁_elim reached (history_prop world) (λ run. one_history world run)
 

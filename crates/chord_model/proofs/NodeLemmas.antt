@@ -1,4 +1,4 @@
--- Looking nodes up, and what was taken last.
+-- Looking nodes up, and the last numbers taken.
 use Rattle.std.proofs.Common.{◌≡◌, ◌≢◌, ℕ, zero, suc, ◌≤◌, true, cond, not, eqb, ◌⊎◌, inl, inr, ⊎_elim, refl, sym, ◌∙◌, ap, subst, arith, List, [], ◌∷◌, ◌++◌, find, Some, slice_get}
 use Rattle.std.proofs.lemmas.Bool.{and_parts, eqb-true, eq-eqb, ne_eqb, cond-true, cond-false, cases_eq}
 use Rattle.std.proofs.lemmas.Option.{same_Some, none-some}
@@ -55,7 +55,7 @@ has_put_node after (first ∷ rest) node h =
     (λ f. ⊎_elim (λ e. inl (inl e)) (λ more. ⊎_elim (λ a. inl (inr a)) (λ e. inr e) (has_put_node after rest node more))
     (subst (λ cs. Has cs node) (cond-false (eqb first.number after.number) (after ∷ rest) (first ∷ put_node after rest) f) h))
 
--- a node that is looked up after a put is the one put, or stood there before under another number
+-- a node found after a put is the one put, or was there before under another number
 pub put_node_cases : (after : Node) (nodes : List Node) (node : Node) (number : ℕ) (other : Node) → node_at after.number nodes ≡ Some node
     → node_at number (put_node after nodes) ≡ Some other
     → ((number ≡ after.number) × (after ≡ other)) ⊎ ((number ≢ after.number) × (node_at number nodes ≡ Some other))
@@ -73,7 +73,7 @@ last_same : (one other : List Node) (to from : ℕ) → node_at to one ≡ node_
 unfolding last_taken
 last_same one other to from e = ap (λ o. taken_by o from) e
 
--- what was taken last does not fall
+-- the last number taken does not fall
 pub last_grows : (after : Node) (nodes : List Node) (node : Node) → node_at after.number nodes ≡ Some node
     → ((from : ℕ) → mark_of from node.taken ≤ mark_of from after.taken) → (to from : ℕ) → last_taken nodes to from ≤ last_taken (put_node after nodes) to from
 last_grows after nodes node here grows to from =
@@ -135,7 +135,7 @@ pub without_has : (to number : ℕ) (outbox : List Item) (item : Item) → Has (
 unfolding without
 without_has to number outbox item h = (has_filter (λ (i : Item). not (is_item to number i)) outbox item h).0
 
--- after an append a segment is the changed one, or it stood at another place
+-- after an append a segment is the changed one, or was at another index
 pub append_cases : (x : ℕ) (done : Done) (floor : ℕ) (held : List Segment) (segment other : Segment) → segment_with x held ≡ Some segment
     → Has (append_at x done floor held) other
     → (append done floor segment ≡ other)

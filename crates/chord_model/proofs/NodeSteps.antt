@@ -1,4 +1,4 @@
--- A node's step keeps what is good: the steps that execute nothing.
+-- A node's step keeps the invariant: the steps that execute nothing.
 use Rattle.std.proofs.Common.{◌≡◌, ◌≢◌, ℕ, ◌+◌, ◌^◌, ◌<◌, ◌≤◌, true, ◌⊎◌, inl, inr, ⊎_elim, refl, sym, ◌∙◌, ap, ap₂, subst, arith, [], ◌∷◌, ◌++◌, Option, Some, None, slice_get, slice_set, lt_of_le_of_lt}
 use Rattle.std.proofs.lemmas.Option.{same_Some, none-some}
 use Rattle.chord_store.proofs.Inside.{rises_inside, rises_outside}
@@ -102,7 +102,7 @@ module _ (old : World) (good : Good old) (facts : HolderFacts old) (number : ℕ
       (λ item h late. good.under_way number node item here (fewer item h) late)
       (λ message e. absurd (none-some message e))
 
-  -- a kept reply is told again
+  -- a kept reply is sent again
   pub tells_again : (ask : Ask) (segment : Segment) (done : Done) → segment_with (id_of ask.request) node.held ≡ Some segment
       → past_at ask.caller ask.number segment ≡ Kept done
       → Good (record old { nodes = put_node node old.nodes; sent = with_one old.sent (Some (ToldMessage (told_of ask done.reply))) })
@@ -114,7 +114,7 @@ module _ (old : World) (good : Good old) (facts : HolderFacts old) (number : ℕ
       ap₂ (λ (c n : ℕ). let d : Done = record { caller = c; number = n; request = done.request; reply = done.reply } in d) is.0 is.1 in
       stays_and_sends (ToldMessage (told_of ask done.reply)) (record { request = done.request; stands = subst (StandsIn old.history) as_told stands })
 
-  -- what is held or comes in is current once pairs came
+  -- a held segment, or one that comes in, is current after pairs came
   received : (from : ℕ) (sender : Node) (item : Item) → node_at from old.nodes ≡ Some sender → Has sender.outbox item → last_taken old.nodes item.to from < item.number
       → (other : Segment) → Has (node.held ++ item.segment ∷ []) other → Current old.history other (put_all item.pairs node.entries)
   received from sender item there sends late other h =
@@ -208,7 +208,7 @@ module _ (old : World) (good : Good old) (facts : HolderFacts old) (number : ℕ
       (λ other h still. good.under_way number node other here h still)
       (λ message e. absurd (none-some message e))
 
-  -- two neighbours become one
+  -- two neighbours are joined
   pub joins_two : (place : ℕ) (first : Segment) (place_behind : ℕ) (second : Segment) → slice_get node.held place ≡ Some first → slice_get node.held place_behind ≡ Some second
       → first.span.upto ≡ second.span.after → cuts (span_joined first.span second.span) first.span.upto ≡ true
       → Good (record old { nodes = put_node (record node { held = joined_held place first place_behind second node.held }) old.nodes; sent = with_one old.sent None })
@@ -238,7 +238,7 @@ module _ (old : World) (good : Good old) (facts : HolderFacts old) (number : ℕ
       (λ other h still. good.under_way number node other here h still)
       (λ message e. absurd (none-some message e))
 
-  -- a segment goes into the outbox
+  -- a segment is put into the outbox
   pub gives : (place : ℕ) (segment : Segment) (to : ℕ) → slice_get node.held place ≡ Some segment
       → Good (record old { nodes = put_node (without_segment place segment to node) old.nodes; sent = with_one old.sent (Some (PartMessage (part_at (handover_of node.number (item_of segment to node)) 1))) })
   gives place segment to got =

@@ -41,7 +41,7 @@ node_at-put_other number after (other ∷ rest) apart =
     rw (eqb_other other.number after.number unlike) (ap (cond (eqb other.number number) (Some other)) (node_at-put_other number after rest apart)))
     (same_or_not other.number after.number)
 
--- What holds of the new node beside the old, and of any node beside itself, holds at every number
+-- A property of the new node beside the old, and of any node beside itself, holds at every number
 pub at_put : (P : ℕ → Option Node → Option Node → Type 0) (after node : Node) (nodes : List Node) → node_at after.number nodes ≡ Some node
     → P after.number (Some node) (Some after) → ((number : ℕ) (other : Option Node) → P number other other)
     → (number : ℕ) → P number (node_at number nodes) (node_at number (put_node after nodes))
@@ -51,12 +51,12 @@ at_put P after node nodes at here elsewhere number =
     (λ (apart : number ≢ after.number). rw (node_at-put_other number after nodes apart) (elsewhere number (node_at number nodes)))
     (same_or_not number after.number)
 
--- no two nodes have one number
+-- no two nodes have the same number
 abbrev pub DistinctNodes : List Node → Type 0
 DistinctNodes [] = Unit {0}
 DistinctNodes (node ∷ rest) = (node_at node.number rest ≡ None) × DistinctNodes rest
 
--- What holds of a new node beside none, and of any node beside itself, holds at every number
+-- A property of a new node beside none, and of any node beside itself, holds at every number
 pub at_push : (P : ℕ → Option Node → Option Node → Type 0) (new : Node) (nodes : List Node) → node_at new.number nodes ≡ None
     → P new.number None (Some new) → ((number : ℕ) (other : Option Node) → P number other other)
     → (number : ℕ) → P number (node_at number nodes) (node_at number (nodes ++ new ∷ []))
@@ -103,7 +103,7 @@ DistinctNodes-put after (node ∷ rest) d =
     rw (eqb_other node.number after.number apart) (node_at-put_none node.number after rest d.0, DistinctNodes-put after rest d.1))
     (same_or_not node.number after.number)
 
--- a put makes no nodes out of none
+-- a put into no nodes leaves no nodes
 pub put_node_some : (after : Node) (nodes : List Node) → put_node after nodes ≢ [] → nodes ≢ []
 unfolding put_node
 put_node_some after [] h = h

@@ -1,4 +1,5 @@
--- Each entry lies in a held span, each item's pairs in its span, and each kept call in its segment's span.
+-- Each entry lies in a held span, each item's pairs
+-- in its span, and each kept call in its segment's.
 use Rattle.std.proofs.Common.{◌≡◌, ℕ, ◌+◌, ◌^◌, ◌<◌, Bool, true, false, cond, not, Option, Some, List, [], ◌∷◌, ◌++◌, refl, ap, arith}
 use Rattle.std.specs.Prelude.{slice_get, remove, find}
 use Rattle.std.specs.declared.cmp.Ordering.{Ordering}
@@ -51,7 +52,7 @@ unfolding put_all
 Each-put_all P [] pairs hm h = h
 Each-put_all P (pair ∷ more) pairs hm h = Each-put_all P more (insert_pair pair pairs) hm.1 (Each-insert_pair P pair pairs hm.0 h)
 
--- what holds of each pair and of any pair under the request's key holds after the request
+-- a property of each pair, and of any pair under the request's key, holds after the request
 Each-pairs_by : (P : Pair → Type 0) (request : Request) (reply : Reply) (pairs : List Pair) → ((value : List ℕ) → P (record { key = key_of request; value = value }))
     → Each P pairs → Each P (pairs_by request reply pairs)
 unfolding remove_pair
@@ -159,7 +160,7 @@ kept_joined first second on on' meet cut kept kept' =
     (λ done here. let p = parts (id_of done.request) (key_id-below (key_of done.request)) in let h = true_is_one (has (id_of done.request) second) here in
     one_is_true (in_span whole (id_of done.request)) (one_if (has (id_of done.request) first)) (omega arith)) second.kept kept'))
 
--- entries stay placed where the held spans have no less
+-- entries stay in held spans if the held spans contain no less
 entries_kept : (held held' : List Segment) (entries : List Pair) → ((x : ℕ) → x < 2 ^ 128 → count (has x) held' ≡ count (has x) held) → Each (InHeld held) entries → Each (InHeld held') entries
 entries_kept held held' entries same placed =
     Each-map (InHeld held) (InHeld held') (λ pair h. let e = same (key_id pair.key) (key_id-below pair.key) in omega arith) entries placed
@@ -177,7 +178,7 @@ false_is_zero : (b : Bool) → not b ≡ true → one_if b ≡ 0
 false_is_zero true e = cc
 false_is_zero false e = refl
 
--- a segment that goes takes its pairs with it
+-- a segment that leaves takes its pairs with it
 pub entries_less : (held : List Segment) (place : ℕ) (segment : Segment) (entries : List Pair) → slice_get held place ≡ Some segment → Each (InHeld held) entries
     → Each (InHeld (remove held place)) (pairs_outside segment.span entries)
 unfolding pairs_outside

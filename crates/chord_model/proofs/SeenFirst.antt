@@ -1,4 +1,4 @@
--- What a caller knew stands before what it submits later: over runs, with no word of what a submission notes.
+-- What a caller knew comes in the history before what it submits later: over runs of steps.
 use Rattle.std.proofs.Common.{◌≡◌, ℕ, zero, suc, ◌<◌, ◌≤◌, ◌⊎◌, inl, inr, ⊎_elim, refl, sym, ◌∙◌, ap, subst, arith, List, [], ◌∷◌, ◌++◌, length, take, Option, Some, append_assoc, length-append}
 use Rattle.std.proofs.lemmas.Bool.{cases_eq}
 use Rattle.std.proofs.lemmas.Option.{same_Some, none-some, slice_get_within}
@@ -27,7 +27,7 @@ grown_twice first second third one other = record {
   told = ((one.told).0 ++ (other.told).0, (other.told).1 ∙ ap (λ xs. xs ++ (other.told).0) (one.told).1 ∙ append_assoc first.told (one.told).0 (other.told).0);
 }
 
--- each submission is an old one, or notes all that its caller had
+-- each submission is an old one, or counts all that its caller knew
 abbrev NotesAll : Caller → Caller → Type 0
 NotesAll old new = (place : ℕ) (submission : Submission) → submission_at place new.submitted ≡ Some submission
     → (submission_at place old.submitted ≡ Some submission) ⊎ ((submission.mine_seen ≡ length old.mine) × (submission.told_seen ≡ length old.told))
@@ -56,7 +56,7 @@ step_grows old new taken sent (CallerStep.Meets note) = (
   (λ place submission is. inl is),
 )
 
--- what became of a caller: it grew, and what it submitted since notes at least what it had
+-- a caller some steps later: it grew, and each submission since counts at least what it knew before
 record Since (callers : List Caller) (number : ℕ) (old : Caller) : Type 0 where
   new : Caller
   is_caller : caller_at number callers ≡ Some new

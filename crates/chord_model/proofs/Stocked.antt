@@ -1,4 +1,5 @@
--- In every reached world each node is stocked, what its outbox keeps are parcels, and the parts that it noted are for it.
+-- In every reachable world each node is stocked, the items of its outbox are payloads, and its
+-- buffered parts are for it.
 use Rattle.std.proofs.Common.{◌≡◌, ℕ, suc, ◌<◌, ◌||◌, Bool, true, false, inl, inr, ⊎_elim, Option, Some, None, List, [], ◌∷◌, ◌++◌, refl, sym, ◌∙◌, ap, subst, arith}
 use Rattle.std.proofs.lemmas.Bool.{true≢false}
 use Rattle.std.specs.Prelude.{slice_get}
@@ -27,9 +28,9 @@ use Rattle.chord_model.specs.World.WorldStep.{Creates, Joins as Arrives, Opens, 
 use Rattle.chord_map.specs.declared.done.Done.{Done}
 use Rattle.chord_segment.specs.Segment.{Segment, id_of}
 
--- ---- what is held, place by place
+-- ---- what is held, index by index
 
--- what is held is held at some place
+-- a held identifier is in the segment at some index
 held_at : (x : ℕ) (held : List Segment) → holds x held ≡ true → (place : ℕ) × (segment : Segment) × (slice_get held place ≡ Some segment) × (in_span segment.span x ≡ true)
 held_at x [] e = absurd (true≢false (sym e))
 held_at x (first ∷ held) e =
@@ -46,7 +47,7 @@ holds_has x [] segment h here = absurd h
 holds_has x (first ∷ held) segment (inl same) here = ap (λ b. b || holds x held) (ap (λ (s : Segment). in_span s.span x) same ∙ here)
 holds_has x (first ∷ held) segment (inr h) here = or_true (in_span first.span x) (holds x held) (holds_has x held segment h here)
 
--- a span that meets no held one is no clash
+-- a span that overlaps no held one is no clash
 pub no_clash : (span : Span) (held : List Segment) → MeetsNone span held → IsClash span held → ⊥
 no_clash span held none clash =
     let at = held_at clash.0 held clash.3 in
@@ -57,7 +58,7 @@ clear span held none x x_in inside = by_test (holds x held) (λ here. absurd (no
 
 -- ---- the invariant of one node
 
--- what an item hands over
+-- the payload of an item
 abbrev pub parcel : Item → Parcelled
 parcel item = record { segment = item.segment; pairs = item.pairs }
 
@@ -80,7 +81,7 @@ parcels_without : (to number : ℕ) (outbox : List Item) → Each ItemParcelled 
 unfolding without
 parcels_without to number outbox all = Each-filter ItemParcelled _ outbox all
 
--- every step of a node keeps it
+-- every step of a node keeps it stocked
 stocks_step : (world : World) → Reached world → AllStocked world.nodes → (node : Node) (taken : Option Message) (after : Node) (out : Option Message) (did : Option Done)
     → node_at node.number world.nodes ≡ Some node → WasSent world.sent taken → NodeStep node taken after out did → Stocks after
 stocks_step world reached all node taken after out did at was (Tells_again ask segment done found past) = all node.number node at
@@ -170,7 +171,7 @@ stocks_step world reached all node taken after out did at was (Retires leaves he
 
 -- ---- and of all nodes
 
--- a node that begins has nothing to keep
+-- a new node has nothing to stock
 pushed : (nodes : List Node) (new : Node) → AllStocked nodes → Stocks new → AllStocked (nodes ++ new ∷ [])
 pushed nodes new all here number node e = ⊎_elim (λ there. all number node there) (λ same. subst Stocks same here) (node_pushed number nodes new node e)
 

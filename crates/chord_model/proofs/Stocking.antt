@@ -1,4 +1,4 @@
--- What edits of the held segments and of the entries keep of a node's stock.
+-- A node's stock after each change of its held segments and its entries.
 use Rattle.std.proofs.Common.{◌≡◌, ℕ, ◌+◌, ◌^◌, ◌<◌, ◌≤◌, Bool, true, false, not, cond, nat_le, ◌||◌, inl, inr, Some, List, [], ◌∷◌, ◌++◌, map, length, refl, sym, ◌∙◌, ap, subst, arith, bytes_eq}
 use Rattle.std.proofs.lemmas.Bool.{true≢false}
 use Rattle.std.proofs.lemmas.Bool.Decides.{nat_tests}
@@ -42,7 +42,7 @@ filter_step : (key : List ℕ) (b : Bool) (pair : Pair) (kept pairs : List Pair)
 filter_step key true pair kept pairs h = omega (arith, values_first key pair kept, values_first key pair pairs)
 filter_step key false pair kept pairs h = omega (arith, values_first key pair pairs)
 
--- no more of those that pass a test
+-- no more elements pass a test than before
 few_filtered : (test : Pair → Bool) (key : List ℕ) (pairs : List Pair) → length (values_at key (filter test pairs)) ≤ length (values_at key pairs)
 few_filtered test key [] = omega arith
 few_filtered test key (pair ∷ pairs) = filter_step key (test pair) pair (filter test pairs) pairs (few_filtered test key pairs)
@@ -84,7 +84,7 @@ few_inside span key (pair ∷ pairs) here =
     elim (in_span span (key_id pair.key)) as (λ b. length (pairs_inside span pairs) ≤ length (cond b (pair ∷ pairs_inside span pairs) (pairs_inside span pairs))) [ true ↦ omega arith | false ↦ omega arith ] in
     omega arith)
 
--- a key outside the span has no values where all pairs lie inside
+-- a key outside the span has no values if all pairs lie inside
 none_outside : (span : Span) (key : List ℕ) (pairs : List Pair) → in_span span (key_id key) ≡ false → Each (λ (pair : Pair). in_span span (key_id pair.key) ≡ true) pairs
     → length (values_at key pairs) ≡ 0
 none_outside span key [] other all = omega arith
@@ -164,7 +164,7 @@ held_counted : (x : ℕ) (held : List Segment) → 0 < count (has x) held → ho
 held_counted x [] h = absurd (omega arith)
 held_counted x (segment ∷ held) h = held_step (has x segment) (holds x held) (count (has x) held) h (held_counted x held)
 
--- as many segments have it, so some has it where some had
+-- if as many segments contain x as before, x is held exactly if it was
 pub holds_same : (x : ℕ) (held held' : List Segment) → count (has x) held' ≡ count (has x) held → holds x held' ≡ holds x held
 holds_same x held held' same =
     by_test (holds x held)
@@ -187,7 +187,7 @@ stocked_none held = record { rising = rising_from_rises pair_cmp [] tt; few = λ
 pub stocked_vacant : (held : List Segment) (pairs : List Pair) → pairs ≡ [] → IsStocked held pairs
 stocked_vacant held pairs none = subst (IsStocked held) (sym none) (stocked_none held)
 
--- the same identifiers are held
+-- a node stays stocked if it holds the same identifiers
 pub stocked_same : (held held' : List Segment) (pairs : List Pair) → ((x : ℕ) → x < 2 ^ 128 → holds x held' ≡ holds x held) → IsStocked held pairs → IsStocked held' pairs
 stocked_same held held' pairs same stock = record {
   rising = stock.rising;
@@ -195,7 +195,7 @@ stocked_same held held' pairs same stock = record {
   placed = Each-map (IsHeld held) (IsHeld held') (λ pair h. same (key_id pair.key) (key_id-below pair.key) ∙ h) pairs stock.placed;
 }
 
--- where nothing is held there is no entry
+-- if nothing is held there is no entry
 pub nothing_stocked : (pairs : List Pair) → IsStocked [] pairs → pairs ≡ []
 nothing_stocked [] stock = refl
 nothing_stocked (pair ∷ pairs) stock = absurd (true≢false (sym stock.placed.0))
@@ -212,7 +212,7 @@ stocked_after held held' request pairs same here stock =
       placed = Each-pairs_after (IsHeld held') request pairs (λ value. same (key_id (key_of request)) (key_id-below (key_of request)) ∙ here) kept.placed;
     }
 
--- a segment goes with its pairs
+-- a segment leaves with its pairs
 pub stocked_less : (held : List Segment) (place : ℕ) (segment : Segment) (pairs : List Pair) → slice_get held place ≡ Some segment → IsStocked held pairs
     → IsStocked (remove held place) (pairs_outside segment.span pairs)
 unfolding pairs_outside
@@ -222,7 +222,7 @@ stocked_less held place segment pairs found stock = record {
   placed = held_each (remove held place) _ (entries_less held place segment pairs found (counted_each held pairs stock.placed));
 }
 
--- what goes is a parcel
+-- the segment that leaves makes a payload with its pairs
 pub parcel_taken : (held : List Segment) (segment : Segment) (pairs : List Pair) → IsStocked held pairs
     → IsParcelled (record { segment = segment; pairs = pairs_inside segment.span pairs })
 unfolding pairs_inside
@@ -245,7 +245,7 @@ unfolding pairs_inside
 all_inside span [] all = refl
 all_inside span (pair ∷ pairs) all = ap (λ b. cond b (pair ∷ pairs_inside span pairs) (pairs_inside span pairs)) all.0 ∙ ap (λ (ps : List Pair). pair ∷ ps) (all_inside span pairs all.1)
 
--- no entry lies in a span that meets no held one
+-- no entry lies in a span that overlaps no held one
 vacant_by : (span : Span) (held : List Segment) (pairs : List Pair) → IsClear span held → Each (IsHeld held) pairs → pairs_inside span pairs ≡ []
 unfolding pairs_inside
 vacant_by span held [] clear all = refl

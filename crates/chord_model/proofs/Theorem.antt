@@ -1,4 +1,4 @@
--- In every reached world with nodes each identifier has one holder.
+-- In every reachable world with nodes each identifier has one holder.
 use Rattle.std.proofs.Common.{◌≡◌, ◌≢◌, ℕ, ◌^◌, ◌<◌, List, [], ◌∷◌, length, refl, ◌∙◌, arith}
 use Rattle.chord_model.proofs.Channels.{taken_in}
 use Rattle.chord_model.proofs.Kept.{sound_reached}

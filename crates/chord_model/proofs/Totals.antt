@@ -1,4 +1,4 @@
--- How many holders an identifier has.
+-- The number of holders of an identifier.
 use Rattle.std.proofs.Common.{◌≡◌, ◌≢◌, ℕ, suc, ◌+◌, ◌<◌, ◌≤◌, Bool, true, false, ◌&&◌, ltb, Some, None, List, [], ◌∷◌, ◌++◌, length, ⊎_elim, refl, sym, ◌∙◌, ap, arith, length-append}
 use Rattle.std.specs.Prelude.{flat_map}
 use Rattle.std.proofs.lemmas.Bool.Decides.{leb_tells}
@@ -23,7 +23,7 @@ has x segment = in_span segment.span x
 abbrev pub awaits : ℕ → (ℕ → ℕ) → Item → Bool
 awaits x taken item = has x item.segment && ltb (taken item.to) item.number
 
--- how many holders of x a node gives
+-- the number of holders of x at a node
 abbrev pub weight : ℕ → (ℕ → ℕ → ℕ) → Node → ℕ
 weight x taken node = count (has x) node.held + count (awaits x (λ to. taken to node.number)) node.outbox
 
@@ -45,7 +45,7 @@ holders_by x taken (node ∷ nodes) =
 pub length-holders : (x : ℕ) (nodes : List Node) → length (holders x nodes) ≡ total x (last_taken nodes) nodes
 length-holders x nodes = holders_by x (last_taken nodes) nodes
 
--- a node in the place of another changes the total by what the two give
+-- a changed node changes the total by the difference of the two weights
 pub total-put : (x : ℕ) (taken : ℕ → ℕ → ℕ) (after node : Node) (nodes : List Node) → node_at after.number nodes ≡ Some node
     → total x taken (put_node after nodes) + weight x taken node ≡ total x taken nodes + weight x taken after
 unfolding node_at put_node
@@ -73,14 +73,14 @@ weight_agree x taken taken' node same =
     (count_agree (awaits x (λ to. taken to node.number)) (awaits x (λ to. taken' to node.number))
     (λ item. ap (λ k. has x item.segment && ltb k item.number) (same item.to)) node.outbox)
 
--- numbers that agree give one total
+-- equal numbers taken give equal totals
 pub total_same : (x : ℕ) (taken taken' : ℕ → ℕ → ℕ) → ((to from : ℕ) → taken to from ≡ taken' to from) → (nodes : List Node) → total x taken nodes ≡ total x taken' nodes
 total_same x taken taken' same [] = refl
 total_same x taken taken' same (node ∷ nodes) =
     let w = weight_agree x taken taken' node (λ to. same to node.number) in
     omega (arith, total_same x taken taken' same nodes)
 
--- where no node of this number is, only what the others took counts
+-- if there is no node of this number, only what the others took counts
 total_agree : (x from : ℕ) (taken taken' : ℕ → ℕ → ℕ) → ((to other : ℕ) → other ≢ from → taken to other ≡ taken' to other)
     → (nodes : List Node) → node_at from nodes ≡ None → total x taken nodes ≡ total x taken' nodes
 unfolding node_at
@@ -94,7 +94,7 @@ total_agree x from taken taken' same (node ∷ rest) none =
     omega (arith, total_agree x from taken taken' same rest none'))
     (same_or_not node.number from)
 
--- what was taken from one sender changes the total by that sender's part
+-- taking from one sender changes the total by that sender's weight
 pub total-take : (x from : ℕ) (taken taken' : ℕ → ℕ → ℕ) (h : ℕ) (sender : Node) → ((to other : ℕ) → other ≢ from → taken to other ≡ taken' to other)
     → weight x taken sender ≡ weight x taken' sender + h
     → (nodes : List Node) → DistinctNodes nodes → node_at from nodes ≡ Some sender → total x taken nodes ≡ total x taken' nodes + h
@@ -154,7 +154,7 @@ awaits_no x taken item below =
     let test : ltb (taken item.to) item.number ≡ false = not_true (ltb (taken item.to) item.number) (λ t. let over = le_from_test (suc (taken item.to)) item.number t in absurd (omega arith)) in
     rw test (and_false (has x item.segment))
 
--- a handover that is next counts until it is taken
+-- the next handover counts until it is taken
 pub weight-take : (x to number : ℕ) (taken taken' : ℕ → ℕ → ℕ) (sender : Node) (item : Item)
     → taken to sender.number + 1 ≡ number → taken' to sender.number ≡ number → ((other : ℕ) → other ≢ to → taken other sender.number ≡ taken' other sender.number)
     → DistinctItems sender.outbox → item_at to number sender.outbox ≡ Some item

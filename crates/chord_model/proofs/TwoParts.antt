@@ -1,5 +1,5 @@
--- A run that takes a handover of two parts: before it, so many callers have a value put under one key that the pairs of the
--- whole circle do not fit in one part.
+-- A run that takes a handover of two parts. First, enough callers put a value under one key that
+-- the pairs of the whole circle do not fit into one part.
 use Rattle.std.proofs.Common.{◌≡◌, ℕ, zero, suc, ◌<◌, ◌≤◌, cond, ◌&&◌, eqb, leb, ⊎_elim, Option, Some, None, List, [], ◌∷◌, ◌++◌, refl, sym, ◌∙◌, ap, ap₂, subst, arith, All, Contains}
 use Rattle.std.proofs.lemmas.Bool.{ne_eqb, eq-eqb, cond-true, cond-false, cases_eq}
 use Rattle.chord_caller.specs.declared.ask.Ask.{Ask}
@@ -51,7 +51,7 @@ entries_of (suc n) = pairs_after (put n) (entries_of n)
 abbrev done : ℕ → Done
 done n = done_of (ask n) (reply_to (put n) (entries_of n))
 
--- a new caller, and the same after its request
+-- a new caller, and that caller after its request
 abbrev caller : ℕ → Caller
 caller n = record { number = n; window = 1; submitted = []; mine = []; told = [] }
 
@@ -69,7 +69,8 @@ first = founder first_links 100
 abbrev holding : Segment → List Pair → Node
 holding segment entries = record first { held = segment ∷ []; entries = entries }
 
--- a reached world with one node and the entries of the callers below n; the others are not there, and nothing is kept of them
+-- a reachable world with one node and the entries of the callers below n; no other callers exist,
+-- and no call of theirs is kept
 record Filled (n : ℕ) : Type 0 where
   pub floors : List Mark
   pub kept : List Done

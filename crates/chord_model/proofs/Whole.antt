@@ -1,4 +1,4 @@
--- A handover whose parts are all there is the item that its sender keeps.
+-- A handover whose parts are all there is the item in its giver's outbox.
 use Rattle.std.proofs.Common.{◌≡◌, ℕ, zero, suc, ◌+◌, ◌-◌, ◌*◌, ◌<◌, ◌≤◌, false, ⊎_elim, sym, ◌∙◌, ap, ap₂, subst, arith, List, [], ◌∷◌, ◌++◌, length, take, drop, Some, take-append-drop, length-drop, drop-drop, Contains}
 use Rattle.std.proofs.lemmas.Option.{same_Some}
 use Rattle.std.proofs.lemmas.List.{nil_from_length}
@@ -13,7 +13,7 @@ use Rattle.chord_model.specs.declared.message.Message.TheVariants.{Part as PartM
 use Rattle.chord_model.specs.Node.{Node}
 use Rattle.chord_model.specs.World.{node_at}
 
--- what a list is, chunk by chunk
+-- two lists with equal chunks of 64 are equal
 chunks_same : (n : ℕ) (xs ys : List Pair) → length xs ≤ n * 64 → length ys ≤ n * 64 → ((place : ℕ) → place < n → take 64 (drop (place * 64) xs) ≡ take 64 (drop (place * 64) ys)) → xs ≡ ys
 chunks_same zero xs ys low also same = nil_from_length xs (omega arith) ∙ sym (nil_from_length ys (omega arith))
 chunks_same (suc n) xs ys low also same =
@@ -33,7 +33,7 @@ chunk_is place pairs = let e : 64 * (suc place - 1) ≡ place * 64 = omega arith
 enough : (pairs : List Pair) → length pairs ≤ parts_in pairs * 64
 enough pairs = omega arith
 
--- if each part of a handover is one of another's, they have the same segment and pairs
+-- if each part of a handover is that of another, both have equal segments and pairs
 same_parts : (one other : Handover) → ((part : ℕ) → 1 ≤ part → part ≤ parts_in one.pairs → part_at one part ≡ part_at other part) → (one.segment ≡ other.segment) × (one.pairs ≡ other.pairs)
 same_parts one other is =
     let count : ℕ = parts_in one.pairs in

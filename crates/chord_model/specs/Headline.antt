@@ -1,4 +1,4 @@
--- What holds of every world that some steps lead to.
+-- Statement 15 of 15: the headline, that is what holds of every reachable world.
 use Rattle.std.specs.Prelude.{◌≡◌, ◌≢◌, ℕ, ◌+◌, ◌<◌, ◌≤◌, Bool, true, Option, None, Some, List, [], ◌∷◌, ◌++◌, length, slice_get, Contains, All, ◌^◌, false}
 use Rattle.chord_caller.specs.declared.told.Told.{Told}
 use Rattle.chord_caller.specs.Caller.{Caller, Note, Submission, submission_at, is_taken, fresh_for, known}
@@ -19,14 +19,14 @@ use Rattle.chord_map.specs.History.{replay, done_at, EachOnce, IsLegal, StandsIn
 use Rattle.chord_segment.specs.Marks.{mark_of}
 use Rattle.chord_segment.specs.Segment.{id_of, Segment}
 
--- a segment with the pairs of its holder: a node, or a handover that its receiver has not taken
+-- a segment with the pairs of its holder: a node, or a handover that its receiver has not taken yet
 pub data Holds (nodes : List Node) : Segment → List Pair → Type 0 where
   ByNode : (number : ℕ) (node : Node) (segment : Segment) → node_at number nodes ≡ Some node → Contains node.held segment
       → Holds nodes segment node.entries
   ByHandover : (number : ℕ) (node : Node) (item : Item) → node_at number nodes ≡ Some node → Contains node.outbox item
       → last_taken nodes item.to number < item.number → Holds nodes item.segment item.pairs
 
--- a segment that is held, stands in an outbox or was sent
+-- a segment that a node holds, that is in an outbox, or that was sent
 pub data Appears (world : World) : Segment → Type 0 where
   Held : (number : ℕ) (node : Node) (segment : Segment) → node_at number world.nodes ≡ Some node → Contains node.held segment → Appears world segment
   Kept_for : (number : ℕ) (node : Node) (item : Item) → node_at number world.nodes ≡ Some node → Contains node.outbox item → Appears world item.segment
@@ -46,27 +46,28 @@ abbrev pub was_taken : Option Caller → ℕ → Bool
 was_taken None number = Bool.false
 was_taken (Some caller) number = is_taken caller number
 
--- whether the reply is of the kind of the request, if there is one
+-- whether the request exists and the reply is of its kind
 abbrev pub answers : Reply → Option Request → Bool
 answers reply None = Bool.false
 answers reply (Some request) = fits reply request
 
 -- what holds of the history, clause by clause
 pub record OneHistory (world : World) : Type 0 where
-  -- one map, empty at first, gives each reply, and no call stands twice
+  -- one map, empty at first, gives each reply, and no call is in the history twice
   pub legal : IsLegal world.history
-  -- each call was submitted, under its number and with its request
+  -- each call was submitted under its number with its request
   pub made : (done : Done) → StandsIn world.history done → submitted_by (caller_at done.caller world.callers) done.number ≡ Some done.request
-  -- each reply that a caller took is one to its own call, and stands in the history; so does each that it was told of
+  -- each reply that a caller took is to a call of its own and in the history;
+  -- each call that notes told a caller of is in the history
   pub mine : (number : ℕ) (caller : Caller) → caller_at number world.callers ≡ Some caller
       → All (λ done. (done.caller ≡ number) × StandsIn world.history done) caller.mine
   pub once : (number : ℕ) (caller : Caller) → caller_at number world.callers ≡ Some caller → EachOnce caller.mine
   pub told : (number : ℕ) (caller : Caller) → caller_at number world.callers ≡ Some caller → All (StandsIn world.history) caller.told
-  -- and so does each that a caller showed
+  -- each call in a note is in the history
   pub noted : (note : Note) → Contains world.sent (NoteMessage note) → All (StandsIn world.history) note.done
-  -- each request stands after all that its caller had seen
+  -- each request comes in the history after all that its caller had seen
   pub in_order : InOrder world
-  -- no reply is foreign: it answers a submitted request, and is no news to its caller only if the caller took it before
+  -- No reply is foreign: it answers a submitted request; and its caller takes it, or took it before
   pub owed : (told : Told) → Contains world.sent (ToldMessage told) → answers told.reply (submitted_by (caller_at told.caller world.callers) told.number) ≡ true
   pub stale : (told : Told) (caller : Caller) → Contains world.sent (ToldMessage told) → caller_at told.caller world.callers ≡ Some caller
       → fresh_for told caller ≡ None → is_taken caller told.number ≡ true
@@ -77,12 +78,12 @@ pub record OneHistory (world : World) : Type 0 where
   pub kept : (segment : Segment) (pairs : List Pair) (done : Done) → Holds world.nodes segment pairs → StandsIn world.history done
       → in_span segment.span (id_of done.request) ≡ true → mark_of done.caller segment.floors < done.number
       → done_at done.caller done.number segment.kept ≡ Some done
-  -- each kept call stands in the history
+  -- each kept call is in the history
   pub stands : (segment : Segment) → Appears world segment → All (StandsIn world.history) segment.kept
-  -- it is above its caller's floor there, and at most 16 above
+  -- each kept call is above its caller's floor, by at most 16
   pub near : (segment : Segment) → Appears world segment
       → All (λ done. (mark_of done.caller segment.floors < done.number) × (done.number ≤ mark_of done.caller segment.floors + 16)) segment.kept
-  -- each number at or below a floor was taken
+  -- the replies to all numbers at or below a floor were taken
   pub floors : (segment : Segment) (number place : ℕ) → Appears world segment → 1 ≤ place → place ≤ mark_of number segment.floors
       → was_taken (caller_at number world.callers) place ≡ true
 
@@ -92,7 +93,7 @@ KeepNoneTwice held =
     (place other : ℕ) (segment more : Segment) (caller number : ℕ) (done : Done) → slice_get held place ≡ Some segment → slice_get held other ≡ Some more
     → place ≢ other → done_at caller number segment.kept ≡ Some done → done_at caller number more.kept ≡ None
 
--- What a caller knew at some time stands before each call that it submitted later.
+-- What a caller knew at some time comes in the history before each call that it submitted later.
 abbrev pub SeenFirst : World → World → Type 0
 SeenFirst earlier later =
     (number : ℕ) (caller : Caller) (seen done : Done) (before behind : List Done)
@@ -100,32 +101,33 @@ SeenFirst earlier later =
     → later.history ≡ before ++ done ∷ behind → done.caller ≡ number → length caller.submitted < done.number
     → StandsIn before seen
 
--- no identifier lies in both spans
+-- no identifier is in both spans
 abbrev pub AreDisjoint : Span → Span → Type 0
 AreDisjoint a b = (x : ℕ) → x < 2 ^ 128 → in_span a x ≡ true → in_span b x ≡ false
 
--- the span meets none of the segments
+-- the span overlaps none of the segments
 abbrev pub MeetsNone : Span → List Segment → Type 0
 MeetsNone span held = (place : ℕ) (segment : Segment) → slice_get held place ≡ Some segment → AreDisjoint span segment.span
 
--- no two of the segments meet
+-- no two of the segments overlap
 abbrev pub AllApart : List Segment → Type 0
 AllApart held =
     (place other : ℕ) (segment more : Segment) → slice_get held place ≡ Some segment → slice_get held other ≡ Some more
     → place ≢ other → AreDisjoint segment.span more.span
 
--- what a node holds: no two of its segments meet or keep one call, and its entries rise and lie in them
+-- a node's segments do not overlap or keep one call twice; its entries are sorted and lie in them
 pub record IsWellHeld (node : Node) : Type 0 where
   pub apart : AllApart node.held
   pub once : KeepNoneTwice node.held
   pub stocked : IsStocked node.held node.entries
 
--- The headline: one history of one map, one holder of each identifier once there is a node, and each node holds well.
+-- The headline: one history of one map; one holder of each identifier once there is a node; and
+-- each node's segments and entries are in order.
 pub record Headline (world : World) : Type 0 where
   pub history : OneHistory world
   pub one_holder : world.nodes ≢ [] → (x : ℕ) → x < 2 ^ 128 → HasOneHolder x world.nodes
   pub held : (number : ℕ) (node : Node) → node_at number world.nodes ≡ Some node → IsWellHeld node
 
--- the part is of the next handover of its sender, and the node is there to take it
+-- the part is of its sender's next handover, and the node is not gone
 abbrev pub IsNextFor : Node → Part → Type 0
 IsNextFor node part = (part.number ≡ mark_of part.from node.taken + 1) × (node.phase ≢ Gone)

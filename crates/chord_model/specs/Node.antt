@@ -1,4 +1,5 @@
--- A node: its held segments with their entries, its handovers, and its events.
+-- Statement 11 of 15: a node, that is its held segments with their entries, its handovers, and its
+-- steps.
 use Rattle.std.specs.Prelude.{◌≡◌, ◌≢◌, ℕ, ◌+◌, ◌^◌, ◌<◌, ◌≤◌, not, ◌==◌, if◌then◌else◌, Option, None, Some, List, [], ◌∷◌, ◌++◌, length, filter, find, slice_get, slice_set, insert, remove, true}
 use Rattle.chord_ident.specs.declared.id.Id.{Id}
 use Rattle.chord_ident.specs.Circle.{in_span, cuts}
@@ -33,7 +34,7 @@ pub record Node : Type 0 where
   pub given : List Mark
   pub outbox : List Item
   pub taken : List Mark
-  -- the parts of handovers that are not yet whole
+  -- the buffered parts of handovers that are not whole yet
   pub noted : List Part
 
 -- a node with these links that holds nothing
@@ -50,7 +51,7 @@ founder links limit =
 unfoldable pub segment_with : ℕ → List Segment → Option Segment
 segment_with x held = find (λ (segment : Segment). in_span segment.span x) held
 
--- the call is kept in that segment
+-- the held segments after the call is kept in the one that contains x
 unfoldable pub append_at : ℕ → Done → ℕ → List Segment → List Segment
 append_at x done floor [] = []
 append_at x done floor (segment ∷ held) =
@@ -63,7 +64,7 @@ done_of ask reply = record { caller = ask.caller; number = ask.number; request =
 abbrev pub told_of : Ask → Reply → Told
 told_of ask reply = record { caller = ask.caller; number = ask.number; reply = reply }
 
--- the node after it executed the call
+-- the node after it executed a call
 abbrev pub executed : Ask → Node → Node
 executed ask node =
     record node {
@@ -81,7 +82,7 @@ with_given handover node =
       noted = filter (λ (part : Part). not (part.from == handover.from)) node.noted;
     }
 
--- the node after it took back an item of its outbox
+-- the node after it took an item back from its outbox
 abbrev pub with_back : Item → Node → Node
 with_back item node =
     record node {
@@ -90,12 +91,12 @@ with_back item node =
       outbox = without item.to item.number node.outbox;
     }
 
--- the item that hands a segment over to a node
+-- the item that hands a segment over to the node `to`
 abbrev pub item_of : Segment → ℕ → Node → Item
 item_of segment to node =
     record { to = to; number = mark_of to node.given + 1; segment = segment; pairs = pairs_inside segment.span node.entries }
 
--- the node after it put the segment of this place into its outbox
+-- the node after it moved the segment at this index into its outbox
 abbrev pub without_segment : ℕ → Segment → ℕ → Node → Node
 without_segment place segment to node =
     record node {
@@ -105,22 +106,22 @@ without_segment place segment to node =
       outbox = node.outbox ++ item_of segment to node ∷ [];
     }
 
--- the held segments after the one at this place was cut
+-- the held segments after a cut of the one at this index
 abbrev pub cut_held : ℕ → Segment → Id → List Segment → List Segment
 cut_held place segment at held = insert (slice_set held place (before at segment)) (place + 1) (behind at segment)
 
--- the held segments after the second was joined behind the first, at the first one's place
+-- the held segments after the second was joined behind the first, at the first one's index
 abbrev pub joined_held : ℕ → Segment → ℕ → Segment → List Segment → List Segment
 joined_held place first place_behind second held = remove (slice_set held place (joined first second)) place_behind
 
--- From old, with this message taken in, if any, the node may go on to new, send this message, if any, and execute
--- this call, if any.
+-- From old, having taken in the first message, if any, the node may become new, send the second, if
+-- any, and execute this call, if any.
 pub data NodeStep (old : Node) : Option Message → Node → Option Message → Option Done → Type 0 where
-  -- a call that was executed and is kept: its reply is told again
+  -- a call that was executed and is kept: its reply is sent again
   Tells_again : (ask : Ask) (segment : Segment) (done : Done)
       → segment_with (id_of ask.request) old.held ≡ Some segment → past_at ask.caller ask.number segment ≡ Kept done
       → NodeStep old (Some (AskMessage ask)) old (Some (ToldMessage (told_of ask done.reply))) None
-  -- a call whose reply its caller took: nothing
+  -- a call whose reply its caller took: dropped
   Drops_seen : (ask : Ask) (segment : Segment)
       → segment_with (id_of ask.request) old.held ≡ Some segment → past_at ask.caller ask.number segment ≡ Seen
       → NodeStep old (Some (AskMessage ask)) old None None
@@ -130,58 +131,58 @@ pub data NodeStep (old : Node) : Option Message → Node → Option Message → 
       → NodeStep old (Some (AskMessage ask)) (executed ask old)
       (Some (ToldMessage (told_of ask (reply_to ask.request old.entries))))
       (Some (done_of ask (reply_to ask.request old.entries)))
-  -- a new call that would add a pair to a store with no room: it is answered Full
+  -- a new call that would add a pair to a full store: answered Full
   Answers_full : (ask : Ask) (segment : Segment)
       → segment_with (id_of ask.request) old.held ≡ Some segment → past_at ask.caller ask.number segment ≡ New
       → reply_to ask.request old.entries ≡ Added → old.limit ≤ length old.entries
       → NodeStep old (Some (AskMessage ask)) old (Some (FullMessage ask.caller ask.number)) None
-  -- a call for another node goes on, with fewer hops
+  -- a call for another node is sent on, with fewer hops
   Forwards : (ask : Ask) (hops : ℕ) → segment_with (id_of ask.request) old.held ≡ None → hops < ask.hops
       → NodeStep old (Some (AskMessage ask)) old (Some (AskMessage (record ask { hops = hops }))) None
   -- or is dropped
   Drops : (ask : Ask) → segment_with (id_of ask.request) old.held ≡ None → NodeStep old (Some (AskMessage ask)) old None None
-  -- a handover that was taken: Got again
+  -- a part of a handover that was taken: Got is sent again
   Got_again : (part : Part) → part.to ≡ old.number → part.number ≤ mark_of part.from old.taken
       → NodeStep old (Some (PartMessage part)) old (Some (GotMessage (ticket_of_part part))) None
-  -- a handover that comes too late: Declined
+  -- a part that comes after the node is gone: Declined
   Declines : (part : Part) → part.to ≡ old.number → mark_of part.from old.taken < part.number → old.phase ≡ phase.Gone
       → NodeStep old (Some (PartMessage part)) old (Some (DeclinedMessage (ticket_of_part part))) None
-  -- a part of the next handover is noted
+  -- a part of the next handover is buffered
   Notes : (part : Part) → part.to ≡ old.number → part.number ≡ mark_of part.from old.taken + 1 → old.phase ≢ phase.Gone
       → NodeStep old (Some (PartMessage part)) (record old { noted = old.noted ++ part ∷ [] }) None None
   -- the next handover is whole with this part, and is taken
   Takes : (part : Part) (handover : Handover) → handover.to ≡ old.number → handover.number ≡ mark_of handover.from old.taken + 1 → old.phase ≢ phase.Gone
       → IsWhole (gathered part old.noted) handover
       → NodeStep old (Some (PartMessage part)) (with_given handover old) (Some (GotMessage (ticket_of handover))) None
-  -- a handover that is not yet taken: nothing
+  -- a part of a handover that is not taken yet: ignored
   Waits : (part : Part) → part.to ≡ old.number → mark_of part.from old.taken < part.number → old.phase ≢ phase.Gone
       → NodeStep old (Some (PartMessage part)) old None None
-  -- its receiver has a handover: the item leaves the outbox, if it is there
+  -- Got: the receiver took a handover; its item leaves the outbox, if it is there
   Frees : (ticket : Ticket) → ticket.from ≡ old.number
       → NodeStep old (Some (GotMessage ticket)) (record old { outbox = without ticket.to ticket.number old.outbox }) None None
-  -- its receiver declined a handover: the item is held again
+  -- Declined: the receiver declined a handover, and its segment is held again
   Takes_back : (ticket : Ticket) (item : Item) → ticket.from ≡ old.number → item_at ticket.to ticket.number old.outbox ≡ Some item
       → NodeStep old (Some (DeclinedMessage ticket)) (with_back item old) None None
-  -- or nothing changes
+  -- Declined: or nothing changes
   Keeps : (ticket : Ticket) → ticket.from ≡ old.number → NodeStep old (Some (DeclinedMessage ticket)) old None None
   -- a held segment is cut
   Cuts : (place : ℕ) (segment : Segment) (at : Id) → slice_get old.held place ≡ Some segment → at.number < 2 ^ 128 → cuts segment.span at ≡ true
       → NodeStep old None (record old { held = cut_held place segment at old.held }) None None
-  -- two neighbours that do not meet become one: where one ends, a cut would part them again
+  -- two neighbours that do not overlap are joined: a cut where one ends would part them again
   Joins : (place : ℕ) (first : Segment) (place_behind : ℕ) (second : Segment)
       → slice_get old.held place ≡ Some first → slice_get old.held place_behind ≡ Some second → place ≢ place_behind
       → first.span.upto ≡ second.span.after → cuts (span_joined first.span second.span) first.span.upto ≡ true
       → NodeStep old None (record old { held = joined_held place first place_behind second old.held }) None None
-  -- a segment with its pairs goes into the outbox, and its first part goes out
+  -- a segment with its pairs goes into the outbox, and its first part is sent
   Gives : (place : ℕ) (segment : Segment) (to : ℕ) → slice_get old.held place ≡ Some segment
       → NodeStep old None (without_segment place segment to old) (Some (PartMessage (part_at (handover_of old.number (item_of segment to old)) 1))) None
   -- a part of an item of the outbox is sent, for the first time or again
   Gives_again : (to number part : ℕ) (item : Item) → item_at to number old.outbox ≡ Some item → 1 ≤ part → part ≤ parts_in item.pairs
       → NodeStep old None old (Some (PartMessage (part_at (handover_of old.number item) part))) None
-  -- its links become anything with the same owner
+  -- its links change, but not their owner
   Links_change : (links : NodeLinks) → links.me ≡ old.links.me → NodeStep old None (record old { links = links }) None None
   -- it begins to leave
   Leaves : old.phase ≡ phase.Staying → NodeStep old None (record old { phase = phase.Leaving }) None None
-  -- it is gone with its store, once it holds nothing and its outbox is empty
+  -- a leaving node that holds nothing and has an empty outbox is gone, and its store with it
   Retires : old.phase ≡ phase.Leaving → old.held ≡ [] → old.outbox ≡ []
       → NodeStep old None (record old { phase = phase.Gone; limit = 0; noted = [] }) None None

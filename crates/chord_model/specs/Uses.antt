@@ -1,4 +1,4 @@
--- Which rules a run uses, and in how many parts handovers are taken in it.
+-- Which rules a run uses, and in how many parts each handover that it takes was sent.
 use Rattle.std.specs.Prelude.{ℕ, Option, List, [], ◌∷◌, ◌++◌}
 use Rattle.chord_caller.specs.Caller.{Letter, Caller, CallerStep}
 use Rattle.chord_handover.specs.Handover.{parts_in}
@@ -93,7 +93,7 @@ abbrev pub rules_of : {first last : World} → Run first last → List Rule
 rules_of Run.Stays = []
 rules_of (Run.Goes_on run step) = rule_of step ∷ rules_of run
 
--- how many parts the handover has that a node takes by this step, if it takes one
+-- the number of parts of the handover that a node takes in this step, if it takes one
 abbrev pub taking_by : {old new : Node} {taken sent : Option Message} {done : Option Done} → NodeStep old taken new sent done → List ℕ
 taking_by (NodeStep.Takes part handover here next stays whole) = parts_in handover.pairs ∷ []
 taking_by step = []
@@ -102,7 +102,7 @@ abbrev pub taking_of : {old new : World} → WorldStep old new → List ℕ
 taking_of (WorldStep.Acts number node after taken sent call here was step) = taking_by step
 taking_of step = []
 
--- how many parts each handover has that is taken in a run, the last one's first
+-- the number of parts of each handover taken in a run, the last one's first
 abbrev pub takings_of : {first last : World} → Run first last → List ℕ
 takings_of Run.Stays = []
 takings_of (Run.Goes_on run step) = taking_of step ++ takings_of run

@@ -1,4 +1,5 @@
--- All nodes, callers and messages, the history, and the steps between such worlds.
+-- Statement 13 of 15: a world, that is nodes, callers, messages and the history; and the steps
+-- between worlds.
 use Rattle.std.specs.Prelude.{◌≡◌, ◌≢◌, ℕ, ◌^◌, ◌<◌, ◌≤◌, ◌&&◌, ◌==◌, nat_lt, if◌then◌else◌, Option, None, Some, List, [], ◌∷◌, ◌++◌, filter, find, map, flat_map, Contains, All}
 use Rattle.chord_caller.specs.Caller.{Letter, Caller, CallerStep, Submission, submission_at, seen_at}
 use Rattle.chord_handover.specs.Handover.{Item}
@@ -14,11 +15,11 @@ use Rattle.chord_map.specs.History.{StandsIn}
 use Rattle.chord_segment.specs.Marks.{mark_of}
 use Rattle.chord_segment.specs.Segment.{Segment}
 
--- nodes, callers, messages and the history
+-- the nodes, the callers, the messages and the history
 pub record World : Type 0 where
   pub nodes : List Node
   pub callers : List Caller
-  -- every message that was ever sent
+  -- every message ever sent
   pub sent : List Message
   pub history : List Done
 
@@ -30,7 +31,7 @@ empty_world = record { nodes = []; callers = []; sent = []; history = [] }
 unfoldable pub node_at : ℕ → List Node → Option Node
 node_at number nodes = find (λ (node : Node). node.number == number) nodes
 
--- the nodes with this one in the place of the one of its number
+-- the nodes, with this one in place of that of its number
 unfoldable pub put_node : Node → List Node → List Node
 put_node node [] = []
 put_node node (other ∷ nodes) = if other.number == node.number then node ∷ nodes else other ∷ put_node node nodes
@@ -39,7 +40,7 @@ put_node node (other ∷ nodes) = if other.number == node.number then node ∷ n
 unfoldable pub caller_at : ℕ → List Caller → Option Caller
 caller_at number callers = find (λ (caller : Caller). caller.number == number) callers
 
--- the callers with this one in the place of the one of its number
+-- the callers, with this one in place of that of its number
 unfoldable pub put_caller : Caller → List Caller → List Caller
 put_caller caller [] = []
 put_caller caller (other ∷ callers) = if other.number == caller.number then caller ∷ callers else other ∷ put_caller caller callers
@@ -49,41 +50,42 @@ abbrev pub with_one : {A : Type 0} → List A → Option A → List A
 with_one xs None = xs
 with_one xs (Some x) = xs ++ x ∷ []
 
--- a message that is taken in was sent at some time
+-- the message that is taken in, if any, was sent before
 abbrev pub WasSent : List Message → Option Message → Type 0
 WasSent sent None = Unit {0}
 WasSent sent (Some message) = Contains sent message
 
--- One event of one actor. A lost message is one that is never taken in; it may be taken in at any time, and again.
+-- One step of one actor. A message may be taken in at any time, any number of times, or never: then
+-- it is lost.
 pub data WorldStep (old : World) : World → Type 0 where
-  -- the first node holds the whole circle
+  -- the first node is created; it holds the whole circle
   Creates : (links : NodeLinks) (limit : ℕ) → links.me.id.number < 2 ^ 128 → old.nodes ≡ []
       → WorldStep old (record old { nodes = founder links limit ∷ [] })
-  -- a node with a new number holds nothing
+  -- a node with a new number joins; it holds nothing
   Joins : (links : NodeLinks) (limit : ℕ) → links.me.id.number < 2 ^ 128 → old.nodes ≢ [] → node_at links.me.no old.nodes ≡ None
       → WorldStep old (record old { nodes = old.nodes ++ newborn links limit ∷ [] })
-  -- a caller with a new number
+  -- a caller with a new number is opened
   Opens : (number window : ℕ) → 1 ≤ window → window ≤ 16 → caller_at number old.callers ≡ None
       → WorldStep old (record old { callers = old.callers ++ record { number = number; window = window; submitted = []; mine = []; told = [] } ∷ [] })
-  -- a caller does a step
+  -- a caller takes a step
   Calls : (number : ℕ) (caller after : Caller) (taken sent : Option Letter) → caller_at number old.callers ≡ Some caller
       → WasSent old.sent (letter_sent taken) → CallerStep caller taken after sent
       → WorldStep old (record old { callers = put_caller after old.callers; sent = with_one old.sent (letter_sent sent) })
-  -- a node does a step
+  -- a node takes a step
   Acts : (number : ℕ) (node after : Node) (taken sent : Option Message) (done : Option Done) → node_at number old.nodes ≡ Some node
       → WasSent old.sent taken → NodeStep node taken after sent done
       → WorldStep old (record old { nodes = put_node after old.nodes; sent = with_one old.sent sent; history = with_one old.history done })
 
--- steps, one after another
+-- a list of steps from the first world
 pub data Run (first : World) : World → Type 0 where
   Stays : Run first first
   Goes_on : {middle last : World} → Run first middle → WorldStep middle last → Run first last
 
--- a world that some list of steps leads to
+-- some list of steps leads to the world from the empty one
 abbrev pub Reached : World → Type 0
 Reached world = Run empty_world world
 
--- the last number that the node `to` took from the node `from`
+-- the last number that node `to` took from node `from`
 abbrev pub taken_by : Option Node → ℕ → ℕ
 taken_by None from = 0
 taken_by (Some node) from = mark_of from node.taken
@@ -91,12 +93,12 @@ taken_by (Some node) from = mark_of from node.taken
 unfoldable pub last_taken : List Node → ℕ → ℕ → ℕ
 last_taken nodes to from = taken_by (node_at to nodes) from
 
--- the node, once for each held span that contains x
+-- the node, once for each held segment that contains x
 abbrev pub at_node : ℕ → Node → List Holder
 at_node x node =
     map (λ (segment : Segment). holder.Node node.number) (filter (λ (segment : Segment). in_span segment.span x) node.held)
 
--- the node's handovers of x that were not taken
+-- the node's handovers of x that the receiver has not taken
 abbrev pub under_way : ℕ → (ℕ → ℕ → ℕ) → Node → List Holder
 under_way x taken node =
     map (λ (item : Item). holder.UnderWay node.number item.to item.number)
@@ -106,11 +108,11 @@ under_way x taken node =
 abbrev pub holders : ℕ → List Node → List Holder
 holders x nodes = flat_map (λ (node : Node). at_node x node ++ under_way x (last_taken nodes) node) nodes
 
--- exactly one holder
+-- x has exactly one holder
 abbrev pub HasOneHolder : ℕ → List Node → Type 0
 HasOneHolder x nodes = (holder : Holder) × (holders x nodes ≡ holder ∷ [])
 
--- each request stands after every request that its caller had seen when it submitted it
+-- each request comes in the history after all that its caller had seen when it submitted it
 abbrev pub InOrder : World → Type 0
 InOrder world =
     (caller : Caller) (number : ℕ) (submission : Submission) (before behind : List Done) (done : Done)

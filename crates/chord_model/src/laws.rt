@@ -1,4 +1,5 @@
-//! What holds of every world that some steps lead to. These functions do nothing: their contracts are the theorem.
+//! What holds of every reachable world. These functions
+//! do nothing: their contracts are the theorem.
 ghost use Rattle.std.specs.Prelude.{◌≡◌, ◌≢◌, ℕ, ◌+◌, ◌^◌, ◌<◌, Some, [], All, Contains};
 ghost use Rattle.chord_caller.specs.Caller.{Caller};
 ghost use Rattle.chord_handover.specs.declared.gather.Gather.TheVariants.{Unfit};
@@ -13,18 +14,19 @@ ghost use Rattle.chord_model.specs.World.{World, Run, Reached, HasOneHolder, nod
 ghost use Rattle.chord_model.specs.declared.phase.Phase.TheVariants.{Gone};
 ghost use Rattle.chord_segment.specs.Marks.{mark_of};
 
-/// In every world that some steps lead to: one history of one map, one holder of each identifier once there is a node,
-/// and each node's segments neither meet nor keep a call twice, and have its entries.
+/// In every reachable world: one history of one map; one holder of each identifier once there is a
+/// node; and each node's segments do not overlap or keep a call twice, and contain its entries.
 pub fn headline()
     ensures { (world : World) → ∥ Reached world ∥₁ → Headline world }
 {}
 
-/// In every world that some steps lead to, once a node was created, each identifier has one holder.
+/// In every reachable world with a node, each identifier has one holder.
 pub fn one_holder()
     ensures { (world : World) (x : ℕ) → ∥ Reached world ∥₁ → world.nodes ≢ [] → x < 2 ^ 128 → HasOneHolder x world.nodes }
 {}
 
-/// No handover that a node takes, or takes back, meets a span that the node holds, and no two of those meet.
+/// No handover that a node takes, or takes back, overlaps a
+/// span that the node holds, and no two of those overlap.
 pub fn no_clash()
     ensures taken { (world : World) (part : Part) (handover : Handover) (node : Node) → ∥ Reached world ∥₁ → Contains world.sent (PartMessage part)
         → IsWhole (gathered part node.noted) handover
@@ -36,41 +38,42 @@ pub fn no_clash()
     ensures held { (world : World) (number : ℕ) (node : Node) → ∥ Reached world ∥₁ → node_at number world.nodes ≡ Some node → AllApart node.held }
 {}
 
-/// Each part that was sent fits where it comes next: with the parts noted there it is some parts of one parcel, or that
-/// parcel whole.
+/// Each sent part fits into its sender's next handover: with the parts buffered there it makes a
+/// part of one payload, or all of it.
 pub fn parts_fit()
     ensures { (world : World) (part : Part) (node : Node) → ∥ Reached world ∥₁ → Contains world.sent (PartMessage part)
         → node_at part.to world.nodes ≡ Some node → IsNextFor node part → ¬ GatherIs part node.noted Unfit }
 {}
 
-/// In every world that some steps lead to, the executed calls form one history of one map, each call at most once,
-/// in the order that the callers had seen; every reply that a caller took stands in it; and each holder of an
-/// identifier has what the history leaves there.
+/// In every reachable world: the executed calls form one history of one map, each call at most
+/// once, in the order that the callers had seen; every reply that a caller took is in it; and each
+/// holder of an identifier has the pairs that the history leaves there.
 pub fn one_history()
     ensures { (world : World) → ∥ Reached world ∥₁ → OneHistory world }
 {}
 
-/// No call is kept in two of the segments that a node holds, so a join never meets a call twice.
+/// No call is kept in two segments of a node, so a join never finds a call twice.
 pub fn none_twice()
     ensures { (world : World) (number : ℕ) (node : Node) → ∥ Reached world ∥₁ → node_at number world.nodes ≡ Some node → KeepNoneTwice node.held }
 {}
 
-/// Some steps execute a call whose reply its caller takes.
+/// Some run executes a call whose reply its caller takes.
 pub fn some_run()
     ensures { (world : World) × Reached world × (world.history ≢ []) × ((caller : Caller) × Contains world.callers caller × (caller.mine ≢ [])) }
 {}
 
-/// Some steps use every rule: one handover is taken, another is declined and taken back, and a node is gone.
+/// Some run uses every rule: one handover is taken,
+/// another is declined and taken back, and a node is gone.
 pub fn every_rule()
     ensures { (world : World) × (run : Reached world) × ((rule : Rule) → Contains (rules_of run) rule) }
 {}
 
-/// Some steps take a handover of two parts, and lead to a world in which no outbox has an item any more.
+/// Some run takes a handover of two parts, and ends with every outbox empty.
 pub fn two_parts()
     ensures { (world : World) × (run : Reached world) × Contains (takings_of run) 2 × All (λ (node : Node). node.outbox ≡ []) world.nodes }
 {}
 
-/// What a caller knew at some time stands in the history before each call that it submitted later.
+/// What a caller knew at some time comes in the history before each call that it submitted later.
 pub fn seen_first()
     ensures { (earlier later : World) → ∥ Reached earlier ∥₁ → ∥ Run earlier later ∥₁ → SeenFirst earlier later }
 {}

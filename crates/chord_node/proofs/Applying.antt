@@ -1,4 +1,4 @@
--- What a store's calls do, as the table of requests.
+-- The calls of a store, as a table of requests.
 use Rattle.std.proofs.Common.{Ordering, Less, Equal, Greater, ◌≡◌, ℕ, Bool, true, false, cond, ◌<◌, Ok, Err, List, [], ◌∷◌, ◌||◌, not, filter, ap, ◌∙◌, length, refl, sym, subst, leb}
 use Rattle.std.proofs.lemmas.Bool.{lt-leb, le-leb}
 use Rattle.chord_map.specs.declared.pair.Pair.{Pair}
@@ -24,7 +24,7 @@ has_room Added pairs limit room = lt-leb limit (length pairs) (room refl)
 has_room Present pairs limit room = refl
 has_room SetFull pairs limit room = refl
 
--- an insert that was answered so
+-- an insert with this answer
 inserted_is : (pairs new : List Pair) (limit : ℕ) (key value : List ℕ) (did : Inserted) (told : Reply)
     → InsertIs (record { key = key; value = value }) pairs limit (Ok did) new → told ≡ reply_for did → Applied (request.Insert key value) pairs limit (Ok told) new
 unfolding is_full_for
@@ -46,7 +46,7 @@ refused_is pairs new limit key value Memory refused =
 pub same_pairs : {key value key' value' : List ℕ} → key' ≡ key → value' ≡ value → ◌≡◌ {A = Pair} (record { key = key'; value = value' }) (record { key = key; value = value })
 same_pairs e f = cc
 
--- the same for bytes that are the key and the value
+-- a refusal, for bytes equal to the key and the value
 pub refused_for : (pairs new : List Pair) (limit : ℕ) (key value key' value' : List ℕ) (fault : StoreFault) → key' ≡ key → value' ≡ value
     → InsertIs (record { key = key'; value = value' }) pairs limit (Err fault) new → Applied (request.Insert key value) pairs limit (Err fault) new
 refused_for pairs new limit key value key' value' fault e f refused =
@@ -59,7 +59,7 @@ inserted_for pairs new limit key value key' value' did told e f did_so is =
     let at : Pair → Type 0 = λ pair. InsertIs pair pairs limit (Ok did) new in
     inserted_is pairs new limit key value did told (subst at (same_pairs e f) did_so) is
 
--- what is not there leaves nothing behind
+-- removing a pair that is not there leaves the map unchanged
 none_step : (b : Bool) (other : Pair) (found : Bool) (xs ys : List Pair) → (b || found) ≡ false → (found ≡ false → xs ≡ ys) → cond (not b) (other ∷ xs) xs ≡ other ∷ ys
 none_step true other found xs ys e next = cc
 none_step false other found xs ys e next = ap (λ (zs : List Pair). other ∷ zs) (next e)
@@ -108,7 +108,7 @@ module _ (pairs new : List Pair) (limit : ℕ) (key value key' value' : List ℕ
       let told = subst at (same_pairs e f) h in
       full_by (request.Insert key value) reply.Added pairs limit false told.0 (lt-leb limit (length pairs) told.1)
 
--- an insert that adds nothing leaves the map as it was
+-- an insert that adds nothing leaves the map unchanged
 pub unadded_stays : (pair : Pair) (pairs new : List Pair) (limit : ℕ) (did : Inserted) → (did ≡ Added → ⊥) → InsertIs pair pairs limit (Ok did) new → new ≡ pairs
 unadded_stays pair pairs new limit Added other h = absurd (other refl)
 unadded_stays pair pairs new limit Present other h = h.2 ∙ after_reply (request.Insert pair.key pair.value) reply.Present pairs h.0
@@ -175,13 +175,13 @@ removed_for found pairs new limit key value key' value' told e f was change is =
     removed_is found pairs new limit key value told
     (was ∙ ap (λ (pair : Pair). has_pair pair pairs) (same_pairs e f)) (change ∙ ap (λ (pair : Pair). remove_pair pair pairs) (same_pairs e f)) is
 
--- a retrieve leaves the map as it was
+-- a retrieve leaves the map unchanged
 pub retrieved_for : (pairs : List Pair) (limit : ℕ) (key key' : List ℕ) (values : List (List ℕ)) → key' ≡ key → values ≡ values_at key' pairs
     → Applied (request.Retrieve key) pairs limit (Ok (reply.Values values)) pairs
 unfolding is_full_for reply_to pairs_after
 retrieved_for pairs limit key key' values e is = (ap (λ (vs : List (List ℕ)). reply.Values vs) (is ∙ ap (λ (k : List ℕ). values_at k pairs) e), refl, refl)
 
--- what told values has changed nothing
+-- a request answered with values has changed nothing
 pub values_stay : (asked : Request) (told : Reply) (pairs new : List Pair) → IsValues told → told ≡ reply_to asked pairs → new ≡ pairs_after asked pairs → new ≡ pairs
 values_stay asked (reply.Values values) pairs new is same change = change ∙ after_reply asked (reply.Values values) pairs (sym same) ∙ kept asked
   where

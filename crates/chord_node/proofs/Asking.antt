@@ -1,4 +1,4 @@
--- What an Ask does to a node, from what it does to a segment and a store.
+-- A node after an Ask, from its segment and its store after it.
 use Rattle.std.proofs.Common.{◌≡◌, ◌≢◌, ◌-◌, ◌||◌, ◌==◌, ℕ, zero, suc, ◌<◌, Bool, true, false, cond, Option, None, Some, Result, Ok, Err, List, [], ◌∷◌, length, get_or, set, refl, sym, ◌∙◌, ap, subst, arith, leb}
 use Rattle.std.proofs.lemmas.Bool.{ltb-false, leb-true}
 use Rattle.std.specs.Prelude.{find, position, is_some, OnErr}
@@ -26,7 +26,7 @@ use Rattle.chord_map.proofs.Equal.{eqb_same}
 use Rattle.chord_node.specs.Passed.{peer_of, PassesOn}
 use Rattle.chord_node.specs.Asked.{adds, is_full_for, past_answer, past_done, segment_after, entries_after, AnswersIn, done_in, ask_done, after_done, sent_by, note_of, AnswersBy, TakesMemory, AsksMemory, AskIs, AskNotes, AskSteps, AskStepsNoting}
 
--- ---- the segment at a place
+-- ---- the segment at an index
 
 -- whether the segment's span contains x
 abbrev pub has : ℕ → RoomySegment → Bool
@@ -41,7 +41,7 @@ find_none x (s ∷ held) e = step (has x s) s.segment (find (has x) held) e (λ 
     step true k o e next = cc
     step false k o e next = next e
 
--- before the place no span contains x, and the one there does
+-- the segment at this index is the first whose span contains x
 pub record IsPlace (x : ℕ) (held : List RoomySegment) (i : ℕ) (s : RoomySegment) : Type 0 where
   pub in_range : i < length held
   pub here : has x (get_or held i s) ≡ true
@@ -98,7 +98,7 @@ after_is (Some done) ask old held i s s' pairs limit e place same is seg ent =
     let put = put_here (id_of ask.request) held i s s' (done_of ask (reply_to ask.request old.entries)) ask.floor place (seg ∙ ap (λ (x : Done). append x ask.floor (get_or held i s).segment) (sym d)) in
     rw (put, ent, same, e) refl
 
--- what the node answers where the segment with the key answered so
+-- what the node answers if the segment with the key answered this
 pub asked_here : (ask : Ask) (noting : Bool) (old : Node) (held : List RoomySegment) (i : ℕ) (s s' : RoomySegment) (result : Result (Answered × Option Done) AllocError) (pairs : List Pair) (limit : ℕ)
     → old.held ≡ segments_of held → IsPlace (id_of ask.request) held i s → limit ≡ old.limit
     → AnswersIn ask noting (get_or held i s).segment old.entries old.limit result s'.segment pairs
@@ -127,7 +127,7 @@ note_none : (noting : Bool) → None ≡ note_of noting None
 note_none true = refl
 note_none false = refl
 
--- what it answers where none has the key
+-- what the node answers if no segment has the key
 pub asked_elsewhere : (ask : Ask) (noting : Bool) (old : Node) (held : List RoomySegment) (answered : Answered) → old.held ≡ segments_of held → find (has (id_of ask.request)) held ≡ None
     → PassesOn old.links ask answered → AskNotes ask noting old (Ok (answered, None)) old
 unfolding ask_done
@@ -137,7 +137,7 @@ asked_elsewhere ask noting old held answered e none passed =
       note_none noting ∙ ap (λ o. note_of noting (done_in o ask old)) (sym missed),
     )
 
--- out of memory where it would go on
+-- memory ran out for a call that would be sent on
 pub asked_no_further : (ask : Ask) (view old : Node) → view ≡ old → (held : List RoomySegment) → view.held ≡ segments_of held → find (has (id_of ask.request)) held ≡ None
     → ((answered : Answered) × PassesOn view.links ask answered × TakesMemory answered) → AsksMemory ask old
 asked_no_further ask view old e held v none (answered, passed, takes) =
@@ -190,7 +190,7 @@ ask_step : (ask : Ask) (old : Node) (answered : Answered) (o : Option Segment) �
 ask_step ask old answered None e (hop, next, is) = subst (λ a. NodeStep old (Some (AskMessage ask)) old (sent_by ask a) None) (sym is) (passed_step ask old e (peer_of hop).no)
 ask_step ask old answered (Some segment) e h = rw h (past_step ask old segment e (past_at ask.caller ask.number segment) refl)
 
--- the exact answer is one step of the node
+-- the answer is one step of the node
 pub asked_steps : (ask : Ask) (old : Node) (result : Result Answered AllocError) (new : Node) → AskIs ask old result new → AskSteps ask old result new
 unfolding ask_done
 asked_steps ask old (Err fault) new h = tt
@@ -216,7 +216,7 @@ pub find_from : (x : ℕ) (held : List RoomySegment) → position (has x) held �
 find_from x held e =
     find_at (has x) held ∙ slice_get_past held (position_or_len (has x) held) (ltb-false _ _ (none_step _ _ e))
 
--- a place is found just where a segment is
+-- an index is found exactly if a segment is
 holds_by : (x : ℕ) (held : List RoomySegment) (o : Option ℕ) → o ≡ position (has x) held → is_some o ≡ is_some (segment_with x (segments_of held))
 holds_by x held None e = sym (ap is_some (find_none x held (find_from x held (sym e))))
 holds_by x [] (Some i) e = cc
@@ -225,7 +225,7 @@ holds_by x (s ∷ held) (Some i) e = sym (ap is_some (with_here x (s ∷ held) i
 pub holds_at : (x : ℕ) (held : List RoomySegment) → is_some (position (has x) held) ≡ is_some (segment_with x (segments_of held))
 holds_at x held = holds_by x held (position (has x) held) refl
 
--- the same over the view of the fields, which is the old value, and what the store held
+-- `asked_here` over the view of the fields, which is the old value, and what the store held
 pub asked_at : (ask : Ask) (noting : Bool) (view old : Node) → view ≡ old → (held : List RoomySegment) (i : ℕ) (s s' : RoomySegment) (result : Result (Answered × Option Done) AllocError)
     (pairs pairs' : List Pair) (limit limit' : ℕ)
     → view.held ≡ segments_of held → IsPlace (id_of ask.request) held i s → s ≡ get_or held i s → pairs ≡ view.entries → limit ≡ view.limit → limit' ≡ limit
@@ -248,7 +248,7 @@ on_err : {A E : Type 0} (result : Result A E) (P : Type 0) → P → OnErr resul
 on_err (Ok a) P p = tt
 on_err (Err e) P p = p
 
--- where a segment is found for the key, the node holds it, whatever came of the call
+-- if a segment is found for the key, the node holds it, whatever the call answered
 pub holds_here : {A : Type 0} (result : Result A AllocError) (x : ℕ) (view old : Node) → view ≡ old → (held : List RoomySegment) (i : ℕ) (s : RoomySegment) → view.held ≡ segments_of held
     → IsPlace x held i s → OnErr result (is_some (segment_with x old.held) ≡ true)
 holds_here result x view old e held i s v place =

@@ -20,13 +20,13 @@ part_no_clash : (world : World) → Reached world → (part : Part) (node new : 
 part_no_clash world reached part node new was at clash =
     ⊎_elim (part_fits world reached part node was at clash.0) (λ met. whole_fits world reached part node was at clash.0 met.0 met.1 met.2) clash.1
 
--- nor to a ticket that was declined
+-- the answer to a Declined is not Clash either
 back_no_clash : (world : World) → Reached world → (ticket : Ticket) (node new : Node) → Contains world.sent (DeclinedMessage ticket) → node_at ticket.from world.nodes ≡ Some node
     → BackIs ticket node (Ok back.Clash) new → ⊥
 back_no_clash world reached ticket node new was at clash =
     no_clash clash.0.segment.span node.held (back_clear world reached ticket node clash.0 was at clash.1) clash.2
 
--- the same where merely some run is known
+-- the same if only the existence of a run is known
 pub part_merely : (world : World) → ∥ Reached world ∥₁ → (part : Part) (node new : Node) → Contains world.sent (PartMessage part) → node_at part.to world.nodes ≡ Some node
     → PartIs part node (Ok given.Clash) new → ⊥
 part_merely world reached part node new was at clash = ∥∥₁_elim reached (hlevel props) (λ run. part_no_clash world run part node new was at clash)

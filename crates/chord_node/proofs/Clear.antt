@@ -1,4 +1,4 @@
--- Spans that meet held ones.
+-- Spans that overlap held ones.
 use Rattle.std.proofs.Common.{◌≡◌, ℕ, ◌||◌, inl, inr, Bool, true, false, List, [], ◌∷◌, refl, sym, ◌∙◌, ap, Any}
 use Rattle.std.proofs.lemmas.Bool.{true≢false}
 use Rattle.chord_ident.proofs.Spans.{in_span_is}
@@ -9,7 +9,7 @@ use Rattle.chord_model.specs.Stock.{holds, IsClash, IsClear}
 use Rattle.chord_node.specs.View.{segments_of}
 use Rattle.chord_segment.specs.Segment.{RoomySegment}
 
--- the span meets that of the segment
+-- the span overlaps that of the segment
 abbrev pub Meets : Span → RoomySegment → Type 0
 Meets span segment = Meet span.after.number span.upto.number segment.segment.span.after.number segment.segment.span.upto.number
 
@@ -30,14 +30,14 @@ has_holds x (first ∷ held) e =
     (λ here. (first, inl refl, here))
     (λ away. let more = has_holds x held (sym (ap (λ b. b || holds x (segments_of held)) away) ∙ e) in (more.0, inr more.1, more.2))
 
--- it meets one, so an identifier of it is held
+-- if the span overlaps a held one, some identifier of it is held
 pub clash_is : (span : Span) (held : List RoomySegment) → Any (Meets span) held → IsClash span (segments_of held)
 clash_is span held a =
     let meet = a.4 in
     let has = has_contained held a.1 (a.0, a.2, a.3) in
     (meet.0, meet.1, (in_span_is span meet.0).1 meet.2, holds_has meet.0 held a.1 has ((in_span_is (a.1).segment.span meet.0).1 meet.3))
 
--- it meets none, so none is
+-- the span overlaps none, so no identifier of it is held
 pub clear_is : (span : Span) (held : List RoomySegment) → (Any (Meets span) held → ⊥) → IsClear span (segments_of held)
 clear_is span held none x x_in inside =
     by_test (holds x (segments_of held))

@@ -1,4 +1,4 @@
--- What a cut and a merge leave held.
+-- What is held after a cut and a merge.
 use Rattle.std.proofs.Common.{◌≡◌, ℕ, ◌<◌, ◌^◌, Some, Result, Ok, Err, List, ◌∙◌, ap, subst}
 use Rattle.std.specs.Prelude.{slice_get}
 use Rattle.chord_ident.specs.declared.id.Id.{Id}
@@ -12,7 +12,7 @@ use Rattle.chord_node.specs.Moves.{CutHeld, MergeHeld}
 use Rattle.chord_model.specs.Stock.{IsOnCircle, holds}
 use Rattle.chord_segment.specs.Segment.{Segment}
 
--- the ends of the segment at the place lie on the circle
+-- the ends of the segment at this index are on the circle
 abbrev pub IsOnAt : ℕ → List Segment → Type 0
 IsOnAt place held = (segment : Segment) → slice_get held place ≡ Some segment → IsOnCircle segment.span
 

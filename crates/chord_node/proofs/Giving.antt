@@ -1,4 +1,4 @@
--- What a handover's beginning does to a node, from what it does to its parts.
+-- A node after it begins a handover, from its parts after it.
 use Rattle.std.proofs.Common.{◌≡◌, ℕ, ◌+◌, ◌^◌, ◌<◌, ◌≤◌, Result, Ok, Err, List, [], ◌∷◌, ◌++◌, length, get_or, refl, sym, ◌∙◌, ap, subst, arith}
 use Rattle.std.specs.Prelude.{slice_get, remove}
 use Rattle.chord_handover.specs.Handover.{Part, Item, part_at}
@@ -25,7 +25,7 @@ same_fields : (view : Node) (h h' : List Segment) (e e' : List Pair) (l : ℕ) (
     → ◌≡◌ {A = Node} (record view { held = h; entries = e; limit = l; given = g; outbox = o }) (record view { held = h'; entries = e'; given = g'; outbox = o' })
 same_fields view h h' e e' l g g' o o' p q r s t = rw (p, q, r, s, t) refl
 
--- over the view of the fields, which is the old value
+-- stated over the view of the fields, which equals the old value
 pub gave_at : (place to number : ℕ) (view old : Node) → view ≡ old → (held new_held : List RoomySegment) (a b : RoomySegment) (outbox outbox' : Outbox) (entries pairs : List Pair) (limit : ℕ) (part : Part) (span : Span)
     → view.held ≡ segments_of held → view.given ≡ outbox.given → view.outbox ≡ outbox.items → place < length held → a ≡ get_or held place a → b ≡ get_or held place b
     → number ≡ mark_of to outbox.given + 1 → number < 2 ^ 64
@@ -69,7 +69,7 @@ give_steps place to old (Err fault) new h = tt
 pub give_stocked : (place to : ℕ) (old : Node) (part : Part) (new : Node) → GiveIs place to old (Ok part) new → IsStocked old.held old.entries → IsStocked new.held new.entries
 give_stocked place to old part new h stock = subst (λ (n : Node). IsStocked n.held n.entries) (sym h.4) (stocked_less old.held place h.0 old.entries h.1 stock)
 
--- what is given is a parcel
+-- a given segment with its pairs is a payload
 pub gives_parcel : (held : List Segment) (entries pairs : List Pair) (a b : Segment) → a ≡ b → IsStocked held entries → pairs ≡ pairs_inside a.span entries
     → IsParcelled (record { segment = b; pairs = pairs })
 gives_parcel held entries pairs a b same stock is =

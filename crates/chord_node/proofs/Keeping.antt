@@ -1,4 +1,4 @@
--- The items of an outbox by their places.
+-- The items of an outbox by index.
 use Rattle.std.proofs.Common.{◌≡◌, ℕ, zero, suc, cond, Option, None, Some, List, [], ◌∷◌, refl, sym, ◌∙◌, ap, subst}
 use Rattle.std.proofs.lemmas.Option.{same_Some}
 use Rattle.std.specs.Prelude.{slice_get, find}
@@ -10,7 +10,7 @@ use Rattle.chord_ident.specs.declared.span.Span.{Span}
 use Rattle.chord_map.proofs.Lists.{by_test}
 use Rattle.chord_node.specs.View.{kept_as}
 
--- the item at a place is the one of its receiver and number
+-- the item at an index is found under its receiver and number
 found_at : (items : List Item) (i : ℕ) (item : Item) → AreApart items → slice_get items i ≡ Some item → item_at item.to item.number items ≡ Some item
 unfolding item_at
 found_at [] i item apart e = cc
@@ -28,7 +28,7 @@ found_at (first ∷ items) (suc i) item apart e =
     cc)
     (λ no. ap (λ b. cond b (Some first) (find (is_item item.to item.number) items)) no ∙ later)
 
--- what is named there is found there
+-- an item that is named is found under its name
 kept_by : (items : List Item) (i to number : ℕ) (o : Option Item) (parcelled : Parcelled) → AreApart items → slice_get items i ≡ o → Some (to, number) ≡ named o
     → Some parcelled ≡ parcel_of (item_at to number items) → Some (to, number, parcelled.segment.span) ≡ kept_as o
 kept_by items i to number None parcelled apart e name found = cc
@@ -47,12 +47,12 @@ pub kept_is : (items : List Item) (i to number : ℕ) (parcelled : Parcelled) (s
 kept_is items i to number parcelled span apart name found same =
     ap (λ (s : Span). Some (to, number, s)) same ∙ kept_by items i to number (slice_get items i) parcelled apart refl name found
 
--- nothing is named past the end
+-- no item is named past the end
 pub none_kept : (o : Option Item) → None ≡ named o → None ≡ kept_as o
 none_kept None e = refl
 none_kept (Some item) e = cc
 
--- what is named is there
+-- an item found by name exists
 pub none_missing : {G : Type 0} → (items : List Item) (i to number : ℕ) (o : Option Item) → AreApart items → slice_get items i ≡ o → Some (to, number) ≡ named o
     → None ≡ parcel_of (item_at to number items) → G
 none_missing items i to number None apart e name found = cc

@@ -1,4 +1,4 @@
--- Other links of the same node.
+-- New links of the same node.
 use Rattle.std.proofs.Common.{◌≡◌, None, sym, ap, ◌∙◌, subst}
 use Rattle.chord_links.specs.NodeLinks.{NodeLinks}
 use Rattle.chord_links.specs.declared.peer.Peer.{Peer}

@@ -1,4 +1,4 @@
--- A merge of two held segments: one is taken out, joined to the other, and its place removed.
+-- A merge of two held segments: one is taken out and joined to the other, and its index is removed.
 use Rattle.std.proofs.Common.{◌≡◌, ◌≢◌, ℕ, zero, suc, ◌<◌, None, Some, Result, Ok, Err, List, [], ◌∷◌, length, get_or, set, refl, sym, ◌∙◌, ap, subst}
 use Rattle.std.specs.Prelude.{slice_get, remove}
 use Rattle.chord_segment.specs.declared.fault.JoinFault.{JoinFault}
@@ -56,7 +56,7 @@ get_past (x ∷ ks) zero (suc o) other ne = refl
 get_past (x ∷ ks) (suc p) zero other ne = refl
 get_past (x ∷ ks) (suc p) (suc o) other ne = get_past ks p o other (λ same. ne (ap suc same))
 
--- what the code reads at the two places
+-- what the code reads at the two indices
 pub record Read (held : List RoomySegment) (p o : ℕ) (empty first second : RoomySegment) : Type 0 where
   pub apart : p ≢ o
   pub first_in : p < length (set held o empty)
@@ -110,7 +110,7 @@ merge_steps p o old (Ok done) new h =
     subst (λ (node : Node). NodeStep old None node None None) (sym e) (Joins p m.0 o m.1 m.2 m.3 m.4 m.5 m.6)
 merge_steps p o old (Err fault) new h = tt
 
--- a merge whose join is refused so
+-- a merge whose join is refused with this
 refused_is : (old new : List Segment) (p o : ℕ) (first second : Segment) (fault : JoinFault) → slice_get old p ≡ Some first → slice_get old o ≡ Some second → p ≢ o
     → JoinRefused first second fault → new ≡ old → MergeHeld p o old (Err (merge_fault_of fault)) new
 refused_is old new p o first second join.NotAdjacent e f ne h same = ((first, second, e, f, ne, h), same)

@@ -1,4 +1,5 @@
--- Edits of the held segments, with their room and without it, and the steps that a node does of its own accord.
+-- Changes of the held segments, with their room and
+-- without it, and a node's steps without a message.
 use Rattle.std.proofs.Common.{◌≡◌, ◌≢◌, ℕ, zero, suc, ◌+◌, ◌<◌, ◌&&◌, ◌^◌, nat_le, Bool, true, false, cond, Option, None, Some, Result, Ok, Err, List, [], ◌∷◌, ◌++◌, length, get_or, set, refl, sym, ◌∙◌, ap, subst, arith, rules}
 use Rattle.std.proofs.lemmas.Bool.{and_parts, leb-true}
 use Rattle.std.specs.Prelude.{slice_get, insert, remove}
@@ -56,7 +57,7 @@ pub segments_length : (held : List RoomySegment) → length (segments_of held) �
 segments_length [] = refl
 segments_length (y ∷ held) = omega (arith, segments_length held)
 
--- a segment that comes to be held
+-- a segment that is held from now on
 pub segments_push : (held : List RoomySegment) (s : RoomySegment) → segments_of (held ++ s ∷ []) ≡ segments_of held ++ s.segment ∷ []
 segments_push [] s = refl
 segments_push (y ∷ held) s = ap (λ (ks : List Segment). y.segment ∷ ks) (segments_push held s)
@@ -75,7 +76,7 @@ cut_knowns held new i s first second at e f g =
     ∙ ap (λ (k : Segment). insert (set (segments_of held) i k) (i + 1) second.segment) f
     ∙ ap (λ (k : Segment). insert (set (segments_of held) i (before at s.segment)) (i + 1) k) g
 
--- what stands at a place, read twice
+-- two reads at one index give equal segments
 pub same_at : (held held' : List RoomySegment) (i : ℕ) (a b : RoomySegment) → i < length held → held' ≡ held → a ≡ get_or held i a → b ≡ get_or held' i b → a.segment ≡ b.segment
 same_at held held' i a b h e f g =
     let first = segments_get held i a h f in
@@ -100,7 +101,7 @@ cut_steps place at old (Ok done) new circle h =
     subst (λ (node : Node). NodeStep old None node None None) (sym e) (Cuts place cut.0 at cut.1 circle cut.2)
 cut_steps place at old (Err fault) new circle h = tt
 
--- over the view of the fields, which is the old value
+-- stated over the view of the fields, which equals the old value
 pub cut_at_is : (place : ℕ) (at : Id) (view old : Node) → view ≡ old → (result : Result (Unit {0}) CutAtFault) (held : List Segment)
     → CutHeld place at view.held result held → CutAtIs place at old result (with_held held view)
 cut_at_is place at view old e result held h =
@@ -144,7 +145,7 @@ retired view old same taken leaving held outbox entries is =
     subst (λ (node : Node). RetireIs node (Ok tt) (record view { phase = Gone; entries = []; limit = 0; taken = taken.last; noted = taken.noted })) same
     (leaving, held, outbox, entries, same_gone view [] taken (sym entries) is)
 
--- ---- what goes out again
+-- ---- what is sent again
 
 given_again : (to number part : ℕ) (node : Node) (item : Item) (found : Part) → item_at to number node.outbox ≡ Some item
     → (b : Bool) → (nat_le 1 part && nat_le part (parts_in item.pairs)) ≡ b
@@ -177,12 +178,12 @@ pub got_steps : (ticket : Ticket) (old : Node) (found : Bool) (new : Node) → t
 got_steps ticket old found new from h = subst (λ (node : Node). NodeStep old (Some (GotMessage ticket)) node None None) (sym h.1) (Frees ticket from)
 
 module _ {S : Type 0} where
-  -- where something is under way there is a store
+  -- if the outbox has an item there is a store
   pub has_store : (phase : Phase) (held : List Segment) (items : List Item) (store : Option S) → HasStoreFor phase held items store → (items ≡ [] → ⊥) → IsSome store
   has_store phase held items None h some = absurd (some h.2)
   has_store phase held items (Some store) h some = search rules
 
-  -- where nothing was held nothing is
+  -- if nothing was held nothing is held
   pub stored_held : (phase : Phase) (held held' : List Segment) (items : List Item) (store : Option S) → (held ≡ [] → held' ≡ [])
       → HasStoreFor phase held items store → HasStoreFor phase held' items store
   stored_held phase held held' items None none h = (h.0, none h.1, h.2)

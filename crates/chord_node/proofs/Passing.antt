@@ -28,7 +28,7 @@ same_passed ask request above near e = λ i. record {
   near = le_prop near ask.near i;
 }
 
--- it goes on to the next hop, which is another node
+-- the call is sent on to the next hop, which is another node
 pub passed_is : (links : NodeLinks) (ask : Ask) (hop : Hop) (peer : Peer) (target : ℕ) (me : ℕ) (request : Request) (above : ask.floor < ask.number) (near : ask.number ≤ ask.floor + 16)
     → IsNextHop links target hop → target ≡ id_of ask.request → peer ≡ peer_of hop → me ≡ links.me.no → ask.hops ≢ 0 → peer.no ≢ me → request ≡ ask.request
     → PassesOn links ask (Forward peer.no (record { caller = ask.caller; number = ask.number; floor = ask.floor; request = request; hops = ask.hops - 1; above = above; near = near }))
@@ -43,7 +43,7 @@ passed_is links ask hop peer target me request above near next e p m some other 
       ap (Forward peer.no) (same_passed ask request above near r) ∙ ap (λ (q : Peer). Forward q.no (record ask { hops = ask.hops - 1 })) p ∙ sym goes,
     )
 
--- memory is taken where it goes on
+-- sending a call on needs memory
 pub passed_takes : (links : NodeLinks) (ask : Ask) (hop : Hop) (peer : Peer) (target : ℕ) (me : ℕ)
     → IsNextHop links target hop → target ≡ id_of ask.request → peer ≡ peer_of hop → me ≡ links.me.no → ask.hops ≢ 0 → peer.no ≢ me
     → (answered : Answered) × PassesOn links ask answered × TakesMemory answered

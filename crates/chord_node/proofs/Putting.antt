@@ -1,4 +1,4 @@
--- Parcels that come into a store.
+-- Payloads that are put into a store.
 use Rattle.std.proofs.Common.{◌≡◌, ℕ, ◌+◌, ◌<◌, ◌≤◌, Ok, Err, List, length, ◌∙◌, ap, subst}
 use Rattle.chord_handover.specs.Parcelled.{Parcelled}
 use Rattle.chord_ident.specs.declared.span.Span.{Span}

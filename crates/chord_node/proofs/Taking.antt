@@ -1,4 +1,4 @@
--- What comes of handovers: the answers as steps of a node.
+-- Messages of handovers: a node's answers as its steps.
 use Rattle.std.proofs.Common.{◌≡◌, ◌≢◌, ℕ, ◌+◌, ◌≤◌, inr, ⊎_elim, Bool, true, false, cond, Option, None, Some, Result, Ok, Err, List, [], ◌∷◌, ◌++◌, length, take, refl, sym, ◌∙◌, ap, subst, arith}
 use Rattle.std.proofs.lemmas.List.{take_all}
 use Rattle.std.proofs.lemmas.Option.{same_Some}
@@ -30,7 +30,7 @@ use Rattle.chord_segment.specs.Segment.{Segment}
 use Rattle.chord_store.proofs.Puts.{undo}
 use Rattle.chord_store.specs.Inside.{pairs_outside}
 
--- pairs that came are taken out again
+-- the pairs put in are taken out again
 pub undone : (held : List Segment) (parcelled : Parcelled) (pairs pairs' : List Pair) → IsParcelled parcelled → IsClear parcelled.segment.span held → IsStocked held pairs
     → pairs' ≡ put_all parcelled.pairs pairs → pairs_outside parcelled.segment.span pairs' ≡ pairs
 undone held parcelled pairs pairs' rules clear stock put =
@@ -51,7 +51,7 @@ back_steps ticket old (Err fault) new from h = tt
 
 -- ---- a part
 
--- nothing changes and nothing goes out
+-- nothing changes and nothing is sent
 waits : (part : Part) (old new : Node) → part.to ≡ old.number → part.number ≡ mark_of part.from old.taken + 1 → old.phase ≢ Gone → new ≡ old
     → NodeStep old (Some (PartMessage part)) new None None
 waits part old new to next there same =
@@ -91,7 +91,7 @@ same_fields : (view : Node) (held held' : List Segment) (pairs pairs' : List Pai
     (record view { held = held'; entries = pairs'; taken = taken'.last; noted = taken'.noted })
 same_fields view held held' pairs pairs' limit taken taken' e f g h = rw (e, f, g, h) refl
 
--- what was taken and noted
+-- what the node took and buffered
 abbrev pub taken_of : Node → Taken
 taken_of node = record { last = node.taken; noted = node.noted }
 
@@ -122,7 +122,7 @@ pub part_is : (part : Part) (view old : Node) → view ≡ old → (result : Res
 part_is part view old e result held pairs limit taken next there same h =
     subst (λ (node : Node). PartIs part node result (next_node view held pairs limit taken)) e (next_is part view result held pairs limit taken next there same h)
 
--- a parcel that was taken, or was not
+-- a payload that was taken, or was not
 pub taken_next : (part : Part) (parcelled : Parcelled) (held : List Segment) (pairs : List Pair) (limit : ℕ) (taken : Taken) (result : Result Given AllocError)
     (held' : List Segment) (pairs' : List Pair) (taken' : Taken) → IsParcelled parcelled → GatherIs part taken.noted (Whole parcelled)
     → WholeIs part parcelled held pairs limit taken result held' pairs' taken' → NextIs part held pairs limit taken result held' pairs' taken'
@@ -136,7 +136,7 @@ taken_next part parcelled held pairs limit taken (Err fault) held' pairs' taken'
 
 -- ---- the item that is taken back
 
--- the item whose parcel was found
+-- the item whose payload was found
 pub parcel_from : (o : Option Item) (parcelled : Parcelled) → Some parcelled ≡ parcel_of o
     → (item : Item) × (o ≡ Some item) × (item.segment ≡ parcelled.segment) × (item.pairs ≡ parcelled.pairs)
 parcel_from None parcelled e = cc
@@ -151,7 +151,7 @@ none_from (Some item) e = cc
 pub same_parcel : (o : Option Item) (a b : Parcelled) → Some a ≡ parcel_of o → Some b ≡ parcel_of o → a ≡ b
 same_parcel o a b e f = same_Some a b (e ∙ sym f)
 
--- an outbox with nothing has no item
+-- an empty outbox has no item
 pub none_under_way : {G : Type 0} → (to number : ℕ) (items : List Item) (parcelled : Parcelled) → Some parcelled ≡ parcel_of (item_at to number items) → items ≡ [] → G
 unfolding item_at
 none_under_way to number [] parcelled e none = cc

@@ -1,4 +1,4 @@
--- What a node answers to a call, and what it is afterwards.
+-- What a node answers to a call, and the node afterwards.
 use Rattle.std.specs.Prelude.{Result, Ok, Err, ◌≡◌, ℕ, Bool, true, false, nat_le, if◌then◌else◌, Option, None, Some, List, length}
 use Rattle.std.specs.declared.alloc.AllocError.{AllocError}
 use Rattle.chord_map.specs.declared.pair.Pair.{Pair}
@@ -28,27 +28,27 @@ adds other = false
 unfoldable pub is_full_for : Request → List Pair → ℕ → Bool
 is_full_for request pairs limit = if adds (reply_to request pairs) then nat_le limit (length pairs) else false
 
--- what a store was asked, what it held and its limit, what came of it, and what it holds then
+-- a store's answer to a request, with its pairs before and after, and its limit
 abbrev pub Applied : Request → List Pair → ℕ → Result Reply StoreFault → List Pair → Type 0
 Applied request old limit (Ok reply) new = (reply ≡ reply_to request old) × (is_full_for request old limit ≡ false) × (new ≡ pairs_after request old)
 Applied request old limit (Err fault.Full) new = (is_full_for request old limit ≡ true) × (new ≡ old)
 Applied request old limit (Err fault.Memory) new = (is_full_for request old limit ≡ false) × (new ≡ old)
 
--- the answer to a call that the segment knows so, over a store that holds these pairs
+-- the answer to a call of which the segment knows this, over a store with these pairs
 abbrev pub past_answer : Past → Ask → List Pair → ℕ → Answered
 past_answer Seen ask pairs limit = answer.Dropped
 past_answer (Kept done) ask pairs limit = answer.Told (told_of ask done.reply)
 past_answer New ask pairs limit =
     if is_full_for ask.request pairs limit then answer.Full else answer.Told (told_of ask (reply_to ask.request pairs))
 
--- the answers that copy something: memory may be out for them alone
+-- answers that copy something; only these can run out of memory
 abbrev pub TakesMemory : Answered → Type 0
 TakesMemory (answer.Told told) = Unit {0}
 TakesMemory (answer.Forward to passed) = Unit {0}
 TakesMemory answer.Dropped = ⊥
 TakesMemory answer.Full = ⊥
 
--- the call that is executed, where the segment knows it so
+-- the call that is executed if the segment knows this of it
 abbrev pub past_done : Past → Ask → List Pair → ℕ → Option Done
 past_done New ask pairs limit = if is_full_for ask.request pairs limit then None else Some (done_of ask (reply_to ask.request pairs))
 past_done past ask pairs limit = None
@@ -63,18 +63,18 @@ abbrev pub entries_after : Option Done → Ask → List Pair → List Pair
 entries_after None ask pairs = pairs
 entries_after (Some done) ask pairs = pairs_after ask.request pairs
 
--- the call with this reply and this request, where there is one
+-- the executed call with this request, if there is one, and this reply
 abbrev pub done_with : Ask → Option Request → Reply → Option Done
 done_with ask (Some request) reply = Some (record { caller = ask.caller; number = ask.number; request = request; reply = reply })
 done_with ask None reply = None
 
--- the call, where it is to be noted
+-- the executed call, if it is to be recorded
 abbrev pub note_of : Bool → Option Done → Option Done
 note_of true did = did
 note_of false did = None
 
--- what a segment and a store do with a call: whether to note it, the segment, the pairs and the limit, what came of
--- it, and the segment and the pairs then. Out of memory both are as they were
+-- What a segment and a store answer to a call, and the two afterwards; the executed call is
+-- answered too if `noting`. Both stay as they were if memory runs out
 abbrev pub AnswersIn : Ask → Bool → Segment → List Pair → ℕ → Result (Answered × Option Done) AllocError → Segment → List Pair → Type 0
 AnswersIn ask noting segment pairs limit (Ok both) segment' pairs' =
     let past = past_at ask.caller ask.number segment in
@@ -83,12 +83,12 @@ AnswersIn ask noting segment pairs limit (Ok both) segment' pairs' =
 AnswersIn ask noting segment pairs limit (Err fault) segment' pairs' =
     TakesMemory (past_answer (past_at ask.caller ask.number segment) ask pairs limit) × (segment' ≡ segment) × (pairs' ≡ pairs)
 
--- the call that an Ask executes at the segment, if it does
+-- the call that an Ask executes at the segment, if any
 abbrev pub done_in : Option Segment → Ask → Node → Option Done
 done_in None ask node = None
 done_in (Some segment) ask node = past_done (past_at ask.caller ask.number segment) ask node.entries node.limit
 
--- the call that an Ask executes at the node, if it does
+-- the call that an Ask executes at the node, if any
 unfoldable pub ask_done : Ask → Node → Option Done
 ask_done ask node = done_in (segment_with (id_of ask.request) node.held) ask node
 
@@ -104,27 +104,27 @@ sent_by ask (answer.Forward to passed) = Some (AskMessage passed)
 sent_by ask answer.Full = Some (FullMessage ask.caller ask.number)
 sent_by ask answer.Dropped = None
 
--- what a node answers by the segment that holds the key, if one does
+-- what a node answers: from the segment that holds the key, or by passing the call on
 abbrev pub AnswersBy : Option Segment → Ask → Node → Answered → Type 0
 AnswersBy None ask node answered = PassesOn node.links ask answered
 AnswersBy (Some segment) ask node answered = answered ≡ past_answer (past_at ask.caller ask.number segment) ask node.entries node.limit
 
--- the node is out of memory for an answer that takes some
+-- the node may lack memory: its answer would copy something
 abbrev pub AsksMemory : Ask → Node → Type 0
 AsksMemory ask node = (answered : Answered) × AnswersBy (segment_with (id_of ask.request) node.held) ask node answered × TakesMemory answered
 
--- what a node answers to an Ask, and what it is then. Out of memory it is as it was
+-- What a node answers to an Ask, and the node afterwards. It stays as it was if memory runs out
 abbrev pub AskIs : Ask → Node → Result Answered AllocError → Node → Type 0
 AskIs ask old (Ok answered) new =
     AnswersBy (segment_with (id_of ask.request) old.held) ask old answered × (new ≡ after_done (ask_done ask old) ask old)
 AskIs ask old (Err fault) new = AsksMemory ask old × (new ≡ old)
 
--- the same, with the call that it executed where that is to be noted
+-- AskIs, with the executed call if it is to be recorded
 abbrev pub AskNotes : Ask → Bool → Node → Result (Answered × Option Done) AllocError → Node → Type 0
 AskNotes ask noting old (Ok both) new = AskIs ask old (Ok both.0) new × (both.1 ≡ note_of noting (ask_done ask old))
 AskNotes ask noting old (Err fault) new = AsksMemory ask old × (new ≡ old)
 
--- the same is one step of the node, unless it was out of memory
+-- AskIs is one step of the node, unless memory ran out
 abbrev pub AskSteps : Ask → Node → Result Answered AllocError → Node → Type 0
 AskSteps ask old (Ok answered) new = NodeStep old (Some (AskMessage ask)) new (sent_by ask answered) (ask_done ask old)
 AskSteps ask old (Err fault) new = Unit {0}

@@ -1,4 +1,4 @@
--- What a node does of its own accord, and what it is then.
+-- What a node does without a message, and the node afterwards.
 use Rattle.std.specs.Prelude.{◌≡◌, ◌≢◌, ◌⊎◌, ℕ, ◌+◌, ◌^◌, ◌<◌, ◌≤◌, true, false, Option, None, Some, is_some, List, [], Result, Ok, Err, length, slice_get}
 use Rattle.chord_ident.specs.declared.id.Id.{Id}
 use Rattle.chord_ident.specs.Circle.{cuts}
@@ -24,39 +24,39 @@ use Rattle.chord_model.specs.declared.message.Message.TheVariants.{Part as PartM
 use Rattle.chord_model.specs.declared.phase.Phase.TheVariants.{Staying, Leaving, Gone}
 use Rattle.chord_model.specs.Node.{Node, NodeStep, cut_held, joined_held, item_of, without_segment}
 
--- what was done is one step of the node
+-- a move that was done is one step of the node
 abbrev pub MoveSteps : {A E : Type 0} → Node → Result A E → Node → Type 0
 MoveSteps old (Ok done) new = NodeStep old None new None None
 MoveSteps old (Err fault) new = Unit {0}
 
--- the same where a part goes out
+-- a move that sends a part is one step of the node
 abbrev pub SendSteps : {E : Type 0} → Node → Result Part E → Node → Type 0
 SendSteps old (Ok part) new = NodeStep old None new (Some (PartMessage part)) None
 SendSteps old (Err fault) new = Unit {0}
 
--- the part of this place of the item of this receiver and number, if there are both
+-- part number `part` of the outbox's item of this receiver and number, if there is such a part
 abbrev pub part_in : ℕ → ℕ → ℕ → Node → Option Part
 part_in to number part node = part_of_item node.number to number part (parcel_of (item_at to number node.outbox))
 
--- the part goes out again, if it is there
+-- the part is sent again, if there is one
 abbrev pub ResendIs : ℕ → ℕ → ℕ → Node → Result Part ResendFault → Type 0
 ResendIs to number part node (Ok found) = part_in to number part node ≡ Some found
 ResendIs to number part node (Err resend.NoPart) = part_in to number part node ≡ None
 ResendIs to number part node (Err resend.Memory) = is_some (part_in to number part node) ≡ true
 
--- a node that stays begins to leave
+-- a staying node begins to leave
 abbrev pub LeaveIs : Node → Result (Unit {0}) NotStaying → Node → Type 0
 LeaveIs old (Ok done) new = (old.phase ≡ Staying) × (new ≡ record old { phase = Leaving })
 LeaveIs old (Err fault) new = (old.phase ≢ Staying) × (new ≡ old)
 
--- a leaving node that holds nothing and hands nothing over has no entry either, and is gone
+-- a leaving node that holds nothing and has an empty outbox has no entries either, and is gone
 abbrev pub RetireIs : Node → Result (Unit {0}) RetireFault → Node → Type 0
 RetireIs old (Ok done) new =
     (old.phase ≡ Leaving) × (old.held ≡ []) × (old.outbox ≡ []) × (old.entries ≡ []) × (new ≡ record old { phase = Gone; limit = 0; noted = [] })
 RetireIs old (Err retire.NotLeaving) new = (old.phase ≢ Leaving) × (new ≡ old)
 RetireIs old (Err retire.NotEmpty) new = (old.phase ≡ Leaving) × ((old.held ≢ []) ⊎ (old.outbox ≢ [])) × (new ≡ old)
 
--- the segment at the place is cut there, if there is one and the cut leaves two parts
+-- the segment at this index is cut, if there is one and the cut leaves two parts
 abbrev pub CutHeld : ℕ → Id → List Segment → Result (Unit {0}) CutAtFault → List Segment → Type 0
 CutHeld place at old (Ok done) new =
     (segment : Segment) × (slice_get old place ≡ Some segment) × (cuts segment.span at ≡ true) × (new ≡ cut_held place segment at old)
@@ -64,26 +64,26 @@ CutHeld place at old (Err cut.NoSegment) new = (length old ≤ place) × (new �
 CutHeld place at old (Err cut.NotInside) new = (segment : Segment) × (slice_get old place ≡ Some segment) × (cuts segment.span at ≡ false) × (new ≡ old)
 CutHeld place at old (Err cut.Memory) new = (segment : Segment) × (slice_get old place ≡ Some segment) × (cuts segment.span at ≡ true) × (new ≡ old)
 
--- a node with other held segments
+-- the node with other held segments
 abbrev pub with_held : List Segment → Node → Node
 with_held held node = record node { held = held }
 
 abbrev pub CutAtIs : ℕ → Id → Node → Result (Unit {0}) CutAtFault → Node → Type 0
 CutAtIs place at old result new = CutHeld place at old.held result new.held × (new ≡ with_held new.held old)
 
--- the two segments are there, and their join is refused so
+-- both segments exist, and their join is refused with this fault
 abbrev pub RefusedAt : ℕ → ℕ → List Segment → JoinFault → Type 0
 RefusedAt place other old fault =
     (first : Segment) × (second : Segment) × (slice_get old place ≡ Some first) × (slice_get old other ≡ Some second) × (place ≢ other) × JoinRefused first second fault
 
--- the refusal of a merge whose join is refused so
+-- the refusal of a merge, from that of its join
 abbrev pub merge_fault_of : JoinFault → MergeFault
 merge_fault_of join.NotAdjacent = merge.NotAdjacent
 merge_fault_of join.Overlap = merge.Overlap
 merge_fault_of join.Twice = merge.Twice
 merge_fault_of join.Memory = merge.Memory
 
--- the segment at the second place is joined behind the one at the first, in the first one's place
+-- the segment at `other` is joined behind the one at `place`, at that index
 abbrev pub MergeHeld : ℕ → ℕ → List Segment → Result (Unit {0}) MergeFault → List Segment → Type 0
 MergeHeld place other old (Ok done) new =
     (first : Segment) × (second : Segment) × (slice_get old place ≡ Some first) × (slice_get old other ≡ Some second) × (place ≢ other)
@@ -98,7 +98,7 @@ MergeHeld place other old (Err merge.Memory) new = RefusedAt place other old joi
 abbrev pub MergeIs : ℕ → ℕ → Node → Result (Unit {0}) MergeFault → Node → Type 0
 MergeIs place other old result new = MergeHeld place other old.held result new.held × (new ≡ with_held new.held old)
 
--- the segment at the place, with its pairs, goes into the outbox, and its first part is answered
+-- the segment at this index goes into the outbox with its pairs, and its first part is answered
 abbrev pub GiveIs : ℕ → ℕ → Node → Result Part GiveFault → Node → Type 0
 GiveIs place to old (Ok part) new =
     (segment : Segment) × (slice_get old.held place ≡ Some segment) × (mark_of to old.given + 1 < 2 ^ 64) × (part ≡ part_at (handover_of old.number (item_of segment to old)) 1)
@@ -107,7 +107,7 @@ GiveIs place to old (Err give.NoSegment) new = (length old.held ≤ place) × (n
 GiveIs place to old (Err give.NumbersSpent) new = (place < length old.held) × (2 ^ 64 ≤ mark_of to old.given + 1) × (new ≡ old)
 GiveIs place to old (Err give.Memory) new = (place < length old.held) × (mark_of to old.given + 1 < 2 ^ 64) × (new ≡ old)
 
--- the segment at the place may be given, memory apart
+-- whether the segment at this index may be given, unless memory runs out
 abbrev pub MayGive : ℕ → ℕ → Node → Result (Unit {0}) GiveFault → Type 0
 MayGive place to node (Ok may) = GiveIs place to node (Err give.Memory) node
 MayGive place to node (Err fault) = GiveIs place to node (Err fault) node

@@ -1,4 +1,4 @@
--- What becomes of a call for a key that the node does not hold.
+-- How a node passes on a call for a key that it does not hold.
 use Rattle.std.specs.Prelude.{◌≡◌, ◌-◌, ◌==◌, ◌||◌, if◌then◌else◌}
 use Rattle.chord_links.specs.declared.peer.Peer.{Peer}
 use Rattle.chord_links.specs.NodeLinks.{NodeLinks}
@@ -15,11 +15,11 @@ abbrev pub peer_of : Hop → Peer
 peer_of (Last peer) = peer
 peer_of (Near peer) = peer
 
--- it goes on to that node with one hop less, and is dropped where its hops are spent or that node is this one
+-- the call goes to this peer with one hop less; dropped if no hops are left or the peer is the node
 abbrev pub passed_to : NodeLinks → Ask → Peer → Answered
 passed_to links ask peer =
     if (ask.hops == 0) || (peer.no == links.me.no) then Dropped else Forward peer.no (record ask { hops = ask.hops - 1 })
 
--- the call goes on by the next hop
+-- the call is passed on by the next hop
 abbrev pub PassesOn : NodeLinks → Ask → Answered → Type 0
 PassesOn links ask answered = (hop : Hop) × IsNextHop links (id_of ask.request) hop × (answered ≡ passed_to links ask (peer_of hop))

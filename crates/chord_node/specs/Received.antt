@@ -1,4 +1,4 @@
--- What a node answers to what comes of handovers, and what it is then.
+-- What a node answers to messages of handovers, and the node afterwards.
 use Rattle.std.specs.Prelude.{◌≡◌, ◌≢◌, ◌⊎◌, ℕ, ◌+◌, ◌<◌, ◌≤◌, Bool, false, is_some, Option, None, Some, List, [], ◌∷◌, ◌++◌, length, Result, Ok, Err}
 use Rattle.std.specs.declared.alloc.AllocError.{AllocError}
 use Rattle.chord_map.specs.declared.pair.Pair.{Pair}
@@ -24,7 +24,7 @@ use Rattle.chord_model.specs.Headline.{IsNextFor}
 use Rattle.chord_model.specs.Node.{Node, NodeStep, with_given, with_back}
 use Rattle.chord_model.specs.Stock.{IsClash, IsClear}
 
--- the pairs of a parcel come into a store, where its span meets no held one and the store has room
+-- a payload's pairs go into a store, if its span overlaps no held one and the store has room
 abbrev pub PutIs : Parcelled → List Segment → List Pair → ℕ → Result (Unit {0}) PutFault → List Pair → Type 0
 PutIs parcelled held old limit (Ok done) new =
     IsClear parcelled.segment.span held × (length old + length parcelled.pairs ≤ limit) × (new ≡ put_all parcelled.pairs old)
@@ -32,7 +32,7 @@ PutIs parcelled held old limit (Err put.Clash) new = IsClash parcelled.segment.s
 PutIs parcelled held old limit (Err put.Full) new = IsClear parcelled.segment.span held × (limit < length old + length parcelled.pairs) × (new ≡ old)
 PutIs parcelled held old limit (Err put.Memory) new = IsClear parcelled.segment.span held × (length old + length parcelled.pairs ≤ limit) × (new ≡ old)
 
--- the next handover of a part's sender, which is whole, is taken into the segments, the entries and what was taken
+-- the sender's next handover, now whole, is taken: its segment, its pairs and its number
 abbrev pub WholeIs : Part → Parcelled → List Segment → List Pair → ℕ → Taken → Result Given AllocError → List Segment → List Pair → Taken → Type 0
 WholeIs part parcelled held pairs limit taken (Ok given.Got) held' pairs' taken' =
     IsClear parcelled.segment.span held × (length pairs + length parcelled.pairs ≤ limit)
@@ -44,11 +44,11 @@ WholeIs part parcelled held pairs limit taken (Ok given.Full) held' pairs' taken
 WholeIs part parcelled held pairs limit taken (Ok answer) held' pairs' taken' = ⊥
 WholeIs part parcelled held pairs limit taken (Err fault) held' pairs' taken' = (held' ≡ held) × (pairs' ≡ pairs) × (taken' ≡ taken)
 
--- a part takes memory where it is noted for the first time, and where it makes a parcel
+-- a part needs memory if it is buffered for the first time, or makes its payload whole
 abbrev pub PartTakesMemory : Part → List Part → Type 0
 PartTakesMemory part noted = (GatherIs part noted More × (is_noted part noted ≡ false)) ⊎ AreWhole part noted
 
--- a part of the next handover of its sender is noted, or makes the handover whole
+-- a part of the sender's next handover is buffered, or makes the handover whole
 abbrev pub NextIs : Part → List Segment → List Pair → ℕ → Taken → Result Given AllocError → List Segment → List Pair → Taken → Type 0
 NextIs part held pairs limit taken (Ok given.Part) held' pairs' taken' =
     GatherIs part taken.noted More × (held' ≡ held) × (pairs' ≡ pairs) × (taken' ≡ with_noted part taken)
@@ -64,7 +64,8 @@ abbrev pub GotIs : Ticket → Node → Bool → Node → Type 0
 GotIs ticket old found new =
     (found ≡ is_some (item_at ticket.to ticket.number old.outbox)) × (new ≡ record old { outbox = without ticket.to ticket.number old.outbox })
 
--- the item is held again, if it is there, its span meets no held one and the store has room
+-- the item is held again, if the outbox has it, its
+-- span overlaps no held one and the store has room
 abbrev pub BackIs : Ticket → Node → Result Back AllocError → Node → Type 0
 BackIs ticket old (Ok back.Unknown) new = (item_at ticket.to ticket.number old.outbox ≡ None) × (new ≡ old)
 BackIs ticket old (Ok back.Held) new =
@@ -79,16 +80,16 @@ BackIs ticket old (Err fault) new =
     (item : Item) × (item_at ticket.to ticket.number old.outbox ≡ Some item) × IsClear item.segment.span old.held
     × (length old.entries + length item.pairs ≤ old.limit) × (new ≡ old)
 
--- what is declined is one step of the node, unless it was out of memory
+-- the answer to a Declined is one step of the node, unless memory ran out
 abbrev pub BackSteps : Ticket → Node → Result Back AllocError → Node → Type 0
 BackSteps ticket old (Ok answer) new = NodeStep old (Some (DeclinedMessage ticket)) new None None
 BackSteps ticket old (Err fault) new = Unit {0}
 
--- the parts noted and this one are whole, and make this parcel
+-- the part is of the next handover, and with the buffered parts makes this payload
 abbrev pub IsWholeFor : Node → Part → Parcelled → Type 0
 IsWholeFor node part parcelled = IsNextFor node part × GatherIs part node.noted (Whole parcelled)
 
--- what a node answers to a part, and what it is then
+-- what a node answers to a part, and the node afterwards
 abbrev pub PartIs : Part → Node → Result Given AllocError → Node → Type 0
 PartIs part old (Ok given.Got) new =
     ((part.number ≤ mark_of part.from old.taken) × (new ≡ old))
@@ -112,7 +113,7 @@ sent_for part given.Got = Some (GotMessage (ticket_of_part part))
 sent_for part given.Declined = Some (DeclinedMessage (ticket_of_part part))
 sent_for part answer = None
 
--- the answer is one step of the node, unless it was out of memory
+-- the answer to a part is one step of the node, unless memory ran out
 abbrev pub PartSteps : Part → Node → Result Given AllocError → Node → Type 0
 PartSteps part old (Ok answer) new = NodeStep old (Some (PartMessage part)) new (sent_for part answer) None
 PartSteps part old (Err fault) new = Unit {0}

@@ -1,4 +1,4 @@
--- What a node of the program is seen as.
+-- A node of the program as a node of the definitions.
 use Rattle.std.specs.Prelude.{ℕ, Option, None, Some, List, [], map}
 use Rattle.chord_ident.specs.declared.span.Span.{Span}
 use Rattle.chord_map.specs.declared.pair.Pair.{Pair}
@@ -20,12 +20,12 @@ span_of None = None
 span_of (Some segment) = Some segment.span
 
 module _ {S : Type 0} where
-  -- the pairs of a store, none where it is gone
+  -- the pairs of a store; none if there is no store
   abbrev pub entries_in : (S → List Pair) → Option S → List Pair
   entries_in content None = []
   entries_in content (Some store) = content store
 
-  -- the limit of a store, 0 where it is gone
+  -- the limit of a store; 0 if there is no store
   abbrev pub limit_in : (S → ℕ) → Option S → ℕ
   limit_in limit None = 0
   limit_in limit (Some store) = limit store

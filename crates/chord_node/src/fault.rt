@@ -1,4 +1,4 @@
-//! Why a node refuses.
+//! Refusals of a node.
 
 use thiserror::Error;
 
@@ -48,7 +48,7 @@ pub enum ResendFault {
     Memory,
 }
 
-/// The node does not stay, so it can't begin to leave.
+/// The node is leaving or gone, so it can't begin to leave.
 #[derive(Clone, Copy, Debug, PartialEq, Eq, Error)]
 #[error("the node is not staying")]
 pub struct NotStaying;

@@ -1,4 +1,4 @@
-//! What a node does with what it holds, gives and takes.
+//! What a node does with its segments and handovers.
 
 pub(crate) mod give;
 pub mod given;

@@ -1,4 +1,5 @@
-//! What holds of a node in every world that some steps lead to. The function does nothing: its contract is the law.
+//! What holds of a node in every reachable world. The
+//! function does nothing: its contract is the law.
 ghost use Rattle.std.specs.Prelude.{◌≡◌, Some, Contains, Ok};
 ghost use Rattle.chord_handover.specs.declared.ticket.Ticket.{Ticket};
 ghost use Rattle.chord_handover.specs.Handover.{Part};
@@ -9,8 +10,8 @@ ghost use Rattle.chord_node.specs.declared.handovers.given.Back.TheVariants as b
 ghost use Rattle.chord_node.specs.declared.handovers.given.Given.TheVariants as given;
 ghost use Rattle.chord_node.specs.Received.{PartIs, BackIs};
 
-/// Each part that was sent fits where it comes next, and no handover meets what is held where it comes or comes back: a
-/// delivery is never answered Clash.
+/// In a reachable world neither an arriving nor a declined handover overlaps a segment that the
+/// node holds, so no answer is Clash.
 pub fn no_delivery_clashes()
     ensures taken { (world : World) (part : Part) (node new : Node) → ∥ Reached world ∥₁ → Contains world.sent (PartMessage part)
         → node_at part.to world.nodes ≡ Some node → ¬ PartIs part node (Ok given.Clash) new }

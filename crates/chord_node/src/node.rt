@@ -39,7 +39,7 @@ pub struct Node<S: EntryStore> {
     phase: Phase,
     links: Links,
     held: Vec<Segment>,
-    /// Gone where the node is.
+    /// `None` once the node is gone.
     store: Option<S>,
     outbox: Outbox,
     taken: Taken,
@@ -57,7 +57,7 @@ impl<S: EntryStore> Model for Node<S> {
     ghost invariant = { λ a. IsNode S.content a.phase a.links.me.no (segments_of a.held.items) a.store a.outbox.outbox };
 }
 
-/// The place of the held segment whose span contains x.
+/// The index of the held segment whose span contains x.
 fn place_with(held: &[Segment], x: Id) -> Option<usize>
     ensures { result ≡ position (λ (segment : RoomySegment). in_span segment.segment.span x.number) held.now }
 {
@@ -65,7 +65,8 @@ fn place_with(held: &[Segment], x: Id) -> Option<usize>
 }
 
 impl<S: EntryStore> Node<S> {
-    /// The first node of a ring, which holds the whole circle. Where it is out of memory the store comes back.
+    /// The first node of a ring, which holds the whole
+    /// circle. If memory runs out it gives the store back.
     pub fn found(alloc: Global, me: Peer, r: usize, store: S) -> Result<Node<S>, S>
         requires low { 2 ≤ r }
         requires high { r ≤ 16 }
@@ -107,9 +108,9 @@ impl<S: EntryStore> Node<S> {
         }
     }
 
-    /// Answers a call: again or for the first time where the node holds the key, with Full where its store has no
-    /// room for what the call would add. A call for a key that it does not hold is passed on or dropped. Where the call
-    /// was executed, a copy of it is given with its reply.
+    /// Answers a call. For a key that the node holds: the reply, for the first time or again, or
+    /// Full if its store has no room for the pair to add. A call for another key is passed on or
+    /// dropped. If the call was executed, a copy of it with its reply is given too.
     pub fn on_ask(&mut self, ask: &Ask) -> Result<(Answered, Option<Done>), AllocError>
         ensures answer { AskNotes ask.now true self.old result self.new }
         ensures step { AskStepsNoting ask.now self.old result self.new }
@@ -126,8 +127,9 @@ impl<S: EntryStore> Node<S> {
         answer_in(self.alloc, segment, store, ask)
     }
 
-    /// Answers as `on_ask` does a call that is handed over with its key's identifier. No digest is computed and no request
-    /// copied, so it is out of memory only where the node holds the key. The call is dropped then.
+    /// Answers a call that it owns, with its key's identifier, as `on_ask`
+    /// does. It computes no digest and copies no request, so it can run out
+    /// of memory only if the node holds the key; then it drops the call.
     pub fn take_ask(&mut self, id: Id, ask: Ask) -> Result<Answered, AllocError>
         requires { id.number ≡ id_of ask.request }
         ensures answer { AskIs ask self.old result self.new }
@@ -138,7 +140,7 @@ impl<S: EntryStore> Node<S> {
         Ok(told)
     }
 
-    /// Answers a call that is handed over with its key's identifier.
+    /// Answers a call that it owns, with its key's identifier.
     fn answer_at(&mut self, id: Id, ask: Ask) -> Result<(Answered, Option<Done>), AllocError>
         requires { id.number ≡ id_of ask.request }
         ensures answer { AskNotes ask false self.old result self.new }
@@ -153,21 +155,21 @@ impl<S: EntryStore> Node<S> {
         answer_taken(self.alloc, segment, store, ask)
     }
 
-    /// Its number.
+    /// The node's number.
     pub fn number(&self) -> u64
         ensures { result ≡ self.now.number }
     {
         self.links.me().no
     }
 
-    /// What the node knows of the others.
+    /// What the node knows of other nodes.
     pub fn links(&self) -> &Links
         ensures { result.now ≡ self.now.links }
     {
         &self.links
     }
 
-    /// Other links of the same node, with as many successors at most.
+    /// Sets the links. They are of the same node, and list as many successors at most.
     pub fn set_links(&mut self, links: Links)
         requires me { links.me ≡ self.old.links.me }
         requires r { links.r ≡ self.old.links.r }
@@ -177,14 +179,14 @@ impl<S: EntryStore> Node<S> {
         self.links = links;
     }
 
-    /// How far it has gone.
+    /// The phase of the node.
     pub fn phase(&self) -> Phase
         ensures { result ≡ self.now.phase }
     {
         self.phase
     }
 
-    /// The span of the held segment at the place, counted from 0.
+    /// The span of the held segment at this index.
     pub fn span(&self, place: usize) -> Option<Span>
         ensures { result ≡ span_of (slice_get self.now.held place) }
     {
@@ -192,7 +194,7 @@ impl<S: EntryStore> Node<S> {
         Some(segment.span())
     }
 
-    /// Whether it holds the identifier.
+    /// Whether the node holds the identifier.
     pub fn holds(&self, x: Id) -> bool
         ensures { result ≡ is_some (segment_with x.number self.now.held) }
     {
@@ -206,21 +208,22 @@ impl<S: EntryStore> Node<S> {
         self.taken.last(from)
     }
 
-    /// How many segments it holds.
+    /// The number of held segments.
     pub fn held_count(&self) -> usize
         ensures { result ≡ length self.now.held }
     {
         self.held.len()
     }
 
-    /// How many items its outbox has.
+    /// The number of items in the outbox.
     pub fn kept_count(&self) -> usize
         ensures { result ≡ length self.now.outbox }
     {
         self.outbox.len()
     }
 
-    /// The receiver, the number and the span of an item of the outbox, counted from 0 in the order given.
+    /// The receiver, the number and the span of item `i`
+    /// of the outbox, counted from 0 in the order given.
     pub fn kept(&self, i: u64) -> Option<(u64, u64, Span)>
         ensures { result ≡ kept_as (slice_get self.now.outbox i) }
     {
@@ -241,7 +244,8 @@ impl<S: EntryStore> Node<S> {
         }
     }
 
-    /// Its receiver has a handover: the item leaves the outbox. Says whether it was there.
+    /// The receiver took a handover: its item leaves
+    /// the outbox. Answers whether the item was there.
     pub fn on_got(&mut self, got: &Got) -> bool
         requires from { got.now.from ≡ self.old.number }
         ensures answer { GotIs got.now self.old result self.new }
@@ -251,7 +255,7 @@ impl<S: EntryStore> Node<S> {
         freed.is_some()
     }
 
-    /// Cuts the held segment at the place, counted from 0. The part behind stands behind the part before.
+    /// Cuts the held segment at this index. The part behind the point gets the next index.
     pub fn cut_at(&mut self, place: usize, at: Id) -> Result<(), CutAtFault>
         ensures answer { CutAtIs place at self.old result self.new }
         ensures step { MoveSteps self.old result self.new }
@@ -259,7 +263,7 @@ impl<S: EntryStore> Node<S> {
         cut_segment(&mut self.held, place, at)
     }
 
-    /// Joins the held segment at the second place behind the one at the first, in the first one's place.
+    /// Joins the held segment at `other` behind the one at `place`, at that index.
     pub fn merge(&mut self, place: usize, other: usize) -> Result<(), MergeFault>
         ensures answer { MergeIs place other self.old result self.new }
         ensures step { MoveSteps self.old result self.new }
@@ -267,7 +271,7 @@ impl<S: EntryStore> Node<S> {
         merge_segments(self.alloc, &mut self.held, place, other)
     }
 
-    /// Whether the held segment at the place may be given, memory apart.
+    /// Whether the held segment at this index may be given, apart from memory.
     pub fn may_give(&self, place: usize, to: u64) -> Result<(), GiveFault>
         ensures { MayGive place to self.now result }
     {
@@ -280,7 +284,8 @@ impl<S: EntryStore> Node<S> {
         Ok(())
     }
 
-    /// Puts the held segment at the place, with its pairs, into the outbox, and gives the first part of this handover.
+    /// Puts the held segment at this index into the outbox with
+    /// its pairs, and gives the first part of the handover.
     pub fn give(&mut self, place: usize, to: u64) -> Result<Part, GiveFault>
         ensures answer { GiveIs place to self.old result self.new }
         ensures step { SendSteps self.old result self.new }
@@ -310,7 +315,7 @@ impl<S: EntryStore> Node<S> {
         }
     }
 
-    /// Answers a part of a handover: notes it, or takes the handover that is whole with it.
+    /// Answers a part of a handover: buffers it, or takes the handover if the part makes it whole.
     pub fn on_give(&mut self, part: &Part) -> Result<Given, AllocError>
         requires to { part.now.to ≡ self.old.number }
         ensures answer { PartIs part.now self.old result self.new }
@@ -330,7 +335,7 @@ impl<S: EntryStore> Node<S> {
         take_next(&mut self.held, store, &mut self.taken, part)
     }
 
-    /// Its receiver declined a handover: the item is held again.
+    /// The receiver declined a handover: its segment is held again.
     pub fn on_declined(&mut self, declined: &Declined) -> Result<Back, AllocError>
         requires from { declined.now.from ≡ self.old.number }
         ensures answer { BackIs declined.now self.old result self.new }
@@ -355,7 +360,7 @@ impl<S: EntryStore> Node<S> {
         Ok(Back::Held)
     }
 
-    /// Begins to leave.
+    /// The node begins to leave.
     pub fn begin_leave(&mut self) -> Result<(), NotStaying>
         ensures answer { LeaveIs self.old result self.new }
         ensures step { MoveSteps self.old result self.new }
@@ -367,7 +372,7 @@ impl<S: EntryStore> Node<S> {
         Ok(())
     }
 
-    /// Is gone, and drops its store, which is empty, and the parts that it noted.
+    /// The node is gone. It drops its store, which is empty, and its buffered parts.
     pub fn retire(&mut self) -> Result<(), RetireFault>
         ensures answer { RetireIs self.old result self.new }
         ensures step { MoveSteps self.old result self.new }
@@ -386,7 +391,7 @@ impl<S: EntryStore> Node<S> {
         Ok(())
     }
 
-    /// The store of a node that is to go no further.
+    /// The store of a node that is no longer needed.
     pub fn into_store(self) -> S
         requires { self.phase ≢ Gone }
         ensures content { S.content result ≡ self.entries }

@@ -34,7 +34,7 @@ pub fn ticket(from: u64, to: u64, number: u64) -> Ticket {
     Ticket { from, to, number }
 }
 
-/// A call with as many hops as there can be.
+/// A call with the most hops.
 pub fn ask(number: u64, floor: u64, request: Request) -> Ask
     requires above { floor < number }
     requires near { number ≤ floor + 16 }
@@ -48,14 +48,14 @@ pub fn ask(number: u64, floor: u64, request: Request) -> Ask
     }
 }
 
-/// What the node answers to the call, where there is memory for it.
+/// What the node answers to the call, with memory for it.
 pub fn answered<S: EntryStore>(node: &mut Node<S>, call: &Ask) -> Option<Answered> {
     let (answered, done) = node.on_ask(call).ok()?;
     drop(done);
     Some(answered)
 }
 
-/// What the node answers to the insert of this value under this key, as this call of caller 0.
+/// What the node answers to an insert of this value under this key, as call `number` of caller 0.
 pub fn inserted<S: EntryStore>(
     alloc: Global,
     node: &mut Node<S>,
@@ -103,14 +103,15 @@ pub fn newborn(alloc: Global, limit: u64) -> Node<CappedStore> {
     Node::newborn(alloc, Links::alone(me, 3), CappedStore::new(alloc, limit))
 }
 
-/// The part of (A, C], with x under `abc`, that node 0, which holds the whole circle, gives to node 1.
+/// The part of (A, C], with x under `abc`, from node 0, which held the whole circle, to node 1.
 pub fn give_away(alloc: Global, node: &mut Node<CappedStore>) -> Option<Part> {
     put(alloc, node, 1, b"abc")?;
     node.cut_at(0, Id::new(C)).ok()?;
     node.give(0, 1).ok()
 }
 
-/// Node 0 at A with room for so many pairs, after it gave (A, C], with x under `abc`, to node 1; and the part of it.
+/// Node 0 at A with room for `limit` pairs, after it gave (A,
+/// C], with x under `abc`, to node 1; and the part of it.
 pub fn given_away(alloc: Global, limit: u64) -> Option<(Node<CappedStore>, Part)> {
     let mut node = found(alloc, CappedStore::new(alloc, limit))?;
     let part = give_away(alloc, &mut node);
@@ -122,7 +123,7 @@ pub fn empty_part(alloc: Global, ticket: Ticket, span: Span) -> Part {
     first_part(alloc, ticket, span, 1)
 }
 
-/// The first of so many parts, with an empty segment and no pairs.
+/// The first of `of` parts, with an empty segment and no pairs.
 pub fn first_part(alloc: Global, ticket: Ticket, span: Span, of: u64) -> Part
     requires { 1 ≤ of }
 {
@@ -137,7 +138,7 @@ pub fn first_part(alloc: Global, ticket: Ticket, span: Span, of: u64) -> Part
     }
 }
 
-/// What the node answers to a part that is for it.
+/// What the node answers to a part, if it is the part's receiver.
 pub fn handed<S: EntryStore>(node: &mut Node<S>, part: &Part) -> Result<Option<Given>, AllocError> {
     if part.to != node.number() {
         return Ok(None);
@@ -145,12 +146,12 @@ pub fn handed<S: EntryStore>(node: &mut Node<S>, part: &Part) -> Result<Option<G
     Some(node.on_give(part)).transpose()
 }
 
-/// What the node answers to a part, where there is memory for it.
+/// What the node answers to a part, with memory for it.
 pub fn given<S: EntryStore>(node: &mut Node<S>, part: &Part) -> Option<Given> {
     handed(node, part).ok().flatten()
 }
 
-/// The same of a part that does not come again.
+/// What the node answers to a part, which is then dropped.
 pub fn given_once<S: EntryStore>(node: &mut Node<S>, part: Part) -> Option<Given> {
     let given = given(node, &part);
     drop(part);
@@ -167,7 +168,7 @@ pub fn given_empty(
     given_once(node, empty_part(alloc, ticket, span))
 }
 
-/// Whether an item that the node gave left the outbox.
+/// Whether a Got finds its item in the node's outbox.
 pub fn freed<S: EntryStore>(node: &mut Node<S>, got: Got) -> Option<bool> {
     if got.from != node.number() {
         return None;
@@ -175,7 +176,7 @@ pub fn freed<S: EntryStore>(node: &mut Node<S>, got: Got) -> Option<bool> {
     Some(node.on_got(&got))
 }
 
-/// What comes of an item that the node gave and that was declined.
+/// What the node answers to a Declined for an item that it gave.
 pub fn taken_back<S: EntryStore>(
     node: &mut Node<S>,
     declined: Declined,
@@ -186,7 +187,7 @@ pub fn taken_back<S: EntryStore>(
     Some(node.on_declined(&declined)).transpose()
 }
 
-/// The same where there is memory for it.
+/// What the node answers to a Declined, with memory for it.
 pub fn back<S: EntryStore>(node: &mut Node<S>, declined: Declined) -> Option<Back> {
     taken_back(node, declined).ok().flatten()
 }

@@ -1,4 +1,4 @@
--- Values that are tables, one after another.
+-- Lists of values that are tables.
 use Rattle.std.proofs.Common.{◌≡◌, ℕ, zero, suc, ◌+◌, ◌<◌, List, [], ◌∷◌, ◌++◌, length, take, get_or, Option, Some, refl, sym, ap, subst, ◌∙◌, arith}
 use Rattle.std.proofs.lemmas.List.{take_more}
 use Rattle.toml.specs.declared.value.Value.{Value}
@@ -14,7 +14,7 @@ tables_push Is no_items value members (y ∷ ys) x e one all = absurd all
 tables_push Is (item first items) value members [] x e one all = absurd all
 tables_push Is (item first items) value members (y ∷ ys) x e one all = (all.0, all.1, all.2, tables_push Is items value members ys x e one all.3)
 
--- one more table
+-- a list of such values with one more
 pub tables_more : {X : Type 0} (Is : Members → X → Type 0) (values : List Value) (i : ℕ) (value : Value) (members : Members) (xs : List X) (x : X)
     → i < length values → value ≡ get_or values i value → as_table (view value) ≡ Some members → Is members x
     → AreTablesOf Is (items_view (take i values)) xs → AreTablesOf Is (items_view (take (i + 1) values)) (xs ++ x ∷ [])
@@ -23,7 +23,7 @@ tables_more Is values i value members xs x lt at e one all =
     ap items_view (take_more values i value lt) ∙ items_view-push (take i values) (get_or values i value) ∙ ap (λ (v : Value). push_item (items_view (take i values)) (view v)) (sym at) in
     subst (λ (items : Items). AreTablesOf Is items (xs ++ x ∷ [])) (sym more) (tables_push Is (items_view (take i values)) (view value) members xs x e one all)
 
--- what a place of such values has
+-- the value is a table that describes the thing at this index
 pub record HasTable {X : Type 0} (Is : Members → X → Type 0) (value : Value) (xs : List X) (i : ℕ) : Type 0 where
   pub members : Members
   pub one : X
@@ -52,7 +52,7 @@ given items = Some items
 some_items : (x y : Items) → given x ≡ given y → x ≡ y
 some_items x y e = cc
 
--- the things that a document lists, once its list is known
+-- a document lists these things, once its values are known to describe them
 pub listed : {X : Type 0} (Is : Members → X → Type 0) (key : List ℕ) (members : Members) (values : List Value) (xs : List X)
     → list_at key members ≡ Some (items_view values) → AreListed Is key members xs → AreTablesOf Is (items_view values) xs
 listed Is key members values xs e all = subst (λ (items : Items). AreTablesOf Is items xs) (some_items all.items (items_view values) (sym all.there ∙ e)) all.each
@@ -72,7 +72,7 @@ given_members members = Some members
 pub same_members : (x y : Members) → given_members x ≡ given_members y → x ≡ y
 same_members x y e = cc
 
--- what stands there is what the table of the value is of
+-- the thing at this index is what the value's table describes
 pub one_of : {X : Type 0} (Is : Members → X → Type 0) (value : Value) (xs : List X) (i : ℕ) (members : Members) (h : HasTable Is value xs i) → as_table (view value) ≡ Some members → Is members h.one
 one_of Is value xs i members h e = subst (λ (m : Members). Is m h.one) (same_members h.members members (sym h.table ∙ e)) h.is_one
 
@@ -84,7 +84,7 @@ tables_same Is (item first items) [] ys p q = absurd p
 tables_same Is (item first items) (x ∷ xs) [] p q = absurd q
 tables_same Is (item first items) (x ∷ xs) (y ∷ ys) p q = let same = tables_same Is items xs ys p.3 q.3 in omega arith
 
--- as many things are listed
+-- two readings of a document list equally many things
 pub listed_same : {X : Type 0} (Is : Members → X → Type 0) (key : List ℕ) (members : Members) (xs ys : List X) → AreListed Is key members xs → AreListed Is key members ys → length xs ≡ length ys
 listed_same Is key members xs ys p q =
     tables_same Is q.items xs ys (subst (λ (items : Items). AreTablesOf Is items xs) (some_items p.items q.items (sym p.there ∙ q.there)) p.each) q.each

@@ -1,4 +1,4 @@
--- Which plan a document is, and which plans keep their limits. Source: our own.
+-- Which plan a document is, and the limits of plans. Source: our own.
 use Rattle.std.specs.Prelude.{◌≡◌, ℕ, ℤ, pos, ◌^◌, ◌<◌, ◌≤◌, List, [], ◌∷◌, length, Option, Some, None, option_and_then, codes, IsUtf8}
 use Rattle.std.specs.List.{All}
 use Rattle.std.specs.Str.Parse.{digits_value, AllDigits}
@@ -28,7 +28,7 @@ number_at key members = option_and_then as_integer (get_member key members)
 abbrev pub text_at : List ℕ → Members → Option (List ℕ)
 text_at key members = option_and_then as_str (get_member key members)
 
--- the values of an array; none where there is nothing
+-- the values of an array; none if the key is missing
 abbrev pub list_of : Option Data → Option Items
 list_of None = Some no_items
 list_of (Some value) = as_array value
@@ -37,20 +37,20 @@ list_of (Some value) = as_array value
 abbrev pub list_at : List ℕ → Members → Option Items
 list_at key members = list_of (get_member key members)
 
--- each value is the table of a thing of its own, in order
+-- each value is a table that describes the thing at the same index
 abbrev pub AreTablesOf : {X : Type 0} → (Members → X → Type 0) → Items → List X → Type 0
 AreTablesOf Is no_items [] = Unit {0}
 AreTablesOf Is (item value items) (x ∷ xs) = (members : Members) × (as_table value ≡ Some members) × Is members x × AreTablesOf Is items xs
 AreTablesOf Is no_items (x ∷ xs) = ⊥
 AreTablesOf Is (item value items) [] = ⊥
 
--- the tables under a key are those of these things
+-- the tables under a key describe these things in order
 pub record AreListed {X : Type 0} (Is : Members → X → Type 0) (key : List ℕ) (members : Members) (xs : List X) : Type 0 where
   pub items : Items
   pub there : list_at key members ≡ Some items
   pub each : AreTablesOf Is items xs
 
--- the numbers of a ring
+-- the settings of a ring in a table
 pub record SettingsAre (members : Members) (s : PlanSettings) : Type 0 where
   pub slots : number_at (codes "slots") members ≡ Some (pos s.slots)
   pub callers : number_at (codes "callers") members ≡ Some (pos s.callers)
@@ -58,14 +58,14 @@ pub record SettingsAre (members : Members) (s : PlanSettings) : Type 0 where
   pub tries : number_at (codes "tries") members ≡ Some (pos s.tries)
   pub wait : number_at (codes "wait") members ≡ Some (pos s.wait_ms)
 
--- the store that a node's table names
+-- the kind of store that a node's table names
 abbrev pub StoreIs : Members → StoreKind → Type 0
 StoreIs members store.Tree = text_at (codes "store") members ≡ Some (codes "tree")
 StoreIs members store.List = text_at (codes "store") members ≡ Some (codes "list")
 StoreIs members store.Noted = text_at (codes "store") members ≡ Some (codes "noted")
 StoreIs members (store.Capped limit) = (text_at (codes "store") members ≡ Some (codes "capped")) × (number_at (codes "limit") members ≡ Some (pos limit)) × (limit < 2 ^ 63)
 
--- the node of a table: its identifier is that of 32 hexadecimal digits
+-- the node in a table; its identifier is 32 hexadecimal digits
 pub record NodeIs (members : Members) (n : PlanNode) : Type 0 where
   pub digits : List ℕ
   pub id : text_at (codes "id") members ≡ Some digits
@@ -74,7 +74,7 @@ pub record NodeIs (members : Members) (n : PlanNode) : Type 0 where
   pub value : n.id.number ≡ digits_value 16 digits
   pub store : StoreIs members n.store
 
--- the request that an ask's table names
+-- the request in an ask's table
 abbrev pub RequestIs : Members → Request → Type 0
 RequestIs members (request.Insert key value) =
     (text_at (codes "do") members ≡ Some (codes "insert")) × (text_at (codes "key") members ≡ Some key) × (text_at (codes "value") members ≡ Some value)
@@ -82,13 +82,13 @@ RequestIs members (request.Retrieve key) = (text_at (codes "do") members ≡ Som
 RequestIs members (request.Remove key value) =
     (text_at (codes "do") members ≡ Some (codes "remove")) × (text_at (codes "key") members ≡ Some key) × (text_at (codes "value") members ≡ Some value)
 
--- the ask of a table
+-- the ask in a table
 pub record AskIs (members : Members) (a : PlanAsk) : Type 0 where
   pub caller : number_at (codes "caller") members ≡ Some (pos a.caller)
   pub via : number_at (codes "via") members ≡ Some (pos a.via)
   pub request : RequestIs members a.request
 
--- the plan of a document
+-- the plan in a document
 pub record IsPlanOf (document : List ℕ) (p : Plan) : Type 0 where
   pub members : Members
   pub text : IsUtf8 document
@@ -97,7 +97,7 @@ pub record IsPlanOf (document : List ℕ) (p : Plan) : Type 0 where
   pub nodes : AreListed NodeIs (codes "node") members p.nodes.items
   pub asks : AreListed AskIs (codes "ask") members p.asks.items
 
--- the numbers of a ring are within their limits
+-- the settings of a ring are within their limits
 pub record AreSettings (s : PlanSettings) : Type 0 where
   pub some_slots : 1 ≤ s.slots
   pub slots : s.slots ≤ 64
@@ -109,13 +109,13 @@ pub record AreSettings (s : PlanSettings) : Type 0 where
   pub some_wait : 1 ≤ s.wait_ms
   pub wait : s.wait_ms ≤ 60000
 
--- an ask is of one of so many callers, at one of so many nodes, and keeps the limits of requests
+-- an ask's caller is below `callers` and its node below `nodes`, and its request keeps the limits
 pub record IsAskOf (callers nodes : ℕ) (a : PlanAsk) : Type 0 where
   pub caller : a.caller < callers
   pub via : a.via < nodes
   pub request : IsRequest a.request
 
--- a plan keeps its own limits
+-- a plan keeps all its limits
 pub record IsPlan (p : Plan) : Type 0 where
   pub settings : AreSettings p.settings
   pub some_nodes : 1 ≤ length p.nodes.items

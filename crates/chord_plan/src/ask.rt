@@ -11,7 +11,7 @@ use std::alloc::{AllocError, Global};
 #[derive(Debug, Drop)]
 pub struct PlanAsk {
     pub caller: usize,
-    /// The node that it is asked at, by its place in the plan.
+    /// The node at which it is asked, by its index in the plan.
     pub via: usize,
     pub request: Request,
 }
@@ -23,7 +23,7 @@ fn bytes_of(alloc: Global, text: &str) -> Result<Bytes, AllocError>
     Bytes::from_slice(alloc, text.as_bytes())
 }
 
-// The number under the key, which is below the count.
+// The number under the key, if it is below `count`.
 fn place(table: &Entries, key: &'static str, count: usize) -> Result<usize, PlanFault>
     ensures value { IfOk result (λ place. number_at key.now (members_of table.now) ≡ Some (pos place)) }
     ensures below { IfOk result (λ place. place < count) }
@@ -64,7 +64,7 @@ impl PlanAsk {
     ghost use Rattle.chord_plan.specs.Plan.{AskIs, IsAskOf};
     ghost use Rattle.chord_plan.specs.declared.ask.PlanAsk.{PlanAsk};
 
-    /// The ask of a table of `ask`, for so many callers and nodes.
+    /// The ask in a table of `ask`, for a plan with this many callers and nodes.
     pub(crate) fn read(
         alloc: Global,
         table: &Entries,

@@ -1,4 +1,4 @@
-//! What a table of a plan has under its keys.
+//! The entries of a plan's table.
 
 use crate::fault::{EntryFault, PlanFault, TableName};
 use toml::{Table, Value};
@@ -25,7 +25,7 @@ impl<'a> Entries<'a> {
         Entries { table, name }
     }
 
-    /// The table that a value is, if it is one.
+    /// The value as a table, if it is one.
     pub fn of(value: &'a Value, name: TableName) -> Option<Entries<'a>>
         ensures table { IfSome result (λ entries. as_table (view value.now) ≡ Some (members_of entries)) }
         ensures accepts { IsSome (as_table (view value.now)) → IsSome result }
@@ -36,7 +36,7 @@ impl<'a> Entries<'a> {
         }
     }
 
-    /// That the entry under the key breaks a rule.
+    /// The fault of the entry under this key.
     pub fn fault(&self, key: &'static str, fault: EntryFault) -> PlanFault {
         PlanFault::Entry {
             table: self.name,
@@ -55,7 +55,7 @@ impl<'a> Entries<'a> {
         }
     }
 
-    /// The whole number under the key, from the least to the most.
+    /// The whole number under the key, if it is from `least` to `most`.
     pub fn number(&self, key: &'static str, least: u64, most: u64) -> Result<u64, PlanFault>
         ensures value { IfOk result (λ number. number_at key.now (members_of self.now) ≡ Some (pos number)) }
         ensures least { IfOk result (λ number. least ≤ number) }
@@ -82,7 +82,7 @@ impl<'a> Entries<'a> {
         }
     }
 
-    /// The values of the array under the key, or none where there is nothing under it.
+    /// The values of the array under the key; none if the key is missing.
     pub fn list(&self, key: &'static str) -> Result<&'a [Value], PlanFault>
         ensures value { IfOk result (λ values. list_at key.now (members_of self.now) ≡ Some (items_view values.now)) }
         ensures accepts { IsSome (list_at key.now (members_of self.now)) → IsOk result }

@@ -52,12 +52,12 @@ pub enum EntryFault {
 }
 
 impl EntryFault {
-    /// A kind of store that there is not.
+    /// The fault of an unknown kind of store.
     pub(crate) fn unknown_kind(alloc: Global, kind: &str) -> Result<EntryFault, AllocError> {
         Ok(EntryFault::UnknownKind(String::from_str(alloc, kind)?))
     }
 
-    /// An operation that there is not.
+    /// The fault of an unknown operation.
     pub(crate) fn unknown_operation(
         alloc: Global,
         operation: &str,
@@ -68,16 +68,16 @@ impl EntryFault {
 
 #[derive(Debug, Drop)]
 pub enum PlanFault {
-    /// Its file cannot be read.
+    /// The file of the plan cannot be read.
     Unread,
-    /// It has more than 1,048,576 bytes.
+    /// The plan has more than 1,048,576 bytes.
     TooLong,
-    /// It is no TOML, as shows at this line, from 1.
+    /// The plan is no TOML; the fault is on this line, from 1.
     NoToml {
         line: usize,
         fault: toml::de::Error,
     },
-    /// What is under this key of this table breaks a rule.
+    /// The entry under this key of this table breaks a rule.
     Entry {
         table: TableName,
         key: &'static str,

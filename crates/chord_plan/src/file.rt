@@ -10,7 +10,7 @@ use std::io::{self, Read};
 /// How many bytes are read at a time.
 const PIECE: usize = 4_096;
 
-/// The bytes of a file, of which those past the limit of a plan may be left out.
+/// The bytes of a file. Bytes beyond the limit of a plan may be missing.
 fn read_bytes(rt: &impl Files, alloc: Global, path: &str) -> io::Result<Vec<u8>> {
     let mut file = fs::open(rt, path)?;
     let mut bytes = Vec::new(alloc);
@@ -25,7 +25,7 @@ fn read_bytes(rt: &impl Files, alloc: Global, path: &str) -> io::Result<Vec<u8>>
     Ok(bytes)
 }
 
-/// The plan that a file has.
+/// The plan in a file.
 pub fn read_plan(rt: &impl Files, alloc: Global, path: &str) -> Result<Plan, PlanFault> {
     match read_bytes(rt, alloc, path) {
         Ok(bytes) => Plan::parse(alloc, bytes.as_slice()),

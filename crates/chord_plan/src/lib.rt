@@ -1,7 +1,7 @@
-//! Plans of rings: their numbers, their nodes, and what their callers ask, read from TOML.
+//! Plans of rings: their settings, their nodes, and what their callers ask, read from TOML.
 //!
-//! [`Plan::parse`] reads a document and [`read_plan`] a file. A plan that breaks a rule is refused with a [`PlanFault`],
-//! whose text names the table and the key, or the line that is no TOML.
+//! [`Plan::parse`] reads a document and [`read_plan`] a file. A plan that breaks a rule is refused
+//! with a [`PlanFault`], whose text names the table and the key, or the line that is no TOML.
 #![tactic(auto)]
 
 mod ask;

@@ -5,13 +5,13 @@ use crate::fault::{EntryFault, PlanFault};
 use chord_ident::Id;
 use std::alloc::Global;
 
-/// What a node keeps its pairs in.
+/// What holds a node's pairs.
 #[derive(Clone, Copy, Debug, PartialEq, Eq)]
 pub enum StoreKind {
     Tree,
     List,
     Noted,
-    /// For at most so many pairs.
+    /// For at most this many pairs.
     Capped(u64),
 }
 
@@ -26,7 +26,7 @@ impl PlanNode {
     ghost use Rattle.chord_plan.specs.declared.node.PlanNode.{PlanNode};
     ghost use Rattle.chord_plan.specs.Plan.{NodeIs, members_of};
 
-    /// The node of a table of `node`.
+    /// The node in a table of `node`.
     pub(crate) fn read(alloc: Global, table: &Entries) -> Result<PlanNode, PlanFault>
         ensures value { IfOk result (NodeIs (members_of table.now)) }
         ensures accepts { (node : PlanNode) → NodeIs (members_of table.now) node → IsOkUnless result PlanFault.OutOfMemory }

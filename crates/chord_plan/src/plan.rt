@@ -1,4 +1,4 @@
-//! The plan of a ring: its numbers, its nodes, and what its callers ask.
+//! The plan of a ring: its settings, its nodes, and what its callers ask.
 ghost use Rattle.std.specs.Prelude.{◌≡◌, ◌≤◌, ◌<◌, ◌⊎◌, Err, Some, List, IfOk, IsOkUnless, codes, length, vec_len};
 ghost use Rattle.std.specs.List.{All};
 ghost use Rattle.toml.specs.Errors.{IsMemory};
@@ -20,13 +20,13 @@ pub const PLAN_BYTES: usize = 1_048_576;
 #[derive(Debug, Drop)]
 pub struct Plan {
     pub settings: PlanSettings,
-    /// In the order in which they join. The first one is created.
+    /// In the order in which they join. The first creates the ring.
     pub nodes: Vec<PlanNode>,
     /// In the order of the file.
     pub asks: Vec<PlanAsk>,
 }
 
-// Why a document is no TOML, and on which line that shows.
+// Why a document is no TOML, and the line of that fault.
 fn fault_of(document: &[u8], fault: toml::de::Error) -> PlanFault
     ensures { (result ≡ PlanFault.OutOfMemory) ⊎ (¬ IsMemory fault) }
 {
@@ -69,7 +69,7 @@ fn read_nodes(alloc: Global, top: &Entries, slots: usize) -> Result<Vec<PlanNode
     Ok(nodes)
 }
 
-// The tables of `ask`, for so many callers and nodes.
+// The tables of `ask`, for a plan with this many callers and nodes.
 fn read_asks(
     alloc: Global,
     top: &Entries,
@@ -93,12 +93,12 @@ fn read_asks(
 }
 
 impl Plan {
-    /// The plan that a TOML document in UTF-8 is.
+    /// The plan in a TOML document in UTF-8.
     pub fn parse(alloc: Global, document: &[u8]) -> Result<Plan, PlanFault>
         ensures value { IfOk result (IsPlanOf document.now) }
         ensures limits { IfOk result IsPlan }
 
-        // A plan that keeps the limits is refused for memory alone.
+        // A plan that keeps the limits is refused for memory only.
         ensures accepts { (plan : Plan) → IsPlanOf document.now plan → IsPlan plan → length document.now ≤ PLAN_BYTES → IsOkUnless result PlanFault.OutOfMemory }
         ensures long { PLAN_BYTES < length document.now → result ≡ Err PlanFault.TooLong }
     {

@@ -1,9 +1,9 @@
-//! The numbers of a ring.
+//! The settings of a ring.
 
 use crate::entries::Entries;
 use crate::fault::PlanFault;
 
-/// How large a ring is and how long it waits.
+/// How large a ring is and how long its callers wait.
 #[derive(Clone, Copy, Debug, PartialEq, Eq)]
 pub struct PlanSettings {
     /// How many nodes there may be, from 1 to 64.
@@ -12,9 +12,9 @@ pub struct PlanSettings {
     pub callers: usize,
     /// How many successors a node lists, from 2 to 16.
     pub successors: usize,
-    /// How often a request is sent at most, from 1 to 1,000.
+    /// How many times a request is sent at most, from 1 to 1,000.
     pub tries: u64,
-    /// How long each sending is waited for, from 1 to 60,000 milliseconds.
+    /// How many milliseconds a caller waits for a reply after each time, from 1 to 60,000.
     pub wait_ms: u64,
 }
 
@@ -23,7 +23,7 @@ impl PlanSettings {
     ghost use Rattle.chord_plan.specs.declared.settings.PlanSettings.{PlanSettings};
     ghost use Rattle.chord_plan.specs.Plan.{AreSettings, SettingsAre, members_of};
 
-    /// Those of the plan's own table.
+    /// The settings in the plan's own table.
     pub(crate) fn read(top: &Entries) -> Result<PlanSettings, PlanFault>
         ensures value { IfOk result (SettingsAre (members_of top.now)) }
         ensures limits { IfOk result AreSettings }

@@ -15,7 +15,7 @@ const TWO_NODES: &str = concat!(
     "key = \"abc\"\nvalue = \"y\"\n",
 );
 
-/// The plan with the first such piece replaced, or as it is where there is none.
+/// The plan with the first `old` replaced by `new`; unchanged if it has none.
 fn changed(alloc: Global, old: &str, new: &str) -> Result<String, AllocError> {
     match TWO_NODES.split_once(old) {
         None => String::from_str(alloc, TWO_NODES),
@@ -23,12 +23,12 @@ fn changed(alloc: Global, old: &str, new: &str) -> Result<String, AllocError> {
     }
 }
 
-/// The plan of a text.
+/// The plan in a text.
 fn plan_of(alloc: Global, text: &str) -> Option<Plan> {
     Plan::parse(alloc, text.as_bytes()).ok()
 }
 
-/// What a request does, with which key and value.
+/// The name, key and value of a request.
 fn parts_of(request: &Request) -> (&'static str, &[u8], &[u8]) {
     match request {
         Request::Insert { key, value } => ("insert", key.as_slice(), value.as_slice()),
@@ -37,12 +37,12 @@ fn parts_of(request: &Request) -> (&'static str, &[u8], &[u8]) {
     }
 }
 
-/// Whether it is an ask of caller 0 by way of this node.
+/// Checks that it is an ask of caller 0 at this node with these parts.
 fn is_ask(ask: &PlanAsk, via: usize, parts: (&str, &[u8], &[u8])) -> bool {
     ask.caller == 0 && ask.via == via && parts_of(&ask.request) == parts
 }
 
-/// Whether the plan asks what that of two nodes does.
+/// Checks that the plan has the asks of the two-node plan.
 fn has_the_asks(plan: &Plan) -> bool {
     match plan.asks.as_slice() {
         [first, second, third] => {
@@ -59,7 +59,7 @@ fn node(id: u128, store: StoreKind) -> PlanNode {
     PlanNode { id, store }
 }
 
-/// Whether it is the plan of two nodes.
+/// Checks that it is the two-node plan.
 fn is_two_nodes(plan: &Plan) -> bool {
     let settings = PlanSettings {
         slots: 2,
@@ -75,7 +75,7 @@ fn is_two_nodes(plan: &Plan) -> bool {
     has_the_asks(plan) && plan.settings == settings && plan.nodes.as_slice() == nodes.as_slice()
 }
 
-/// Whether the plan of two nodes is read, again where a growth was refused.
+/// Checks that the two-node plan is read, if need be a second time after a refused growth.
 fn reads_two_nodes(alloc: Global) -> Option<bool> {
     let plan = match Plan::parse(alloc, TWO_NODES.as_bytes()) {
         Ok(plan) => plan,
@@ -94,7 +94,8 @@ fn two_nodes(rt: HostRuntime) {
     assert!(rt; reads_two_nodes(rt.alloc()) == Some(true));
 }
 
-/// Other keys, a store of each kind, an upper case identifier, no asks, and numbers at their limits.
+/// A plan with unknown keys, a store of each kind, an upper case identifier, no asks, and numbers
+/// at their limits.
 const OTHER_PLAN: &str = concat!(
     "slots = 64\ncallers = 64\nsuccessors = 16\ntries = 1000\nwait = 60000\nname = 3\n[other]\nslots = 9\n",
     "[[node]]\nid = \"C0000000000000000000000000000001\"\nstore = \"noted\"\nlimit = \"none\"\n",
@@ -102,7 +103,7 @@ const OTHER_PLAN: &str = concat!(
     "[[node]]\nid = \"00000000000000000000000000000001\"\nstore = \"capped\"\nlimit = 9223372036854775807\n",
 );
 
-/// The settings of the other plan, whether it has its nodes, and how many asks.
+/// The settings of the other plan, whether it has the right nodes, and how many asks it has.
 fn other_plan(alloc: Global) -> Option<(PlanSettings, bool, usize)> {
     let plan = plan_of(alloc, OTHER_PLAN)?;
     let most = 9_223_372_036_854_775_807;
@@ -127,7 +128,7 @@ fn another_plan(rt: HostRuntime) {
     assert!(rt; other_plan(rt.alloc()) == Some((settings, true, 0)));
 }
 
-/// Whether the plan with the first such piece replaced is that of two nodes.
+/// Checks that the plan with the first `old` replaced is still the two-node plan.
 fn is_unchanged(alloc: Global, old: &str, new: &str) -> Option<bool> {
     let text = changed(alloc, old, new).ok()?;
     let plan = plan_of(alloc, text.as_str())?;
@@ -141,26 +142,26 @@ fn a_value_of_a_retrieve_is_not_looked_at(rt: HostRuntime) {
     assert!(rt; is_unchanged(rt.alloc(), asks, with_a_value) == Some(true));
 }
 
-/// What is told of a plan that is refused.
+/// The text of the fault for which a plan is refused.
 fn told(alloc: Global, document: &[u8]) -> Option<String> {
     let fault = Plan::parse(alloc, document).err()?;
     fault.to_string(alloc).ok()
 }
 
-/// Whether the document is refused with this text.
+/// Checks that the document is refused with this text.
 fn tells(alloc: Global, document: &[u8], wanted: &str) -> Option<bool> {
     let told = told(alloc, document)?;
     Some(told.as_str() == wanted)
 }
 
-/// Whether the plan with the first such piece replaced is refused with this text.
+/// Checks that the two-node plan with the first `old` replaced is refused with this text.
 fn is_refused(alloc: Global, old: &str, new: &str, text: &str) -> Option<bool> {
     let document = changed(alloc, old, new).ok()?;
     let told = told(alloc, document.as_bytes())?;
     Some(told.strip_prefix("fault plan\n") == Some(text))
 }
 
-/// What stands in place of what, and what is told of it.
+/// A piece of the plan, its replacement, and the text of the fault.
 const FAULTS_OF_NUMBERS: &[(&str, &str, &str)] = &[
     ("slots = 2\n", "", "slots: missing"),
     ("slots = 2", "slots = \"2\"", "slots: no whole number"),
@@ -225,13 +226,13 @@ fn faults_of_nodes(rt: HostRuntime) {
     }
 }
 
-/// Whether the plan without nodes, with these pieces behind it, is refused with this text.
+/// Checks that a plan with no nodes but these pieces behind it is refused with this text.
 fn is_no_plan(alloc: Global, rest: &str, nodes: &str, wanted: &str) -> Option<bool> {
     let document = format!(in alloc; "{NO_NODES}{rest}{nodes}").ok()?;
     tells(alloc, document.as_bytes(), wanted)
 }
 
-/// Documents with no tables where some are to be.
+/// Documents without the tables of nodes or asks that they should have, and the text of the fault.
 const FAULTS_OF_TABLES: &[(&str, &str, &str)] = &[
     ("", "", "fault plan\nnode: not from 1 to 1 tables"),
     ("node = []", "", "fault plan\nnode: not from 1 to 1 tables"),
@@ -276,7 +277,7 @@ fn faults_of_asks(rt: HostRuntime) {
     }
 }
 
-/// The plan with so many bytes as the first key or value.
+/// The two-node plan with `count` bytes put in front of its first key or value.
 fn with_bytes(alloc: Global, name: &str, count: usize) -> Result<String, AllocError> {
     let mut text = String::new(alloc);
     for _ in 0..count {
@@ -287,7 +288,8 @@ fn with_bytes(alloc: Global, name: &str, count: usize) -> Result<String, AllocEr
     changed(alloc, old.as_str(), new.as_str())
 }
 
-/// Whether a plan with so many bytes there is accepted, and one with a byte more is refused with this text.
+/// Gives whether a plan with `most` bytes put there is accepted, and whether one more is refused
+/// with this text.
 fn is_limit(alloc: Global, name: &str, most: usize, text: &str) -> Option<(bool, bool)> {
     let document = with_bytes(alloc, name, most).ok()?;
     let accepted = Plan::parse(alloc, document.as_bytes()).is_ok();
@@ -297,7 +299,7 @@ fn is_limit(alloc: Global, name: &str, most: usize, text: &str) -> Option<(bool,
 
 #[test]
 fn limits_of_requests(rt: HostRuntime) {
-    // The key abc and the value x are there besides.
+    // These counts leave out the key abc and the value x, which are already there.
     for (name, most, text) in [
         (
             "key",
@@ -315,19 +317,20 @@ fn limits_of_requests(rt: HostRuntime) {
     }
 }
 
-/// Whether what is told of the document begins with this text.
+/// Checks that the document is refused with a text that begins so.
 fn begins(alloc: Global, document: &[u8], wanted: &str) -> Option<bool> {
     let told = told(alloc, document)?;
     Some(told.as_str().starts_with(wanted))
 }
 
-/// The same of the plan with the first such piece replaced.
+/// Checks that the two-node plan with the first `old` replaced is refused with a text that begins
+/// so.
 fn begins_changed(alloc: Global, old: &str, new: &str, wanted: &str) -> Option<bool> {
     let document = changed(alloc, old, new).ok()?;
     begins(alloc, document.as_bytes(), wanted)
 }
 
-/// The line of a document that is no TOML is told.
+/// The fault of a document that is no TOML names the line.
 #[test]
 fn faults_of_documents(rt: HostRuntime) {
     let alloc = rt.alloc();
@@ -337,7 +340,8 @@ fn faults_of_documents(rt: HostRuntime) {
     assert!(rt; begins(alloc, document, "fault plan\nline 2: ") == Some(true));
 }
 
-/// Whether a document of as many bytes as there may be is accepted, and one with a byte more is refused.
+/// Gives whether a document of the most bytes is accepted, and whether one with a byte more is
+/// refused.
 fn longest(alloc: Global) -> Option<(bool, bool)> {
     let mut document = Vec::from_slice(alloc, TWO_NODES.as_bytes()).ok()?;
     document.resize(PLAN_BYTES, b'\n').ok()?;
@@ -347,7 +351,7 @@ fn longest(alloc: Global) -> Option<(bool, bool)> {
     Some((accepted, refused))
 }
 
-/// As many bytes as there may be, and one more.
+/// A document may have the most bytes, but not one more.
 #[test]
 fn lengths_of_documents(rt: HostRuntime) {
     assert!(rt; longest(rt.alloc()) == Some((true, true)));

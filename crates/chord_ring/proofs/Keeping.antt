@@ -1,4 +1,5 @@
--- A step that changes one node's links, to a list that skips nothing new and has a live entry, keeps a ring sound and its principals.
+-- A step that changes one node's links, to a list that skips nothing new and has a live entry,
+-- keeps a ring sound and its principals.
 use Rattle.std.proofs.Common.{◌≡◌, ℕ, ◌⊎◌, inl, inr, true, List, [], ◌∷◌, length, Some, refl, ap, sym, subst, ◌∙◌}
 use Rattle.std.specs.Prelude.{is_some, IsSome, slice_get}
 use Rattle.std.specs.List.{AllByRecursion}
@@ -12,7 +13,7 @@ use Rattle.chord_ring.specs.Steps.{Ring}
 use Rattle.chord_ring.proofs.Lookups.{Updates, find_more}
 use Rattle.chord_ring.specs.Sound.{IsPeerOf, IdsSound, LinksSound, IsSound}
 
--- one node gets these links, new or in place of its own
+-- one node has these links now, as a new node or in place of its old ones
 pub record Change (old new : Ring) (at : ℕ) (after : NodeLinks) : Type 0 where
   pub updates : Updates old.members new.members at (Some after)
   pub ids : IdsSound new.ids
@@ -24,14 +25,14 @@ pub record Change (old new : Ring) (at : ℕ) (after : NodeLinks) : Type 0 where
   pub skips : (node : ℕ) (links : NodeLinks) → links_of old.members node ≡ Some links → Skips after.me.id.number after.entries links.me.id.number
       → (other : ℕ) × (theirs : NodeLinks) × (links_of old.members other ≡ Some theirs) × Skips theirs.me.id.number theirs.entries links.me.id.number
 
--- what is known stays known
+-- a known peer stays known
 pub known_more : (old new : List ℕ) → ((node id : ℕ) → slice_get old node ≡ Some id → slice_get new node ≡ Some id)
     → (peers : List Peer) → AllByRecursion (IsPeerOf old) peers → AllByRecursion (IsPeerOf new) peers
 known_more old new grows [] known = tt
 known_more old new grows (peer ∷ peers) known = (grows peer.no peer.id.number known.0, known_more old new grows peers known.1)
 
 module _ (old new : Ring) (at : ℕ) (after : NodeLinks) (sound : IsSound old) (change : Change old new at after) where
-  -- a member stays one, with the same number and identifier
+  -- a member is still a member, with the same number and identifier
   pub still_member : (node : ℕ) (links : NodeLinks) → links_of old.members node ≡ Some links
       → (later : NodeLinks) × (links_of new.members node ≡ Some later) × (links.me ≡ later.me)
   still_member node links is_its =
@@ -61,7 +62,7 @@ module _ (old new : Ring) (at : ℕ) (after : NodeLinks) (sound : IsSound old) (
   still_live peers live =
       find_more (λ peer. is_member old.members peer.no) (λ peer. is_member new.members peer.no) (λ peer. still_is_member peer.no) peers live
 
-  -- a principal stays one
+  -- a principal is still a principal
   pub principal_stays : (node : ℕ) → IsPrincipal old.members node → IsPrincipal new.members node
   principal_stays node principal =
       let (later, is_its, same_me) = still_member node principal.links principal.is_its in

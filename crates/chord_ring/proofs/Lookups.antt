@@ -8,12 +8,12 @@ use Rattle.std.proofs.lemmas.List.{length-set, get_or_past, get_or_push, get_or_
 use Rattle.chord_links.specs.NodeLinks.{NodeLinks}
 use Rattle.chord_ring.specs.Ring.{Members, links_of, IsPrincipal}
 
--- the new members have this value at one number, and the old ones' elsewhere
+-- the new members have this value at one number, and are the old ones elsewhere
 pub record Updates (old new : Members) (at : ℕ) (value : Option NodeLinks) : Type 0 where
   pub here : links_of new at ≡ value
   pub elsewhere : (node : ℕ) → node ≢ at → links_of new node ≡ links_of old node
 
--- a member's number is one of a node that ever was
+-- a member's number is that of a node that once joined
 pub member_within : (members : Members) (node : ℕ) (links : NodeLinks) → links_of members node ≡ Some links → node < length members
 member_within members node links is_its =
     elim (cases_lt node (length members)) [
@@ -40,7 +40,7 @@ Updates-push members value =
           ];
     }
 
--- where more pass, an element is found that was found
+-- if more elements pass, a search that found one still finds one
 pub find_more : {X : Type 0} (p q : X → Bool) → ((x : X) → p x ≡ true → q x ≡ true) → (xs : List X) → IsSome (find p xs) → IsSome (find q xs)
 find_more p q more [] found = found
 find_more p q more (x ∷ xs) found =
@@ -53,13 +53,13 @@ find_more p q more (x ∷ xs) found =
           ]
     ]
 
--- a member's number after a departure is one of a node that ever was
+-- a member's number after a departure is that of a node that once joined
 pub member_within_without : (members : Members) (gone node : ℕ) (links : NodeLinks) → links_of (slice_set members gone None) node ≡ Some links → node < length members
 member_within_without members gone node links is_its =
     let same : length (slice_set members gone None) ≡ length members = length-set members gone None in
     let within = member_within (slice_set members gone None) node links is_its in
     omega arith
 
--- a principal's number after a departure is one of a node that ever was
+-- a principal's number after a departure is that of a node that once joined
 pub principal_within_without : (members : Members) (gone node : ℕ) → IsPrincipal (slice_set members gone None) node → node < length members
 principal_within_without members gone node principal = member_within_without members gone node principal.links principal.is_its

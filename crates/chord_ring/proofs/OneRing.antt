@@ -1,4 +1,4 @@
--- The principals of a sound ring stand on one ring.
+-- The principals of a sound ring are on one ring.
 use Rattle.std.proofs.Common.{◌≡◌, ℕ, ◌+◌, ◌<◌, inl, inr, true, List, [], ◌∷◌, Option, Some, None, arith, refl, ap, sym, subst, ◌∙◌}
 use Rattle.std.specs.Prelude.{is_some, slice_get}
 use Rattle.std.specs.Option.{option_and_then}
@@ -61,7 +61,7 @@ first_live_is members ids (peer ∷ peers) found known e =
       | inr is_dead ↦ first_live_is members ids peers found known.1 (rw is_dead at e)
     ]
 
--- a member's links, where there is one
+-- a member has links
 pub links_from_member : (members : Members) (node : ℕ) → is_member members node ≡ true → (links : NodeLinks) × (links_of members node ≡ Some links)
 links_from_member members node is_one = go (links_of members node) refl is_one
   where
@@ -69,12 +69,12 @@ links_from_member members node is_one = go (links_of members node) refl is_one
     go None e some = absurd (false≢true some)
     go (Some links) e some = (links, e)
 
--- two peers with one number and one identifier are one
+-- two peers with equal numbers and equal identifiers are equal
 pub same_peer : (peer other : Peer) → peer.no ≡ other.no → peer.id.number ≡ other.id.number → peer ≡ other
 same_peer peer other number id = λ i. record { no = number i; id = record { number = id i } }
 
 module _ (ring : Ring) (sound : IsSound ring) where
-  -- two members with one identifier are one
+  -- two members with equal identifiers are equal
   pub same_member : (node other : ℕ) (links theirs : NodeLinks) → links_of ring.members node ≡ Some links → links_of ring.members other ≡ Some theirs
       → links.me.id.number ≡ theirs.me.id.number → links.me ≡ theirs.me
   same_member node other links theirs is_its is_theirs same =

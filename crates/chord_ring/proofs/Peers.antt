@@ -1,4 +1,4 @@
--- Lists of peers that are known, and the identifiers of the nodes that ever were.
+-- Lists of known peers, and the identifiers of the nodes that ever joined.
 use Rattle.std.proofs.Common.{◌≡◌, ℕ, zero, suc, ◌<◌, ◌≤◌, ◌⊎◌, inl, inr, true, ltb, List, [], ◌∷◌, ◌++◌, length, take, drop, get_or, Some, arith, refl, ap, sym, subst, ◌∙◌}
 use Rattle.std.specs.Prelude.{IsSome, slice_get}
 use Rattle.std.specs.List.{AllByRecursion, Contains}
@@ -13,7 +13,7 @@ use Rattle.chord_links.proofs.Skipping.{OnCircle}
 use Rattle.chord_ring.specs.Ring.{Members, is_member, first_live}
 use Rattle.chord_ring.specs.Sound.{IsPeerOf, IdsSound}
 
--- what holds of each peer holds of each of a front, and of the rising front
+-- a property of each peer holds of each in a prefix, and in the rising prefix
 pub each_take : (P : Peer → Type 0) (n : ℕ) (peers : List Peer) → AllByRecursion P peers → AllByRecursion P (take n peers)
 each_take P zero peers each = tt
 each_take P (suc n) [] each = tt
@@ -38,7 +38,7 @@ first_and_rest members links live = go links.entries live
     go [] some = absurd (false≢true some)
     go (peer ∷ peers) some = refl
 
--- a front that begins with a live node has one
+-- a prefix that begins with a live node has a live node
 pub live_first : (members : Members) (r : ℕ) (head : Peer) (rest : List Peer) → 0 < r → is_member members head.no ≡ true
     → IsSome (first_live members (take r (head ∷ rest)))
 live_first members zero head rest positive live = absurd (omega arith)
@@ -49,7 +49,7 @@ pub Rises-past_less : (owner less past : ℕ) (peers : List Peer) → less ≤ p
 Rises-past_less owner less past [] below rises = tt
 Rises-past_less owner less past (peer ∷ peers) below rises = (let first : past < walk owner peer.id.number = rises.0 in omega arith, rises.1)
 
--- an identifier behind the others: those before stay, and it stands last
+-- one more identifier at the end: the others stay, and it is last
 pub slice_get-push_old : (ids : List ℕ) (id node other : ℕ) → slice_get ids node ≡ Some other → slice_get (ids ++ id ∷ []) node ≡ Some other
 slice_get-push_old [] id node other e = absurd (none-some other e)
 slice_get-push_old (x ∷ ids) id zero other e = e

@@ -21,7 +21,7 @@ use Rattle.chord_ring.specs.Sound.{IsPeerOf, IdsSound, LinksSound, IsSound}
 use Rattle.chord_ring.proofs.Peers.{each_take, each_rising_front, OnCircle-known, first_and_rest, live_first, Rises-past_less, slice_get-push_old, slice_get-push_new, IdsSound-push}
 use Rattle.chord_ring.proofs.Keeping.{Change, known_more, principal_stays, still_sound}
 
--- the ring is sound, and each principal that is still a member is one
+-- the ring is sound, and each principal that is still a member is still a principal
 pub record Kept (old new : Ring) : Type 0 where
   pub sound : IsSound new
   pub principals : KeepsPrincipals old.members new.members
@@ -242,7 +242,7 @@ Kept-step old new (Candidate node peer) sound step = Kept-takes_candidate old no
 Kept-step old new (DropDead node) sound step = Kept-drops_dead old node new sound step
 Kept-step old new (Rectify node notifier) sound step = Kept-rectifies old node notifier new sound step
 
--- storing what a step makes of a member's links keeps the ring sound and its principals
+-- storing a member's links after a step keeps the ring sound and its principals
 pub stored : (old now : Ring) (node : ℕ) (after : NodeLinks) → IsSound old → old ≡ now → (step : RingStep) × Step now step (with_links now node after)
     → IsSound (with_links old node after) × KeepsPrincipals now.members (with_links old node after).members
 stored old now node after sound same (step, done) =

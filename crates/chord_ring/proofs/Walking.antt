@@ -16,7 +16,7 @@ use Rattle.chord_ring.proofs.Stepping.{member_on_circle}
 use Rattle.chord_ring.proofs.Counting.{count_by_le, count_by_less}
 use Rattle.chord_ring.proofs.OneRing.{same_member, next_links, passes_none}
 
--- what rises ends farther than it began
+-- a rising list ends farther than it began
 pub Rises-last : (owner past : ℕ) (before : List Peer) (last : Peer) → Rises owner past (before ++ last ∷ []) → past < walk owner last.id.number
 Rises-last owner past [] last rises = rises.0
 Rises-last owner past (peer ∷ before) last rises =
@@ -58,7 +58,7 @@ module _ (ring : Ring) (sound : IsSound ring) (target : ℕ) (principal : IsPrin
   abbrev pub to : NodeLinks
   to = principal.links
 
-  -- how many members lie on the way to the principal
+  -- the number of members on the way to the principal
   abbrev pub ahead : ℕ → ℕ
   ahead from = count_by (is_on_way from to.me.id.number) ring.members
 
@@ -144,7 +144,7 @@ module _ (ring : Ring) (sound : IsSound ring) (target : ℕ) (principal : IsPrin
             ]
       ]
 
--- the principals of a sound ring stand on one ring
+-- the principals of a sound ring are on one ring
 pub IsOneRing-sound : (ring : Ring) → IsSound ring → IsOneRing ring.members
 IsOneRing-sound ring sound =
     record {
@@ -161,6 +161,6 @@ IsOneRing-sound ring sound =
     go from to None on = on
     go from to (Some links) on = refl
 
--- the same by a name without a dash
+-- `IsOneRing-sound` under a name without a dash
 pub one_ring : (ring : Ring) → IsSound ring → IsOneRing ring.members
 one_ring = IsOneRing-sound

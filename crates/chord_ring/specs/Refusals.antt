@@ -16,16 +16,17 @@ use Rattle.chord_ring.specs.declared.ring_fault.RingFault.TheVariants.{NoSuchNod
 use Rattle.chord_ring.specs.Ring.{links_of, is_member}
 use Rattle.chord_ring.specs.Steps.{Ring, candidate_of, gives_way, is_live}
 
--- two members, with their links, of which this holds
+-- two members, whose links have this property
 abbrev pub OfTwo : Ring → ℕ → ℕ → (NodeLinks → NodeLinks → Type 0) → Type 0
 OfTwo ring node other P =
     (links : NodeLinks) × (theirs : NodeLinks) × (links_of ring.members node ≡ Some links) × (links_of ring.members other ≡ Some theirs) × P links theirs
 
--- the links are of the member of this number: the same node, with as many successors at most
+-- the links are this member's: the same node, listing as many successors at most
 abbrev pub AreOwn : Ring → ℕ → NodeLinks → Type 0
 AreOwn ring node after = (links : NodeLinks) × (links_of ring.members node ≡ Some links) × (after.me ≡ links.me) × (after.r ≡ links.r)
 
--- behind no member; an identifier that was used; one that does not lie before the first entry; no memory, where all else is well
+-- NoSuchNode: `pred` is no member. IdTaken: the identifier was used before. NotBetween: it is not
+-- between `pred` and its first entry. Memory: none of these.
 abbrev pub JoinRefused : Ring → ℕ → ℕ → RingFault → Type 0
 JoinRefused ring id pred NoSuchNode = is_member ring.members pred ≡ false
 JoinRefused ring id pred IdTaken = IsTrue (is_member ring.members pred) × Contains ring.ids id
@@ -35,14 +36,16 @@ JoinRefused ring id pred Memory =
     (links : NodeLinks) × (links_of ring.members pred ≡ Some links) × ¬ (Contains ring.ids id) × IsBetween links.me.id.number id (first_entry links).id.number
 JoinRefused ring id pred _ = ⊥
 
--- a node that is no member, or a first entry that never was; a dead one; one that is not the first entry
+-- NoSuchNode: the node is no member, or the first entry never was one. HeadDead: the first entry
+-- departed. NotHead: `head` is not the first entry.
 abbrev pub StabiliseRefused : Ring → ℕ → ℕ → RingFault → Type 0
 StabiliseRefused ring node head NoSuchNode = (is_member ring.members node ≡ false) ⊎ (length ring.members ≤ head)
 StabiliseRefused ring node head (Stabilise HeadDead) = IsTrue (is_member ring.members node) × (head < length ring.members) × (is_member ring.members head ≡ false)
 StabiliseRefused ring node head (Stabilise NotHead) = OfTwo ring node head (λ links theirs. first_entry links ≢ theirs.me)
 StabiliseRefused ring node head _ = ⊥
 
--- a node that is no member, or a candidate that never was; a dead one; one that is not closer
+-- NoSuchNode: the node is no member, or the candidate never was one. Dead: the candidate departed.
+-- NotCloser: it is not between the node and its first entry.
 abbrev pub CandidateRefused : Ring → ℕ → ℕ → RingFault → Type 0
 CandidateRefused ring node peer NoSuchNode = (is_member ring.members node ≡ false) ⊎ (length ring.members ≤ peer)
 CandidateRefused ring node peer (Candidate Dead) = IsTrue (is_member ring.members node) × (peer < length ring.members) × (is_member ring.members peer ≡ false)
@@ -50,7 +53,8 @@ CandidateRefused ring node peer (Candidate NotCloser) =
     OfTwo ring node peer (λ links theirs. ¬ (IsBetween links.me.id.number theirs.me.id.number (first_entry links).id.number))
 CandidateRefused ring node peer _ = ⊥
 
--- a node that is no member; a live first entry; no other entry
+-- NoSuchNode: the node is no member. HeadLive: its
+-- first entry is live. Empty: it has no other entry.
 abbrev pub DropRefused : Ring → ℕ → RingFault → Type 0
 DropRefused ring node NoSuchNode = is_member ring.members node ≡ false
 DropRefused ring node (Drop HeadLive) =
@@ -59,12 +63,12 @@ DropRefused ring node (Drop Empty) =
     (links : NodeLinks) × (links_of ring.members node ≡ Some links) × (is_member ring.members (first_entry links).no ≡ false) × (length links.entries ≤ 1)
 DropRefused ring node _ = ⊥
 
--- a node or a notifier that is no member
+-- NoSuchNode: the node or the notifier is no member.
 abbrev pub RectifyRefused : Ring → ℕ → ℕ → RingFault → Type 0
 RectifyRefused ring node notifier NoSuchNode = (is_member ring.members node ≡ false) ⊎ (is_member ring.members notifier ≡ false)
 RectifyRefused ring node notifier _ = ⊥
 
--- what a step is refused for
+-- why a step is refused
 abbrev pub Refused : Ring → RingStep → RingFault → Type 0
 Refused ring (step.Join id pred) fault = JoinRefused ring id.number pred fault
 Refused ring (step.Stabilise node head) fault = StabiliseRefused ring node head fault
@@ -72,7 +76,7 @@ Refused ring (step.Candidate node peer) fault = CandidateRefused ring node peer 
 Refused ring (step.DropDead node) fault = DropRefused ring node fault
 Refused ring (step.Rectify node notifier) fault = RectifyRefused ring node notifier fault
 
--- what the member learns of its first entry
+-- the candidate that the member learns from its first entry
 abbrev pub IsCandidate : Ring → ℕ → ℕ → Option Peer → Type 0
 IsCandidate ring node head candidate = OfTwo ring node head (λ links theirs. candidate ≡ candidate_of links theirs)
 
@@ -81,7 +85,7 @@ abbrev pub GaveWay : Ring → ℕ → ℕ → Bool → Type 0
 GaveWay ring node notifier gave =
     OfTwo ring node notifier (λ links theirs. gave ≡ gives_way links.me theirs.me (is_live ring.members links.predecessor) links.predecessor)
 
--- what a step answers
+-- the answer of a step
 abbrev pub Did : Ring → RingStep → RingDid → Type 0
 Did ring (step.Join id pred) (did.Joined node) = node ≡ length ring.ids
 Did ring (step.Stabilise node head) (did.Candidate candidate) = IsCandidate ring node head candidate

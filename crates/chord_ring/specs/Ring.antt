@@ -11,7 +11,7 @@ use Rattle.chord_links.specs.Successors.{Skips, Rises}
 abbrev pub Members : Type 0
 Members = List (Option NodeLinks)
 
--- the links of the member of this number, if it is one
+-- the links of the member of this number, if there is one
 abbrev pub links_of : Members → ℕ → Option NodeLinks
 links_of members node = slice_index_or members node None
 
@@ -19,7 +19,7 @@ links_of members node = slice_index_or members node None
 abbrev pub is_member : Members → ℕ → Bool
 is_member members node = is_some (links_of members node)
 
--- the first of these peers that is live, which is to say a member
+-- the first of these peers that is live, that is a member
 abbrev pub first_live : Members → List Peer → Option Peer
 first_live members peers = find (λ peer. is_member members peer.no) peers
 
@@ -38,7 +38,7 @@ pub record IsSafe (members : Members) : Type 0 where
 abbrev pub CanDepart : Members → ℕ → Type 0
 CanDepart members node = IsTrue (is_member members node) × IsSafe (slice_set members node None)
 
--- each principal that is still a member is a principal still
+-- each principal that is still a member is still a principal
 abbrev pub KeepsPrincipals : Members → Members → Type 0
 KeepsPrincipals old new = (node : ℕ) → IsPrincipal old node → IsTrue (is_member new node) → IsPrincipal new node
 
@@ -46,16 +46,17 @@ KeepsPrincipals old new = (node : ℕ) → IsPrincipal old node → IsTrue (is_m
 abbrev pub next_of : Members → ℕ → Option Peer
 next_of members node = option_and_then (λ links. first_live members links.entries) (links_of members node)
 
--- following first live entries leads from this node over these peers, one after another
+-- from this node, following first live entries visits these peers in order
 abbrev pub Follows : Members → ℕ → List Peer → Type 0
 Follows members node [] = Unit {0}
 Follows members node (peer ∷ peers) = (next_of members node ≡ Some peer) × Follows members peer.no peers
 
--- how many members there are
+-- the number of members
 abbrev pub member_count : Members → ℕ
 member_count members = count_by is_some members
 
--- following first live entries leads from one member to another, each hop farther round, in no more hops than there are members
+-- Following first live entries leads from one member to the other, each hop farther round, in at
+-- most as many hops as there are members
 pub record LeadsTo (members : Members) (from to : NodeLinks) : Type 0 where
   pub before : List Peer
   pub follows : Follows members from.me.no (before ++ to.me ∷ [])

@@ -1,4 +1,4 @@
--- What holds of each ring that is reached.
+-- What holds of every ring that is reached.
 use Rattle.std.specs.Prelude.{◌≡◌, ℕ, ◌^◌, ◌<◌, ◌≤◌, List, length, Some}
 use Rattle.std.specs.Prelude.{slice_get}
 use Rattle.std.specs.List.{AllByRecursion}
@@ -8,16 +8,16 @@ use Rattle.chord_links.specs.Successors.{Rises}
 use Rattle.chord_ring.specs.Ring.{links_of, IsSafe}
 use Rattle.chord_ring.specs.Steps.{Ring}
 
--- the peer is a node that ever was
+-- the peer is a node that was once a member
 abbrev pub IsPeerOf : List ℕ → Peer → Type 0
 IsPeerOf ids peer = slice_get ids peer.no ≡ Some peer.id.number
 
--- identifiers are on the circle, and no two nodes have the same
+-- identifiers are on the circle, and no two nodes have the same one
 pub record IdsSound (ids : List ℕ) : Type 0 where
   pub fit : (node id : ℕ) → slice_get ids node ≡ Some id → id < 2 ^ 128
   pub apart : (node other id : ℕ) → slice_get ids node ≡ Some id → slice_get ids other ≡ Some id → node ≡ other
 
--- a member's links name nodes that were, at rising distance, and at most r
+-- a member's links name nodes that were once members, at rising distances, at most r of them
 pub record LinksSound (ids : List ℕ) (node : ℕ) (links : NodeLinks) : Type 0 where
   pub number : links.me.no ≡ node
   pub me_known : IsPeerOf ids links.me

@@ -11,16 +11,16 @@ use Rattle.chord_ring.specs.Ring.{Members, links_of, is_member, CanDepart}
 use Rattle.chord_ring.specs.declared.ring_step.RingStep.{RingStep}
 use Rattle.chord_ring.specs.declared.ring_step.RingStep.TheVariants.{Join, Stabilise, Candidate, DropDead, Rectify}
 
--- the identifier of each node that ever was, and the links of each member, by number
+-- the identifiers of all nodes that ever joined, and the links of each member, by number
 pub record Ring : Type 0 where
   pub ids : List ℕ
   pub members : Members
 
--- the links of a new node, behind its predecessor
+-- the links of a new node that joins behind `pred`
 abbrev pub joined : Peer → NodeLinks → NodeLinks
 joined new pred = record { me = new; r = pred.r; predecessor = Some pred.me; entries = behind_predecessor new.id.number pred.r pred.entries; fingers = no_fingers new }
 
--- the links with the list of this first entry behind it
+-- the links with the list rebuilt from that of this first entry
 abbrev pub behind : NodeLinks → NodeLinks → NodeLinks
 behind links head = with_entries links (behind_successor links.me.id.number links.r head.me head.entries)
 
@@ -32,31 +32,32 @@ without_head links = with_entries links (drop 1 links.entries)
 abbrev pub is_between : Id → Id → Id → Bool
 is_between after x upto = cuts (record { after = after; upto = upto }) x
 
--- a peer that lies between a node and another
+-- the peer, if it is between the two nodes
 abbrev pub peer_between : NodeLinks → NodeLinks → Option Peer → Option Peer
 peer_between links head None = None
 peer_between links head (Some peer) = if is_between links.me.id peer.id head.me.id then Some peer else None
 
--- what a member learns of its first entry: that entry's predecessor, where it lies between the two
+-- what a member learns from its first entry: that entry's predecessor, if it is between the two
 abbrev pub candidate_of : NodeLinks → NodeLinks → Option Peer
 candidate_of links head = peer_between links head head.predecessor
 
--- this predecessor gives way: there is none, or it is dead, or the notifier lies between it and the node
+-- whether the predecessor gives way: there is none,
+-- it is dead, or the notifier is closer to the node
 abbrev pub gives_way : Peer → Peer → Bool → Option Peer → Bool
 gives_way me notifier live None = true
 gives_way me notifier live (Some predecessor) =
     not live || is_between predecessor.id notifier.id me.id
 
--- the links with the notifier as predecessor, where the old one gives way
+-- the links with the notifier as predecessor, if the old one gives way
 abbrev pub rectified : NodeLinks → Peer → Bool → NodeLinks
 rectified links notifier gives = if gives then record links { predecessor = Some notifier } else links
 
--- the peer, if there is one, is live
+-- whether there is a peer and it is live
 abbrev pub is_live : Members → Option Peer → Bool
 is_live members None = false
 is_live members (Some peer) = is_member members peer.no
 
--- the ring with other links of one member
+-- the ring with the links of one member replaced
 abbrev pub with_links : Ring → ℕ → NodeLinks → Ring
 with_links ring node links = record ring { members = slice_set ring.members node (Some links) }
 
@@ -95,7 +96,7 @@ pub record DropsDead (old : Ring) (node : ℕ) (new : Ring) : Type 0 where
   pub is_dead : ¬ (IsTrue (is_member old.members (first_entry links).no))
   pub result : new ≡ with_links old node (without_head links)
 
--- a member hears of a member that may be its predecessor
+-- a member hears of another member that may be its predecessor
 pub record Rectifies (old : Ring) (node notifier : ℕ) (new : Ring) : Type 0 where
   pub links : NodeLinks
   pub theirs : NodeLinks
@@ -103,7 +104,7 @@ pub record Rectifies (old : Ring) (node notifier : ℕ) (new : Ring) : Type 0 wh
   pub is_theirs : links_of old.members notifier ≡ Some theirs
   pub result : new ≡ with_links old node (rectified links theirs.me (gives_way links.me theirs.me (is_live old.members links.predecessor) links.predecessor))
 
--- one step of the ring
+-- one step of a ring
 abbrev pub Step : Ring → RingStep → Ring → Type 0
 Step old (Join id pred) new = Joins old id.number pred new
 Step old (Stabilise node head) new = Stabilises old node head new
@@ -111,7 +112,7 @@ Step old (Candidate node peer) new = TakesCandidate old node peer new
 Step old (DropDead node) new = DropsDead old node new
 Step old (Rectify node notifier) new = Rectifies old node notifier new
 
--- the ring of one node, which knows no other
+-- a ring of one node, which knows no other
 abbrev pub founded : ℕ → ℕ → Ring
 founded id r = record { ids = id ∷ []; members = Some (alone (record { no = 0; id = record { number = id } }) r) ∷ [] }
 
@@ -119,7 +120,7 @@ founded id r = record { ids = id ∷ []; members = Some (alone (record { no = 0;
 abbrev pub without : Ring → ℕ → Ring
 without ring node = record ring { members = slice_set ring.members node None }
 
--- a ring that a list of steps and departures leads to, each departure leaving the others safe
+-- a ring that some steps and departures lead to; after each departure the others are safe
 pub data IsReached : Ring → Type 0 where
   is_founded : (id r : ℕ) → id < 2 ^ 128 → 0 < r → IsReached (founded id r)
   after_step : {old new : Ring} (step : RingStep) → IsReached old → Step old step new → IsReached new

@@ -9,7 +9,7 @@ use crate::members::MemberReader;
 use chord_ident::{Id, between};
 use chord_links::Links;
 
-/// The links of the member of this number once another has departed.
+/// The links of the member `no` once `gone` has departed.
 fn member_without<M: MemberReader>(members: &M, gone: u64, no: u64) -> Option<&Links>
     ensures { option_copied result ≡ links_of (slice_set (M.ring members.now).members gone None) no }
 {
@@ -19,7 +19,7 @@ fn member_without<M: MemberReader>(members: &M, gone: u64, no: u64) -> Option<&L
     members.member(no)
 }
 
-/// Whether some entry is live once a member has departed.
+/// Whether an entry of the list is live once `gone` has departed.
 fn has_live_entry<M: MemberReader>(members: &M, gone: u64, links: &Links) -> bool
     ensures { result ≡ is_some (first_live (slice_set (M.ring members.now).members gone None) links.now.entries) }
 {
@@ -31,7 +31,7 @@ fn has_live_entry<M: MemberReader>(members: &M, gone: u64, links: &Links) -> boo
     false
 }
 
-/// Whether a node's list skips an identifier.
+/// Whether a list skips an identifier.
 fn skips(links: &Links, x: Id) -> bool
     ensures { IsTrue result ↔ Skips links.now.me.id.number links.now.entries x.number }
 {
@@ -45,7 +45,7 @@ fn skips(links: &Links, x: Id) -> bool
     false
 }
 
-/// Whether a node is a principal once another has departed.
+/// Whether node `no` is a principal once `gone` has departed.
 #[tactic(auto, using(crate::proofs::Lookups::member_within_without))]
 fn is_principal<M: MemberReader>(members: &M, gone: u64, no: u64) -> bool
     ensures yes { IsTrue result → IsPrincipal (slice_set (M.ring members.now).members gone None) no }
@@ -65,7 +65,7 @@ fn is_principal<M: MemberReader>(members: &M, gone: u64, no: u64) -> bool
     true
 }
 
-/// Whether each member has a live entry once another has departed.
+/// Whether each member's list has a live entry once `gone` has departed.
 #[tactic(auto, using(crate::proofs::Lookups::member_within_without))]
 fn are_live<M: MemberReader>(members: &M, gone: u64) -> bool
     ensures { let left = slice_set (M.ring members.now).members gone None in IsTrue result ↔
@@ -81,7 +81,7 @@ fn are_live<M: MemberReader>(members: &M, gone: u64) -> bool
     true
 }
 
-/// Whether there is a principal once another has departed.
+/// Whether there is a principal once `gone` has departed.
 #[tactic(auto, using(crate::proofs::Lookups::principal_within_without))]
 fn has_principal<M: MemberReader>(members: &M, gone: u64) -> bool
     ensures yes { IsTrue result → (no : ℕ) × IsPrincipal (slice_set (M.ring members.now).members gone None) no }
@@ -95,8 +95,8 @@ fn has_principal<M: MemberReader>(members: &M, gone: u64) -> bool
     false
 }
 
-/// Whether a node is a member and, once it has departed, each member's list has a live entry and there is a principal.
-/// At worst each list is looked at once for each member.
+/// Whether node `no` is a member and, once it has departed, each member's list has a live entry and
+/// there is a principal. At worst it reads each list once for each member.
 pub fn can_depart_in<M: MemberReader>(members: &M, no: u64) -> bool
     ensures { IsTrue result ↔ CanDepart (M.ring members.now).members no }
 {
@@ -124,7 +124,7 @@ impl<'a> MemberReader for Listed<'a> {
     }
 }
 
-/// The same over the members' links in a list, by number.
+/// `can_depart_in` over a list of the members' links, by number.
 pub fn can_depart_among(members: &[Option<Links>], no: u64) -> bool
     ensures { IsTrue result ↔ CanDepart members.now no }
 {

@@ -1,11 +1,11 @@
-//! The steps of a ring, and what they keep.
+//! The steps of a ring, and what they preserve.
 //!
-//! Joining, stabilising, taking a candidate, dropping a dead first entry and rectifying, each over any
-//! [`MemberReader`], so that a world and a running ring do the same steps; [`RingCore`] is a ring of its own.
-//! [`can_depart_among`] says whether a member may leave or fail without the ring falling apart.
+//! Joining, stabilising, taking a candidate, dropping a dead first entry and rectifying: each works
+//! over any [`MemberReader`], so a world and a running ring share them. [`RingCore`] is a ring in
+//! memory. [`can_depart_among`] says whether a member may leave or fail and the ring stays safe.
 //!
-//! A member that no member's list skips is a principal. Principals stay so until they depart, and they stand on one
-//! ring ([`principals_stand_on_one_ring`]).
+//! A principal is a member that no member's list skips. It stays one until it departs, and the
+//! principals are on one ring ([`principals_stand_on_one_ring`]).
 #![tactic(auto)]
 
 mod departing;

@@ -1,4 +1,4 @@
-//! Where the links of the members of a ring are read.
+//! Reading the links of a ring's members.
 ghost use Rattle.std.specs.Prelude.{◌≡◌, length};
 ghost use Rattle.std.specs.Option.{option_copied};
 ghost use Rattle.chord_ring.specs.Ring.{links_of};
@@ -6,16 +6,16 @@ ghost use Rattle.chord_ring.specs.Steps.{Ring};
 
 use chord_links::Links;
 
-/// Where the links of the members of one ring are read, wherever they stand.
+/// Reads the links of the members of one ring, however they are stored.
 pub trait MemberReader {
     /// The ring that is read.
     ghost ring: { Self → Ring };
 
-    /// The links of the node of this number, where it is a member.
+    /// The links of the node of this number, if it is a member.
     fn member(&self, no: u64) -> Option<&Links>
         ensures { option_copied result ≡ links_of (ring self.now).members no };
 
-    /// How many nodes ever were. All numbers are below it.
+    /// How many nodes ever joined. All numbers are below it.
     fn count(&self) -> u64
         ensures { result ≡ length (ring self.now).members };
 }

@@ -17,7 +17,7 @@ use chord_links::{Links, Peer};
 use std::alloc::{AllocError, Global};
 use std::marker::Model;
 
-/// The nodes of one ring: the identifier of each that ever was, and the links of each that is a member.
+/// The nodes of one ring: the identifiers of all that ever joined, and the links of each member.
 #[derive(Drop)]
 pub struct RingCore {
     ids: Vec<Id>,
@@ -41,7 +41,8 @@ impl Model for RingCore {
 }
 
 impl RingCore {
-    /// Each member's list has a live entry, there is a principal, and the principals stand on one ring.
+    /// Each member's list has a live entry, there is a
+    /// principal, and the principals are on one ring.
     #[tactic(auto, using(crate::proofs::Walking::one_ring))]
     pub fn stands_on_one_ring(&self)
         ensures safe { IsSafe self.now.ring.members }
@@ -57,8 +58,8 @@ impl RingCore {
         matches!(self.members.get(no as usize), Some(Some(_)))
     }
 
-    /// Whether the node is a member and, once it has departed, each member's list has a live entry and there is a
-    /// principal.
+    /// Whether the node is a member and, once it has departed, each member's list has a live entry
+    /// and there is a principal.
     pub fn can_depart(&self, no: u64) -> bool
         ensures { IsTrue result ↔ CanDepart self.now.ring.members no }
     {
@@ -72,7 +73,7 @@ impl RingCore {
         self.member(no).copied()
     }
 
-    /// A ring of one node, whose list has itself alone.
+    /// A ring of one node, whose list has only itself.
     pub fn found(alloc: Global, id: Id, r: usize) -> Result<RingCore, AllocError>
         requires low { 2 ≤ r }
         requires high { r ≤ 16 }
@@ -95,7 +96,7 @@ impl RingCore {
         self.members[no as usize] = None;
     }
 
-    /// Stores what a step makes of a member's links.
+    /// Stores a member's new links.
     fn store(&mut self, no: u64, links: Links)
         requires own { AreOwn self.old.ring no links }
         requires step { (step : RingStep) × Step self.old.ring step (with_links self.old.ring no links) }
@@ -105,7 +106,7 @@ impl RingCore {
         self.members[no as usize] = Some(links);
     }
 
-    /// Makes room for one more node.
+    /// Reserves room for one more node.
     pub fn reserve(&mut self) -> Result<(), AllocError>
         ensures room { OnOk result (IsTrue self.new.has_room) }
         ensures kept { self.new.ring ≡ self.old.ring }

@@ -1,4 +1,4 @@
-//! Steps of a ring, and what they answer.
+//! The steps of a ring, and their answers.
 
 use chord_ident::Id;
 use chord_links::Peer;
@@ -6,7 +6,7 @@ use chord_links::Peer;
 /// A step of a ring.
 #[derive(Clone, Copy, Debug, PartialEq, Eq)]
 pub enum RingStep {
-    /// A new node of this identifier joins behind a member.
+    /// A new node with this identifier joins behind a member.
     Join(Id, u64),
     /// A member copies the list of its first entry.
     Stabilise(u64, u64),
@@ -23,7 +23,7 @@ pub enum RingStep {
 pub enum RingDid {
     /// The new node's number.
     Joined(u64),
-    /// The first entry's predecessor, where it lies between the member and that entry.
+    /// The first entry's predecessor, if it is between the member and that entry.
     Candidate(Option<Peer>),
     Done,
 }

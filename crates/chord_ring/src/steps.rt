@@ -8,7 +8,7 @@ use chord_ident::{Id, between};
 use chord_links::{Links, Peer, SuccList};
 use thiserror::Error;
 
-/// The new node does not lie between its predecessor and that node's first entry.
+/// The new node is not between its predecessor and that node's first entry.
 #[derive(Clone, Copy, Debug, PartialEq, Eq, Error)]
 #[error("the new node does not lie before the first entry")]
 pub struct NotBetween;
@@ -55,7 +55,8 @@ pub fn join_behind(new: Peer, pred: &Links) -> Result<Links, NotBetween>
     Ok(links)
 }
 
-/// Copies the list of the node's first entry, which is live; answers that entry's predecessor where it lies between.
+/// Copies the list of the live first entry; answers
+/// that entry's predecessor if it is between the two.
 pub fn stabilise(me: &mut Links, head: &Links, live: bool) -> Result<Option<Peer>, StabiliseFault>
     ensures variant { IsOk result ↔ (IsTrue live × (first_entry me.old ≡ head.now.me)) }
     ensures ok { IfOk result (λ candidate. candidate ≡ candidate_of me.old head.now) }
@@ -80,7 +81,7 @@ pub fn stabilise(me: &mut Links, head: &Links, live: bool) -> Result<Option<Peer
     Ok(candidate)
 }
 
-/// Takes a live peer that lies between the node and its first entry as the first entry, and copies its list.
+/// Makes a live peer between the node and its first entry the first entry, and copies its list.
 pub fn take_candidate(me: &mut Links, peer: &Links, live: bool) -> Result<(), CandidateFault>
     ensures variant { IsOk result ↔ (IsTrue live
         × IsBetween me.old.me.id.number peer.now.me.id.number (first_entry me.old).id.number) }
@@ -99,7 +100,7 @@ pub fn take_candidate(me: &mut Links, peer: &Links, live: bool) -> Result<(), Ca
     Ok(())
 }
 
-/// Drops the first entry, which is dead, where there is another.
+/// Drops the dead first entry, if there is another.
 pub fn drop_dead(me: &mut Links, head_live: bool) -> Result<(), DropFault>
     ensures variant { IsOk result ↔ ((head_live ≡ false) × (1 < length me.old.entries)) }
     ensures done { OnOk result (me.new ≡ without_head me.old) }
@@ -117,7 +118,7 @@ pub fn drop_dead(me: &mut Links, head_live: bool) -> Result<(), DropFault>
     Ok(())
 }
 
-/// Hears of a node that may be the predecessor; answers whether it is now.
+/// Hears of a node that may be the predecessor, and answers whether it now is.
 pub fn rectify(me: &mut Links, notifier: Peer, predecessor_live: bool) -> bool
     ensures answer { result ≡ gives_way me.old.me notifier predecessor_live me.old.predecessor }
     ensures done { me.new ≡ rectified me.old notifier result }

@@ -1,4 +1,4 @@
-//! The steps of a ring's upkeep on the links of a member, wherever the members' links stand.
+//! The steps of a ring's upkeep on the links of a member, however the members' links are stored.
 ghost use Rattle.std.specs.Prelude.{◌≡◌, IfOk, IfErr};
 ghost use Rattle.chord_ring.specs.Steps.{with_links, Stabilises, TakesCandidate, DropsDead, Rectifies, is_live};
 ghost use Rattle.chord_ring.specs.Refusals.{StabiliseRefused, CandidateRefused, DropRefused, RectifyRefused, IsCandidate, GaveWay, AreOwn};
@@ -18,7 +18,8 @@ fn is_live<M: MemberReader>(members: &M, peer: Option<Peer>) -> bool
     }
 }
 
-/// A member's links after it copied the list of its first entry, and what it learns of that entry.
+/// A member's links after it copied the list of its
+/// first entry, and the candidate it learned from there.
 pub fn stabilise_in<M: MemberReader>(
     members: &M,
     no: u64,
@@ -82,7 +83,8 @@ pub fn drop_dead_in<M: MemberReader>(members: &M, no: u64) -> Result<Links, Ring
     Ok(links)
 }
 
-/// A member's links after it heard of a member that may be its predecessor, and whether that is its predecessor now.
+/// A member's links after it heard of a member that
+/// may be its predecessor, and whether that now is.
 pub fn rectify_in<M: MemberReader>(
     members: &M,
     no: u64,

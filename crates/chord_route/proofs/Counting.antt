@@ -1,16 +1,16 @@
--- How many nodes are nearer than a distance.
+-- The number of nodes nearer than a distance.
 use Rattle.std.proofs.Common.{◌≡◌, ℕ, zero, suc, ◌+◌, ◌<◌, ◌≤◌, ltb, cond, Option, Some, None, arith, inl, inr, ap, ◌∙◌}
 use Rattle.std.proofs.lemmas.Bool.{cases_lt}
 use Rattle.std.proofs.lemmas.Bool.Decides.{nat_tests}
 use Rattle.chord_ident.specs.Circle.{distance}
 use Rattle.chord_links.specs.NodeLinks.{NodeLinks}
 
--- 1 where the node of these links is less than d from p, else 0
+-- 1 if the node of these links is less than d from p, else 0
 abbrev pub nearer_one : ℕ → ℕ → Option NodeLinks → ℕ
 nearer_one p d None = 0
 nearer_one p d (Some links) = cond (ltb (distance links.me.id.number p) d) 1 0
 
--- how many of the nodes with a number below n are less than d from p
+-- the number of nodes numbered below n that are less than d from p
 pub nearer_count : (ℕ → Option NodeLinks) → ℕ → ℕ → ℕ → ℕ
 nearer_count table p d zero = 0
 nearer_count table p d (suc n) = nearer_one p d (table n) + nearer_count table p d n

@@ -23,7 +23,7 @@ arrives ring table limit node here net m e =
     let I : NodeLinks → Type 0 = λ l. IsIdeal ring l in
     (subst I same found.3, ap (λ (l : NodeLinks). l.me) (sym same) ∙ found.2, net.below node m, sym e)
 
--- after some forwards a lookup stands at a member, with digits left for the rest
+-- after some forwards a lookup is at a member, with digits left for the rest
 pub record OnCourse (ring : List Peer) (target forwards : ℕ) (here : NodeLinks) : Type 0 where
   pub ideal : IsIdeal ring here
   pub digits : (last : Peer) → IsPredecessor ring target last → forwards + digit_count (distance here.me.id.number last.id.number) ≤ 128

@@ -1,4 +1,4 @@
--- What the next hop brings on an ideal ring.
+-- How much nearer the next hop comes on an ideal ring.
 use Rattle.std.proofs.Common.{◌≡◌, ◌≢◌, ℕ, ◌+◌, ◌-◌, ◌%◌, ◌^◌, ◌<◌, ◌≤◌, ◌⊎◌, List, Some, arith, inl, inr, sym, subst, ap, ◌∙◌}
 use Rattle.std.specs.List.{All, Contains}
 use Rattle.std.proofs.lemmas.List.Elements.{All-contains, All-contains_itself}
@@ -54,7 +54,7 @@ first_is_first ring links other on ideal m =
     let le = successor_first ring s (first_entry links) other ideal.first m in
     omega arith
 
--- what holds of each member holds of all elements
+-- a property of each member holds of all elements
 all_members : (P : Peer → Type 0) (ring : List Peer) → ((node : Peer) → Contains ring node → P node) → All P ring
 all_members P ring each = λ k d h. each _ (All-contains_itself ring k d h)
 
@@ -86,7 +86,7 @@ last_hop_predecessor ring links target on ideal ht within =
           last_before (2 ^ 128) me target first other.id.number _ _ _ _ hme ht hf ho (walk-goes me target hme ht) (walk-goes me first hme hf) (walk-goes me other.id.number hme ho) (walk-goes other.id.number target ho ht) within (first_is_first ring links other on ideal m));
     }
 
--- Elsewhere the node is not the last before the target.
+-- Otherwise the node is not the last before the target.
 pub elsewhere : (ring : List Peer) (links : NodeLinks) (target : ℕ) (last : Peer) → IsRing ring → IsSettled ring links → target < 2 ^ 128 → IsPredecessor ring target last → walk links.me.id.number (first_entry links).id.number < walk links.me.id.number target → last.id.number ≢ links.me.id.number
 elsewhere ring links target last on ideal ht pred past =
     let me = links.me.id.number in
@@ -97,7 +97,7 @@ elsewhere ring links target last on ideal ht pred past =
     let hp : p < 2 ^ 128 = on_circle ring last on pred.member in
     not_last (2 ^ 128) me target first p _ _ _ _ hme ht hf hp (walk-goes me target hme ht) (walk-goes me first hme hf) (walk-goes p target hp ht) (walk-goes first target hf ht) past (predecessor_last ring target last (first_entry links) pred ideal.first.member)
 
--- the finger whose start is the last power of two before p stands between its owner and the target
+-- the finger whose start is the last power of two before p lies between its owner and the target
 pub finger_precedes : (ring : List Peer) (links : NodeLinks) (target : ℕ) (last : Peer) (i : ℕ) → IsRing ring → IsIdeal ring links → target < 2 ^ 128 → IsPredecessor ring target last → last.id.number ≢ links.me.id.number →
     1 ≤ i → i ≤ 128 → 2 ^ (i - 1) ≤ distance links.me.id.number last.id.number → (node : Peer) × Precedes links.fingers target i node
 finger_precedes ring links target last i on ideal ht pred other low high reach =
@@ -122,8 +122,8 @@ finger_precedes ring links target last i on ideal ht pred other low high reach =
       },
     )
 
--- A finger number i of an ideal ring that stands between its owner and the target, where i is at least a number whose
--- start is not past p: it is a member, and nearer to p by a binary digit at least.
+-- A finger i of an ideal ring between its owner and the target, with i at least a number whose
+-- start is not past p, is a member, and nearer to p by at least one binary digit.
 nearer_finger : (ring : List Peer) (links : NodeLinks) (target : ℕ) (last f : Peer) (i j : ℕ) → IsRing ring → IsIdeal ring links → target < 2 ^ 128 → IsPredecessor ring target last →
     last.id.number ≢ links.me.id.number → i < 128 → 2 ^ i ≤ distance links.me.id.number last.id.number → distance links.me.id.number last.id.number < 2 ^ i + 2 ^ i →
     i < j → j ≤ 128 → Precedes links.fingers target j f →
@@ -192,7 +192,7 @@ nearer_member ring links target last f on settled ht pred past m between =
           between.1 between.0 (predecessor_last ring target last links.me pred settled.member) (predecessor_last ring target last f pred m),
     )
 
--- So is the closest preceding finger, or the first entry where there is none.
+-- The closest preceding finger, or else the first entry, is nearer too.
 pub settled_hop : (ring : List Peer) (links : NodeLinks) (target : ℕ) (last closest node : Peer) → IsRing ring → IsSettled ring links → target < 2 ^ 128 → IsPredecessor ring target last → walk links.me.id.number (first_entry links).id.number < walk links.me.id.number target →
     IsClosestPreceding links.fingers target closest → (((closest ≢ links.me) × (node ≡ closest)) ⊎ ((closest ≡ links.me) × (node ≡ (first_entry links)))) →
     Contains ring node × (distance node.id.number last.id.number < distance links.me.id.number last.id.number)

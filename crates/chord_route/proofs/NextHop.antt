@@ -15,7 +15,7 @@ use Rattle.chord_route.specs.declared.hop.Hop.TheVariants.{Last, Near}
 passed : (a b : ℕ) → (a ≤ b → ⊥) → b < a
 passed a b h = elim (cases_lt b a) [ inl lt ↦ lt | inr ge ↦ absurd (h ge) ]
 
--- Whatever the rule answers goes to the successor, or to a member nearer to the predecessor.
+-- Each next hop goes to the successor, or to a member nearer to the predecessor.
 pub rule_nearer : (ring : List Peer) (links : NodeLinks) (target : ℕ) (hop : Hop) → IsRing ring → IsIdeal ring links → target < 2 ^ 128 → IsNextHop links target hop → BringsNearer ring links target hop
 rule_nearer ring links target (Last node) on ideal ht rule =
     let S : Peer → Type 0 = λ q. IsSuccessor ring target q in
@@ -32,7 +32,7 @@ rule_nearer ring links target (Near node) on ideal ht rule =
       | inr c ↦ absurd (hop.0 (ap (λ (q : Peer). q.id.number) c.0))
     ]
 
--- Whatever the rule answers at settled links goes to the successor, or to a member that is closer to the predecessor.
+-- Each next hop from settled links goes to the successor, or to a member closer to the predecessor.
 pub rule_closer : (ring : List Peer) (links : NodeLinks) (target : ℕ) (hop : Hop) → IsRing ring → IsSettled ring links → target < 2 ^ 128 → IsNextHop links target hop → ComesCloser ring links target hop
 rule_closer ring links target (Last node) on settled ht rule =
     let S : Peer → Type 0 = λ q. IsSuccessor ring target q in

@@ -30,7 +30,7 @@ is_there ring table limit node net m e =
     let both : Some found.0 ≡ None = sym found.1 ∙ sym e in
     absurd (cc)
 
--- after n forwards a lookup stands at a member, with room for what is left
+-- after n forwards a lookup is at a member, with room for what is left
 pub record OnWay (ring : List Peer) (table : ℕ → Option NodeLinks) (limit target n : ℕ) (here : NodeLinks) : Type 0 where
   pub settled : IsSettled ring here
   pub room : (last : Peer) → IsPredecessor ring target last → n + nearer_count table last.id.number (distance here.me.id.number last.id.number) limit < limit
@@ -96,7 +96,7 @@ reads_settled answers slots from ring reads =
       number = reads.number;
     }
 
--- On a settled ring the node that a lookup starts from is there.
+-- On a settled ring the node that a lookup starts from exists.
 pub start_is_there : (answers : ℕ → Option NodeLinks → Type 0) (slots from : ℕ) (ring : List Peer) → ReadsSettledRing answers slots from ring → answers from None → ⊥
 start_is_there answers slots from ring reads known =
     is_there ring reads.table slots reads.start reads.network reads.member (reads.answered from None known ∙ ap reads.table (sym reads.number))
@@ -105,7 +105,7 @@ module _ (answers : ℕ → Option NodeLinks → Type 0) (slots from target n : 
   way : OnWay ring reads.table slots target n here × (n < slots)
   way = comes_on_way answers ring reads.table slots from target n reads.start here reads.network reads.answered on_circle reads.member reads.number comes
 
-  -- So is each that it is passed on to,
+  -- Each node that the lookup is passed on to exists too,
   pub next_is_there : (peer : Peer) → IsNextHop here target (Near peer) → answers peer.no None → ⊥
   next_is_there peer hop known =
       let near = rule_closer ring here target (Near peer) reads.network.on_circle way.0.settled on_circle hop in

@@ -6,26 +6,27 @@ use Rattle.chord_links.specs.NodeLinks.{NodeLinks, first_entry}
 use Rattle.chord_route.specs.declared.hop.Hop.TheVariants.{Near}
 use Rattle.chord_route.specs.Hops.{IsNextHop}
 
--- n forwards of a lookup of the target lead from the node with these links to the other, whose links were answered
+-- n forwards of a lookup lead from the first links to the second, each node's links as answered
 abbrev pub Forwards : (ℕ → Option NodeLinks → Type 0) → ℕ → ℕ → NodeLinks → NodeLinks → Type 0
 Forwards answers target zero from to = from ≡ to
 Forwards answers target (suc n) from to =
     (between : NodeLinks) × Forwards answers target n from between × ((node : Peer) × IsNextHop between target (Near node) × answers node.no (Some to))
 
--- the lookup comes to these links by n forwards from the node of this number
+-- n forwards of the lookup lead from the node of this number to these links
 pub record ComesTo (answers : ℕ → Option NodeLinks → Type 0) (from target n : ℕ) (here : NodeLinks) : Type 0 where
   pub start : NodeLinks
   pub known : answers from (Some start)
   pub course : Forwards answers target n start here
 
--- the lookup ends at these links, after fewer forwards than it may make: the target is met on the way to their first entry
+-- the lookup ends at these links after fewer than
+-- `limit` forwards: the target is in (me, first entry]
 pub record EndsAt (answers : ℕ → Option NodeLinks → Type 0) (from target limit : ℕ) (last : NodeLinks) : Type 0 where
   pub n : ℕ
   pub few : n < limit
   pub comes : ComesTo answers from target n last
   pub within : IsWithin last.me.id.number target (first_entry last).id.number
 
--- the lookup made as many forwards as it may, or came to a node that names one without links
+-- the lookup made `limit` forwards, or the node of its next hop has no links
 pub record IsUnsettled (answers : ℕ → Option NodeLinks → Type 0) (from target limit : ℕ) : Type 0 where
   pub n : ℕ
   pub here : NodeLinks

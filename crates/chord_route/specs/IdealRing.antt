@@ -1,4 +1,4 @@
--- A ring of nodes, and links as they are on an ideal ring.
+-- A ring of nodes, and the links of its nodes on an ideal ring.
 use Rattle.std.specs.Prelude.{◌≡◌, ℕ, ◌+◌, ◌%◌, ◌^◌, ◌<◌, ◌≤◌, List, Some, All, Contains}
 use Rattle.chord_ident.specs.Circle.{distance, walk}
 use Rattle.chord_links.specs.declared.peer.Peer.{Peer}
@@ -26,7 +26,7 @@ pub record IsSettled (ring : List Peer) (links : NodeLinks) : Type 0 where
   pub owner : links.fingers.me ≡ links.me
   pub fingers : (i : ℕ) (node : Peer) → 1 ≤ i → i ≤ 128 → finger_at links.fingers i ≡ Some node → Contains ring node
 
--- the links of a node of the ring are the right ones
+-- the first entry and the fingers of a node of the ring are exact
 pub record IsIdeal (ring : List Peer) (links : NodeLinks) : Type 0 where
   pub member : Contains ring links.me
   pub first : IsSuccessor ring ((links.me.id.number + 1) % 2 ^ 128) (first_entry links)

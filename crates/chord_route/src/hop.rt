@@ -13,7 +13,7 @@ use chord_links::{Links, Peer};
 pub enum Hop {
     /// The target belongs to this node.
     Last(Peer),
-    /// This node stands nearer to the target.
+    /// This node is nearer to the target.
     Near(Peer),
 }
 

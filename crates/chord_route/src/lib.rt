@@ -1,8 +1,8 @@
 //! The next hop towards an identifier, and the lookup that follows the hops.
 //!
-//! [`next_hop`] says from a node's links whether the identifier is its own, its successor's, or which node to ask
-//! next. [`find_successor`] follows the hops over any [`LinkReader`], and on an ideal ring it finds the node whose
-//! interval the identifier lies in.
+//! [`next_hop`] answers from a node's links whether the identifier belongs to its first entry, or
+//! which node to ask next. [`find_successor`] follows the hops over any [`LinkReader`]; on an ideal
+//! ring it finds the node whose interval contains the identifier.
 #![tactic(auto)]
 
 mod hop;

@@ -1,4 +1,4 @@
-//! Lookups, which follow the hops from node to node.
+//! Lookups: following the hops from node to node.
 
 ghost use Rattle.std.specs.Prelude.{◌≡◌, ℕ, ◌*◌, ◌≤◌, List, Option, None, IfOk, IsOkAnd};
 ghost use Rattle.chord_links.specs.declared.peer.Peer.{Peer};
@@ -12,19 +12,19 @@ use chord_ident::Id;
 use chord_links::{Links, Peer};
 use thiserror::Error;
 
-/// Where a lookup reads the links of nodes.
+/// Reads the links of nodes.
 pub trait LinkReader {
-    /// What may be answered for a node's number.
+    /// The answers that may be given for a node's number.
     ghost answers: { Self → ℕ → Option NodeLinks → Type 0 };
 
-    /// How many numbers there are.
+    /// The number that all nodes' numbers are below.
     ghost slot_count: { Self → ℕ };
 
     /// The links of the node of this number, if there is one.
     fn links(&self, no: u64) -> Option<Links>
         ensures { answers self.now no result };
 
-    /// All numbers are below this one.
+    /// A number that all nodes' numbers are below.
     fn slots(&self) -> u64
         ensures { result ≡ slot_count self.now };
 }
@@ -38,8 +38,8 @@ pub enum LookupFault {
     Unsettled,
 }
 
-/// The links of the last node before the target, by the hops from node `from`: at most twice as many as there are
-/// numbers.
+/// The links of the last node before the target, by the
+/// hops from node `from`: at most twice `slots` of them.
 fn look_up<R: LinkReader>(reader: &R, from: u64, target: Id) -> Result<Links, LookupFault>
     ensures found { IfOk result (λ last.
         EndsAt (R.answers reader.now) from target.number (2 * R.slot_count reader.now) last) }

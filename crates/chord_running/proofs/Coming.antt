@@ -12,7 +12,7 @@ pub came : (old new : NodeSight) (parcel message : Message) → new ≡ record o
 came old new parcel message is same =
     subst (λ (m : Message). Contains new.messages m) (sym same) (subst (λ (s : NodeSight). Contains s.messages parcel) (sym is) (Contains-push old.messages parcel))
 
--- and a node that took it in may become what it is then
+-- a node's step with a message that its seat just took in is one that the seat allows
 pub acted : (old new : NodeSight) (parcel message : Message) (node after : Node) (out : Option (Target × Message)) (sent : Option Message)
     → new ≡ record old { messages = old.messages ++ parcel ∷ [] } → message ≡ parcel → node ≡ new.node → message_in out ≡ sent
     → ((done : Option Done) × NodeStep node (Some message) after (message_in out) done) → MayAct new.node new.messages after sent

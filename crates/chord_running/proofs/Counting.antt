@@ -12,11 +12,11 @@ open_may callers number window core below some small made =
     subst (λ (c : Caller). MayOpen callers c) (sym made)
     ((λ there. absurd (omega (arith, All-contains (λ n. n < number) callers number below there))), (window, some, small, refl))
 
--- with that number, all are below the one after it
+-- all numbers are below the one after it, once it was added
 pub next_above : (callers : List ℕ) (number : ℕ) → All (λ n. n < number) callers → All (λ n. n < number + 1) (callers ++ number ∷ [])
 next_above callers number below = All-push (λ n. n < number + 1) callers number (All-weaker (λ n. n < number) (λ n. n < number + 1) (λ n less. omega (arith, less)) callers below) (omega arith)
 
--- a number equal to the count is one more, and all are below the count after it
+-- adding the number equal to the count adds one, and all numbers are below the new count
 pub counted_on : (nodes : List ℕ) (count number : ℕ) → number ≡ count → length nodes ≡ count → All (λ n. n < count) nodes
     → (length (nodes ++ number ∷ []) ≡ count + 1) × All (λ n. n < count + 1) (nodes ++ number ∷ [])
 counted_on nodes count number same long below = (

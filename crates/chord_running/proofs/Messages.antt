@@ -1,4 +1,4 @@
--- Messages that came to a caller, and whether one says that a store has no room for its request.
+-- Messages to a caller, and which say that a store has no room for its request.
 use Rattle.std.proofs.Common.{◌≡◌, ◌≢◌, ℕ, ◌+◌, Bool, true, false, cond, ◌&&◌, eqb, Ok, Err, Result, List, [], ◌∷◌, ◌++◌, refl, ◌∙◌, ap, arith}
 use Rattle.std.specs.Prelude.{count_by, ◌↔◌}
 use Rattle.std.proofs.lemmas.Bool.{and_parts, eqb-true}
@@ -56,7 +56,7 @@ told_other number old new message came same differs =
     let one = counted number old new message came same ∙ ap (λ (b : Bool). full_count number old + cond b 1 0) (says_not new.caller.number number message differs) in
     omega (arith, one)
 
--- with no message nothing is told
+-- no message came, so none said Full
 told_nothing : (number : ℕ) (old new : CallerSight) → new.messages ≡ old.messages → new.caller.number ≡ old.caller.number → WasNotToldFull number old new
 unfolding full_count
 told_nothing number old new none same =
@@ -74,7 +74,7 @@ await_number : (number : ℕ) (one : Result Reply WaitFault) (old new : Caller) 
 await_number number (Ok reply) old new (request, fresh, is) = ap (λ (c : Caller). c.number) is
 await_number number (Err fault) old new is = ap (λ (c : Caller). c.number) is
 
--- what a client hears when one message comes
+-- how a wait ends with one message, and whether that counts as told Full
 pub awaited_full : (number : ℕ) (one : Result Reply WaitFault) (message : Message) (old new : CallerSight) → new.messages ≡ old.messages ++ message ∷ []
     → AwaitIs number old.caller one new.caller → (one ≡ Err wait.Full) ↔ (message ≡ Full new.caller.number number) → one ≡ Err wait.Full → WasToldFull number old new
 awaited_full number one message old new came is means full = told_full number old new message came (await_number number one old.caller new.caller is) (means.0 full)

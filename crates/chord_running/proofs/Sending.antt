@@ -31,7 +31,7 @@ asked ask answer message old new sent is goes step = (
       (subst (λ (m : Option Message). NodeStep old (Some (AskMessage ask)) new m (ask_done ask old)) (sym (ap message_in goes ∙ same_message ask answer)) step),
 )
 
--- ---- a call that goes on is one for the same key
+-- ---- a call that is sent on has the same key
 
 abbrev KeepsKey : ℕ → Answered → Type 0
 KeepsKey id (answered.Forward to passed) = id ≡ id_of passed.request

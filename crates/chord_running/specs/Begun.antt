@@ -1,4 +1,4 @@
--- What the beginning of a request answers, and what the messages that come to its caller say.
+-- What submitting a request answers, and what the messages that came to its caller say.
 use Rattle.std.specs.Prelude.{◌≡◌, ℕ, ◌+◌, ◌^◌, ◌<◌, Bool, false, ◌&&◌, eqb, count_by, List, ◌++◌, Result, Ok, Err}
 use Rattle.chord_caller.specs.Answers.{SubmitIs, HasWindow}
 use Rattle.chord_caller.specs.Caller.{Caller, next_number, with_request}
@@ -20,7 +20,7 @@ abbrev pub says_full : ℕ → ℕ → Message → Bool
 says_full caller number (FullMessage other of) = eqb other caller && eqb of number
 says_full caller number message = false
 
--- how many of the messages that came say so of the caller's own request of the number
+-- how many of the messages that came say this of the caller's own request of the number
 unfoldable pub full_count : ℕ → CallerSight → ℕ
 full_count number sight = count_by (says_full sight.caller.number number) sight.messages
 
@@ -32,11 +32,12 @@ WasToldFull number old new = full_count number new ≡ full_count number old + 1
 abbrev pub WasNotToldFull : ℕ → CallerSight → CallerSight → Type 0
 WasNotToldFull number old new = full_count number new ≡ full_count number old
 
--- the caller would refuse the request only where it is out of memory
+-- the caller would refuse the request for memory only
 abbrev pub MaySubmit : Request → Caller → Type 0
 MaySubmit request caller = IsRequest request × HasWindow caller × (next_number caller < 2 ^ 64)
 
--- the request stands under the next number, or the first refusal that fits is answered and nothing changes
+-- the request is submitted under the next number, or the first refusal that applies is answered and
+-- nothing changes
 abbrev pub BeginIs : Request → Caller → Result ℕ BeginFault → Caller → Type 0
 BeginIs request old (Ok number) new =
     (number ≡ next_number old) × IsRequest request × HasWindow old × (next_number old < 2 ^ 64) × (new ≡ with_request request old)

@@ -27,8 +27,8 @@ abbrev pub AwaitIs : ℕ → Caller → Result Reply WaitFault → Caller → Ty
 AwaitIs number old (Ok reply) new = TookReply number reply old new
 AwaitIs number old (Err fault) new = new ≡ old
 
--- the request stands under the next number and its reply behind the calls taken, or the first refusal that fits is
--- answered; a request that was sent stays pending without its reply
+-- the request is submitted under the next number and its reply taken, or the first refusal that
+-- applies is answered; a request that was sent and has no reply stays pending
 abbrev pub CallIs : Request → Caller → Result Reply AskFault → Caller → Type 0
 CallIs request old (Ok reply) new = (asked : Caller) × BeginIs request old (Ok (next_number old)) asked × TookReply (next_number old) reply asked new
 CallIs request old (Err (ask.Bad fault)) new = SubmitIs request old (Err (submit.Bad fault)) new
@@ -39,7 +39,7 @@ CallIs request old (Err ask.Full) new = BeginIs request old (Ok (next_number old
 CallIs request old (Err ask.NoAnswer) new = BeginIs request old (Ok (next_number old)) new
 CallIs request old (Err ask.Memory) new = SubmitIs request old (Err submit.Memory) new ⊎ BeginIs request old (Ok (next_number old)) new
 
--- the reply to the pending request of the number stands behind the calls taken, or nothing changed
+-- the reply to the pending request of the number is taken, or nothing changed
 abbrev pub RecallIs : ℕ → Caller → Result Reply RetryFault → Caller → Type 0
 RecallIs number old (Ok reply) new = TookReply number reply old new
 RecallIs number old (Err retry.Idle) new = (is_pending number old ≡ false) × (new ≡ old)

@@ -16,7 +16,8 @@ use Rattle.chord_node.specs.declared.handovers.given.Back.{Back}
 use Rattle.chord_model.specs.declared.message.Message.{Message}
 use Rattle.chord_model.specs.declared.message.Message.TheVariants.{Ask as AskMessage, Told as ToldMessage, Full as FullMessage, Part as PartMessage, Got as GotMessage, Declined as DeclinedMessage}
 
--- the message is for the node of this number: any call is, and what comes of its own handovers
+-- the message is for the node of this number: any call, a part given to it, or the answer to a part
+-- that it gave
 abbrev pub IsFor : Message → ℕ → Type 0
 IsFor (AskMessage ask) number = Unit {0}
 IsFor (PartMessage part) number = part.to ≡ number
@@ -37,7 +38,7 @@ confirmed part given.Got = Some (ToNode part.from, GotMessage (ticket_of_part pa
 confirmed part given.Declined = Some (ToNode part.from, DeclinedMessage (ticket_of_part part))
 confirmed part answer = None
 
--- what comes of a message: the node's call for it, what that sends, and what the node is then
+-- how a node deals with a message: the node's call for it, what is sent, and the node afterwards
 abbrev pub DealIs : Message → Node → Result (Option (Target × Message)) AllocError → Node → Type 0
 DealIs (AskMessage ask) old (Ok sent) new = (answer : Answered) × AskIs ask old (Ok answer) new × (sent ≡ answer_to ask.caller ask.number answer)
 DealIs (AskMessage ask) old (Err fault) new = AskIs ask old (Err fault) new
@@ -54,7 +55,7 @@ abbrev pub message_in : Option (Target × Message) → Option Message
 message_in None = None
 message_in (Some sent) = Some sent.1
 
--- what comes of a message is one step of the node, unless it was out of memory
+-- dealing with a message is one step of the node, unless it was out of memory
 abbrev pub DealSteps : Message → Node → Result (Option (Target × Message)) AllocError → Node → Type 0
 DealSteps message old (Ok sent) new = (done : Option Done) × NodeStep old (Some message) new (message_in sent) done
 DealSteps message old (Err fault) new = Unit {0}

@@ -16,7 +16,7 @@ use std::marker::Model;
 use std::sync::Mutex;
 use std::sync::atomic::{AtomicBool, AtomicU64};
 
-/// A ring that has no name yet. Contracts see what names it.
+/// A ring that has no name yet. Contracts see the name that it will get.
 #[derive(Drop)]
 pub struct Blank {
     alloc: Global,
@@ -53,7 +53,7 @@ impl Blank {
         }
     }
 
-    /// The ring under its name.
+    /// Gives the ring its name.
     pub fn open<J: Naming, S: EntryStore>(self) -> Result<Ring<J, S>, AllocError>
         requires { self ≡ J.name }
     {
@@ -82,7 +82,7 @@ impl Blank {
     }
 }
 
-/// So many places with no node.
+/// `count` slots with no node.
 fn vacant_slots<J: Naming, S: EntryStore>(
     alloc: Global,
     count: usize,
@@ -103,7 +103,7 @@ fn vacant_slots<J: Naming, S: EntryStore>(
     Ok(slots)
 }
 
-/// So many inboxes with no parcel.
+/// `count` inboxes with no envelope.
 fn empty_inboxes<J: Naming>(alloc: Global, count: usize) -> Result<Vec<Inbox<J>>, AllocError>
     ensures { IfOk result (λ inboxes. vec_len inboxes ≡ count) }
 {
@@ -115,7 +115,7 @@ fn empty_inboxes<J: Naming>(alloc: Global, count: usize) -> Result<Vec<Inbox<J>>
     Ok(inboxes)
 }
 
-/// So many rows with no links.
+/// `count` rows with no links.
 fn empty_board(alloc: Global, count: usize) -> Result<Vec<Option<Links>>, AllocError> {
     let mut board = Vec::with_capacity(alloc, count)?;
     for _ in 0..count {

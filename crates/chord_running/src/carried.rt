@@ -1,8 +1,8 @@
-//! What a carried parcel came to.
+//! The envelope of an answer to a carried call.
 
 use chord_table::{Naming, Parcel};
 
-/// A parcel for a caller, and the node that sent it.
+/// An envelope for a caller, and the node that sent it.
 #[derive(Drop)]
 pub struct Carried<J: Naming> {
     pub from: u64,

@@ -25,8 +25,8 @@ use std::marker::Model;
 use std::sync::Wait;
 use std::time::{Clock, Duration, Instant};
 
-/// A caller that keeps a request until its reply is handed out, and no reply. It borrows its ring. Contracts see what its
-/// seat shows: the whole caller, which is data of the proof alone.
+/// A caller that holds each request until it hands out the reply, and no replies. It borrows its
+/// ring. Contracts see what its seat shows: the whole caller, which is data of the proof alone.
 #[derive(Drop)]
 pub struct Client<'a, J: Naming, S: EntryStore> {
     ring: &'a Ring<J, S>,
@@ -68,14 +68,15 @@ impl<'a, J: Naming, S: EntryStore> Client<'a, J, S> {
         Ok(client)
     }
 
-    /// The greatest number with all at or below it taken.
+    /// The greatest number such that the replies to it and to all below it were taken.
     pub fn floor(&self) -> u64
         ensures { result ≡ floor_of self.now.caller }
     {
         self.own.floor()
     }
 
-    /// The least pending number. Where there is none, the next request has the number behind the floor.
+    /// The least pending number. With none pending, the next request has the number after the
+    /// floor.
     pub fn pending(&self) -> Option<u64>
         ensures { PendingIs self.now.caller result }
     {
@@ -89,7 +90,8 @@ impl<'a, J: Naming, S: EntryStore> Client<'a, J, S> {
         self.own.is_pending(number)
     }
 
-    /// A witness of the caller as it is now. One look of joined witnesses speaks of all their callers in one world.
+    /// A witness of the caller as it is now. One look of joined witnesses proves something of all
+    /// their callers in one world.
     pub fn witness(&mut self) -> Witness<J>
         ensures same { self.new ≡ self.old }
         ensures noted { result ≡ self.old.caller ∷ [] }
@@ -97,7 +99,7 @@ impl<'a, J: Naming, S: EntryStore> Client<'a, J, S> {
         self.own.witness(&self.ring.table)
     }
 
-    /// All replies that it handed out stand in one legal history.
+    /// Proves that all replies it handed out are in one legal history.
     pub fn look(&mut self)
         ensures same { self.new ≡ self.old }
         ensures shown { CallerShown self.old }
@@ -105,7 +107,8 @@ impl<'a, J: Naming, S: EntryStore> Client<'a, J, S> {
         self.own.look(&self.ring.table);
     }
 
-    /// Submits a request, if it would be taken and there is such a node. Its number comes with the parcel.
+    /// Submits a request, if the caller takes it and there is such a node. Gives its number and its
+    /// envelope.
     fn submit(&mut self, via: u64, request: Request) -> Result<(u64, Parcel<J>), BeginFault>
         ensures ok { IfOk result (λ sent. BeginIs request self.old.caller (Ok sent.0) self.new.caller) }
         ensures waits { IfOk result (λ sent. is_pending sent.0 self.new.caller ≡ true) }
@@ -129,7 +132,7 @@ impl<'a, J: Naming, S: EntryStore> Client<'a, J, S> {
         }
     }
 
-    /// Waits for one message, no longer than this. None where none came.
+    /// Waits for one message, no longer than `limit`.
     fn hear<R: Wait + Clock>(
         &mut self,
         rt: &R,
@@ -149,7 +152,7 @@ impl<'a, J: Naming, S: EntryStore> Client<'a, J, S> {
         }
     }
 
-    /// Waits for the reply to a request, as long as one try is to wait.
+    /// Waits for the reply to a request, as long as one try may wait.
     fn wait<R: Wait + Clock>(&mut self, rt: &R, number: u64) -> Result<Reply, WaitFault>
         ensures answer { AwaitIs number self.old.caller result self.new.caller }
         ensures came { TookMessages self.old self.new }
@@ -168,7 +171,7 @@ impl<'a, J: Naming, S: EntryStore> Client<'a, J, S> {
         Err(WaitFault::NoAnswer)
     }
 
-    /// Takes what came of a parcel that was carried.
+    /// Takes in the answer to a carried call.
     fn take(&mut self, rt: &impl Wait, carried: Carried<J>, number: u64) -> Result<Reply, WaitFault>
         ensures answer { AwaitIs number self.old.caller result self.new.caller }
         ensures came { TookMessages self.old self.new }
@@ -183,7 +186,8 @@ impl<'a, J: Naming, S: EntryStore> Client<'a, J, S> {
         Err(WaitFault::NoAnswer)
     }
 
-    /// Carries a parcel from node to node, each event under that node's lock, and takes what comes back.
+    /// Carries an envelope from node to node, each event under that node's lock, and takes the
+    /// reply.
     fn carry(
         &mut self,
         rt: &impl Wait,
@@ -202,7 +206,7 @@ impl<'a, J: Naming, S: EntryStore> Client<'a, J, S> {
         }
     }
 
-    /// The member that answered last for such an identifier, else `via`.
+    /// The node that answered last near this identifier, else `via`.
     fn first_node(&self, id: Id, via: u64) -> u64 {
         match self.guesses.guess(id) {
             Some(no) if self.ring.is_live(no) => no,
@@ -210,7 +214,7 @@ impl<'a, J: Naming, S: EntryStore> Client<'a, J, S> {
         }
     }
 
-    /// Remembers which node answered, or that none did.
+    /// Remembers which node answered, or forgets the guess if none did.
     fn remember_node(&mut self, id: Id, node: Option<u64>)
         ensures { self.new ≡ self.old }
     {
@@ -220,8 +224,8 @@ impl<'a, J: Naming, S: EntryStore> Client<'a, J, S> {
         }
     }
 
-    /// Carries a new request, first to the node that is guessed, and notes which node answered. Where none did the guess is
-    /// forgotten.
+    /// Carries a new request, first to the guessed node, and remembers which node answered, or
+    /// forgets the guess if none did.
     fn carry_by_guess(
         &mut self,
         rt: &impl Wait,
@@ -248,7 +252,7 @@ impl<'a, J: Naming, S: EntryStore> Client<'a, J, S> {
         }
     }
 
-    /// Carries a pending request, and waits where its reply does not come back at once.
+    /// Carries a pending request, and waits if its reply does not come back at once.
     fn carry_or_wait<R: Wait + Clock>(
         &mut self,
         rt: &R,
@@ -268,7 +272,7 @@ impl<'a, J: Naming, S: EntryStore> Client<'a, J, S> {
         self.wait(rt, number)
     }
 
-    /// Carries a pending request again.
+    /// Carries a pending request again, and waits if no reply comes back.
     fn carry_again<R: Wait + Clock>(
         &mut self,
         rt: &R,
@@ -287,7 +291,7 @@ impl<'a, J: Naming, S: EntryStore> Client<'a, J, S> {
         }
     }
 
-    /// Carries a pending request again and again, so many times at most.
+    /// Carries a pending request again, at most `times` times.
     fn carry_on<R: Wait + Clock>(
         &mut self,
         rt: &R,
@@ -310,7 +314,8 @@ impl<'a, J: Naming, S: EntryStore> Client<'a, J, S> {
         Err(WaitFault::NoAnswer)
     }
 
-    /// Waits for the reply to a request that was carried once, and carries it again as often as the ring's settings say.
+    /// Waits for the reply to a request that was carried once, then carries it again as often as
+    /// the settings allow.
     fn wait_and_carry_on<R: Wait + Clock>(
         &mut self,
         rt: &R,
@@ -331,7 +336,7 @@ impl<'a, J: Naming, S: EntryStore> Client<'a, J, S> {
         self.carry_on(rt, via, number, more)
     }
 
-    /// Carries a new request up to as many times as the ring's settings say, the first time by the guess.
+    /// Carries a new request as often as the settings allow, the first time to the guessed node.
     fn bring<R: Wait + Clock>(
         &mut self,
         rt: &R,
@@ -375,11 +380,12 @@ impl<'a, J: Naming, S: EntryStore> Client<'a, J, S> {
         }
     }
 
-    /// Submits a request and hands out its reply. The calling thread itself does each node's event, under that node's
-    /// lock: no worker is needed. It begins at the member that answered last for identifiers with the same first byte,
-    /// else at `via`. Where no reply comes back, as while a handover is under way, it waits and tries again from `via`.
-    /// A request without its reply stays pending; a reply to it that comes while nobody waits for it is not taken, and so
-    /// is not lost: `retry` gets it from the holder, which keeps it.
+    /// Submits a request and hands out its reply. The calling thread itself does each node's event,
+    /// under that node's lock: no worker is needed. It begins at the node that answered last for
+    /// identifiers with the same first byte, else at `via`. If no reply comes back, as while a
+    /// handover is under way, it waits and tries again from `via`. A request without its reply
+    /// stays pending. A reply that comes while nobody waits for it is not taken, and so not lost:
+    /// `retry` gets it from the holder, which keeps it.
     pub fn call<R: Wait + Clock>(
         &mut self,
         rt: &R,
@@ -424,8 +430,9 @@ impl<'a, J: Naming, S: EntryStore> Client<'a, J, S> {
         }
     }
 
-    /// Sends a pending request again from `via`, under its number, and hands out its reply, as `call` does. It acts once,
-    /// however often it is sent: where it was executed before, the holder answers its kept reply.
+    /// Sends a pending request again from `via`, under its number, and hands out its reply, as
+    /// `call` does. It acts once, however often it is sent: if it was executed before, the holder
+    /// answers with its kept reply.
     pub fn retry<R: Wait + Clock>(
         &mut self,
         rt: &R,

@@ -55,7 +55,7 @@ fn confirmation_of(part: &Part, given: Given) -> Option<(Target, Message)>
     }
 }
 
-/// Makes the node's call for a call whose key has this identifier.
+/// Makes the node take a call whose key has this identifier.
 fn deal_ask<S: EntryStore>(
     node: &mut Node<S>,
     id: Id,
@@ -73,8 +73,9 @@ fn deal_ask<S: EntryStore>(
     Ok(answer_of(caller, number, answered))
 }
 
-/// Makes the node's call for a message that is for it, and answers what goes out. Where it is out of memory the
-/// node is as it was. The identifier is that of the key, where the message is a call, also of a call that goes out.
+/// Makes the node's call for a message that is for it, and gives what the node sends. If the
+/// message is a call, `id` is the identifier of its key; a call that is sent on has the same key.
+/// Out of memory leaves the node unchanged.
 pub(crate) fn deal_by_id<S: EntryStore>(
     node: &mut Node<S>,
     id: Id,
@@ -105,8 +106,8 @@ pub(crate) fn deal_by_id<S: EntryStore>(
     }
 }
 
-/// Makes the node's call for a message that is for it, and answers what goes out. Where it is out of memory the
-/// node is as it was.
+/// Makes the node's call for a message that is for it, and gives what the node sends. Out of memory
+/// leaves the node unchanged.
 pub fn deal<S: EntryStore>(
     node: &mut Node<S>,
     message: Message,

@@ -1,11 +1,11 @@
-//! What is done at each event of a worker.
+//! A hook for tests at each event of a worker.
 
-/// Passed at each event of a worker, while the node's lock is held.
+/// Called at each event of a worker, under the node's lock.
 pub trait Gate {
     fn pass(&self, no: u64);
 }
 
-/// A gate that is always open.
+/// A hook that does nothing.
 #[derive(Clone, Copy, Debug)]
 pub struct Open;
 

@@ -4,8 +4,8 @@ ghost use Rattle.chord_running.specs.Guesses.{no_guesses, guess_at, with_guess, 
 
 use chord_ident::Id;
 
-/// For each value of an identifier's first byte the node that answered last, where one did. A number above 255 is not
-/// kept; those of a ring are below 64.
+/// For each value of an identifier's first byte, the node that answered last, if any. A number
+/// above 255 is not remembered; those of a ring are below 64.
 #[derive(Drop)]
 pub struct Guesses {
     nodes: [Option<u8>; 256],
@@ -20,7 +20,7 @@ fn place_of(id: Id) -> usize
 }
 
 impl Guesses {
-    /// Nothing is known yet.
+    /// No node is known yet.
     #[tactic(auto, unfolding(crate::specs::Guesses::no_guesses))]
     pub fn new() -> Guesses
         ensures { result ≡ no_guesses }
@@ -38,14 +38,14 @@ impl Guesses {
         }
     }
 
-    /// A node answered.
+    /// Remembers that this node answered for the identifier.
     pub fn remember(&mut self, id: Id, no: u64)
         ensures { self.new ≡ with_guess self.old id.number (small no) }
     {
         self.nodes[place_of(id)] = u8::try_from(no).ok();
     }
 
-    /// No node is known to answer.
+    /// Forgets the node for identifiers with the same first byte.
     pub fn forget(&mut self, id: Id)
         ensures { self.new ≡ with_guess self.old id.number None }
     {

@@ -1,4 +1,4 @@
-//! A message under way, beside the identifier of its key.
+//! A message under way, with the identifier of its key.
 ghost use Rattle.std.specs.Prelude.{◌≡◌};
 ghost use Rattle.chord_running.specs.Keys.{IsKeyId};
 
@@ -6,7 +6,8 @@ use chord_ident::Id;
 use chord_node::Message;
 use chord_table::{Naming, Parcel};
 
-/// A parcel, and the identifier of the key where it is a call. So that is computed once, and under no lock.
+/// An envelope with the identifier of its key if it is a call, so that this is computed once, and
+/// under no lock.
 #[derive(Drop)]
 pub struct Keyed<J: Naming> {
     pub parcel: Parcel<J>,
@@ -26,7 +27,7 @@ pub fn id_in(message: &Message) -> Id
 }
 
 impl<J: Naming> Keyed<J> {
-    /// The parcel with the identifier of its key.
+    /// The envelope with the identifier of its key.
     pub fn new(parcel: Parcel<J>) -> Keyed<J>
         ensures { result.parcel ≡ parcel }
     {

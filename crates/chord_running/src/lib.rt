@@ -1,16 +1,18 @@
 //! A running ring: nodes under locks, with their workers and upkeep, and clients that ask them.
 //!
-//! A [`Ring`] has a place for each node and an inbox for each node and each caller. It starts no thread: its user calls
-//! [`Ring::work`] for each node on a thread of its own, and [`Ring::tick`] now and then. A [`Client`] asks by
-//! `client.call(&rt, 0, request)`, which does each node's event on the calling thread, and its memory is bounded by its
-//! window: it keeps a request until its reply is handed out, and no reply. It begins at the node that answered last near
-//! the key.
+//! A [`Ring`] has a slot for each node and an inbox for each node and each caller. It starts no
+//! thread: its user calls [`Ring::work`] for each node on a thread of its own, and [`Ring::tick`]
+//! now and then. A [`Client`] asks by `client.call(&rt, 0, request)`, which does each node's event
+//! on the calling thread and begins at the node that answered last near the key. Its memory is
+//! bounded by its window: it holds a request until it hands out the reply, and no replies.
 //!
-//! Each node's lock holds the node beside its seat of the table, each client stands beside its own, and each message
-//! under way is a parcel. So all that clients took stands in one history of one map of sets.
+//! Each node's lock holds the node with its seat of the table, each client has its seat too, and
+//! each message under way is an envelope. So all that clients took is in one history of one map of
+//! sets.
 //!
-//! Callers of another kind stand on [`Ring::admit_caller`], which gives the core of a caller and its seat, on
-//! [`Ring::post`] and [`Ring::hear`], which send and wait, and on [`Ring::carry`], which does the nodes' events.
+//! Callers of another kind use [`Ring::admit_caller`], which gives the core of a caller and its
+//! seat, [`Ring::post`] and [`Ring::hear`], which send and wait, and [`Ring::carry`], which does
+//! the nodes' events.
 #![tactic(auto)]
 
 mod blank;

@@ -1,4 +1,4 @@
-//! A node beside its seat.
+//! A node with its seat.
 ghost use Rattle.std.specs.Prelude.{◌≡◌, ◌≤◌, ◌++◌, [], ◌∷◌, OnErr};
 ghost use Rattle.chord_running.specs.Tidy.{TidyIs};
 ghost use Rattle.chord_node.specs.Moves.{LeaveIs, RetireIs};
@@ -50,15 +50,15 @@ impl<J: Naming, S: EntryStore> Locked<J, S> {
         self.node.links()
     }
 
-    /// How far the node has gone.
+    /// The node's phase.
     pub fn phase(&self) -> Phase
         ensures { result ≡ self.now.node.phase }
     {
         self.node.phase()
     }
 
-    /// Takes a message in, makes the node's call for it, and sends what that answers. A message that is not for the
-    /// node is lost, and so is one where the node is out of memory.
+    /// Takes a message in, makes the node's call for it, and sends the answer. A message is lost if
+    /// it is not for the node, or if the node is out of memory.
     pub fn answer(&mut self, table: &Shared<J>, keyed: Keyed<J>) -> Option<(Target, Keyed<J>)>
         ensures messages { self.new.messages ≡ self.old.messages ++ keyed.parcel ∷ [] }
     {
@@ -81,7 +81,7 @@ impl<J: Naming, S: EntryStore> Locked<J, S> {
         }
     }
 
-    /// Other links of the same node.
+    /// Gives the node other links, with the same `me`.
     fn set_links(&mut self, table: &Shared<J>, links: Links)
         requires me { links.me ≡ self.old.node.links.me }
         requires r { links.r ≡ self.old.node.links.r }
@@ -91,7 +91,8 @@ impl<J: Naming, S: EntryStore> Locked<J, S> {
         self.seat.local(table, &self.node);
     }
 
-    /// Copies the list of the node's first entry; answers that entry's predecessor where it lies between.
+    /// Copies the list of the node's first entry. Gives that entry's predecessor if it lies between
+    /// the node and the entry.
     pub fn stabilise(
         &mut self,
         table: &Shared<J>,
@@ -123,7 +124,7 @@ impl<J: Naming, S: EntryStore> Locked<J, S> {
         Ok(())
     }
 
-    /// Drops the first entry, which is dead, where there is another.
+    /// Drops the dead first entry, if there is another.
     pub fn drop_dead(&mut self, table: &Shared<J>, head_live: bool) -> Result<(), DropFault>
         ensures messages { self.new.messages ≡ self.old.messages }
         ensures err { OnErr result (self.new ≡ self.old) }
@@ -134,7 +135,7 @@ impl<J: Naming, S: EntryStore> Locked<J, S> {
         Ok(())
     }
 
-    /// Hears of a node that may be the predecessor; answers whether it is now.
+    /// Hears of a node that may be its predecessor, and says whether it is now.
     pub fn rectify(&mut self, table: &Shared<J>, notifier: Peer, predecessor_live: bool) -> bool
         ensures messages { self.new.messages ≡ self.old.messages }
     {
@@ -144,7 +145,7 @@ impl<J: Naming, S: EntryStore> Locked<J, S> {
         gives
     }
 
-    /// Another node for a finger, counted from 1.
+    /// Points a finger, counted from 1, at another node.
     pub fn set_finger(&mut self, table: &Shared<J>, finger: usize, to: Peer)
         requires low { 1 ≤ finger }
         requires high { finger ≤ 128 }
@@ -155,7 +156,7 @@ impl<J: Naming, S: EntryStore> Locked<J, S> {
         self.set_links(table, links);
     }
 
-    /// Tidies at the node, whose predecessor is this one.
+    /// Cuts or finds a held segment that is not the node's own, given its predecessor.
     pub fn tidy(&mut self, table: &Shared<J>, predecessor: Id) -> Result<Tidied, AllocError>
         ensures messages { self.new.messages ≡ self.old.messages }
         ensures answer { TidyIs predecessor self.old.node result self.new.node }
@@ -167,14 +168,14 @@ impl<J: Naming, S: EntryStore> Locked<J, S> {
         Ok(tidied)
     }
 
-    /// The end of the span of the held segment at the place.
+    /// The end of the span of the held segment at this index.
     pub fn end_of(&self, place: usize) -> Option<Id> {
         let span = self.node.span(place)?;
         Some(span.upto)
     }
 
-    /// Puts the held segment at the place into the outbox, and sends its first part. The item's number comes
-    /// with it.
+    /// Puts the held segment at this index into the outbox, and sends its first part. Gives the
+    /// item's number with it.
     pub fn give(
         &mut self,
         table: &Shared<J>,
@@ -190,13 +191,13 @@ impl<J: Naming, S: EntryStore> Locked<J, S> {
         Ok((number, parcel))
     }
 
-    /// The receiver and the number of an item of the outbox, counted from 0 in the order given.
+    /// The receiver and the number of the outbox item at this index, from 0 in the order given.
     pub fn kept(&self, place: u64) -> Option<(u64, u64)> {
         let (to, number, _) = self.node.kept(place)?;
         Some((to, number))
     }
 
-    /// Sends a part of an item of the outbox again.
+    /// Sends a part of an outbox item again.
     pub fn resend_part(
         &mut self,
         table: &Shared<J>,
@@ -220,7 +221,7 @@ impl<J: Naming, S: EntryStore> Locked<J, S> {
         Ok(())
     }
 
-    /// Why the node would not retire.
+    /// Why the node would refuse to retire now.
     pub fn retirement(&self) -> Option<RetireFault> {
         if self.node.phase() != Phase::Leaving {
             return Some(RetireFault::NotLeaving);
@@ -231,7 +232,7 @@ impl<J: Naming, S: EntryStore> Locked<J, S> {
         None
     }
 
-    /// Is gone.
+    /// Retires the node, which is gone then.
     pub fn retire(&mut self, table: &Shared<J>) -> Result<(), RetireFault>
         ensures messages { self.new.messages ≡ self.old.messages }
         ensures answer { RetireIs self.old.node result self.new.node }

@@ -1,4 +1,4 @@
-//! A client beside its seat.
+//! A client with its seat.
 ghost use Rattle.std.specs.Prelude.{◌≡◌, ◌≢◌, ◌↔◌, ◌++◌, [], ◌∷◌, Contains, IfOk, IfErr, OnErr, Ok, Err, true};
 ghost use Rattle.chord_caller.specs.Answers.{SubmitIs, RefusalIs, PendingIs, is_pending};
 ghost use Rattle.chord_caller.specs.Caller.{floor_of};
@@ -17,7 +17,7 @@ use chord_table::{CallerSeat, Naming, Parcel, Shared, Witness};
 use std::alloc::AllocError;
 use std::marker::Model;
 
-/// A client, and the seat of the caller that it is the core of. The seat has no memory for what it shows: that is data of
+/// A client's core, and the seat of its caller. What the seat shows takes no memory: it is data of
 /// the proof alone. Contracts see it.
 #[derive(Drop)]
 pub struct OwnedClient<J: Naming> {
@@ -37,7 +37,7 @@ impl<J: Naming> Model for OwnedClient<J> {
 }
 
 impl<J: Naming> OwnedClient<J> {
-    /// A client with the seat that its caller was admitted with.
+    /// A core with the seat that its caller was admitted with.
     pub fn new(core: ClientCore, seat: CallerSeat<J>) -> OwnedClient<J>
         requires { IsCoreOf core seat.caller }
         ensures { result ≡ seat }
@@ -52,7 +52,7 @@ impl<J: Naming> OwnedClient<J> {
         self.core.refusal(request)
     }
 
-    /// Submits a request, and sends it. Its number comes with the parcel.
+    /// Submits a request, and gives its number and its envelope.
     pub fn submit(
         &mut self,
         table: &Shared<J>,
@@ -86,7 +86,7 @@ impl<J: Naming> OwnedClient<J> {
         Ok(self.seat.resend(table, ask))
     }
 
-    /// The greatest number with all at or below it taken.
+    /// The greatest number such that the replies to it and to all below it were taken.
     pub fn floor(&self) -> u64
         ensures { result ≡ floor_of self.now.caller }
     {
@@ -115,7 +115,7 @@ impl<J: Naming> OwnedClient<J> {
         self.seat.witness(table)
     }
 
-    /// All that the caller took stands in one legal history.
+    /// Proves that all that the caller took is in one legal history.
     pub fn look(&mut self, table: &Shared<J>)
         ensures same { self.new ≡ self.old }
         ensures shown { CallerShown self.old }
@@ -138,9 +138,9 @@ impl<J: Naming> OwnedClient<J> {
         }
     }
 
-    /// Takes a message in. The reply to the request of this number is taken and handed out, if the request is pending. Any
-    /// other is dropped and not taken: its request stays pending, and is answered by its holder's kept reply when it is
-    /// sent again.
+    /// Takes a message in. Hands out the reply to the request of this number, if that is pending.
+    /// Drops any other reply: its request stays pending, and when it is sent again its holder
+    /// answers with the kept reply.
     pub fn take(
         &mut self,
         table: &Shared<J>,

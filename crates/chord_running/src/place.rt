@@ -1,4 +1,4 @@
-//! Places of nodes.
+//! Slots of nodes.
 ghost use Rattle.std.specs.Prelude.{◌≡◌, ◌≢◌};
 ghost use Rattle.chord_running.specs.declared.place.Place.TheVariants.{Here, Crashed};
 
@@ -10,18 +10,18 @@ use std::alloc::Global;
 use std::sync::Mutex;
 use std::sync::atomic::{AtomicBool, AtomicU64};
 
-/// What stands at a place.
+/// The state of a slot.
 #[derive(Drop)]
 pub enum Place<J: Naming, S: EntryStore> {
     /// No node was admitted.
     Vacant,
     Here(Locked<J, S>),
-    /// The node takes no further step.
+    /// The node crashed: it takes no further step.
     Crashed(Locked<J, S>),
 }
 
 impl<J: Naming, S: EntryStore> Place<J, S> {
-    /// The same where a node that stands there takes no further step.
+    /// The slot after its node, if it has one, crashed.
     pub fn crashed(self) -> Place<J, S>
         ensures here { (locked : _) → self ≡ Here locked → result ≡ Crashed locked }
         ensures other { ((locked : _) → self ≢ Here locked) → result ≡ self }
@@ -33,13 +33,13 @@ impl<J: Naming, S: EntryStore> Place<J, S> {
     }
 }
 
-/// A place for a node, and its inbox.
+/// A slot for a node, and the node's inbox.
 #[derive(Drop)]
 pub struct Slot<J: Naming, S: EntryStore> {
     pub(crate) place: Mutex<Place<J, S>>,
     /// Whether the node is a member: it was admitted, and has neither retired nor crashed.
     pub(crate) live: AtomicBool,
-    /// The number of earlier ticks, below 128.
+    /// How many ticks there were, modulo 128.
     pub(crate) ticks: AtomicU64,
     pub(crate) inbox: Sender<Parcel<J>, Global>,
     pub(crate) parcels: Receiver<Parcel<J>, Global>,

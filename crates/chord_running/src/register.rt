@@ -1,4 +1,4 @@
-//! Which numbers are taken.
+//! The numbers of nodes and callers.
 ghost use Rattle.std.specs.Prelude.{◌≡◌, ◌+◌, ◌<◌, ◌≤◌, [], false, true, IfOk, IfErr, OnOk, OnErr, IfSome, Err, None};
 ghost use Rattle.chord_caller.specs.Answers.{new_caller};
 ghost use Rattle.chord_links.specs.NodeLinks.{alone};
@@ -17,8 +17,8 @@ use chord_table::{CallerSeat, Naming, Registrar, Shared};
 use std::alloc::Global;
 use std::marker::Model;
 
-/// The next free numbers, beside the registrar that has admitted those below them. Contracts see how many nodes and
-/// callers there are.
+/// The next free numbers, with the registrar that admitted all below them. Contracts see how many
+/// nodes and callers there are.
 #[derive(Drop)]
 pub struct Register<J: Naming> {
     registrar: Registrar<J>,
@@ -42,7 +42,7 @@ impl<J: Naming> Model for Register<J> {
 }
 
 impl<J: Naming> Register<J> {
-    /// No number is taken.
+    /// No number is used yet.
     pub fn new(alloc: Global, registrar: Registrar<J>, slots: usize, places: usize) -> Register<J>
         requires slots { slots ≡ J.name.slots }
         requires places { places ≡ J.name.callers }
@@ -67,7 +67,7 @@ impl<J: Naming> Register<J> {
         self.nodes
     }
 
-    /// Whether there is a number for a node.
+    /// Whether there is a free number for a node.
     pub fn has_slot(&self) -> bool
         ensures { result ≡ true → self.now.nodes < J.name.slots }
     {
@@ -79,7 +79,7 @@ impl<J: Naming> Register<J> {
         self.ids.iter().any(|taken| *taken == id)
     }
 
-    /// The first node. Where it is out of memory its store comes back.
+    /// Admits the first node. Gives its store back if out of memory.
     pub fn create<S: EntryStore>(
         &mut self,
         table: &Shared<J>,
@@ -108,7 +108,7 @@ impl<J: Naming> Register<J> {
         Ok(Locked::new(node, seat))
     }
 
-    /// A later node with these links. Where it is out of memory its store comes back.
+    /// Admits a later node with these links. Gives its store back if out of memory.
     pub fn join<S: EntryStore>(
         &mut self,
         table: &Shared<J>,
@@ -135,7 +135,8 @@ impl<J: Naming> Register<J> {
         Ok(Locked::new(node, seat))
     }
 
-    /// A caller under the next free number and the seat that shows it, or None where all numbers are taken.
+    /// A caller under the next free number and the seat that shows it, or None if no number is
+    /// free.
     pub fn admit_caller(
         &mut self,
         table: &Shared<J>,
@@ -159,7 +160,7 @@ impl<J: Naming> Register<J> {
         Some((core, seat))
     }
 
-    /// A client with its number. It is refused so where all numbers are taken, or else only where it is out of memory.
+    /// A client with its number. It is refused if no number is free, or else only if out of memory.
     pub fn open_client(
         &mut self,
         table: &Shared<J>,

@@ -12,9 +12,9 @@ use std::sync::Wait;
 use std::sync::atomic::Ordering;
 
 impl<J: Naming, S: EntryStore> Ring<J, S> {
-    /// A leaving node that holds nothing and hands nothing over is gone, where the ring holds together without it. The
-    /// locks of all nodes are taken for it, by rising number; no other call has two of them at a time, and one node
-    /// retires at a time.
+    /// Retires a leaving node that holds nothing and has an empty outbox, if the ring holds
+    /// together without it. Takes the locks of all nodes, by rising number. No other call holds two
+    /// of them at a time, and one node retires at a time.
     pub fn retire(&self, rt: &impl Wait, no: u64) -> Result<(), RetireFault> {
         if !self.was(no) {
             return Err(RetireFault::NoSuchNode);
@@ -23,7 +23,7 @@ impl<J: Naming, S: EntryStore> Ring<J, S> {
         self.retire_below(rt, &mut *board, 0, no as usize)
     }
 
-    /// Puts the links of the node at a place on the board, if it is a member.
+    /// Writes the links of the node in this slot on the board, or none if it is no member.
     fn post_links(&self, board: &mut Vec<Option<Links>>, at: usize, place: &Place<J, S>) {
         let links = match place {
             Place::Here(locked) if self.is_live(at as u64) => Some(*locked.links()),
@@ -34,7 +34,7 @@ impl<J: Naming, S: EntryStore> Ring<J, S> {
         }
     }
 
-    /// Takes the locks from this place on to the node's own.
+    /// Takes the locks from this slot up to the node's own.
     fn retire_below(
         &self,
         rt: &impl Wait,
@@ -53,7 +53,7 @@ impl<J: Naming, S: EntryStore> Ring<J, S> {
         self.retire_below(rt, board, at + 1, no)
     }
 
-    /// Takes the node's own lock, and asks whether it would retire.
+    /// Takes the node's own lock, and goes on if the node would retire.
     fn retire_here(
         &self,
         rt: &impl Wait,
@@ -74,7 +74,7 @@ impl<J: Naming, S: EntryStore> Ring<J, S> {
         Ok(())
     }
 
-    /// Takes the locks from this place on, and decides under all of them.
+    /// Takes the locks from this slot on, and decides under all of them.
     fn retire_above(
         &self,
         rt: &impl Wait,

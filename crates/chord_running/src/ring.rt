@@ -1,4 +1,4 @@
-//! Places for nodes and callers over one table.
+//! Slots for nodes and inboxes for callers, over one table.
 ghost use Rattle.std.specs.Prelude.{◌≡◌, ◌<◌, ◌≤◌, [], true, IfOk, IfErr, IfSome, vec_len};
 ghost use Rattle.chord_caller.specs.Answers.{new_caller};
 ghost use Rattle.chord_running.specs.Counts.{AreWithin};
@@ -24,20 +24,20 @@ use std::alloc::Global;
 use std::sync::atomic::{AtomicBool, AtomicU64, Ordering};
 use std::sync::{Mutex, Wait};
 
-/// Nodes and inboxes over their table.
+/// Nodes, inboxes and their table.
 #[derive(Drop)]
 pub struct Ring<J: Naming, S: EntryStore> {
     pub(crate) alloc: Global,
     pub(crate) settings: Settings,
     pub(crate) table: Shared<J>,
     pub(crate) register: Mutex<Register<J>>,
-    /// The members' links, while a node retires.
+    /// The links of all members, filled while a node retires.
     pub(crate) board: Mutex<Vec<Option<Links>>>,
     /// How many nodes were admitted.
     pub(crate) nodes: AtomicU64,
     pub(crate) slots: Vec<Slot<J, S>>,
     pub(crate) inboxes: Vec<Inbox<J>>,
-    /// So many waits are not to try first.
+    /// How many of the next waits skip polling.
     pub(crate) crowded: AtomicU64,
     pub(crate) stopped: AtomicBool,
     ghost within: { AreWithin settings },
@@ -71,7 +71,7 @@ impl<J: Naming, S: EntryStore> Ring<J, S> {
         &self.table
     }
 
-    /// How often a request is sent.
+    /// How many times a request is sent at most.
     pub fn tries(&self) -> u64
         ensures { (1 ≤ result) × (result ≤ 1000) }
     {
@@ -83,12 +83,13 @@ impl<J: Naming, S: EntryStore> Ring<J, S> {
         self.stopped.store(true, Ordering::SeqCst);
     }
 
-    /// Lets the ring go, with its nodes, their stores and the parcels under way.
+    /// Drops the ring, with its nodes, their stores and the envelopes under way.
     pub fn close(self) {
         drop(self);
     }
 
-    /// The links of a node, if it is there: what its upkeep knows of the ring at this moment.
+    /// The links of a node, as its upkeep knows them now. None if there is no such node, or if it
+    /// crashed.
     pub fn links_of(&self, rt: &impl Wait, no: u64) -> Option<Links>
         ensures { IfSome result (λ links. links.me.no ≡ no) }
     {
@@ -99,7 +100,7 @@ impl<J: Naming, S: EntryStore> Ring<J, S> {
         }
     }
 
-    /// How far a node has gone, if it is there.
+    /// The phase of a node. None if there is no such node, or if it crashed.
     pub(crate) fn phase_of(&self, rt: &impl Wait, no: u64) -> Option<Phase> {
         let slot = self.slots.get(no as usize)?;
         match &*slot.place.lock(rt) {
@@ -108,7 +109,7 @@ impl<J: Naming, S: EntryStore> Ring<J, S> {
         }
     }
 
-    /// Puts a node at its place.
+    /// Puts a node into its slot.
     fn place(&self, rt: &impl Wait, no: usize, locked: Locked<J, S>)
         requires { no < J.name.slots }
     {
@@ -118,7 +119,7 @@ impl<J: Naming, S: EntryStore> Ring<J, S> {
         self.nodes.store(no as u64 + 1, Ordering::SeqCst);
     }
 
-    /// The first node. Where there is none the store comes back.
+    /// Admits the first node, or gives the store back.
     pub fn create(&self, rt: &impl Wait, id: Id, store: S) -> Result<Peer, (CreateFault, S)>
         requires vacant { S.content store ≡ [] }
         ensures peer { IfOk result (λ peer. peer ≡ record { no = 0; id = id }) }
@@ -140,7 +141,7 @@ impl<J: Naming, S: EntryStore> Ring<J, S> {
         }
     }
 
-    /// The links of a node with this number and identifier behind the node that comes before it.
+    /// The links of a new node, after the node that comes before it on the circle.
     fn links_behind(&self, rt: &impl Wait, me: Peer, via: u64) -> Result<Links, JoinFault>
         ensures { IfOk result (λ links. links.me ≡ me) }
     {
@@ -163,7 +164,8 @@ impl<J: Naming, S: EntryStore> Ring<J, S> {
         }
     }
 
-    /// A later node, behind the one that a lookup from `via` finds before it. Where there is none the store comes back.
+    /// Admits a later node, after the one that a lookup from `via` finds before it, or gives the
+    /// store back.
     pub fn join(&self, rt: &impl Wait, id: Id, via: u64, store: S) -> Result<Peer, (JoinFault, S)>
         requires vacant { S.content store ≡ [] }
         ensures back { IfErr result (λ refused. refused.1 ≡ store) }
@@ -197,7 +199,7 @@ impl<J: Naming, S: EntryStore> Ring<J, S> {
         }
     }
 
-    /// A node begins to leave.
+    /// Makes a node begin to leave.
     pub fn leave(&self, rt: &impl Wait, no: u64) -> Result<(), LeaveFault> {
         if !self.was(no) {
             return Err(LeaveFault::NoSuchNode);
@@ -213,7 +215,7 @@ impl<J: Naming, S: EntryStore> Ring<J, S> {
         }
     }
 
-    /// A node takes no further step, and is dead for others. Its store stays as it is.
+    /// Crashes a node: it takes no further step, others find it dead, and its store stays as it is.
     pub fn crash(&self, rt: &impl Wait, no: u64) -> Result<(), NoSuchNode> {
         if !self.was(no) {
             return Err(NoSuchNode);
@@ -228,7 +230,8 @@ impl<J: Naming, S: EntryStore> Ring<J, S> {
         Ok(())
     }
 
-    /// A caller under the next free number, with a window of 1 to 16 requests, and the seat that shows it.
+    /// A caller under the next free number, with a window of 1 to 16 requests, and the seat that
+    /// shows it.
     pub fn admit_caller(
         &self,
         rt: &impl Wait,
@@ -249,7 +252,8 @@ impl<J: Naming, S: EntryStore> Ring<J, S> {
         }
     }
 
-    /// A client under the next free number, with a window of 1 to 16 requests. It has room for them, and keeps no more.
+    /// A client under the next free number, with a window of 1 to 16 requests. It has room for
+    /// those, and holds no more.
     pub fn open_client(
         &self,
         rt: &impl Wait,
@@ -263,7 +267,7 @@ impl<J: Naming, S: EntryStore> Ring<J, S> {
         Client::open(self, rt, window)
     }
 
-    /// The next client, beside its seat.
+    /// The core and the seat of the next client.
     pub(crate) fn open_client_seat(
         &self,
         rt: &impl Wait,

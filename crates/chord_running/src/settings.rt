@@ -11,14 +11,14 @@ pub struct Settings {
     pub callers: usize,
     /// How many successors a node's list may have, 2 to 16.
     pub successors: usize,
-    /// How often a request is sent, 1 to 1,000 times.
+    /// How many times a request is sent at most, 1 to 1,000.
     pub tries: u64,
-    /// How many milliseconds a caller waits each time, 1 to 60,000.
+    /// How many milliseconds a caller waits for a reply after each time, 1 to 60,000.
     pub wait_ms: u64,
 }
 
 impl Settings {
-    /// Whether each is within its limits.
+    /// Whether each setting is within its limits.
     pub fn are_within(&self) -> bool
         ensures { IsTrue result ↔ AreWithin self.now }
     {

@@ -1,6 +1,6 @@
 //! Where messages go.
 
-/// Whose inbox a message is for.
+/// Who gets a message.
 #[derive(Clone, Copy, Debug, PartialEq, Eq)]
 pub enum Target {
     Node(u64),

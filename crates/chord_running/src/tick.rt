@@ -21,11 +21,11 @@ use std::sync::atomic::Ordering;
 /// How many fingers a node has.
 const FINGERS: u64 = 128;
 
-/// What a tick does at a node under its lock.
+/// What a tick does next at a node after looking under its lock.
 #[derive(Clone, Copy)]
 enum Turn {
     Done,
-    /// The held segment at the place, which ends there, is another node's.
+    /// To give the held segment at this index, which ends here, to another node.
     Give(usize, Id),
 }
 
@@ -40,7 +40,7 @@ impl<J: Naming, S: EntryStore> Ring<J, S> {
         }
     }
 
-    /// Stabilises a node with its first entry's links, and answers the candidate that came.
+    /// Stabilises a node with its first entry's links, and gives the candidate found.
     fn stabilise(&self, rt: &impl Wait, no: u64, head: &Links) -> Option<Peer> {
         let slot = self.slots.get(no as usize)?;
         let live = self.is_live(head.me().no);
@@ -67,7 +67,7 @@ impl<J: Naming, S: EntryStore> Ring<J, S> {
         }
     }
 
-    /// A node hears of a notifier.
+    /// A node rectifies its predecessor, given a notifier.
     fn rectify(&self, rt: &impl Wait, no: u64, notifier: Peer) {
         let Some(slot) = self.slots.get(no as usize) else {
             return;
@@ -82,7 +82,7 @@ impl<J: Naming, S: EntryStore> Ring<J, S> {
         }
     }
 
-    /// The ring steps of a tick.
+    /// The ring steps of a tick: drop a dead first entry, stabilise, rectify.
     fn tend_links(&self, rt: &impl Wait, links: &Links) {
         let me = links.me();
         let head = links.first();
@@ -101,7 +101,7 @@ impl<J: Naming, S: EntryStore> Ring<J, S> {
         }
     }
 
-    /// The finger of a tick.
+    /// Updates the next finger; a node has one updated at each tick.
     fn tend_finger(&self, rt: &impl Wait, links: &Links) {
         let me = links.me();
         let Some(slot) = self.slots.get(me.no as usize) else {
@@ -116,7 +116,7 @@ impl<J: Naming, S: EntryStore> Ring<J, S> {
         }
     }
 
-    /// Another node for a finger of a node.
+    /// Points a finger of a node at another node.
     fn set_finger(&self, rt: &impl Wait, no: u64, finger: usize, to: Peer)
         requires low { 1 ≤ finger }
         requires high { finger ≤ 128 }
@@ -129,7 +129,7 @@ impl<J: Naming, S: EntryStore> Ring<J, S> {
         }
     }
 
-    /// Drops the fingers of a node that lead to dead ones: they lead to the node itself then, and no lookup follows them.
+    /// Points fingers that lead to dead nodes at the node itself, so that no lookup follows them.
     fn drop_dead_fingers(&self, rt: &impl Wait, links: &Links) {
         let me = links.me();
         for finger in 1..129 {
@@ -141,7 +141,7 @@ impl<J: Naming, S: EntryStore> Ring<J, S> {
         }
     }
 
-    /// The tidying part of a tick under the node's lock.
+    /// Cuts a held segment that is not the node's own, or finds one to give. Under the node's lock.
     fn tidy_locked(&self, locked: &mut Locked<J, S>) -> Result<Turn, AllocError> {
         let predecessor = locked.links().predecessor();
         let Some(peer) = predecessor else {
@@ -169,7 +169,7 @@ impl<J: Naming, S: EntryStore> Ring<J, S> {
         }
     }
 
-    /// Tidies at a node, and gives away what is another node's.
+    /// Cuts at a node, or gives away a held segment that is another node's.
     fn tend_segments(&self, rt: &impl Wait, no: u64) -> Result<(), AllocError> {
         let Turn::Give(place, end) = self.tidy_at(rt, no)? else {
             return Ok(());
@@ -184,7 +184,7 @@ impl<J: Naming, S: EntryStore> Ring<J, S> {
         self.give(rt, no, place, end, peer.no)
     }
 
-    /// Gives the held segment at the place, if it ends there still, and sends all parts.
+    /// Gives the held segment at this index, if it still ends here, and sends all its parts.
     fn give(
         &self,
         rt: &impl Wait,
@@ -225,7 +225,7 @@ impl<J: Naming, S: EntryStore> Ring<J, S> {
         }
     }
 
-    /// Sends the parts of an item from this one on.
+    /// Sends the parts of an outbox item, from this part on.
     fn send_parts(
         &self,
         rt: &impl Wait,
@@ -261,7 +261,7 @@ impl<J: Naming, S: EntryStore> Ring<J, S> {
         }
     }
 
-    /// Where a leaving node's first held segment ends.
+    /// The end of a leaving node's first held segment.
     fn end_at_leaving(&self, rt: &impl Wait, no: u64) -> Option<Id> {
         let slot = self.slots.get(no as usize)?;
         match &*slot.place.lock(rt) {
@@ -276,7 +276,7 @@ impl<J: Naming, S: EntryStore> Ring<J, S> {
         }
     }
 
-    /// The first entry of a list that is another node and stays.
+    /// The first entry of a list that is another node, and stays.
     fn heir(&self, rt: &impl Wait, links: &Links) -> Option<u64> {
         let me = links.me();
         for peer in links.list().entries() {
@@ -287,7 +287,7 @@ impl<J: Naming, S: EntryStore> Ring<J, S> {
         None
     }
 
-    /// A leaving node gives its first held segment away.
+    /// Gives away the first held segment of a leaving node.
     fn tend_leaving(&self, rt: &impl Wait, no: u64) -> Result<(), AllocError> {
         let Some(end) = self.end_at_leaving(rt, no) else {
             return Ok(());
@@ -309,7 +309,7 @@ impl<J: Naming, S: EntryStore> Ring<J, S> {
         }
     }
 
-    /// Sends all parts of all items of the outbox again.
+    /// Sends all parts of all outbox items again.
     fn tend_outbox(&self, rt: &impl Wait, no: u64) -> Result<(), AllocError> {
         for place in 0..u64::MAX {
             let Some((to, number)) = self.kept(rt, no, place) else {
@@ -320,7 +320,7 @@ impl<J: Naming, S: EntryStore> Ring<J, S> {
         Ok(())
     }
 
-    /// One round of upkeep of a node. Where it runs out of memory the steps that were done stay.
+    /// Does one round of upkeep of a node. Out of memory ends it early; the steps done so far stay.
     pub fn tick(&self, rt: &impl Wait, no: u64) -> Result<(), TickFault> {
         if !self.was(no) {
             return Err(TickFault::NoSuchNode);

@@ -1,4 +1,4 @@
-//! Holding no more than is one's own.
+//! Tidying: a node holds only what is its own.
 ghost use Rattle.std.specs.Prelude.{◌≡◌, ◌^◌, ◌-◌, true, false, Some, None, IfSome, slice_get};
 ghost use Rattle.chord_node.specs.View.{span_of};
 ghost use Rattle.chord_running.specs.Tidy.{is_inside, AreInside, TidyIs, TidySteps};
@@ -8,17 +8,17 @@ use chord_node::{CutAtFault, Node, Phase};
 use chord_store::EntryStore;
 use std::alloc::AllocError;
 
-/// What was done to hold no more.
+/// What tidying did.
 #[derive(Clone, Copy, Debug, PartialEq, Eq)]
 pub enum Tidied {
     Nothing,
     /// A held segment was cut.
     Cut,
-    /// The held segment at this place is another node's.
+    /// The held segment at this index is another node's.
     Give(usize),
 }
 
-/// Whether a span lies inside another one, the node's own.
+/// Whether a span lies inside the node's own.
 fn is_within(span: Span, own: Span) -> bool
     ensures { result ≡ is_inside own span }
 {
@@ -26,7 +26,7 @@ fn is_within(span: Span, own: Span) -> bool
         || (span.cut(own.after).is_err() && span.cut(own.upto).is_err() && own.contains(span.upto))
 }
 
-/// The place and the span of the first held segment that is not inside.
+/// The index and the span of the first held segment that is not inside the node's own span.
 fn find_outside<S: EntryStore>(node: &Node<S>, own: Span) -> Option<(usize, Span)>
     ensures some { IfSome result (λ found. (span_of (slice_get node.now.held found.0) ≡ Some found.1) × (is_inside own found.1 ≡ false) × AreInside own node.now.held found.0) }
     ensures none { result ≡ None → AreInside own node.now.held (2 ^ 64 - 1) }
@@ -40,8 +40,9 @@ fn find_outside<S: EntryStore>(node: &Node<S>, own: Span) -> Option<(usize, Span
     None
 }
 
-/// Looks, at a node that stays, at the first held segment that does not lie between its predecessor and itself. It is
-/// cut where the predecessor cuts it, else where the node does; else it is to be given.
+/// At a staying node, takes the first held segment that is not between its predecessor and itself.
+/// Cuts it at the predecessor, else at the node, if one of these lies within; else the segment is
+/// to be given.
 pub fn tidy<S: EntryStore>(node: &mut Node<S>, predecessor: Id) -> Result<Tidied, AllocError>
     ensures answer { TidyIs predecessor node.old result node.new }
     ensures step { TidySteps node.old result node.new }

@@ -1,4 +1,4 @@
-//! Waiting for parcels.
+//! Waiting for envelopes.
 ghost use Rattle.std.specs.Prelude.{◌<◌};
 
 use crate::ring::Ring;
@@ -10,22 +10,22 @@ use std::sync::atomic::Ordering;
 use std::sync::{Mutex, MutexGuard, Wait};
 use std::time::{Clock, Duration, Instant};
 
-/// So many microseconds a thread tries before it sleeps.
+/// How many microseconds a thread polls before it sleeps.
 const POLL: u64 = 40;
 
-/// A thread that tried for so many microseconds had to leave the processor to others.
+/// A poll that took longer than this many microseconds: the machine is overloaded.
 const CROWDED: u64 = 1_000;
 
-/// So many waits do not try after that.
+/// Then this many waits skip polling.
 const SHY: u64 = 5_000;
 
-/// The most turns of one try.
+/// The most rounds of one poll.
 const TURNS: u64 = 200;
 
-/// So often a thread tries for a lock, and leaves the processor to others in between, before it sleeps.
+/// How often a thread tries a lock, yielding in between, before it sleeps.
 const YIELDS: u64 = 64;
 
-/// Takes a lock that is held for a moment only.
+/// Takes a lock that others hold only briefly.
 pub(crate) fn lock_soon<'l, T>(rt: &impl Wait, lock: &'l Mutex<T>) -> MutexGuard<'l, T> {
     for _ in 0..YIELDS {
         if let Some(guard) = lock.try_lock() {
@@ -37,7 +37,7 @@ pub(crate) fn lock_soon<'l, T>(rt: &impl Wait, lock: &'l Mutex<T>) -> MutexGuard
 }
 
 impl<J: Naming, S: EntryStore> Ring<J, S> {
-    /// How long is left of one wait that began then.
+    /// How long a wait that began at `start` may still last.
     pub fn time_left<R: Wait + Clock>(&self, rt: &R, start: &Option<Instant>) -> Duration {
         if self.is_stopped() {
             return Duration::from_millis(0);
@@ -52,7 +52,7 @@ impl<J: Naming, S: EntryStore> Ring<J, S> {
         }
     }
 
-    /// Waits for a parcel: tries for a moment, then sleeps.
+    /// Waits for an envelope: polls briefly, then sleeps.
     pub(crate) fn receive<R: Wait + Clock>(
         &self,
         rt: &R,
@@ -65,15 +65,14 @@ impl<J: Naming, S: EntryStore> Ring<J, S> {
         from.recv_timeout(rt, limit).ok()
     }
 
-    /// Waits for a parcel that comes to a caller.
+    /// Waits for an envelope for a caller.
     pub fn hear<R: Wait + Clock>(&self, rt: &R, caller: u64, limit: Duration) -> Option<Parcel<J>>
         requires { caller < J.name.callers }
     {
         self.receive(rt, &self.inboxes[caller as usize].parcels, limit)
     }
 
-    /// Tries for a moment, and leaves the processor to others in between. Where they keep it for long, the next waits
-    /// do not try.
+    /// Polls briefly, yielding in between. If that takes too long, the next waits skip polling.
     fn poll<R: Wait + Clock>(
         &self,
         rt: &R,

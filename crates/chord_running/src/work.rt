@@ -1,4 +1,4 @@
-//! Parcels of nodes, taken in by workers or by the callers themselves.
+//! Envelopes for nodes, taken in by workers or by the callers themselves.
 
 use crate::carried::Carried;
 use crate::gate::{Gate, Open};
@@ -15,14 +15,15 @@ use std::alloc::Global;
 use std::sync::Wait;
 use std::time::{Clock, Duration};
 
-/// So many milliseconds a worker sleeps before it looks whether the ring was stopped.
+/// How many milliseconds a worker sleeps before it checks whether the ring was stopped.
 const IDLE: u64 = 50;
 
 /// How many nodes a request goes through at most.
 const HOPS: u64 = 256;
 
 impl<J: Naming, S: EntryStore> Ring<J, S> {
-    /// A parcel comes to a node: one event under its lock. What is sent then, is to be posted after it.
+    /// A node takes in an envelope: one event under its lock. What it sends is given back, to be
+    /// posted once the lock is free.
     pub(crate) fn answer(
         &self,
         rt: &impl Wait,
@@ -47,7 +48,7 @@ impl<J: Naming, S: EntryStore> Ring<J, S> {
         }
     }
 
-    /// Where a parcel for the target goes, if there is such a node or caller.
+    /// The inbox of the target, if there is such a node or caller.
     fn inbox_of(&self, target: Target) -> Option<&Sender<Parcel<J>, Global>> {
         match target {
             Target::Node(no) => match self.slots.get(no as usize) {
@@ -61,7 +62,7 @@ impl<J: Naming, S: EntryStore> Ring<J, S> {
         }
     }
 
-    /// Puts a parcel into an inbox; it is lost where there is none.
+    /// Puts an envelope into an inbox; it is lost if there is none.
     pub fn post(&self, rt: &impl Wait, target: Target, parcel: Parcel<J>) {
         match self.inbox_of(target) {
             Some(inbox) => drop(inbox.send(rt, parcel)),
@@ -69,14 +70,14 @@ impl<J: Naming, S: EntryStore> Ring<J, S> {
         }
     }
 
-    /// Takes a parcel of a node in, and posts what the node sends.
+    /// A node takes in an envelope, and what it sends is posted.
     fn take_in(&self, rt: &impl Wait, no: u64, gate: &impl Gate, parcel: Parcel<J>) {
         if let Some((target, sent)) = self.answer(rt, no, gate, Keyed::new(parcel)) {
             self.post(rt, target, sent.parcel);
         }
     }
 
-    /// Takes the parcels of a node in until the ring is stopped, and posts what it sends.
+    /// Takes in a node's envelopes and posts what it sends, until the ring is stopped.
     pub fn work<R: Wait + Clock, G: Gate>(
         &self,
         rt: &R,
@@ -100,8 +101,8 @@ impl<J: Naming, S: EntryStore> Ring<J, S> {
         unreachable!()
     }
 
-    /// Carries a parcel from node to node, each event under that node's lock, until one answers a caller. The identifier
-    /// goes with it.
+    /// Carries an envelope and its key's identifier from node to node, each event under that node's
+    /// lock, until a node answers a caller.
     pub(crate) fn carry_keyed(
         &self,
         rt: &impl Wait,
@@ -127,7 +128,8 @@ impl<J: Naming, S: EntryStore> Ring<J, S> {
         drop(passed);
         None
     }
-    /// Carries a parcel from node to node in the same way, as its caller does in place of workers.
+    /// Carries an envelope from node to node, on the caller's thread in place of workers, until a
+    /// node answers a caller.
     pub fn carry(&self, rt: &impl Wait, via: u64, parcel: Parcel<J>) -> Option<Carried<J>> {
         self.carry_keyed(rt, via, Keyed::new(parcel))
     }

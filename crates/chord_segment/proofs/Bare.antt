@@ -1,4 +1,4 @@
--- Entries that are the same but for their memory.
+-- Entries that are equal except for their room.
 use Rattle.std.proofs.Common.{◌≡◌, ℕ, zero, suc, ◌+◌, ◌<◌, ◌≤◌, refl, sym, ◌∙◌, ap, ap₂, subst, arith, List, [], ◌∷◌, ◌++◌, map, length, get_or, set, take, add-one}
 use Rattle.std.proofs.lemmas.List.Elements.{filter-append}
 use Rattle.chord_ident.specs.declared.span.Span.{Span}
@@ -8,7 +8,7 @@ use Rattle.chord_segment.specs.declared.mark.Mark.{Mark}
 use Rattle.chord_segment.specs.Segment.{dones_inside}
 use Rattle.chord_segment.specs.Callers.{OfCaller, mark_in, marks_in, calls_in, IsOwn, IsGrouped, bare, part_in}
 
--- entry by entry, the same but for the memory
+-- the lists are equal entry by entry, except for the room
 abbrev pub AreSame : List OfCaller → List OfCaller → Type 0
 AreSame [] [] = Unit {0}
 AreSame [] (y ∷ ys) = ⊥
@@ -109,7 +109,7 @@ pub part_grouped : (span : Span) (xs : List OfCaller) → IsGrouped xs → IsGro
 part_grouped span [] g = tt
 part_grouped span (x ∷ xs) g = (part_own span x g.0, part_above x.caller span xs g.1, part_grouped span xs g.2)
 
--- ---- place by place
+-- ---- index by index
 
 pub same_length : (xs ys : List OfCaller) → AreSame xs ys → length xs ≡ length ys
 same_length [] [] h = refl
@@ -117,7 +117,7 @@ same_length [] (b ∷ ys) h = absurd h
 same_length (a ∷ xs) [] h = absurd h
 same_length (a ∷ xs) (b ∷ ys) h = ap suc (same_length xs ys h.1)
 
--- the first so many entries have their calls in the span alone
+-- the first i entries keep only their calls in the span
 abbrev pub parted_upto : Span → ℕ → List OfCaller → List OfCaller
 parted_upto span zero xs = xs
 parted_upto span (suc i) [] = []

@@ -1,4 +1,4 @@
--- What is kept caller by caller, as one list of marks and one of calls.
+-- The entries of callers as one list of marks and one of calls.
 use Rattle.std.proofs.Common.{◌≡◌, ◌≢◌, ℕ, zero, suc, ◌<◌, ◌≤◌, Bool, true, false, cond, eqb, leb, ◌&&◌, inl, inr, refl, sym, ◌∙◌, ap, subst, arith, List, [], ◌∷◌, ◌++◌, Some, None, length, get_or, set, take, drop, append_assoc, Result, Ok, Err, ◌⊎◌}
 use Rattle.std.specs.Prelude.{is_ok, if◌then◌else◌}
 use Rattle.std.specs.Prelude.{find, insert}
@@ -37,7 +37,7 @@ each_drop P zero xs h = h
 each_drop P (suc i) [] h = tt
 each_drop P (suc i) (x ∷ xs) h = each_drop P i xs h.1
 
--- what stands before a place, at it and behind it
+-- a list is what is before an index, at it and behind it
 pub split_at : (xs : List OfCaller) (i : ℕ) (d : OfCaller) → i < length xs → xs ≡ take i xs ++ get_or xs i d ∷ drop (suc i) xs
 split_at [] i d s = absurd (omega arith)
 split_at (x ∷ xs) zero d s = refl
@@ -138,7 +138,7 @@ mark_here false caller floor marks none blank = none ∙ sym (blank refl)
 pub mark_at : (own : OfCaller) (marks : List Mark) → IsOwn own → mark_of own.caller marks ≡ 0 → mark_of own.caller (mark_in own ++ marks) ≡ own.floor
 mark_at own marks o none = mark_here own.shown own.caller own.floor marks none o.no_floor
 
--- at the caller's place
+-- ---- at the caller's index
 pub own_floor : (caller : ℕ) (xs : List OfCaller) (i : ℕ) (d : OfCaller) → IsGrouped xs → i < length xs → (get_or xs i d).caller ≡ caller
     → mark_of caller (marks_in xs) ≡ (get_or xs i d).floor
 own_floor caller xs i d g s e =
@@ -201,7 +201,7 @@ grouped-insert (x ∷ xs) (suc i) new g gap o = (
   grouped-insert xs i new g.2 (record { in_range = let h = gap.in_range in omega arith; before = (gap.before).1; behind = gap.behind }) o,
 )
 
--- an entry that is not shown is not seen
+-- inserting an entry that is not shown changes nothing
 pub marks_insert : (xs : List OfCaller) (i : ℕ) (new : OfCaller) → new.shown ≡ false → marks_in (insert xs i new) ≡ marks_in xs
 marks_insert [] zero new e = rw e refl
 marks_insert [] (suc i) new e = rw e refl
@@ -214,7 +214,7 @@ calls_insert [] (suc i) new e = rw e refl
 calls_insert (x ∷ xs) zero new e = rw e refl
 calls_insert (x ∷ xs) (suc i) new e = ap (λ (ds : List Done). x.kept ++ ds) (calls_insert xs i new e)
 
--- a caller's place with the same of it
+-- changing a caller's entry to one with an equal mark or equal calls
 pub marks_set_same : (xs : List OfCaller) (i : ℕ) (d new : OfCaller) → i < length xs → mark_in new ≡ mark_in (get_or xs i d) → marks_in (set xs i new) ≡ marks_in xs
 marks_set_same [] i d new s e = absurd (omega arith)
 marks_set_same (x ∷ xs) zero d new s e = ap (λ (ms : List Mark). ms ++ marks_in xs) e
@@ -225,7 +225,7 @@ calls_set_same [] i d new s e = absurd (omega arith)
 calls_set_same (x ∷ xs) zero d new s e = ap (λ (ds : List Done). ds ++ calls_in xs) e
 calls_set_same (x ∷ xs) (suc i) d new s e = ap (λ (ds : List Done). x.kept ++ ds) (calls_set_same xs i d new (omega arith) e)
 
--- what an insertion gave, or nothing was changed
+-- an insertion gave this, or nothing changed
 pub grown : {A B : Type 0} (r : Result A B) (xs ys zs : List OfCaller) → ys ≡ if is_ok r then zs else xs → (ys ≡ zs) ⊎ (ys ≡ xs)
 grown (Ok x) xs ys zs e = inl e
 grown (Err x) xs ys zs e = inr e

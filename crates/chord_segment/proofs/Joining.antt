@@ -1,4 +1,4 @@
--- What a join keeps.
+-- What holds after a join.
 use Rattle.std.proofs.Common.{◌≡◌, ℕ, ◌^◌, ◌<◌, Bool, true, false, cond, eqb, ◌&&◌, ◌||◌, Option, None, Some, List, [], ◌∷◌, refl, ◌∙◌, ap, subst, arith, inl, inr, Result}
 use Rattle.std.specs.Prelude.{find, is_some}
 use Rattle.chord_ident.specs.declared.id.Id.{Id}
@@ -28,7 +28,7 @@ find_none_each : (p : Done → Bool) (ys : List Done) → find p ys ≡ None →
 find_none_each p [] e = tt
 find_none_each p (y ∷ ys) e = let h = none_each_step p (p y) y (find p ys) e in (h.0, find_none_each p ys h.1)
 
--- none of these stands in the list
+-- none of these calls is in the list
 abbrev NoneIn : List Done → List Done → Type 0
 NoneIn first second = Each (λ (d : Done). done_at d.caller d.number first ≡ None) second
 
@@ -59,7 +59,7 @@ none_twice first (d ∷ second) e = let h = twice_step (done_at d.caller d.numbe
 
 -- ---- the span
 
--- what lies in a part lies in the whole
+-- a call in a part is in the whole
 in_whole_first : (after at upto : Id) (x : ℕ) → x < 2 ^ 128 → Splits after.number at.number upto.number → in_span (record { after = after; upto = at }) x ≡ true
     → in_span (record { after = after; upto = upto }) x ≡ true
 in_whole_first after at upto x below splits h =
@@ -70,7 +70,7 @@ in_whole_second : (after at upto : Id) (x : ℕ) → x < 2 ^ 128 → Splits afte
 in_whole_second after at upto x below splits h =
     (in_span_is (record { after = after; upto = upto }) x).1 ((splits.together x below).1 (inr ((in_span_is (record { after = at; upto = upto }) x).0 h)))
 
--- what `joined` keeps
+-- what holds of `joined`
 pub joined-rules : (first second : Segment) → IsSegment first → IsSegment second → Splits first.span.after.number first.span.upto.number second.span.upto.number
     → first.span.upto ≡ second.span.after → stands_twice first.kept second.kept ≡ false → IsSegment (joined first second)
 unfolding joined above
@@ -89,7 +89,7 @@ joined-rules first second h k splits e once =
       once = EachOnce-filter _ (placed_all second.kept first.kept) (EachOnce_placed_all second.kept first.kept h.once k.once (none_twice first.kept second.kept once));
     }
 
--- the same of equal segments
+-- `join_is` up to equal segments
 pub join_is : (first second first' second' : Segment) → first ≡ first' → second ≡ second' → (result : Result (Unit {0}) JoinFault) (new : Segment)
     → JoinIs first second result new → JoinIs first' second' result new
 join_is first second first' second' e f result new h =

@@ -1,4 +1,4 @@
--- What is kept after a caller's entry took more calls.
+-- The kept calls after a caller's entry took more calls.
 use Rattle.std.proofs.Common.{◌≡◌, ◌≢◌, ℕ, suc, ◌<◌, ◌≤◌, max, Bool, true, false, ltb, refl, sym, ◌∙◌, ap, ap₂, subst, arith, List, [], ◌∷◌, ◌++◌, length, get_or, set, take, drop, append_assoc, append-nil}
 use Rattle.std.specs.Prelude.{filter}
 use Rattle.std.proofs.lemmas.List.{set_split}
@@ -123,7 +123,7 @@ placed_here caller done lows own highs e b o a =
     ∙ ap (λ (zs : List Done). own ++ zs) (placed_front done highs (Each-map (λ (x : Done). caller < x.caller) (λ (x : Done). done.caller < x.caller) (λ x l. omega arith) highs a))
     ∙ sym (append_assoc own (done ∷ []) highs))
 
--- among the lesser callers' calls, its own caller's and the greater callers'
+-- the calls of lesser callers, of this caller, and of greater callers
 pub placed_between : (caller : ℕ) (dones lows own highs : List Done) → Owning caller dones → Before caller lows → Owning caller own → Behind caller highs
     → placed_all dones (lows ++ (own ++ highs)) ≡ lows ++ ((own ++ dones) ++ highs)
 unfolding placed_all
@@ -198,7 +198,7 @@ own_calls caller floor dones xs i d new g s e n h near =
     ∙ ap (λ (ds : List Done). calls_in lows ++ (ds ++ calls_in highs)) (h ∙ ap (λ (k : ℕ). filter (λ (x : Done). ltb (max k floor) x.number) (own.kept ++ dones)) (sym (own_floor caller xs i d g s e)))
     ∙ sym between ∙ ap (λ (ds : List Done). above (lift caller floor marks) (placed_all dones ds)) (sym parts)
 
--- an entry that took calls keeps its own caller's
+-- an entry that took calls has only its own caller's
 took_own : (own new : OfCaller) (p : Done → Bool) (dones : List Done) → IsOwn own → new.caller ≡ own.caller → Owning own.caller dones → new.shown ≡ true
     → new.kept ≡ filter p (own.kept ++ dones) → IsOwn new
 took_own own new p dones o e n shown h =
@@ -210,7 +210,7 @@ took_own own new p dones o e n shown h =
       no_calls = λ f. absurd (true≢false (sym shown ∙ f));
     }
 
--- the callers after the entry at a place took calls
+-- the callers after the entry at an index took calls
 pub record Took (caller floor : ℕ) (dones : List Done) (old new : List OfCaller) : Type 0 where
   pub grouped : IsGrouped new
   pub floors : marks_in new ≡ lift caller floor (marks_in old)

@@ -1,4 +1,4 @@
--- Marks that are lifted, and calls that are placed among those of their callers.
+-- Marks that are raised, and calls inserted among those of their callers.
 use Rattle.std.proofs.Common.{◌≡◌, ◌≢◌, ℕ, ◌≤◌, max, Bool, true, false, cond, eqb, ltb, ◌⊎◌, inl, inr, ⊎_elim, refl, sym, ◌∙◌, ap, subst, arith, List, [], ◌∷◌, ◌++◌}
 use Rattle.std.specs.Prelude.{filter}
 use Rattle.std.proofs.lemmas.Bool.{ltb-true, lt-ltb, cond-true, cond-false, cases_lt, cases_eq}
@@ -27,7 +27,7 @@ kept_mark owner p (mark ∷ marks) more keeps none =
     ∙ kept_mark owner p marks more keeps none ∙ sym (past_head owner mark marks apart)))
     (cases_eq mark.owner owner)
 
--- a filter that drops all marks of an owner leaves what stands behind them
+-- a filter that drops all marks of an owner leaves what is behind them
 dropped_mark : (owner : ℕ) (p : Mark → Bool) (marks more : List Mark) → ((mark : Mark) → p mark ≡ true → mark.owner ≢ owner)
     → mark_of owner (filter p marks ++ more) ≡ mark_of owner more
 unfolding mark_of

@@ -113,7 +113,7 @@ filter_placed_all p (done ∷ dones) ys r =
     (λ t. ap (placed_all (filter p dones)) (filter_placed_yes p done ys r t) ∙ ap (λ (zs : List Done). placed_all zs (filter p ys)) (sym (yes p done dones t)))
     (λ f. ap (placed_all (filter p dones)) (filter_placed_no p done ys f) ∙ ap (λ (zs : List Done). placed_all zs (filter p ys)) (sym (no p done dones f)))
 
--- a test that is passed less often, after one that is passed more often
+-- filtering by a weaker test first changes nothing
 filter_within : (p q : Done → Bool) (xs : List Done) → ((x : Done) → q x ≡ false → p x ≡ false) → filter p (filter q xs) ≡ filter p xs
 filter_within p q [] less = refl
 filter_within p q (x ∷ xs) less =
@@ -143,7 +143,7 @@ marks_more first more own old new e f =
     f ∙ ap (lift_all (mark_in own)) e ∙ sym (lift_all-append (marks_in more) (mark_in own) first)
     ∙ ap (λ (ms : List Mark). lift_all ms first) (ap (λ (ms : List Mark). marks_in more ++ ms) (sym (append-nil (mark_in own))) ∙ sym (marks-append more (own ∷ [])))
 
--- and the calls
+-- the calls after one more entry
 pub calls_more : (first : List Done) (more : List OfCaller) (own : OfCaller) (marks new_marks : List Mark) (old new : List Done) → Rising first
     → ((owner : ℕ) → mark_of owner marks ≤ mark_of owner new_marks)
     → old ≡ above marks (placed_all (calls_in more) first) → new ≡ above new_marks (placed_all own.kept old)
@@ -163,14 +163,14 @@ calls_more first more own marks new_marks old new r grows e f =
     ∙ ap (filter p) (sym (placed_all-append (calls_in more) own.kept first))
     ∙ ap (λ (ds : List Done). filter p (placed_all ds first)) (ap (λ (ds : List Done). calls_in more ++ ds) (sym (append-nil own.kept)) ∙ sym (calls-append more (own ∷ [])))
 
--- what is above the floors is above them
+-- the calls that `above` leaves are above the floors
 pub are_above : (marks : List Mark) (dones : List Done) → Each (λ (done : Done). mark_of done.caller marks < done.number) (above marks dones)
 unfolding above
 are_above marks dones =
     Each_filter_with (λ (done : Done). Unit {0}) (λ (done : Done). mark_of done.caller marks < done.number) (λ (done : Done). ltb (mark_of done.caller marks) done.number)
     (λ done u t. ltb-true (mark_of done.caller marks) done.number t) dones (Each_any dones)
 
--- nothing more
+-- if all calls are above the floors, `above` drops none
 pub all_above : (marks : List Mark) (dones : List Done) → Each (λ (done : Done). mark_of done.caller marks < done.number) dones → dones ≡ above marks dones
 unfolding above
 all_above marks [] h = refl
@@ -181,7 +181,7 @@ pub lift_shown : (own : OfCaller) (marks : List Mark) → own.shown ≡ true →
 unfolding lift_all
 lift_shown own marks e = rw e refl
 
--- one that is not shown changes nothing
+-- an entry that is not shown changes nothing
 pub marks_hidden : (own : OfCaller) (marks : List Mark) → own.shown ≡ false → marks ≡ lift_all (mark_in own) marks
 unfolding lift_all
 marks_hidden own marks e = rw e refl

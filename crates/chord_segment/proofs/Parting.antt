@@ -1,4 +1,4 @@
--- Calls parted by a test, one after another.
+-- Calls split by a test.
 use Rattle.std.proofs.Common.{◌≡◌, true, List}
 use Rattle.chord_ident.specs.declared.span.Span.{Span}
 use Rattle.chord_ident.specs.Circle.{in_span}
@@ -18,7 +18,7 @@ part_of-rules span segment h = record {
   once = EachOnce-filter _ segment.kept h.once;
 }
 
--- a segment is its parts
+-- a segment consists of its parts
 pub segment_is : (span span' : Span) (floors floors' : List Mark) (kept kept' : List Done) → span ≡ span' → floors ≡ floors' → kept ≡ kept'
     → ◌≡◌ {A = Segment} (record { span = span; floors = floors; kept = kept }) (record { span = span'; floors = floors'; kept = kept' })
 segment_is span span' floors floors' kept kept' d e f = cc

@@ -1,4 +1,4 @@
--- Memory that is made ready for a caller's next call stays ready.
+-- Room reserved for a caller's next call stays reserved.
 use Rattle.std.proofs.Common.{◌≡◌, ℕ, ◌<◌, Option, None, Some, List, refl, sym, subst}
 use Rattle.chord_ident.specs.declared.span.Span.{Span}
 use Rattle.chord_map.specs.declared.done.Done.{Done}

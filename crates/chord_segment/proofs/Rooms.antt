@@ -49,7 +49,7 @@ keeps_insert caller count [] i new h = absurd h
 keeps_insert caller count (x ∷ xs) zero new h = inr h
 keeps_insert caller count (x ∷ xs) (suc i) new h = ⊎_elim (λ here. inl here) (λ there. inr (keeps_insert caller count xs i new there)) h
 
--- the changed entry has the room, or it is another caller's
+-- the changed entry has the room, or that of another caller has
 pub keeps_set : (caller count : ℕ) (xs : List OfCaller) (i : ℕ) (d new : OfCaller) → new.caller ≡ (get_or xs i d).caller
     → (new.caller ≡ caller → count ≤ (get_or xs i d).room → count ≤ new.room) → HasRoom caller count xs → HasRoom caller count (set xs i new)
 keeps_set caller count [] i d new e k h = absurd h
@@ -81,6 +81,6 @@ made : {A B : Type 0} (r : Result A B) (P : Type 0) → P → OnOk r P
 made (Ok x) P h = h
 made (Err x) P h = tt
 
--- what an insertion made
+-- what an insertion gave
 pub on_made : {A B C D : Type 0} (r : Result A B) (s : Result C D) (x : A) (P : Type 0) (xs new zs : List OfCaller) → r ≡ Ok x → new ≡ if is_ok r then zs else xs → (new ≡ zs → P) → OnOk s P
 on_made r s x P xs new zs e h f = made s P (f (subst (λ (k : Result _ _). new ≡ if is_ok k then zs else xs) e h))

@@ -1,4 +1,4 @@
--- When calls with their replies are the same.
+-- When calls with their replies are equal.
 use Rattle.std.proofs.Common.{◌≡◌, ◌&&◌, eqb, ap}
 use Rattle.std.specs.Bool.{Decides}
 use Rattle.std.proofs.lemmas.Bool.{and_parts, and_from}

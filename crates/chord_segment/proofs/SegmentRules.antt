@@ -1,4 +1,4 @@
--- What the edits of a segment keep.
+-- What holds of a segment after each change.
 use Rattle.std.proofs.Common.{◌≡◌, ℕ, ◌+◌, ◌<◌, ◌≤◌, Bool, true, false, cond, eqb, ltb, ◌&&◌, ⊎_elim, Option, None, Some, List, [], ◌∷◌, refl, sym, ◌∙◌, arith}
 use Rattle.std.proofs.lemmas.Bool.{true≢false, ltb-true}
 use Rattle.std.proofs.lemmas.Bool.Decides.{leb_tells, nat_tests}
@@ -104,13 +104,13 @@ EachOnce_placed (x ∷ xs) y h none =
 abbrev pub IsClose : List Mark → Done → Type 0
 IsClose floors done = done.number ≤ mark_of done.caller floors + 16
 
--- what is left above the floors is near them
+-- the calls left above the floors are near them
 pub near_above : (floors : List Mark) (dones : List Done) → Each (IsClose floors) dones → Each (IsNear floors) (above floors dones)
 unfolding above
 near_above floors dones h =
     Each_filter_with (IsClose floors) (IsNear floors) _ (λ done close test. record { above = ltb-true _ _ test; near = close }) dones h
 
--- what `append` keeps
+-- what holds after `append`
 pub append-rules : (done : Done) (floor : ℕ) (segment : Segment) → IsSegment segment → in_span segment.span (id_of done.request) ≡ true
     → past_at done.caller done.number segment ≡ New → done.number ≤ floor + 16 → IsSegment (append done floor segment)
 unfolding append above
@@ -125,7 +125,7 @@ append-rules done floor segment h key new near =
       once = EachOnce-filter _ (placed done segment.kept) (EachOnce_placed segment.kept done h.once news.1);
     }
 
--- two tests that agree on a list keep the same of it
+-- two tests that agree on a list filter it alike
 filter_agree_step : (b c : Bool) (x : Done) (xs ys : List Done) → b ≡ c → xs ≡ ys → cond b (x ∷ xs) xs ≡ cond c (x ∷ ys) ys
 filter_agree_step b c x xs ys e f = cc
 

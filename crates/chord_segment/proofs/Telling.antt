@@ -1,4 +1,4 @@
--- Marks and calls fix the entries that are shown.
+-- Marks and calls determine the entries that are shown.
 use Rattle.std.proofs.Common.{◌≡◌, ℕ, zero, suc, ◌+◌, ◌<◌, ◌≤◌, true, false, refl, sym, ◌∙◌, ap, ap₂, subst, arith, List, [], ◌∷◌, ◌++◌, length, get_or, drop, add-one, drop-cons, IsTrue, nat_eq, ⊎_elim}
 use Rattle.std.proofs.lemmas.Bool.{eqb-true, eq-eqb, cases_lt}
 use Rattle.std.proofs.lemmas.List.{drop_all}
@@ -51,7 +51,7 @@ alike_whole x y xs ys e f t r = record {
   calls = ap₂ (λ (ds es : List Done). ds ++ es) t.kept r.calls;
 }
 
--- ---- from places on
+-- ---- from an index on
 
 hidden_mark : (x : OfCaller) → x.shown ≡ false → mark_in x ≡ []
 hidden_mark x e = rw e refl
@@ -66,7 +66,7 @@ calls_skip [] i d g s e = absurd (omega arith)
 calls_skip (x ∷ xs) zero d g s e = ap (λ (ds : List Done). ds ++ calls_in xs) ((g.0).no_calls e)
 calls_skip (x ∷ xs) (suc i) d g s e = calls_skip xs i d g.2 (omega arith) e
 
--- an entry that is not shown is passed
+-- an entry that is not shown is skipped
 pub marks_pass : (xs : List OfCaller) (i : ℕ) (d : OfCaller) → i < length xs → (get_or xs i d).shown ≡ false → marks_in (drop i xs) ≡ marks_in (drop (i + 1) xs)
 marks_pass xs i d s e = rw add-one (marks_skip xs i d s e)
 
@@ -81,7 +81,8 @@ grouped_drop (x ∷ xs) (suc i) g = grouped_drop xs i g.2
 split_drop : (xs : List OfCaller) (i : ℕ) (d : OfCaller) → i < length xs → drop i xs ≡ get_or xs i d ∷ drop (i + 1) xs
 split_drop xs i d s = rw add-one (drop-cons xs i d s)
 
--- two places with shown entries: alike from there on where the entries are twins and the rest is alike
+-- at two shown entries: the lists are alike from there
+-- on if the entries are twins and the rest is alike
 pub alike_at : (xs ys : List OfCaller) (i j : ℕ) (d e : OfCaller) → IsGrouped xs → IsGrouped ys → i < length xs → j < length ys
     → (get_or xs i d).shown ≡ true → (get_or ys j e).shown ≡ true → IsAlike (drop i xs) (drop j ys)
     → record { twin : IsTwin (get_or xs i d) (get_or ys j e); rest : IsAlike (drop (i + 1) xs) (drop (j + 1) ys) }
@@ -100,14 +101,14 @@ alike_from xs ys i j d e s t f k twin rest =
     subst (λ (zs : List OfCaller). IsAlike zs (drop j ys)) (sym p) (subst (IsAlike (get_or xs i d ∷ drop (i + 1) xs)) (sym q)
     (alike_whole (get_or xs i d) (get_or ys j e) (drop (i + 1) xs) (drop (j + 1) ys) f k twin rest))
 
--- the same of what is passed
+-- the lists are alike from before the entries that were skipped
 pub alike_passed : (xs ys : List OfCaller) (i j k l : ℕ) → IsNextShown xs i k → IsNextShown ys j l → IsAlike (drop i xs) (drop j ys) → IsAlike (drop k xs) (drop l ys)
 alike_passed xs ys i j k l n m a = record { marks = sym n.marks ∙ a.marks ∙ m.marks; calls = sym n.calls ∙ a.calls ∙ m.calls }
 
 pub alike_back : (xs ys : List OfCaller) (i j k l : ℕ) → IsNextShown xs i k → IsNextShown ys j l → IsAlike (drop k xs) (drop l ys) → IsAlike (drop i xs) (drop j ys)
 alike_back xs ys i j k l n m a = record { marks = n.marks ∙ a.marks ∙ sym m.marks; calls = n.calls ∙ a.calls ∙ sym m.calls }
 
--- at the ends
+-- both lists are at their ends
 pub alike_ends : (xs ys : List OfCaller) (i j : ℕ) → length xs ≤ i → length ys ≤ j → IsAlike (drop i xs) (drop j ys)
 alike_ends xs ys i j s t = record {
   marks = ap marks_in (drop_all i xs s) ∙ sym (ap marks_in (drop_all j ys t));
@@ -123,7 +124,7 @@ cons_nil m ms e = let l : length (m ∷ ms) ≡ 0 = ap (λ (ks : List Mark). len
 some_mark : (xs : List OfCaller) (i : ℕ) (d : OfCaller) → i < length xs → (get_or xs i d).shown ≡ true → marks_in (drop i xs) ≡ [] → ⊥
 some_mark xs i d s f e = cons_nil _ _ (sym (ap marks_in (split_drop xs i d s) ∙ marks_first (get_or xs i d) (drop (i + 1) xs) f) ∙ e)
 
--- one at its end, the other not
+-- one list is at its end, the other not
 pub first_longer : (xs ys : List OfCaller) (i j : ℕ) (d : OfCaller) → i < length xs → (get_or xs i d).shown ≡ true → length ys ≤ j → IsAlike (drop i xs) (drop j ys) → ⊥
 first_longer xs ys i j d s f t a = some_mark xs i d s f (a.marks ∙ ap marks_in (drop_all j ys t))
 
@@ -136,7 +137,7 @@ is_eq a b h = eqb-true a b h
 pub eq_is : (a b : ℕ) → a ≡ b → IsTrue (nat_eq a b)
 eq_is a b e = eq-eqb a b e
 
--- the first is at its end: alike where the second is, too
+-- the first list is at its end: the two are alike if the second is, too
 pub first_ends : (xs ys : List OfCaller) (i j k l : ℕ) → IsNextShown xs i k → IsNextShown ys j l → length xs ≤ k
     → (IsAlike xs ys → IsAlike (drop i xs) (drop j ys)) → (IsAlike (drop i xs) (drop j ys) → IsAlike xs ys) → (n : ℕ) → n ≡ length ys
     → (IsTrue (nat_eq l n) → IsAlike xs ys) × (IsAlike xs ys → IsTrue (nat_eq l n))
@@ -148,7 +149,7 @@ first_ends xs ys i j k l m o s rest whole n e = (
       (cases_lt l (length ys))),
 )
 
--- the second is at its end alone
+-- only the second list is at its end
 pub second_ends : (xs ys : List OfCaller) (i j k l : ℕ) → IsNextShown xs i k → IsNextShown ys j l → k < length xs → length ys ≤ l
     → (IsAlike xs ys → IsAlike (drop i xs) (drop j ys)) → IsAlike xs ys → ⊥
 second_ends xs ys i j k l m o s t rest a = first_longer xs ys k l none s (m.is_shown s none) t (alike_passed xs ys i j k l m o (rest a))

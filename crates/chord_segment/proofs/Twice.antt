@@ -1,4 +1,4 @@
--- Whether a call stands in two lists.
+-- Whether a call is in two lists.
 use Rattle.std.proofs.Common.{◌≡◌, ℕ, suc, ◌+◌, ◌<◌, Bool, true, false, ◌||◌, refl, sym, ◌∙◌, ap, ap₂, List, [], ◌∷◌, ◌++◌, None, length, get_or, take, drop, append-nil}
 use Rattle.std.specs.Prelude.{is_some}
 use Rattle.std.proofs.lemmas.List.Folds.{list_any-append}
@@ -10,7 +10,7 @@ use Rattle.chord_segment.specs.Callers.{OfCaller, calls_in}
 use Rattle.chord_segment.proofs.Grouped.{calls-append, split_at}
 use Rattle.chord_segment.proofs.Bare.{take_next}
 
--- of one caller's calls, what stands in its entry stands in the whole
+-- a caller's call is in the whole exactly if it is in the caller's entry
 pub twice_own : (caller : ℕ) (all own dones : List Done) → ((number : ℕ) → done_at caller number all ≡ done_at caller number own)
     → Each (λ (d : Done). d.caller ≡ caller) dones → stands_twice own dones ≡ stands_twice all dones
 unfolding stands_twice

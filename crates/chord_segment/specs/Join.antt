@@ -15,21 +15,21 @@ abbrev pub CutRefused : Id → Segment → CutFault → Type 0
 CutRefused at segment NotInside = cuts segment.span at ≡ false
 CutRefused at segment CutMemory = cuts segment.span at ≡ true
 
--- a cut leaves the part before the place and answers the part behind it, or nothing changes
+-- a cut leaves the part before the point and answers the part behind it, or nothing changes
 abbrev pub CutIs : Id → Segment → Result RoomySegment CutFault → Segment → Type 0
 CutIs at old (Ok second) new = (cuts old.span at ≡ true) × (new ≡ before at old) × (second.segment ≡ behind at old)
 CutIs at old (Err fault) new = CutRefused at old fault × (new ≡ old)
 
--- a cut answers both parts, or hands the segment back
+-- a cut answers both parts, or gives the segment back
 abbrev pub PartsAre : Id → Segment → Result (RoomySegment × RoomySegment) Uncut → Type 0
 PartsAre at segment (Ok parts) = (cuts segment.span at ≡ true) × ((parts.0).segment ≡ before at segment) × ((parts.1).segment ≡ behind at segment)
 PartsAre at segment (Err uncut) = CutRefused at segment uncut.fault × (uncut.segment.segment ≡ segment)
 
--- the second begins where the first ends
+-- the second segment begins where the first ends
 abbrev pub IsNext : Segment → Segment → Type 0
 IsNext first second = first.span.upto ≡ second.span.after
 
--- they do not meet: where the first ends, a cut would part them again
+-- the segments do not meet: a cut of the joined span where the first ends would part them again
 abbrev pub IsApart : Segment → Segment → Type 0
 IsApart first second = cuts (span_joined first.span second.span) first.span.upto ≡ true
 
@@ -40,12 +40,12 @@ JoinRefused first second Overlap = IsNext first second × (cuts (span_joined fir
 JoinRefused first second Twice = IsNext first second × IsApart first second × (stands_twice first.kept second.kept ≡ true)
 JoinRefused first second JoinMemory = IsNext first second × IsApart first second × (stands_twice first.kept second.kept ≡ false)
 
--- neighbours that do not meet and keep no call twice become one in the first one's place, or nothing changes
+-- neighbours that do not meet and share no kept call are joined into the first; or nothing changes
 abbrev pub JoinIs : Segment → Segment → Result (Unit {0}) JoinFault → Segment → Type 0
 JoinIs first second (Ok done) new = IsNext first second × IsApart first second × (stands_twice first.kept second.kept ≡ false) × (new ≡ joined first second)
 JoinIs first second (Err fault) new = JoinRefused first second fault × (new ≡ first)
 
--- a join answers the one segment, or hands both back
+-- a join answers one segment, or gives both back
 abbrev pub WholeIs : Segment → Segment → Result RoomySegment Unjoined → Type 0
 WholeIs first second (Ok whole) = IsNext first second × IsApart first second × (stands_twice first.kept second.kept ≡ false) × (whole.segment ≡ joined first second)
 WholeIs first second (Err unjoined) = JoinRefused first second unjoined.fault × (unjoined.first.segment ≡ first) × (unjoined.second.segment ≡ second)

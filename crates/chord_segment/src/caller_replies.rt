@@ -1,4 +1,4 @@
-//! What is kept of one caller.
+//! The floor and the kept calls of one caller.
 ghost use Rattle.std.specs.Prelude.{◌≡◌, ◌↔◌, ◌++◌, [], ◌∷◌, ◌≤◌, true, false, max, nat_lt, filter, length, IsTrue, IfOk, IsOk, OnOk};
 ghost use Rattle.std.specs.Option.{option_copied};
 ghost use Rattle.chord_map.specs.declared.done.Done.{Done as DoneOf};
@@ -12,8 +12,8 @@ use chord_map::{Done, copy_dones, find_done};
 use std::alloc::{AllocError, Global};
 use std::marker::Model;
 
-/// A caller's floor and its kept calls above it. An entry that is not shown only readies memory for the caller's first
-/// call.
+/// A caller's floor and its kept calls above it. An entry that is not shown only has room reserved
+/// for the caller's first call.
 #[derive(Debug, Drop)]
 pub struct CallerReplies {
     caller: u64,
@@ -33,7 +33,7 @@ impl Model for CallerReplies {
 }
 
 impl CallerReplies {
-    /// An entry that is not shown, with room for so many calls.
+    /// An entry that is not shown, with room for `count` calls.
     pub fn hidden(alloc: Global, caller: u64, count: usize) -> Result<CallerReplies, AllocError>
         ensures caller { IfOk result (λ own. own.caller ≡ caller) }
         ensures floor { IfOk result (λ own. own.floor ≡ 0) }
@@ -50,7 +50,7 @@ impl CallerReplies {
         })
     }
 
-    /// Whose they are.
+    /// The caller's number.
     pub fn caller(&self) -> u64
         ensures { result ≡ self.now.caller }
     {
@@ -64,14 +64,14 @@ impl CallerReplies {
         self.floor
     }
 
-    /// The kept call of this caller and number.
+    /// The kept call of this caller and number, if any.
     pub fn find(&self, caller: u64, number: u64) -> Option<&Done>
         ensures { option_copied result ≡ done_at caller number self.now.kept }
     {
         find_done(&self.kept, caller, number)
     }
 
-    /// Makes room for so many more calls.
+    /// Reserves room for `count` more calls.
     pub fn reserve(&mut self, count: usize) -> Result<(), AllocError>
         ensures caller { self.new.caller ≡ self.old.caller }
         ensures floor { self.new.floor ≡ self.old.floor }
@@ -85,7 +85,7 @@ impl CallerReplies {
         Ok(())
     }
 
-    /// Keeps a call and raises the floor. What is at or below the floor is dropped.
+    /// Keeps a call and raises the floor. Calls at or below the floor are dropped.
     pub fn keep(&mut self, done: Done, floor: u64)
         requires { 1 ≤ self.old.room }
         ensures caller { self.new.caller ≡ self.old.caller }
@@ -97,7 +97,7 @@ impl CallerReplies {
         self.raise(floor);
     }
 
-    /// Raises the floor, and drops what is at or below it.
+    /// Raises the floor, and drops the calls at or below it.
     fn raise(&mut self, floor: u64)
         ensures caller { self.new.caller ≡ self.old.caller }
         ensures floor { self.new.floor ≡ max self.old.floor floor }
@@ -110,21 +110,21 @@ impl CallerReplies {
         self.kept.retain(|done| lowest < done.number);
     }
 
-    /// Whether its floor is shown.
+    /// Whether the segment shows its floor.
     pub fn is_shown(&self) -> bool
         ensures { result ≡ self.now.shown }
     {
         self.shown
     }
 
-    /// How many calls it keeps.
+    /// The number of kept calls.
     pub fn len(&self) -> usize
         ensures { result ≡ length self.now.kept }
     {
         self.kept.len()
     }
 
-    /// Whether it keeps one of the other's calls.
+    /// Whether both entries keep some call.
     pub fn any_twice(&self, other: &CallerReplies) -> bool
         ensures { result ≡ stands_twice self.now.kept other.now.kept }
     {
@@ -160,7 +160,7 @@ impl CallerReplies {
         keep_inside(&mut self.kept, span);
     }
 
-    /// Takes over the other's floor and calls. What is at or below the greater floor is dropped.
+    /// Adds the floor and the calls of `more`. Calls at or below the greater floor are dropped.
     pub fn take(&mut self, mut more: CallerReplies)
         requires { length more.kept ≤ self.old.room }
         ensures caller { self.new.caller ≡ self.old.caller }

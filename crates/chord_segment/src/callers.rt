@@ -1,4 +1,4 @@
-//! What is kept of every caller.
+//! The floors and the kept calls of all callers.
 ghost use Rattle.std.specs.Prelude.{◌≡◌, ◌≢◌, ◌↔◌, ◌≤◌, ℕ, [], length, IsTrue, IsOk, IfOk, IfErr, OnOk};
 ghost use Rattle.std.specs.Option.{option_copied};
 ghost use Rattle.chord_segment.specs.Marks.{lift, lift_all};
@@ -12,7 +12,7 @@ use std::alloc::{AllocError, Global};
 use std::marker::Model;
 use std::mem::replace;
 
-/// The entries of all callers, rising by caller.
+/// The entries of all callers, sorted by caller.
 #[derive(Debug, Drop)]
 pub struct Callers {
     entries: Vec<CallerReplies>,
@@ -39,7 +39,7 @@ impl Callers {
         }
     }
 
-    /// Where the caller is, or where it would go.
+    /// The index of the caller's entry, or the index at which to insert it.
     fn place_of(&self, caller: u64) -> Result<usize, usize>
         ensures found { IfOk result (λ place. IsOwnAt caller self.now place) }
         ensures absent { IfErr result (λ place. IsGapAt caller self.now place) }
@@ -52,7 +52,7 @@ impl Callers {
         )
     }
 
-    /// What is kept of the caller.
+    /// The caller's entry, if it has one.
     pub fn entry(&self, caller: u64) -> Option<&CallerReplies>
         ensures { IsEntry caller (option_copied result) self.now }
     {
@@ -62,7 +62,7 @@ impl Callers {
         }
     }
 
-    /// Makes room for so many more calls of the caller.
+    /// Reserves room for `count` more calls of the caller.
     pub fn reserve(&mut self, caller: u64, count: usize) -> Result<(), AllocError>
         ensures floors { marks_in self.new ≡ marks_in self.old }
         ensures calls { calls_in self.new ≡ calls_in self.old }
@@ -76,7 +76,7 @@ impl Callers {
         }
     }
 
-    /// Makes an entry, which is not shown, at the place where the caller would go.
+    /// Inserts an entry, which is not shown, at the index where the caller's belongs.
     fn enter(&mut self, place: usize, caller: u64, count: usize) -> Result<(), AllocError>
         requires { IsGapAt caller self.old place }
         ensures floors { marks_in self.new ≡ marks_in self.old }
@@ -92,7 +92,7 @@ impl Callers {
         }
     }
 
-    /// Keeps a call and raises its caller's floor. What is at or below the floor is dropped.
+    /// Keeps a call and raises its caller's floor. Calls at or below the floor are dropped.
     pub fn keep(&mut self, done: Done, floor: u64)
         requires room { HasRoom done.caller 1 self.old }
         requires above { AreAbove self.old }
@@ -105,7 +105,7 @@ impl Callers {
         }
     }
 
-    /// Whether it keeps one of the other's calls.
+    /// Whether both keep some call.
     pub fn any_twice(&self, other: &Callers) -> bool
         ensures { result ≡ stands_twice (calls_in self.now) (calls_in other.now) }
     {
@@ -117,7 +117,7 @@ impl Callers {
         false
     }
 
-    /// Whether it keeps one of these calls of one caller.
+    /// Whether it keeps some call of this entry.
     fn keeps_any(&self, other: &CallerReplies) -> bool
         requires { IsOwn other.now }
         ensures { result ≡ stands_twice (calls_in self.now) other.now.kept }
@@ -128,7 +128,7 @@ impl Callers {
         }
     }
 
-    /// Makes room for all calls of the other.
+    /// Reserves room for all calls of the other.
     pub fn ready(&mut self, other: &Callers) -> Result<(), AllocError>
         ensures floors { marks_in self.new ≡ marks_in self.old }
         ensures calls { calls_in self.new ≡ calls_in self.old }
@@ -141,7 +141,8 @@ impl Callers {
         Ok(())
     }
 
-    /// Takes over the other's floors and calls, and leaves it empty. What is at or below the greater floors is dropped.
+    /// Adds the other's floors and calls, and empties the
+    /// other. Calls at or below the greater floors are dropped.
     pub fn take_all(&mut self, other: &mut Callers)
         requires room { HasRoomFor other.old self.old }
         requires above { AreAbove self.old }
@@ -157,7 +158,7 @@ impl Callers {
         }
     }
 
-    /// Takes over one caller's floor and calls.
+    /// Adds one caller's floor and calls.
     fn take(&mut self, other: CallerReplies)
         requires own { IsOwn other }
         requires room { HasRoom other.caller (length other.kept) self.old }
@@ -216,7 +217,7 @@ impl Callers {
         }
     }
 
-    /// The place of the first entry from there on that is shown, or the end.
+    /// The index of the first shown entry from `from` on, or the end.
     fn next_shown(&self, from: usize) -> usize
         requires { from ≤ length self.now }
         ensures { IsNextShown self.now from result }

@@ -12,7 +12,7 @@ pub fn same_dones(first: &[Done], second: &[Done]) -> bool
     first == second
 }
 
-/// Whether a call of the second list stands in the first.
+/// Whether some call is in both lists.
 #[tactic(auto, unfolding(crate::specs::Segment::stands_twice))]
 pub fn any_twice(first: &[Done], second: &[Done]) -> bool
     ensures { result ≡ stands_twice first.now second.now }

@@ -1,4 +1,4 @@
-//! Why a segment is not cut, and why two are not joined.
+//! Why a segment is not cut, or two are not joined.
 ghost use Rattle.std.specs.Prelude.{◌≡◌};
 ghost use Rattle.chord_segment.specs.declared.fault.CutFault.TheVariants.{Memory as CutMemory};
 ghost use Rattle.chord_segment.specs.declared.fault.JoinFault.TheVariants.{Memory as JoinMemory};
@@ -45,14 +45,14 @@ impl From<AllocError> for JoinFault {
     }
 }
 
-/// A segment that was not cut, handed back.
+/// A segment that was not cut, given back.
 #[derive(Debug, Drop)]
 pub struct Uncut {
     pub fault: CutFault,
     pub segment: Segment,
 }
 
-/// Two segments that were not joined, handed back.
+/// Two segments that were not joined, given back.
 #[derive(Debug, Drop)]
 pub struct Unjoined {
     pub fault: JoinFault,

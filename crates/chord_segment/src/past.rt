@@ -2,7 +2,8 @@
 
 use chord_map::Done;
 
-/// Whether a call is new to a segment, kept with its reply, or at or below its caller's floor.
+/// What a segment knows of a call: it is new, kept
+/// with its reply, or at or below its caller's floor.
 #[derive(Clone, Copy, Debug)]
 pub enum Past<'a> {
     New,

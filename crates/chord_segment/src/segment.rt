@@ -15,7 +15,7 @@ use chord_map::Done;
 use std::alloc::{AllocError, AllocFailed, Global};
 use std::marker::Model;
 
-/// An interval of the circle, and of each caller a floor and the kept replies above it.
+/// An interval of the circle with, for each caller, a floor and the kept replies above it.
 #[derive(Debug, Drop)]
 pub struct Segment {
     span: Span,
@@ -36,7 +36,7 @@ impl Model for Segment {
 }
 
 impl Segment {
-    /// A segment with no floor and no reply.
+    /// A segment with no floors and no kept replies.
     pub fn empty(alloc: Global, span: Span) -> Segment
         ensures { result.segment ≡ empty_segment span }
     {
@@ -47,7 +47,7 @@ impl Segment {
         }
     }
 
-    /// Its interval.
+    /// The interval of the segment.
     pub fn span(&self) -> Span
         ensures value { result ≡ self.now.segment.span }
         ensures circle { (result.after.number < 2 ^ 128) × (result.upto.number < 2 ^ 128) }
@@ -55,7 +55,7 @@ impl Segment {
         Span::new(self.span.after, self.span.upto)
     }
 
-    /// The caller's floor, 0 where there is none.
+    /// The caller's floor; 0 if it has none.
     pub fn floor(&self, caller: u64) -> u64
         ensures { result ≡ mark_of caller self.now.segment.floors }
     {
@@ -65,7 +65,7 @@ impl Segment {
         }
     }
 
-    /// What it knows of a call.
+    /// What the segment knows of a call.
     #[tactic(auto, unfolding(crate::specs::Segment::past_at))]
     pub fn find(&self, caller: u64, number: u64) -> Past<'_>
         ensures { shown result ≡ past_at caller number self.now.segment }
@@ -82,7 +82,8 @@ impl Segment {
         }
     }
 
-    /// Makes room for one more call of the caller, which the next `append` of one then cannot lack.
+    /// Reserves room for one more call of the caller,
+    /// so that the next `append` of one can't lack it.
     pub fn reserve(&mut self, caller: u64) -> Result<(), AllocError>
         ensures same { self.new.segment ≡ self.old.segment }
         ensures room { OnOk result (self.new.room ≡ Some caller) }
@@ -93,7 +94,7 @@ impl Segment {
         Ok(())
     }
 
-    /// Keeps a call and raises its caller's floor. What is at or below the floor is dropped.
+    /// Keeps a call and raises its caller's floor. Calls at or below the floor are dropped.
     pub fn append(&mut self, done: Done, floor: u64) -> Result<(), AllocFailed<Done>>
         requires key { in_span self.old.segment.span (id_of done.request) ≡ true }
         requires new { past_at done.caller done.number self.old.segment ≡ New }
@@ -112,7 +113,7 @@ impl Segment {
         Ok(())
     }
 
-    /// Whether both have the same span, the same floors and the same kept calls, in one order.
+    /// Whether both have the same span, floors and kept calls, in the same order.
     pub fn equals(&self, other: &Segment) -> bool
         ensures { IsTrue result ↔ (self.now.segment ≡ other.now.segment) }
     {
@@ -131,7 +132,8 @@ impl Segment {
         })
     }
 
-    /// Cuts it: this one keeps the part before the place, and the part behind it is answered.
+    /// Cuts the segment: this one becomes the part before
+    /// the point, and the part behind it is answered.
     pub fn split_off(&mut self, at: Id) -> Result<Segment, CutFault>
         ensures answer { CutIs at self.old.segment result self.new.segment }
         ensures split { OnOk result (Splits self.old.segment.span.after.number at.number self.old.segment.span.upto.number) }
@@ -151,7 +153,7 @@ impl Segment {
         })
     }
 
-    /// Cuts it into the parts before and behind the place.
+    /// Cuts the segment into the parts before and behind the point.
     pub fn cut(mut self, at: Id) -> Result<(Segment, Segment), Uncut>
         ensures { PartsAre at self.segment result }
     {
@@ -164,7 +166,7 @@ impl Segment {
         }
     }
 
-    /// Joins the next segment behind this one, and leaves it empty.
+    /// Joins the next segment behind this one, and empties the next.
     pub fn absorb(&mut self, next: &mut Segment) -> Result<(), JoinFault>
         ensures answer { JoinIs self.old.segment next.old.segment result self.new.segment }
         ensures err { OnErr result (next.new.segment ≡ next.old.segment) }

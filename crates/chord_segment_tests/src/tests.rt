@@ -28,7 +28,7 @@ pub fn added(alloc: Global, caller: u64, number: u64, key: &[u8]) -> Result<Done
     })
 }
 
-/// Keeps a call where its asks are met, or hands it back.
+/// Keeps the call if it meets what `append` requires. A call refused memory is given back.
 pub fn kept(segment: &mut Segment, done: Done, floor: u64) -> Result<bool, Done> {
     let inside = segment.span().contains(Id::of_bytes(done.request.key()));
     if inside && done.number > floor && done.number - floor <= 16 {
@@ -43,7 +43,7 @@ pub fn kept(segment: &mut Segment, done: Done, floor: u64) -> Result<bool, Done>
     Ok(false)
 }
 
-/// Whether it is kept then.
+/// Whether the call is kept now.
 pub fn keep(segment: &mut Segment, done: Done, floor: u64) -> bool {
     let kept = kept(segment, done, floor);
     let is_kept = matches!(kept, Ok(true));
@@ -51,12 +51,12 @@ pub fn keep(segment: &mut Segment, done: Done, floor: u64) -> bool {
     is_kept
 }
 
-/// Whether it keeps the call of this caller and number.
+/// Whether the segment keeps the call of this caller and number.
 pub fn keeps(segment: &Segment, caller: u64, number: u64) -> bool {
     matches!(segment.find(caller, number), Past::Kept(_))
 }
 
-/// A segment that keeps that call alone.
+/// A segment that keeps one call, with this key.
 pub fn one(alloc: Global, span: Span, key: &[u8]) -> Result<Segment, AllocError> {
     let mut segment = Segment::empty(alloc, span);
     let is_kept = segment.reserve(0).is_ok() && keep_added(&mut segment, alloc, 1, key, 0);
@@ -67,12 +67,12 @@ pub fn one(alloc: Global, span: Span, key: &[u8]) -> Result<Segment, AllocError>
     }
 }
 
-/// Its interval, and whether it keeps the first call of caller 0.
+/// The segment's interval, and whether it keeps the first call of caller 0.
 fn shape(segment: &Segment) -> (Span, bool) {
     (segment.span(), keeps(segment, 0, 1))
 }
 
-/// The same of what they make together.
+/// The shape of the two segments joined.
 fn joined_shape(first: Segment, second: Segment) -> Option<(Span, bool)> {
     let whole = first.join(second).ok()?;
     let shape = shape(&whole);
@@ -80,7 +80,7 @@ fn joined_shape(first: Segment, second: Segment) -> Option<(Span, bool)> {
     Some(shape)
 }
 
-/// The same of the parts that it is cut into at B, and of what they make together.
+/// The shapes of the two parts of a cut at B, and of the parts joined again.
 fn shapes(segment: Segment) -> Option<((Span, bool), (Span, bool), Option<(Span, bool)>)> {
     let (before, behind) = segment.cut(Id::new(B)).ok()?;
     let (first, second) = (shape(&before), shape(&behind));
@@ -95,17 +95,17 @@ fn what_is_kept_goes_by_key(rt: HostRuntime) -> Result<(), Fail> {
     Ok(())
 }
 
-/// Whether it keeps the first call of caller 0, and that has this key.
+/// Whether the segment keeps the first call of caller 0 under this key.
 fn keeps_under(segment: &Segment, key: &[u8]) -> bool {
     matches!(segment.find(0, 1), Past::Kept(done) if done.request.key() == key)
 }
 
-/// Whether the call of this caller and number is new to it.
+/// Whether the call of this caller and number is new to the segment.
 fn is_new(segment: &Segment, caller: u64, number: u64) -> bool {
     matches!(segment.find(caller, number), Past::New)
 }
 
-/// Whether a copy of it is the same, and keeps the first call of caller 0 alone.
+/// Whether a copy is equal, and keeps only the first call of caller 0.
 fn is_copied(whole: &Segment) -> Option<bool> {
     let copy = whole.try_copy().ok()?;
     let is_same = copy.equals(whole) & (copy.span() == span(A, A)) & (copy.floor(0) == 0);
@@ -123,7 +123,7 @@ fn a_copy_is_the_same(rt: HostRuntime) -> Result<(), Fail> {
     Ok(())
 }
 
-/// Whether it equals the other, where that is there.
+/// Whether the segment equals the other, if that was made.
 pub fn equals(segment: &Segment, other: Option<Segment>) -> Option<bool> {
     let other = other?;
     let is_equal = segment.equals(&other);
@@ -141,7 +141,7 @@ fn others_are_not_the_same(rt: HostRuntime) -> Result<(), Fail> {
     Ok(())
 }
 
-/// Why they are not joined, and whether each keeps the first call of caller 0 still.
+/// Why the two are not joined, and whether each still keeps the first call of caller 0.
 fn unjoined(alloc: Global) -> Option<(JoinFault, bool, bool)> {
     let first = one(alloc, span(A, C), b"abc").ok();
     let second = one(alloc, span(C, A), b"b").ok();
@@ -158,7 +158,7 @@ fn neighbours_keep_a_call_once(rt: HostRuntime) {
     assert!(rt; unjoined(rt.alloc()) == Some((JoinFault::Twice, true, true)));
 }
 
-/// Why an empty segment of (A, B] cannot be cut there.
+/// Why an empty segment of (A, B] cannot be cut at this point.
 fn cut_fault(alloc: Global, at: u128) -> Option<CutFault> {
     let uncut = Segment::empty(alloc, span(A, B)).cut(Id::new(at)).err()?;
     let fault = uncut.fault;
@@ -197,18 +197,19 @@ fn keep_added(segment: &mut Segment, alloc: Global, number: u64, key: &[u8], flo
     }
 }
 
-/// Whether it keeps a second call beside the first at floor 0.
+/// Whether the segment keeps a second call beside the first at floor 0.
 fn keeps_two(segment: &mut Segment, alloc: Global) -> bool {
     keep_added(segment, alloc, 2, b"b", 0) & keeps(segment, 0, 1) & keeps(segment, 0, 2)
 }
 
-/// Whether it keeps a third call, which raises the floor to 2, and the first is seen then.
+/// Whether the segment keeps a third call, which raises
+/// the floor to 2, so that the first is then Seen.
 fn keeps_the_third(segment: &mut Segment, alloc: Global) -> bool {
     let is_kept = keep_added(segment, alloc, 3, b"a", 2) & keeps(segment, 0, 3);
     is_kept & (segment.floor(0) == 2) & matches!(segment.find(0, 1), Past::Seen)
 }
 
-/// The floors of caller 0 in the parts that it is cut into at B.
+/// The floors of caller 0 in the two parts of a cut at B.
 fn floors_of_parts(segment: Segment) -> Option<(u64, u64)> {
     let (before, behind) = segment.cut(Id::new(B)).ok()?;
     let floors = (before.floor(0), behind.floor(0));
@@ -217,7 +218,8 @@ fn floors_of_parts(segment: Segment) -> Option<(u64, u64)> {
     Some(floors)
 }
 
-/// Whether it keeps the two calls, whether it keeps the third, and the floors of its parts then.
+/// Whether the segment keeps two calls, whether it
+/// keeps the third, and then the floors of its parts.
 fn raised(mut segment: Segment, alloc: Global) -> (bool, bool, Option<(u64, u64)>) {
     let two = keeps_two(&mut segment, alloc);
     let third = keeps_the_third(&mut segment, alloc);
@@ -231,7 +233,7 @@ fn floors_drop_what_was_taken(rt: HostRuntime) -> Result<(), Fail> {
     Ok(())
 }
 
-/// A segment of the whole circle that keeps the first call of each of these callers.
+/// A segment that keeps the first call of each of these callers.
 fn kept_of(alloc: Global, span: Span, callers: &[u64], key: &[u8]) -> Result<Segment, AllocError> {
     let mut segment = Segment::empty(alloc, span);
     for caller in callers {
@@ -243,13 +245,14 @@ fn kept_of(alloc: Global, span: Span, callers: &[u64], key: &[u8]) -> Result<Seg
     Ok(segment)
 }
 
-/// Whether it keeps the first call of each of these callers under `abc`, and no more.
+/// Whether the segment keeps exactly the first calls of these callers under `abc`.
 fn keeps_of(segment: &Segment, alloc: Global, callers: &[u64]) -> Option<bool> {
     equals(segment, kept_of(alloc, span(A, A), callers, b"abc").ok())
 }
 
-/// Whether it keeps each of three callers, whether one of three others, and whether it equals one that keeps the three in
-/// another order, and one that keeps two of them.
+/// Whether the segment keeps each of three callers' calls, whether
+/// any of three others', and whether it equals a segment that keeps
+/// the three in another order, and one that keeps two of them.
 fn keeps_apart(segment: Segment, alloc: Global) -> (bool, bool, Option<bool>, Option<bool>) {
     let each = keeps(&segment, 3, 1) & keeps(&segment, 5, 1) & keeps(&segment, 9, 1);
     let any = keeps(&segment, 4, 1) | keeps(&segment, 6, 1) | keeps(&segment, 10, 1);
@@ -267,7 +270,7 @@ fn callers_are_kept_apart(rt: HostRuntime) -> Result<(), Fail> {
     Ok(())
 }
 
-/// Whether caller 7 is readied in a copy, and that is the same still.
+/// Whether reserving room for caller 7 in a copy leaves it equal.
 fn is_readied_unseen(before: &Segment) -> Option<bool> {
     let mut segment = before.try_copy().ok()?;
     let is_readied = segment.reserve(7).is_ok();

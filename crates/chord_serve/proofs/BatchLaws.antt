@@ -1,4 +1,4 @@
--- Requests dealt with one after another, and how a session ends.
+-- Requests answered one after another, and how a session ends.
 use Rattle.std.proofs.Common.{◌≡◌, ◌⊎◌, ℕ, ◌<◌, List, [], ◌∷◌, ◌++◌, length, Bool, true, false, Option, Some, None, Result, Ok, Err, refl, sym, ap, subst, ◌∙◌, append_assoc, inl, inr}
 use Rattle.std.specs.List.{flat_map, AllByRecursion}
 use Rattle.std.specs.Io.KnownBytes.{Appends, Consumes, Keeps}
@@ -41,7 +41,7 @@ each-append : (rs ts : List WireRequest) → AllByRecursion IsWireRequest rs →
 each-append [] ts p q = q
 each-append (r ∷ rs) ts p q = (p.0, each-append rs ts p.1 q)
 
--- an end that comes of a request says nothing of the input
+-- an end caused by a request says nothing of the input
 pub stop_ends : (left : Option (List ℕ)) (end : Served) → IsStop end → EndsInput end left
 stop_ends left (served.Malformed code) stop = tt
 stop_ends left served.Write stop = tt
@@ -56,7 +56,7 @@ module _ {A : Type 0} (answers : A → Question → Asked → A → Type 0) wher
   unfolding written state_after questions
   nothing v s a bytes = record { requests = []; given = []; spelled = record { each = tt; parts = refl }; versions = refl; output_is = refl; state_is = refl; answered = refl }
 
-  -- the steps of what was dealt with
+  -- the steps for the answered requests
   steps : (v : Option ℕ) (s : SessionState) (a : A) (bytes output rest : List ℕ) (w : Option ℕ) (t : SessionState) (b : A) (p : Dealt answers v s a bytes output rest w t b) → Serves answers s a p.requests output t b
   steps v s a bytes output rest w t b p = serves answers s a p.requests output t b (record { given = p.given; output_is = p.output_is; state_is = p.state_is; answered = p.answered })
 
@@ -65,7 +65,7 @@ module _ {A : Type 0} (answers : A → Question → Asked → A → Type 0) wher
       let f = as_function answers s a requests output t b h in
       record { requests = requests; given = f.given; spelled = spelled; versions = versions; output_is = f.output_is; state_is = f.state_is; answered = f.answered }
 
-  -- one after the other
+  -- some requests answered after others
   pub Dealt-then : (v w x : Option ℕ) (s t u : SessionState) (a b c : A) (bytes first rest second end : List ℕ) → Dealt answers v s a bytes first rest w t b → Dealt answers w t b rest second end x u c → Dealt answers v s a bytes (first ++ second) end x u c
   Dealt-then v w x s t u a b c bytes first rest second end p q =
       let parts : bytes ≡ flat_map request_frame (p.requests ++ q.requests) ++ end =
@@ -97,7 +97,7 @@ module _ {A : Type 0} (answers : A → Question → Asked → A → Type 0) wher
   stops_at_once : (v : Option ℕ) (s : SessionState) (a : A) (bytes : List ℕ) → StopsAfter answers v s a bytes [] a
   stops_at_once v s a bytes = record { rest = bytes; version = v; state = s; asker = a; dealt = nothing v s a bytes; last = inl refl }
 
-  -- an end, with what became due for it
+  -- an end, with the output added for it
   abbrev pub EndsSo : Served → Option ℕ → SessionState → A → List ℕ → List ℕ → List ℕ → A → Type 0
   EndsSo end v s a bytes old new a' = (output : List ℕ) × IsServed answers end v s a bytes output a' × (new ≡ old ++ output)
 
@@ -175,13 +175,13 @@ module _ {A : Type 0} (answers : A → Question → Asked → A → Type 0) wher
   part_ends end v w s t a b c bytes rest output due p q =
       subst (λ (ys : List ℕ). IsServed answers end v s a bytes ys c) (sym q.2) (served_after end v w s t a b c bytes output rest q.0 p q.1)
 
-  -- ---- what is due is written
+  -- ---- the output is written
 
-  -- where all requests were dealt with, these are some
+  -- a session that answered all requests answered some
   all_stops : (v : Option ℕ) (s : SessionState) (a : A) (bytes output rest : List ℕ) (b : A) → DealsWithAll answers v s a bytes output rest b → StopsAfter answers v s a bytes output b
   all_stops v s a bytes output rest b p = record { rest = rest; version = p.version; state = p.state; asker = b; dealt = p.dealt; last = inl refl }
 
-  -- only a front of the output was written
+  -- only a prefix of the output was written
   front_served : (end : Served) (v : Option ℕ) (s : SessionState) (a : A) (bytes whole front rest : List ℕ) (b : A) → whole ≡ front ++ rest → IsServed answers end v s a bytes whole b → IsServed answers served.Write v s a bytes front b
   front_served served.Ended v s a bytes whole front rest b e p = (whole, rest, e, inl (all_stops v s a bytes whole [] b p))
   front_served served.Truncated v s a bytes whole front rest b e p = (whole, rest, e, inl (all_stops v s a bytes whole p.0 b p.2))
@@ -198,7 +198,7 @@ module _ {A : Type 0} (answers : A → Question → Asked → A → Type 0) wher
       (f.front, (output, f.rest, f.parts, inl (record { rest = rest; version = w; state = t; asker = b; dealt = p.0; last = inl refl })), f.appends)
   part_unwritten (Err end) v w s t a b bytes rest output old new p f = (f.front, front_served end v s a bytes output f.front f.rest b f.parts p, f.appends)
 
-  -- requests dealt with, and what was written for them
+  -- requests answered, and the output written for them
   abbrev pub DealsSo : Option ℕ → SessionState → A → List ℕ → Option (List ℕ) → Option (List ℕ) → List ℕ → Option ℕ → SessionState → A → Type 0
   DealsSo v s a bytes old new rest w t b = (output : List ℕ) × Dealt answers v s a bytes output rest w t b × Appends old new output
 
@@ -209,7 +209,7 @@ module _ {A : Type 0} (answers : A → Question → Asked → A → Type 0) wher
   deals_on v w x s t u a b c bytes rest end old mid new p q =
       (p.0 ++ q.0, Dealt-then v w x s t u a b c bytes p.0 rest q.0 end p.1 q.1, Appends-trans old mid new p.0 q.0 p.2 q.2)
 
-  -- an end, with what was written for it
+  -- an end, and the output written before it
   abbrev pub EndsWritten : Served → Option ℕ → SessionState → A → List ℕ → Option (List ℕ) → Option (List ℕ) → A → Type 0
   EndsWritten end v s a bytes old new a' = (output : List ℕ) × IsServed answers end v s a bytes output a' × Appends old new output
 
@@ -222,7 +222,7 @@ module _ {A : Type 0} (answers : A → Question → Asked → A → Type 0) wher
   all_of_nothing : (v : Option ℕ) (s : SessionState) (a : A) (bytes : List ℕ) → next_request bytes ≡ Ok None → DealsWithAll answers v s a (bytes ++ []) [] bytes a
   all_of_nothing v s a bytes none = subst (λ (xs : List ℕ). DealsWithAll answers v s a xs [] bytes a) (sym (append-nil bytes)) (record { version = v; state = s; dealt = nothing v s a bytes; undecided = none })
 
-  -- an end without more bytes or with bytes that are not dealt with
+  -- an end without more bytes, or with bytes that are not answered
   abbrev pub EndsTurn : Served → Option ℕ → SessionState → A → List ℕ → Option (List ℕ) → Option (List ℕ) → Option (List ℕ) → Option (List ℕ) → A → Type 0
   EndsTurn end v s a bytes left left' old new a' = (input : List ℕ) × (output : List ℕ) × Consumes left left' input × IsServed answers end v s a (bytes ++ input) output a' × Appends old new output
 
@@ -243,7 +243,7 @@ module _ {A : Type 0} (answers : A → Question → Asked → A → Type 0) wher
   batch_turns (Ok done) v w s t a b bytes input fed rest left left' old new e taken d = (input, d.0, taken, subst (λ (xs : List ℕ). Dealt answers v s a xs d.0 rest w t b) e d.1, d.2, d.3)
   batch_turns (Err end) v w s t a b bytes input fed rest left left' old new e taken d = (input, d.0, taken, subst (λ (xs : List ℕ). IsServed answers end v s a xs d.0 b) e d.1, d.2)
 
-  -- the turns so far
+  -- the reads so far
   abbrev pub TurnsSo : A → Option (List ℕ) → Option (List ℕ) → Option (List ℕ) → Option (List ℕ) → List ℕ → Option ℕ → SessionState → A → Type 0
   TurnsSo a left left' old new rest w t b = TakesTurn answers (Ok tt) (connected [] None start) a left left' old new (connected rest w t) b
 

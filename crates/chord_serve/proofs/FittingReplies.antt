@@ -1,4 +1,4 @@
--- Each reply is of the kind of the request that it is written for.
+-- Each reply is of the kind of its request.
 use Rattle.std.proofs.Common.{◌≡◌, ◌≢◌, ℕ, zero, suc, ◌+◌, ◌-◌, ◌<◌, ◌≤◌, max, Bool, true, false, cond, ◌||◌, eqb, ltb, leb, List, [], ◌∷◌, ◌++◌, length, take, drop, map, Option, Some, None, refl, sym, ap, subst, ◌∙◌, append_assoc, arith, inl, inr}
 use Rattle.std.specs.Prelude.{slice_get, is_some}
 use Rattle.std.specs.List.{AllByRecursion}
@@ -23,7 +23,7 @@ use Rattle.chord_serve.specs.Output.{reaction, react, told, question_of, and_the
 abbrev request_in : Kept → Request
 request_in k = k.request
 
--- the requests that were asked are those at or below the floor, and those that are kept
+-- the requests asked so far are those at or below the floor, and those in the session
 pub record IsNoted (s : SessionState) (requests : List Request) : Type 0 where
   pub front : List Request
   pub long : length front ≡ s.floor

@@ -1,4 +1,4 @@
--- The reply frame at a place.
+-- The reply frame at an index.
 use Rattle.std.proofs.Common.{◌≡◌, ℕ, zero, suc, ◌<◌, List, [], ◌∷◌, length, get_or, set, Some, ap, arith}
 use Rattle.chord_serve.specs.declared.kept.Kept.{Kept}
 use Rattle.chord_serve.specs.SessionState.{SessionState}

@@ -1,4 +1,4 @@
--- What one request leaves, move by move.
+-- The session, the asker and the output after one request, move by move.
 use Rattle.std.proofs.Common.{◌≡◌, ◌≢◌, ℕ, ◌-◌, List, [], ◌∷◌, ◌++◌, length, Option, Some, None, Result, Ok, Err, refl, sym, ap, subst, ◌∙◌, arith, inr, slice_get}
 use Rattle.std.specs.Prelude.{OnOk}
 use Rattle.std.specs.Option.{option_map}
@@ -32,7 +32,7 @@ given x = Some x
 some_request : (x y : Request) → given x ≡ given y → x ≡ y
 some_request x y e = cc
 
--- the request that was added last
+-- the request added last
 pub newest_is : (s : SessionState) (request x : Request) → option_map (λ (k : Kept). k.request) (slice_get (added s request).kept (length (added s request).kept - 1)) ≡ Some x → x ≡ request
 newest_is s request x e =
     let k : Kept = record { request = request; frame = None } in
@@ -46,7 +46,7 @@ module _ {A : Type 0} (answers : A → Question → Asked → A → Type 0) wher
   with_move m mid s a r bytes s' a' e t h =
       subst (λ (n : Move). Does answers n (accepted s r) a r bytes s' a') e (subst (λ (u : SessionState). Does answers m u a r bytes s' a') t h)
 
-  -- a step that asks nothing, of which these bytes were to join those that are due
+  -- a step without a question, whose bytes are added to the output
   joined : (result : Result (Unit {0}) AllocError) (m : Move) (s : SessionState) (a : A) (r : WireRequest) (bytes : List ℕ) (s' : SessionState) (old new : List ℕ)
       → m ≡ move_of s r → question_of m r ≡ None → Step answers s a r bytes s' a → Joins result old new bytes → Deals answers result s a r old new s' a
   joined (Ok done) m s a r bytes s' old new e none step w = (bytes, step, w)
@@ -61,7 +61,7 @@ module _ {A : Type 0} (answers : A → Question → Asked → A → Type 0) wher
   repeats result bytes s mid a r old new e t there w =
       joined result Again s a r bytes mid old new e refl (with_move Again mid s a r bytes mid a e t (there, refl, refl)) w
 
-  -- a question was asked, and its answer told
+  -- a question was asked, and its answer written
   told_deals : (result : Result (Unit {0}) AllocError) (answer : Asked) (q : Question) (before after s : SessionState) (a a' : A) (r : WireRequest) (old new : List ℕ)
       → question_of (move_of s r) r ≡ Some q
       → ((bytes : List ℕ) (s' : SessionState) → Asks answers before a q r.number bytes s' a' → Step answers s a r bytes s' a')

@@ -1,4 +1,4 @@
--- What is kept while a client sends and receives, and that its next request has a frame.
+-- What holds of a client while it sends and receives, and that its next request has a frame.
 use Rattle.std.proofs.Common.{◌≡◌, ℕ, ◌+◌, ◌-◌, ◌<◌, ◌≤◌, ◌^◌, min, Bool, true, false, inl, inr, List, [], ◌∷◌, arith, Result, Ok, Err, Option, Some, All, zero, suc, length, take, drop, get_or, slice_get, sym, ap, subst, ◌∙◌, ◌++◌}
 use Rattle.std.proofs.Math.Nat.{min-le_left}
 use Rattle.std.proofs.lemmas.Bool.{leb-false}
@@ -43,7 +43,7 @@ not_both b e f = let h : false ≡ true = sym e ∙ f in cc
 abbrev pub state : (version window last : ℕ) (awaited refused : List WireRequest) (bytes : List ℕ) → ClientState
 state version window last awaited refused bytes = record { version = version; window = window; last = last; awaited = awaited; refused = refused; bytes = bytes }
 
--- the fields once a request was sent
+-- the fields after a request was sent
 pub sent_state : (v w l : ℕ) (xs ys : List WireRequest) (bytes : List ℕ) (c : ClientState) (request : Request) (wire : WireRequest) (xs' : List WireRequest)
     → state v w l xs ys bytes ≡ c → wire ≡ next_of c request → xs' ≡ xs ++ wire ∷ [] → state v w wire.number xs' ys bytes ≡ sent c request
 sent_state v w l xs ys bytes c request wire xs' view is more =
@@ -51,7 +51,7 @@ sent_state v w l xs ys bytes c request wire xs' view is more =
     (λ (h : wire ≡ next_of (state v w l xs ys bytes) request).
     ap (λ (zs : List WireRequest). state v w wire.number zs ys bytes) more ∙ ap (λ (x : WireRequest). state v w x.number (xs ++ x ∷ []) ys bytes) h) is
 
--- all that is open still has frames after an answer
+-- all open requests still have frames after an answer
 pub judged_keeps : (result : Result (ℕ × Answer) ReceiveFault) (a : Answer) (xs ys xs' ys' : List WireRequest)
     → JudgedIs result a xs ys xs' ys' → All IsWireRequest xs → All IsWireRequest ys → All IsWireRequest xs' × All IsWireRequest ys'
 judged_keeps (Ok (number, got)) (answer.Reply n reply) xs ys xs' ys' h p q = (All-rest IsWireRequest h.0 xs' xs h.1 p, All-same IsWireRequest ys' ys h.6 q)
@@ -64,7 +64,7 @@ judged_keeps (Err receive.WrongKind) a xs ys xs' ys' h p q = (All-same IsWireReq
 judged_keeps (Err receive.Idle) a xs ys xs' ys' h p q = absurd h
 judged_keeps (Err (receive.Call why)) a xs ys xs' ys' h p q = absurd h
 
--- what is open but one
+-- the open requests without one
 pub All-remove : (xs : List WireRequest) (place : ℕ) → All IsWireRequest xs → All IsWireRequest (remove xs place)
 All-remove xs place p = All-append IsWireRequest (take place xs) (drop (suc place) xs) (All-take IsWireRequest place xs p) (All-drop IsWireRequest (suc place) xs p)
 
@@ -76,7 +76,7 @@ read_at [] place wire low e = let no : ⊥ = omega (arith, low) in absurd no
 read_at (x ∷ xs) zero wire low e = ap (λ (y : WireRequest). option y) (sym e)
 read_at (x ∷ xs) (suc place) wire low e = read_at xs place wire (omega (arith, low)) e
 
--- the fields once a request is awaited again
+-- the fields after a request waits for its answer again
 pub again_state : (v w l : ℕ) (xs ys : List WireRequest) (bytes : List ℕ) (c : ClientState) (number place : ℕ) (wire : WireRequest) (xs' ys' : List WireRequest)
     → state v w l xs ys bytes ≡ c → Some place ≡ place_of number ys → place < length ys → wire ≡ get_or ys place wire → xs' ≡ xs ++ wire ∷ [] → ys' ≡ remove ys place → IsAwaitedAgain number wire c (state v w l xs' ys' bytes)
 again_state v w l xs ys bytes c number place wire xs' ys' view found low read more less =

@@ -2,7 +2,8 @@
 use Rattle.std.specs.Prelude.{ℕ, List}
 use Rattle.chord_wire.specs.declared.request.WireRequest.{WireRequest}
 
--- The version and the window; the last number; the requests whose answers come next, in the order of the answers; those that got a fault and may be sent again; the bytes read and not yet looked at.
+-- The version and the window; the last number; the requests that wait for answers, in order; the
+-- requests that got a fault and may be sent again; the bytes read and not yet looked at.
 pub record ClientState : Type 0 where
   pub version : ℕ
   pub window : ℕ

@@ -8,7 +8,7 @@ use Rattle.chord_serve.specs.ClientState.{ClientState}
 abbrev pub HasWindow : ℕ → ℕ → Type 0
 HasWindow version window = ((version ≡ 1) × (window ≡ 1)) ⊎ ((version ≡ 2) × (1 ≤ window) × (window ≤ 16))
 
--- the window is one of the version's, and what is open has frames
+-- the version allows the window, and each open request has a frame
 pub record IsClient (c : ClientState) : Type 0 where
   pub window : HasWindow c.version c.window
   pub awaited : All IsWireRequest c.awaited

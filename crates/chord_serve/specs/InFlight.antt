@@ -1,4 +1,5 @@
--- What a client with several requests in flight knows, and what each of its calls does. Source: our own.
+-- A client with several requests in flight: its state, and what each of its calls does.
+-- Source: our own.
 use Rattle.std.specs.Prelude.{◌≡◌, ◌≢◌, ℕ, ◌+◌, ◌-◌, ◌^◌, min, Bool, true, nat_le, List, [], ◌∷◌, ◌++◌, fold, ◌==◌, Option, Some, None, Result, Ok, Err}
 use Rattle.std.specs.List.{position, remove, slice_get}
 use Rattle.std.specs.Io.KnownBytes.{Appends, Keeps}
@@ -18,11 +19,11 @@ use Rattle.chord_serve.specs.declared.in_flight.ReceiveFault.{ReceiveFault}
 use Rattle.chord_serve.specs.declared.in_flight.ReceiveFault.TheVariants as receive
 use Rattle.chord_serve.specs.ClientState.{ClientState}
 
--- before the first request
+-- a client before its first request
 abbrev pub new_client : ℕ → ℕ → ClientState
 new_client version window = record { version = version; window = window; last = 0; awaited = []; refused = []; bytes = [] }
 
--- the greatest number up to the first one that is below the number of each request
+-- the greatest number, at most `most`, that is below the number of each of these requests
 abbrev pub floor_under : ℕ → List WireRequest → ℕ
 floor_under most wires = fold (λ (floor : ℕ) (r : WireRequest). min floor (r.number - 1)) most wires
 
@@ -30,19 +31,20 @@ floor_under most wires = fold (λ (floor : ℕ) (r : WireRequest). min floor (r.
 abbrev pub floor_of : ClientState → ℕ
 floor_of c = floor_under (floor_under c.last c.awaited) c.refused
 
--- the next number would be more than the window above the floor
+-- whether the next number would be more than the window above the floor
 abbrev pub is_full : ClientState → Bool
 is_full c = nat_le c.window (c.last - floor_of c)
 
--- the next request: the number is the last one's and 1
+-- the next request, with the number after the last one's
 abbrev pub next_of : ClientState → Request → WireRequest
 next_of c request = record { version = c.version; number = c.last + 1; floor = floor_of c; request = request }
 
--- with one more request whose answer is awaited behind the others
+-- the client with one more request that waits for its answer, after the others
 abbrev pub sent : ClientState → Request → ClientState
 sent c request = record { version = c.version; window = c.window; last = c.last + 1; awaited = c.awaited ++ next_of c request ∷ []; refused = c.refused; bytes = c.bytes }
 
--- A send writes the frame of the next request, and counts it as sent also where only a front of it was written.
+-- A send writes the frame of the next request. At Write it wrote only a prefix of it; the request
+-- still counts as sent.
 abbrev pub SendIs : Result ℕ SendFault → Request → (old : ClientState) (held held' : Option (List ℕ)) (new : ClientState) → Type 0
 SendIs (Ok number) request old held held' new = (is_full old ≢ true) × (number ≡ old.last + 1) × (new ≡ sent old request) × Appends held held' (request_frame (next_of old request))
 SendIs (Err send.WindowFull) request old held held' new = (is_full old ≡ true) × (new ≡ old) × Keeps held held'
@@ -50,44 +52,45 @@ SendIs (Err send.NumbersSpent) request old held held' new = (is_full old ≢ tru
 SendIs (Err send.Write) request old held held' new = (is_full old ≢ true) × (new ≡ sent old request) × WritesFront held held' (request_frame (next_of old request))
 SendIs (Err send.Memory) request old held held' new = (is_full old ≢ true) × (new ≡ old) × Keeps held held'
 
--- where the request of that number stands
+-- the index of the request with this number
 abbrev pub place_of : ℕ → List WireRequest → Option ℕ
 place_of number wires = position (λ (r : WireRequest). r.number == number) wires
 
--- with the refused request of a place awaited behind the others
+-- the client with this refused request moved behind those that wait for answers
 abbrev pub awaited_again : ClientState → ℕ → WireRequest → ClientState
 awaited_again c place wire = record { version = c.version; window = c.window; last = c.last; awaited = c.awaited ++ wire ∷ []; refused = remove c.refused place; bytes = c.bytes }
 
--- the refused request of a number is awaited again
+-- the refused request of this number waits for its answer again
 pub record IsAwaitedAgain (number : ℕ) (wire : WireRequest) (old new : ClientState) : Type 0 where
   pub place : ℕ
   pub found : place_of number old.refused ≡ Some place
   pub there : slice_get old.refused place ≡ Some wire
   pub state : new ≡ awaited_again old place wire
 
--- The frame of a refused request is written again as it was first. It counts as sent also where only a front of it was written.
+-- The frame of a refused request is written again unchanged. At Write only a prefix of it was
+-- written; the request still counts as sent.
 abbrev pub AgainIs : Result (Unit {0}) AgainFault → ℕ → (old : ClientState) (held held' : Option (List ℕ)) (new : ClientState) → Type 0
 AgainIs (Ok done) number old held held' new = (wire : WireRequest) × IsAwaitedAgain number wire old new × Appends held held' (request_frame wire)
 AgainIs (Err again.NotRefused) number old held held' new = (place_of number old.refused ≡ None) × (new ≡ old) × Keeps held held'
 AgainIs (Err again.Write) number old held held' new = (wire : WireRequest) × IsAwaitedAgain number wire old new × WritesFront held held' (request_frame wire)
 AgainIs (Err again.Memory) number old held held' new = (place_of number old.refused ≢ None) × (new ≡ old) × Keeps held held'
 
--- the number that an answer has
+-- the number of an answer
 abbrev pub number_in : Answer → ℕ
 number_in (answer.Reply number reply) = number
 number_in (answer.Fault number code) = number
 
--- a reply is of the request's kind; a fault may come for any request
+-- whether the answer fits the request: a reply of its kind, or any fault
 abbrev pub is_for : Answer → Request → Bool
 is_for (answer.Reply number reply) request = fits reply request
 is_for (answer.Fault number code) request = true
 
--- the request of a fault joins those refused; that of a reply is done
+-- the refused requests after this answer: one with a fault is added
 abbrev pub refused_with : Answer → WireRequest → List WireRequest → List WireRequest
 refused_with (answer.Reply number reply) wire refused = refused
 refused_with (answer.Fault number code) wire refused = refused ++ wire ∷ []
 
--- what comes of an answer, where these requests were awaited and refused
+-- a client's judgement of an answer, with the waiting and the refused requests before and after
 abbrev pub JudgedIs : Result (ℕ × Answer) ReceiveFault → Answer → (awaited refused awaited' refused' : List WireRequest) → Type 0
 JudgedIs (Ok (number, got)) a awaited refused awaited' refused' = (wire : WireRequest) × (awaited ≡ wire ∷ awaited') × (got ≡ a) × (number ≡ wire.number) × (number_in a ≡ wire.number) × (is_for a wire.request ≡ true) × (refused' ≡ refused_with a wire refused)
 JudgedIs (Err receive.WrongNumber) a awaited refused awaited' refused' = (wire : WireRequest) × (rest : List WireRequest) × (awaited ≡ wire ∷ rest) × (number_in a ≢ wire.number) × (awaited' ≡ awaited) × (refused' ≡ refused)
@@ -95,11 +98,12 @@ JudgedIs (Err receive.WrongKind) a awaited refused awaited' refused' = (wire : W
 JudgedIs (Err receive.Idle) a awaited refused awaited' refused' = ⊥
 JudgedIs (Err (receive.Call why)) a awaited refused awaited' refused' = ⊥
 
--- with other requests and bytes
+-- the client with other open requests and bytes
 abbrev pub with_open : ClientState → List WireRequest → List WireRequest → List ℕ → ClientState
 with_open c awaited refused bytes = record { version = c.version; window = c.window; last = c.last; awaited = awaited; refused = refused; bytes = bytes }
 
--- The answer that comes next is that of the first request awaited. Where none comes, or another, the same requests are open.
+-- The next answer is that of the first request that waits. If none comes, or a wrong one, the same
+-- requests stay open.
 abbrev pub ReceiveIs : Result (ℕ × Answer) ReceiveFault → (old : ClientState) (left left' : Option (List ℕ)) (new : ClientState) → Type 0
 ReceiveIs (Err receive.Idle) old left left' new = (old.awaited ≡ []) × (new ≡ old) × Keeps left left'
 ReceiveIs (Err (receive.Call why)) old left left' new = (old.awaited ≢ []) × GetsAnswer (Err why) old.bytes left left' new.bytes × (new ≡ with_open old old.awaited old.refused new.bytes)

@@ -1,4 +1,5 @@
--- Session: what is written, and what is asked, as functions of the requests and of the list of the asker's answers. Source: our own.
+-- The output and the questions of a session as functions of its requests and its asker's answers.
+-- Source: our own.
 use Rattle.std.specs.Prelude.{◌≡◌, ◌≢◌, ℕ, List, [], ◌∷◌, ◌++◌, Option, Some, None}
 use Rattle.chord_map.specs.declared.request.Request.{Request}
 use Rattle.chord_wire.specs.declared.request.WireRequest.{WireRequest}
@@ -14,21 +15,22 @@ use Rattle.chord_serve.specs.Question as question
 use Rattle.chord_serve.specs.SessionState.{SessionState}
 use Rattle.chord_serve.specs.Session.{accepted, added, answered_at, repeated, move_of}
 
--- the frame that an answer is written as
+-- the frame of an asker's answer
 abbrev pub frame_of : ℕ → Asked → List ℕ
 frame_of number (asked.Reply reply) = frame (reply_body number reply)
 frame_of number asked.Full = frame (fault_body number fault.Full)
 frame_of number asked.NoAnswer = frame (fault_body number fault.NoAnswer)
 frame_of number asked.Memory = []
 
--- the session once the number got this answer: a reply is kept
+-- the session after this answer to a number: a reply's frame is stored
 abbrev pub told : SessionState → ℕ → Asked → SessionState
 told s number (asked.Reply reply) = answered_at s number (frame (reply_body number reply))
 told s number asked.Full = s
 told s number asked.NoAnswer = s
 told s number asked.Memory = s
 
--- what is written for a request, the session then, and the answers that are left for later questions
+-- what a session writes for a request, the session afterwards, and the answers left for later
+-- questions
 pub record Reaction : Type 0 where
   pub bytes : List ℕ
   pub state : SessionState
@@ -39,18 +41,18 @@ abbrev pub on_answer : SessionState → ℕ → List Asked → Reaction
 on_answer s number [] = record { bytes = []; state = s; unused = [] }
 on_answer s number (answer ∷ more) = record { bytes = frame_of number answer; state = told s number answer; unused = more }
 
--- what comes of a move
+-- the reaction to a request by this move
 abbrev pub react : Move → SessionState → WireRequest → List Asked → Reaction
 react (Refuse code) s r given = record { bytes = frame (fault_body r.number code); state = s; unused = given }
 react Again s r given = record { bytes = repeated s r.number; state = s; unused = given }
 react Ask s r given = on_answer (added s r.request) r.number given
 react Retry s r given = on_answer s r.number given
 
--- what comes of a request
+-- the reaction to a request
 abbrev pub reaction : SessionState → WireRequest → List Asked → Reaction
 reaction s r given = react (move_of s r) (accepted s r) r given
 
--- the question of a move, where it has one
+-- the question that a move asks, if any
 abbrev pub question_of : Move → WireRequest → Option Question
 question_of (Refuse code) r = None
 question_of Again r = None
@@ -61,7 +63,7 @@ abbrev pub and_then : Option Question → List Question → List Question
 and_then None questions = questions
 and_then (Some q) questions = q ∷ questions
 
--- all that is written
+-- all that the session writes
 unfoldable pub written : SessionState → List WireRequest → List Asked → List ℕ
 written s [] given = []
 written s (r ∷ requests) given = (reaction s r given).bytes ++ written (reaction s r given).state requests (reaction s r given).unused
@@ -71,19 +73,19 @@ unfoldable pub state_after : SessionState → List WireRequest → List Asked �
 state_after s [] given = s
 state_after s (r ∷ requests) given = state_after (reaction s r given).state requests (reaction s r given).unused
 
--- all that is asked, in order
+-- all questions, in order
 unfoldable pub questions : SessionState → List WireRequest → List Asked → List Question
 questions s [] given = []
 questions s (r ∷ requests) given = and_then (question_of (move_of s r) r) (questions (reaction s r given).state requests (reaction s r given).unused)
 
--- The asker answered each question once, in order, and so. Being out of memory is no answer.
+-- The asker answered each question once, in order, with these answers. Memory is no answer.
 abbrev pub AreAnswers : {A : Type 0} → (A → Question → Asked → A → Type 0) → A → List Question → List Asked → A → Type 0
 AreAnswers {A = A} answers a [] [] a' = a' ≡ a
 AreAnswers {A = A} answers a (q ∷ questions) (x ∷ given) a' = (b : A) × answers a q x b × (x ≢ asked.Memory) × AreAnswers answers b questions given a'
 AreAnswers {A = A} answers a [] (x ∷ given) a' = ⊥
 AreAnswers {A = A} answers a (q ∷ questions) [] a' = ⊥
 
--- a request whose question was answered, before the others
+-- puts a request with its question's answer, if it has one, in front of the pairs
 abbrev pub and_pair : Option Question → WireRequest → List Asked → List (Request × Asked) → List (Request × Asked)
 and_pair None r given pairs = pairs
 and_pair (Some q) r [] pairs = pairs

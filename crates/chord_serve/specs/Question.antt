@@ -1,4 +1,4 @@
--- Questions to an asker, and what may come of them. Source: our own.
+-- Questions to an asker, and its possible answers. Source: our own.
 use Rattle.std.specs.Prelude.{◌≡◌, ◌≢◌, ℕ, zero, suc, List, [], ◌∷◌, ◌++◌, Option, Some, None, slice_get, IsTrue}
 use Rattle.chord_map.specs.declared.request.Request.{Request}
 use Rattle.chord_map.specs.Map.{fits}
@@ -11,14 +11,14 @@ pub data Question : Type 0 where
   Ask : (request : Request) → Question
   Retry : (number : ℕ) → Question
 
--- a reply within the limits, or none
+-- a reply within the limits, or an answer that is no reply
 abbrev pub IsAnswer : Asked → Type 0
 IsAnswer (asked.Reply reply) = IsReply reply
 IsAnswer asked.Full = Unit {0}
 IsAnswer asked.NoAnswer = Unit {0}
 IsAnswer asked.Memory = Unit {0}
 
--- the requests that were asked, with that of a new question
+-- the requests asked so far; a new question adds its request
 abbrev pub asked_with : Question → List Request → List Request
 asked_with (Ask request) requests = requests ++ request ∷ []
 asked_with (Retry number) requests = requests
@@ -41,7 +41,7 @@ IsReplyTo asked.Full request = Unit {0}
 IsReplyTo asked.NoAnswer request = Unit {0}
 IsReplyTo asked.Memory request = Unit {0}
 
--- All that each asker promises of a question, where no more is said: a new request is noted, and a reply is of its
+-- What every asker promises of a question: a new request joins those asked, and a reply is of its
 -- request's kind.
 pub record IsHeard (question : Question) (answer : Asked) (before after : List Request) : Type 0 where
   pub notes : answer ≢ asked.Memory → after ≡ asked_with question before

@@ -1,4 +1,4 @@
--- What a session has written for the bytes that it read. Source: our own.
+-- What a session wrote for the bytes that it read. Source: our own.
 use Rattle.std.specs.Prelude.{◌≡◌, ◌⊎◌, ◌<◌, ℕ, List, [], ◌∷◌, ◌++◌, length, Bool, true, false, not, ◌==◌, Option, Some, None, Result, Ok, Err}
 use Rattle.std.specs.Io.KnownBytes.{Appends, Consumes, IsAtEnd}
 use Rattle.chord_wire.specs.declared.request.WireRequest.{WireRequest}
@@ -22,19 +22,19 @@ use Rattle.chord_serve.specs.Output.{written, state_after, questions, question_o
 abbrev pub fault_frame : WireFault → List ℕ
 fault_frame f = frame (fault_body f.number f.code)
 
--- another version than the first one, if that is known
+-- whether the version differs from that of the first request, if there was one
 abbrev pub is_other : Option ℕ → ℕ → Bool
 is_other None version = false
 is_other (Some first) version = not (first == version)
 
--- requests of one version, which is that of the first one, or the one known before
+-- all requests have one version: that of the first one, or the one known before
 abbrev pub AreOfVersion : Option ℕ → List WireRequest → Option ℕ → Type 0
 AreOfVersion before [] after = after ≡ before
 AreOfVersion before (r ∷ rs) after = (is_other before r.version ≡ false) × AreOfVersion (Some r.version) rs after
 
 module _ {A : Type 0} (answers : A → Question → Asked → A → Type 0) where
-  -- The front of the bytes spells requests. Their questions were asked once each, in order, and answered so; what these
-  -- answers make of them was written, and nothing else.
+  -- A prefix of the bytes spells requests. Each of their questions was asked once, in order, with
+  -- these answers; the output is what the session writes for them, and nothing else.
   pub record Dealt (v : Option ℕ) (s : SessionState) (a : A) (bytes output rest : List ℕ) (v' : Option ℕ) (s' : SessionState) (a' : A) : Type 0 where
     pub requests : List WireRequest
     pub given : List Asked
@@ -44,12 +44,12 @@ module _ {A : Type 0} (answers : A → Question → Asked → A → Type 0) wher
     pub state_is : s' ≡ state_after s requests given
     pub answered : AreAnswers answers a (questions s requests given) given a'
 
-  -- the next bytes are refused: a fault is in them, or they ask in another version
+  -- the next bytes are refused: they have a fault, or their request has another version
   abbrev pub IsRefused : Option ℕ → List ℕ → WireFault → Type 0
   IsRefused v rest f = (next_request rest ≡ Err f)
       ⊎ ((r : WireRequest) × (after : List ℕ) × (next_request rest ≡ Ok (Some (r, after))) × (is_other v r.version ≡ true) × (f ≡ fault BadVersion 0))
 
-  -- some requests were dealt with, and the bytes behind them refused
+  -- the session answered some requests and refused the bytes after them
   pub record Refuses (v : Option ℕ) (s : SessionState) (a : A) (bytes output : List ℕ) (f : WireFault) (a' : A) : Type 0 where
     pub before : List ℕ
     pub rest : List ℕ
@@ -59,14 +59,14 @@ module _ {A : Type 0} (answers : A → Question → Asked → A → Type 0) wher
     pub refused : IsRefused version rest f
     pub output_is : output ≡ before ++ fault_frame f
 
-  -- all whole requests were dealt with
+  -- the session answered all whole requests
   pub record DealsWithAll (v : Option ℕ) (s : SessionState) (a : A) (bytes output rest : List ℕ) (a' : A) : Type 0 where
     pub version : Option ℕ
     pub state : SessionState
     pub dealt : Dealt v s a bytes output rest version state a'
     pub undecided : next_request rest ≡ Ok None
 
-  -- the question of the request that is next, which was asked last and is not answered in bytes
+  -- the next request was asked, and nothing was written for it yet
   pub record AsksNext (v : Option ℕ) (s : SessionState) (a : A) (rest : List ℕ) (a' : A) : Type 0 where
     pub request : WireRequest
     pub behind : List ℕ
@@ -77,7 +77,7 @@ module _ {A : Type 0} (answers : A → Question → Asked → A → Type 0) wher
     pub is_its_own : question_of (move_of s request) request ≡ Some question
     pub asks : answers a question answer a'
 
-  -- some requests were dealt with, and the question of the next one was asked or not
+  -- the session answered some requests, and may have asked the question of the next one
   pub record StopsAfter (v : Option ℕ) (s : SessionState) (a : A) (bytes output : List ℕ) (a' : A) : Type 0 where
     pub rest : List ℕ
     pub version : Option ℕ
@@ -86,8 +86,8 @@ module _ {A : Type 0} (answers : A → Question → Asked → A → Type 0) wher
     pub dealt : Dealt v s a bytes output rest version state asker
     pub last : (a' ≡ asker) ⊎ AsksNext version state asker rest a'
 
-  -- How a session stands to its input and output where it ended so. At Write a front was written of what was due, also
-  -- where memory ran out first or a frame was refused.
+  -- What a session read and wrote when it ended in this way. At Write it wrote a prefix of its
+  -- output; memory may have run out, or a frame been refused, before.
   abbrev pub IsServed : Served → Option ℕ → SessionState → A → List ℕ → List ℕ → A → Type 0
   IsServed served.Ended v s a input output a' = DealsWithAll v s a input output [] a'
   IsServed served.Truncated v s a input output a' = (rest : List ℕ) × (0 < length rest) × DealsWithAll v s a input output rest a'
@@ -97,32 +97,33 @@ module _ {A : Type 0} (answers : A → Question → Asked → A → Type 0) wher
   IsServed served.Write v s a input output a' = (whole : List ℕ) × (rest : List ℕ) × (whole ≡ output ++ rest) × (StopsAfter v s a input whole a' ⊎ ((f : WireFault) × Refuses v s a input whole f a'))
   IsServed served.Memory v s a input output a' = StopsAfter v s a input output a'
 
-  -- the next request was dealt with, or none is next, or the session ended, with what is due
+  -- the session answered the next request, or there
+  -- is none yet, or it ended; with the output so far
   abbrev pub DealsWithNext : Result Bool Served → (c : Connection) (a : A) (old new : List ℕ) (c' : Connection) (a' : A) → Type 0
   DealsWithNext (Ok true) c a old new c' a' = (output : List ℕ) × Dealt c.version c.session a c.frames output c'.frames c'.version c'.session a' × (new ≡ old ++ output)
   DealsWithNext (Ok false) c a old new c' a' = (next_request c.frames ≡ Ok None) × (c'.frames ≡ c.frames) × (c'.version ≡ c.version) × (c'.session ≡ c.session) × (a' ≡ a) × (new ≡ old)
   DealsWithNext (Err end) c a old new c' a' = (output : List ℕ) × IsServed end c.version c.session a c.frames output a' × (new ≡ old ++ output)
 
-  -- some requests were dealt with, and where no more are left none is next; or the session ended
+  -- the session answered some requests, all whole ones if no more are left; or it ended
   abbrev pub DealsWithPart : Result Bool Served → (c : Connection) (a : A) (output : List ℕ) (c' : Connection) (a' : A) → Type 0
   DealsWithPart (Ok more) c a output c' a' = Dealt c.version c.session a c.frames output c'.frames c'.version c'.session a' × (more ≡ false → next_request c'.frames ≡ Ok None)
   DealsWithPart (Err end) c a output c' a' = IsServed end c.version c.session a c.frames output a'
 
-  -- the same, and its output was written
+  -- DealsWithPart, and the output was written
   abbrev pub WritesPart : Result Bool Served → (c : Connection) (a : A) (old new : Option (List ℕ)) (c' : Connection) (a' : A) → Type 0
   WritesPart result c a old new c' a' = (output : List ℕ) × DealsWithPart result c a output c' a' × Appends old new output
 
-  -- all whole requests were dealt with, or the session ended
+  -- the session answered all whole requests, or it ended
   abbrev pub DealsWithBatch : Result (Unit {0}) Served → (c : Connection) (a : A) (old new : Option (List ℕ)) (c' : Connection) (a' : A) → Type 0
   DealsWithBatch (Ok done) c a old new c' a' = (output : List ℕ) × Dealt c.version c.session a c.frames output c'.frames c'.version c'.session a' × (next_request c'.frames ≡ Ok None) × Appends old new output
   DealsWithBatch (Err end) c a old new c' a' = (output : List ℕ) × IsServed end c.version c.session a c.frames output a' × Appends old new output
 
-  -- One read, and what was dealt with then, with what was read and what was written. Or the session ended.
+  -- One read and the answers to it, with the bytes read and written; or the session ended.
   abbrev pub TakesTurn : Result (Unit {0}) Served → (c : Connection) (a : A) (left left' old new : Option (List ℕ)) (c' : Connection) (a' : A) → Type 0
   TakesTurn (Ok done) c a left left' old new c' a' = (input : List ℕ) × (output : List ℕ) × Consumes left left' input × Dealt c.version c.session a (c.frames ++ input) output c'.frames c'.version c'.session a' × (next_request c'.frames ≡ Ok None) × Appends old new output
   TakesTurn (Err end) c a left left' old new c' a' = (input : List ℕ) × (output : List ℕ) × Consumes left left' input × IsServed end c.version c.session a (c.frames ++ input) output a' × Appends old new output
 
--- a fault's frame joined what is due, or there was no memory for it
+-- a fault's frame was added to the output, or there was no memory for it
 abbrev pub TellsFault : Served → WireFault → List ℕ → List ℕ → Type 0
 TellsFault (served.Malformed code) f old new = (f.code ≡ code) × (new ≡ old ++ fault_frame f)
 TellsFault served.Memory f old new = new ≡ old
@@ -132,7 +133,7 @@ TellsFault served.Truncated f old new = ⊥
 TellsFault served.Read f old new = ⊥
 TellsFault served.TurnsSpent f old new = ⊥
 
--- an end that comes of a request
+-- ends that a request can cause
 abbrev pub IsStop : Served → Type 0
 IsStop (served.Malformed code) = Unit {0}
 IsStop served.Write = Unit {0}
@@ -142,7 +143,7 @@ IsStop served.Truncated = ⊥
 IsStop served.Read = ⊥
 IsStop served.TurnsSpent = ⊥
 
--- where the input ended, nothing is left of it
+-- at these two ends no input is left
 abbrev pub EndsInput : Served → Option (List ℕ) → Type 0
 EndsInput served.Ended left = IsAtEnd left
 EndsInput served.Truncated left = IsAtEnd left

@@ -9,63 +9,63 @@ use Rattle.chord_serve.specs.declared.session.Move.{Move}
 use Rattle.chord_serve.specs.declared.session.Move.TheVariants as moves
 use Rattle.chord_serve.specs.SessionState.{SessionState}
 
--- before the first request
+-- a session before its first request
 abbrev pub start : SessionState
 start = record { floor = 0; kept = [] }
 
--- the last number
+-- the last number asked
 abbrev pub last : SessionState → ℕ
 last s = s.floor + length s.kept
 
--- how many at the front are answered
+-- how many of the first requests are answered without a gap
 abbrev pub answered_of : List Kept → ℕ
 answered_of [] = 0
 answered_of (k ∷ ks) = if is_some k.frame then answered_of ks + 1 else 0
 
--- the greatest number with all at or below it answered
+-- the greatest number with all numbers up to it answered
 abbrev pub answered : SessionState → ℕ
 answered s = s.floor + answered_of s.kept
 
--- a number or a floor out of line
+-- whether the request's number or floor is out of line
 abbrev pub is_out : SessionState → WireRequest → Bool
 is_out s r = r.number == 0 || nat_lt (answered s) r.floor || nat_le r.number s.floor || nat_lt (last s + 1) r.number
 
--- the floor becomes the greater one, and what is kept at or below it is dropped
+-- the session with its floor raised to this one; requests at or below it are dropped
 abbrev pub raised : SessionState → ℕ → SessionState
 raised s floor = record { floor = max s.floor floor; kept = drop (floor - s.floor) s.kept }
 
--- the session once the request is let in
+-- the session once it let the request in
 abbrev pub accepted : SessionState → WireRequest → SessionState
 accepted s r = if is_out s r then s else raised s r.floor
 
--- where the number stands among those that are kept
+-- the index of a number's request
 abbrev pub place_of : SessionState → ℕ → ℕ
 place_of s number = number - s.floor - 1
 
--- what was asked before is written again or asked again; another request is refused
+-- a request asked before is answered again or asked again; another one under its number is refused
 abbrev pub move_at : Option Kept → Request → Move
 move_at None request = moves.Ask
 move_at (Some k) request = if same_request k.request request then (if is_some k.frame then moves.Again else moves.Retry) else moves.Refuse NumberReused
 
--- what a request calls for
+-- the move for a request
 abbrev pub move_of : SessionState → WireRequest → Move
 move_of s r = if is_out s r then moves.Refuse BadNumber else move_at (slice_get (raised s r.floor).kept (place_of (raised s r.floor) r.number)) r.request
 
--- with a request that is not answered yet
+-- the session with one more request, not answered yet
 abbrev pub added : SessionState → Request → SessionState
 added s request = record { floor = s.floor; kept = s.kept ++ record { request = request; frame = None } ∷ [] }
 
--- with the reply frame at a place
+-- the requests with this reply frame at this index
 abbrev pub frame_at : List Kept → ℕ → List ℕ → List Kept
 frame_at [] place frame = []
 frame_at (k ∷ ks) zero frame = record { request = k.request; frame = Some frame } ∷ ks
 frame_at (k ∷ ks) (suc place) frame = k ∷ frame_at ks place frame
 
--- with the reply frame of a number
+-- the session with this reply frame for a number
 abbrev pub answered_at : SessionState → ℕ → List ℕ → SessionState
 answered_at s number frame = record { floor = s.floor; kept = frame_at s.kept (place_of s number) frame }
 
--- the reply frame of a number, where one is kept
+-- the reply frame of a number, if it has one
 abbrev pub frame_kept : SessionState → ℕ → Option (List ℕ)
 frame_kept s number = option_and_then (λ (k : Kept). k.frame) (slice_get s.kept (place_of s number))
 
@@ -73,6 +73,6 @@ abbrev pub bytes_of : Option (List ℕ) → List ℕ
 bytes_of None = []
 bytes_of (Some bytes) = bytes
 
--- the bytes that are written again for a number
+-- the reply frame of a number, to be written again
 abbrev pub repeated : SessionState → ℕ → List ℕ
 repeated s number = bytes_of (frame_kept s number)

@@ -15,7 +15,7 @@ use Rattle.chord_serve.specs.Session.{accepted, added, repeated, move_of}
 use Rattle.chord_serve.specs.Output.{frame_of, told, question_of}
 
 module _ {A : Type 0} (answers : A → Question → Asked → A → Type 0) where
-  -- the question is asked once, and its answer is what is written and kept
+  -- the question is asked once; its answer is written, and a reply stored
   pub record Asks (s : SessionState) (a : A) (q : Question) (number : ℕ) (bytes : List ℕ) (s' : SessionState) (a' : A) : Type 0 where
     pub answer : Asked
     pub not_memory : answer ≢ asked.Memory
@@ -23,23 +23,23 @@ module _ {A : Type 0} (answers : A → Question → Asked → A → Type 0) wher
     pub bytes_are : bytes ≡ frame_of number answer
     pub state_is : s' ≡ told s number answer
 
-  -- a move from a session that let the request in
+  -- this move, from a session that let the request in
   abbrev pub Does : Move → SessionState → A → WireRequest → List ℕ → SessionState → A → Type 0
   Does (Refuse code) s a r bytes s' a' = (bytes ≡ frame (fault_body r.number code)) × (s' ≡ s) × (a' ≡ a)
   Does Again s a r bytes s' a' = (bytes ≡ repeated s r.number) × (s' ≡ s) × (a' ≡ a)
   Does Ask s a r bytes s' a' = Asks (added s r.request) a (question.Ask r.request) r.number bytes s' a'
   Does Retry s a r bytes s' a' = Asks s a (question.Retry r.number) r.number bytes s' a'
 
-  -- what is written for one request, and the session and the asker after it
+  -- what the session writes for one request, and the session and the asker afterwards
   abbrev pub Step : SessionState → A → WireRequest → List ℕ → SessionState → A → Type 0
   Step s a r bytes s' a' = Does (move_of s r) (accepted s r) a r bytes s' a'
 
-  -- the question, if there is one, was asked or not
+  -- the question, if there is one, may have been asked
   abbrev pub MayAsk : Option Question → A → A → Type 0
   MayAsk None a a' = a' ≡ a
   MayAsk (Some q) a a' = (a' ≡ a) ⊎ ((answer : Asked) × answers a q answer a')
 
-  -- a step, whose bytes joined those that are due; where there was no memory, none did
+  -- a step whose bytes are added to the output; none are if memory ran out
   abbrev pub Deals : Result (Unit {0}) AllocError → SessionState → A → WireRequest → List ℕ → List ℕ → SessionState → A → Type 0
   Deals (Ok done) s a r old new s' a' = (bytes : List ℕ) × Step s a r bytes s' a' × (new ≡ old ++ bytes)
   Deals (Err refused) s a r old new s' a' = (new ≡ old) × MayAsk (question_of (move_of s r) r) a a'

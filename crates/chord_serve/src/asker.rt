@@ -1,4 +1,4 @@
-//! Who answers the requests.
+//! The asker, which answers the requests of a session.
 ghost use Rattle.std.specs.Prelude.{◌≡◌, ◌≢◌, List};
 ghost use Rattle.chord_map.specs.declared.request.Request.{Request};
 ghost use Rattle.chord_serve.specs.Question.{Question, Ask, Retry, IsAnswer, IsReplyTo, asked_with, request_asked};
@@ -7,7 +7,7 @@ ghost use Rattle.chord_serve.specs.declared.asker.Asked.TheVariants.{Memory};
 
 use chord_map::{Reply, Request};
 
-/// What came of a question.
+/// The answer to a question.
 #[derive(Debug, Drop)]
 pub enum Asked {
     Reply(Reply),
@@ -17,10 +17,10 @@ pub enum Asked {
 }
 
 pub trait Asker {
-    /// From this state the question may be answered so, which leaves the next state.
+    /// In this state the question may get this answer, which leaves the next state.
     ghost answers: { Self → Question → Asked → Self → Type 0 };
 
-    /// The requests that it was asked, in order. Their numbers are 1, 2 and so on.
+    /// The requests asked so far, in order. Their numbers are 1, 2 and so on.
     ghost asked: { Self → List Request };
 
     /// Asks a new request.
@@ -28,12 +28,12 @@ pub trait Asker {
         ensures answer { answers self.old (Ask request.now) result self.new }
         ensures fits { IsAnswer result };
 
-    /// Asks again for the request with this number, which was not answered.
+    /// Asks again for the request with this number, which got no reply.
     fn retry(&mut self, number: u64) -> Asked
         ensures answer { answers self.old (Retry number) result self.new }
         ensures fits { IsAnswer result };
 
-    /// A new request is noted behind those before.
+    /// A new request joins those asked, behind the others.
     ghost notes: { (a b : Self) (question : Question) (answer : Asked) → answers a question answer b → answer ≢ Memory → asked b ≡ asked_with question (asked a) };
 
     /// A reply is of its request's kind.

@@ -1,4 +1,4 @@
-//! One call of a server.
+//! One call to a server.
 ghost use Rattle.std.specs.Prelude.{◌≡◌, ◌≢◌, ◌*◌, Ok, Err, None};
 ghost use Rattle.std.specs.Io.KnownBytes.{IsAtEnd};
 ghost use Rattle.chord_map.specs.declared.request.Request.{Request};
@@ -32,7 +32,7 @@ pub enum CallFault {
     Memory,
 }
 
-// The next answer, where its frame is whole.
+// The next answer, if its frame is whole.
 fn look(answers: &mut Answers) -> Result<Option<Answer>, CallFault>
     ensures reads { ReadsAnswer result answers.old answers.new }
     ensures not_ended { result ≢ Err CallFault.Ended }
@@ -50,7 +50,7 @@ fn look(answers: &mut Answers) -> Result<Option<Answer>, CallFault>
     }
 }
 
-// One read, and the next answer, where its frame is whole then.
+// One read, and then the next answer, if its frame is whole.
 fn read_more<R: Read>(reader: &mut R, answers: &mut Answers) -> Result<Option<Answer>, CallFault>
     requires { next_answer answers.old ≡ Ok None }
     ensures reads { ReadsMore result answers.old (R.remaining reader.old) (R.remaining reader.new) answers.new }
@@ -73,7 +73,7 @@ fn read_more<R: Read>(reader: &mut R, answers: &mut Answers) -> Result<Option<An
     }
 }
 
-// The first answer.
+// The first answer, read in at most `turns` reads.
 pub(crate) fn await_answer<R: Read>(
     reader: &mut R,
     answers: &mut Answers,
@@ -114,7 +114,7 @@ fn exchange<R: Read, W: Write>(
     }
 }
 
-/// Writes a version 1 request, and gives the first answer. It reads at most that many times.
+/// Writes a version 1 request, and gives the first answer, in at most `turns` reads.
 pub fn call<R: Read, W: Write>(
     alloc: Global,
     reader: &mut R,
@@ -136,7 +136,7 @@ pub fn call<R: Read, W: Write>(
     }
 }
 
-/// Writes a version 2 request, and gives the first answer. It reads at most that many times.
+/// Writes a version 2 request, and gives the first answer, in at most `turns` reads.
 pub fn call_2<R: Read, W: Write>(
     alloc: Global,
     reader: &mut R,

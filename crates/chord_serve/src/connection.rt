@@ -1,4 +1,4 @@
-//! One connection: all requests that are whole are dealt with.
+//! One connection: reading bytes and answering the whole requests among them.
 ghost use Rattle.std.specs.Prelude.{◌≡◌, ◌≢◌, ◌<◌, [], None, Ok, Err, true, length, IfErr, OnOk};
 ghost use Rattle.chord_wire.specs.Reading.{next_request};
 ghost use Rattle.chord_serve.specs.BytesRead.{ReadsBetween};
@@ -14,7 +14,7 @@ use chord_wire::{FaultCode, Frames, WireFault, write_fault};
 use std::alloc::Global;
 use std::io::{Read, Write};
 
-/// The bytes that were read and not dealt with, the version of the first request, and the session.
+/// The bytes read and not answered yet, the version of the first request, and the session.
 #[derive(Debug, Drop)]
 pub struct Connection {
     frames: Frames,
@@ -22,7 +22,7 @@ pub struct Connection {
     session: Session,
 }
 
-// The end of a session that refuses: the fault's frame is added to what is due.
+// Ends a session with a fault, whose frame is added to the output.
 fn refuse(alloc: Global, due: &mut Due, fault: WireFault) -> Served
     requires { fault.code ≢ FaultCode.Memory }
     ensures due { TellsFault result fault due.old due.new }
@@ -60,7 +60,7 @@ impl Connection {
         }
     }
 
-    // Deals with the next request, and answers whether there was one. What is to be written for it joins what is due.
+    // Answers the next request into the output. False if there is no whole one.
     fn answer_next<A: Asker>(
         &mut self,
         alloc: Global,
@@ -97,7 +97,7 @@ impl Connection {
         }
     }
 
-    // Deals with requests until none is whole, which is answered false, or as much is due as is to be written at once.
+    // Answers requests into the output until none is whole (false) or the output is full (true).
     fn answer_part<A: Asker>(
         &mut self,
         alloc: Global,
@@ -117,7 +117,7 @@ impl Connection {
         Ok(true)
     }
 
-    // Deals with a part of the requests, and then writes all that is due, however it ended.
+    // Answers some requests, and then writes the output, even if the session ended.
     fn write_part<W: Write, A: Asker>(
         &mut self,
         alloc: Global,
@@ -136,7 +136,7 @@ impl Connection {
         }
     }
 
-    // Deals with all requests that are whole.
+    // Answers all whole requests.
     fn answer_batch<W: Write, A: Asker>(
         &mut self,
         alloc: Global,
@@ -150,7 +150,7 @@ impl Connection {
         Ok(())
     }
 
-    /// One read of at most 4,096 bytes, and then all requests that are whole. Their frames are written together.
+    /// One read of at most 4,096 bytes, then the answers to all whole requests, written together.
     pub fn take_turn<R: Read, W: Write, A: Asker>(
         &mut self,
         alloc: Global,

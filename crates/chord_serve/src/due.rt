@@ -1,4 +1,4 @@
-//! What is to be written.
+//! The output that is due.
 ghost use Rattle.std.specs.Prelude.{◌≡◌, [], length, nat_lt};
 ghost use Rattle.chord_serve.specs.Writes.{Joins, Writes};
 
@@ -7,7 +7,7 @@ use std::alloc::{AllocError, Global};
 use std::io::{self, Write};
 use std::marker::Model;
 
-/// Where more bytes than these are due, they are written before more join them.
+/// Output of more bytes than these is written before more is added.
 const DUE_LIMIT: usize = 65_536;
 
 /// The frames that are to be written together.
@@ -40,7 +40,7 @@ impl Due {
         Ok(())
     }
 
-    /// Whether it is to be written before more joins it.
+    /// Whether the output must be written before more is added.
     pub fn is_full(&self) -> bool
         ensures { result ≡ nat_lt DUE_LIMIT (length self.now) }
     {

@@ -17,7 +17,7 @@ use std::io::{Read, Write};
 use std::marker::Model;
 use thiserror::Error;
 
-/// Why a request was not sent, or not wholly.
+/// Why a request was not sent, or only in part.
 #[derive(Clone, Copy, Debug, PartialEq, Eq, Error)]
 pub enum SendFault {
     #[error("as many requests as the window holds are in flight")]
@@ -30,7 +30,7 @@ pub enum SendFault {
     Memory,
 }
 
-/// Why a request was not sent again, or not wholly.
+/// Why a request was not sent again, or only in part.
 #[derive(Clone, Copy, Debug, PartialEq, Eq, Error)]
 pub enum AgainFault {
     #[error("no request of this number got a fault and was not sent again since")]
@@ -54,7 +54,8 @@ pub enum ReceiveFault {
     WrongKind,
 }
 
-/// Keeps up to its window of requests in flight. After a fault of reading or writing the connection is of no more use.
+/// Has up to its window of requests in flight. After a fault
+/// of reading or writing the connection is of no more use.
 #[derive(Debug, Drop)]
 pub struct Client {
     version: u8,
@@ -76,14 +77,14 @@ impl Model for Client {
     ghost invariant = { λ c. IsClient (record { version = c.version; window = c.window; last = c.last; awaited = c.awaited.items; refused = c.refused.items; bytes = c.answers }) };
 }
 
-// The greatest number up to this one that is below the number of each request.
+// The greatest number, at most `most`, that is below the number of each of these requests.
 fn floor_under(most: u64, wires: &[WireRequest]) -> u64
     ensures { result ≡ floor_under most wires.now }
 {
     wires.iter().fold(most, |floor, wire| floor.min(wire.number.saturating_sub(1)))
 }
 
-// Where the request of this number stands.
+// The index of the request of this number.
 fn place_of(number: u64, wires: &[WireRequest]) -> Option<usize>
     ensures place { result ≡ place_of number wires.now }
     ensures bound { IfSome result (λ place. place < length wires.now) }
@@ -103,7 +104,7 @@ fn frame_of(alloc: Global, wire: &WireRequest) -> Result<Vec<u8>, AllocError>
     }
 }
 
-// The number that an answer has.
+// The number of an answer.
 fn number_in(answer: &Answer) -> u64
     ensures { result ≡ number_in answer.now }
 {
@@ -112,7 +113,7 @@ fn number_in(answer: &Answer) -> u64
     }
 }
 
-// Whether it may answer this request.
+// Whether the answer fits this request.
 fn is_for(answer: &Answer, request: &Request) -> bool
     ensures { result ≡ is_for answer.now request.now }
 {
@@ -122,7 +123,7 @@ fn is_for(answer: &Answer, request: &Request) -> bool
     }
 }
 
-// An answer takes the first request from those awaited. With a fault that one joins those refused.
+// Judges an answer to the first request that waits: a fault moves it to the refused requests.
 fn judge(
     awaited: &mut Vec<WireRequest>,
     refused: &mut Vec<WireRequest>,
@@ -148,7 +149,8 @@ fn judge(
 }
 
 impl Client {
-    /// A client of a new connection: a window of 1 in version 1, of 1 to 16 in version 2, and none for others.
+    /// A client of a new connection. The window is 1 in
+    /// version 1 and 1 to 16 in version 2; else `None`.
     pub fn new(alloc: Global, version: u8, window: u64) -> Option<Client>
         ensures some { IfSome result (λ client. client ≡ new_client version window) }
         ensures which { IsSome result ↔ HasWindow version window }
@@ -171,7 +173,7 @@ impl Client {
         })
     }
 
-    /// How many answers are awaited.
+    /// The number of requests that wait for answers.
     pub fn in_flight(&self) -> usize
         ensures { result ≡ length self.now.awaited }
     {
@@ -228,7 +230,7 @@ impl Client {
         }
     }
 
-    // The next request counts as sent. Gives its frame.
+    // Counts the next request as sent, and gives its frame.
     fn enter(&mut self, request: Request) -> Result<Vec<u8>, AllocError>
         requires limits { IsRequest request }
         requires room { is_full self.old ≡ false }
@@ -245,7 +247,7 @@ impl Client {
         Ok(frame)
     }
 
-    /// Sends the very same frame again, of a request that got a fault.
+    /// Writes the frame of a request that got a fault again, unchanged.
     pub fn again<W: Write>(&mut self, writer: &mut W, number: u64) -> Result<(), AgainFault>
         ensures { AgainIs result number self.old (W.contents writer.old) (W.contents writer.new) self.new }
     {
@@ -266,7 +268,7 @@ impl Client {
         }
     }
 
-    /// The answer to the first request that is awaited, and its number. It reads at most that many times.
+    /// The answer to the first request that waits, and its number, in at most `turns` reads.
     pub fn receive<R: Read>(
         &mut self,
         reader: &mut R,

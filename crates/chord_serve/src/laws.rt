@@ -1,4 +1,4 @@
-//! What is true of all sessions, with no code.
+//! What holds of all sessions. These functions have no code; their contracts are the laws.
 ghost use Rattle.std.specs.Prelude.{◌≡◌, ℕ, List, [], Option, None};
 ghost use Rattle.std.specs.List.{AllByRecursion};
 ghost use Rattle.chord_wire.specs.declared.request.WireRequest.{WireRequest};
@@ -13,14 +13,14 @@ ghost use Rattle.chord_serve.specs.Output.{questions, answered_requests, AreAnsw
 use crate::asker::Asker;
 use chord_wire::laws::one_reading;
 
-/// Each reply of a session is of the kind of the request that it answers, also one that came of a retry.
+/// Each reply of a session is of the kind of its request, also after a retry.
 pub fn replies_are_of_their_kind<A: Asker>()
     ensures { (a b : A) (requests : List WireRequest) (given : List Asked) → A.asked a ≡ [] → AllByRecursion IsWireRequest requests
         → AreAnswers A.answers a (questions start requests given) given b → AllByRecursion IsPaired (answered_requests start requests given) }
 {}
 
-/// What a session writes for all whole requests of its input depends on that input and on the answers alone, however
-/// the input was cut.
+/// The output of a session for all whole requests of its input depends on the input and the answers
+/// alone, however the input was cut.
 pub fn one_output<A: Asker>()
     ensures { (a b after after' : A) (input output output' rest rest' : List ℕ) (v v' : Option ℕ) (s s' : SessionState)
         → (one : Dealt A.answers None start a input output rest v s after) → (other : Dealt A.answers None start b input output' rest' v' s' after')

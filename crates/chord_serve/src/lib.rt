@@ -1,10 +1,11 @@
 //! A byte server: frames in, frames out, over anything that reads and writes.
 //!
-//! [`serve`] reads the frames of one connection, asks an [`Asker`] each request once, and writes the answers: a reply, a
-//! fault, or for a number that was answered before the same frame again. [`Served`] says how the input ended.
-//!
-//! The other end is [`call`], which sends one request and waits, or a [`Client`] with up to 16 requests in flight.
-//! [`laws`] says that what is written does not depend on how the input was cut.
+//! [`serve`] reads the frames of one connection, asks an [`Asker`] each request once, and writes
+//! the answers: a reply, a fault, or, for a number that was answered before, the same frame again.
+//! [`Served`] says why the session ended.
+//! The other end is [`call`], which sends one request and waits,
+//! or a [`Client`], which has up to 16 requests in flight.
+//! [`laws`] says that the output does not depend on how the input was cut.
 #![tactic(auto)]
 
 mod asker;

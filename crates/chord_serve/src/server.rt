@@ -11,9 +11,10 @@ use crate::served::Served;
 use std::alloc::Global;
 use std::io::{Read, Write};
 
-/// Answers the requests that the reader gives, until the input ends, a frame is refused, a call fails, or that many
-/// reads were made. All that is due for the requests of one read is written at once, or whenever it is more than 65,536
-/// bytes. What is due is also written before memory or a refused frame ends the session.
+/// Answers the requests from the reader until the input ends, a frame is refused,
+/// a call fails, or `turns` reads were made. The answers to the requests of one
+/// read are written together, or whenever they are more than 65,536 bytes. They
+/// are also written if memory or a refused frame ends the session.
 pub fn serve<R: Read, W: Write, A: Asker>(
     alloc: Global,
     reader: &mut R,
@@ -22,7 +23,7 @@ pub fn serve<R: Read, W: Write, A: Asker>(
     turns: u64,
 ) -> Served
     ensures end { EndsInput result (R.remaining reader.new) }
-    // Each read takes 4,096 bytes at most, and one at least where the input goes on.
+    // Each read takes at most 4,096 bytes, and at least one unless the input ends.
     ensures bytes { ReadsBetween 0 (4096 * turns) (R.remaining reader.old) (R.remaining reader.new) }
     ensures spent { result ≡ Served.TurnsSpent → ReadsBetween turns (4096 * turns) (R.remaining reader.old) (R.remaining reader.new) }
     ensures served { (input : List ℕ) × (output : List ℕ) × Consumes (R.remaining reader.old) (R.remaining reader.new) input

@@ -1,4 +1,4 @@
-//! What a session keeps of its requests.
+//! The requests of a session and their reply frames.
 ghost use Rattle.chord_wire.specs.Spelling.{IsWireRequest};
 ghost use Rattle.std.specs.Prelude.{◌≡◌, ◌≢◌, IsSome, ◌≤◌, ◌^◌, slice_get, Some, ◌<◌, ◌-◌, ◌+◌, length, OnOk, OnErr};
 ghost use Rattle.chord_serve.specs.Session.{start, last, answered_of, is_out, raised, accepted, place_of, move_at, move_of, added, answered_at, frame_kept};
@@ -10,16 +10,16 @@ use chord_wire::{FaultCode, WireRequest};
 use std::alloc::{AllocError, Global};
 use std::marker::Model;
 
-/// What a request calls for.
+/// What to do with a request.
 #[derive(Clone, Copy, Debug, PartialEq, Eq)]
 pub enum Move {
-    /// This fault is written.
+    /// Write this fault.
     Refuse(FaultCode),
-    /// Its reply frame is written again.
+    /// Write its reply frame again.
     Again,
-    /// It is asked.
+    /// Ask it.
     Ask,
-    /// It was asked and not answered, and is asked again by its number.
+    /// Ask it again by its number: it was asked and got no reply.
     Retry,
 }
 
@@ -65,7 +65,8 @@ impl Session {
         }
     }
 
-    /// What the request calls for. Unless its number is out of line, the floor rises to its floor.
+    /// What to do with the request. Unless its number is out
+    /// of line, the session's floor rises to the request's.
     pub fn accept(&mut self, wire: &WireRequest) -> Move
         requires { IsWireRequest wire.now }
         ensures call { result ≡ move_of self.old wire.now }
@@ -115,7 +116,7 @@ impl Session {
         Ok(())
     }
 
-    /// The request that was added last.
+    /// The request added last.
     pub fn newest(&self) -> &Request
         requires { 0 < length self.now.kept }
         ensures { option_map (λ k. k.request) (slice_get self.now.kept (length self.now.kept - 1)) ≡ Some result.now }
@@ -123,7 +124,7 @@ impl Session {
         &self.kept[self.kept.len() - 1].request
     }
 
-    /// Keeps the reply frame of a number.
+    /// Stores the reply frame of a number.
     pub fn keep(&mut self, number: u64, frame: Bytes)
         requires above { self.old.floor < number }
         requires kept { number ≤ last self.old }
@@ -133,7 +134,7 @@ impl Session {
         self.kept[place].frame = Some(frame);
     }
 
-    /// The reply frame of a number, where there is one.
+    /// The reply frame of a number, if there is one.
     pub fn frame_of(&self, number: u64) -> Option<&Bytes>
         requires { self.now.floor < number }
         ensures { option_map (λ f. f.now) result ≡ frame_kept self.now number }

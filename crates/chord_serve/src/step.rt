@@ -15,7 +15,7 @@ use chord_map::Bytes;
 use chord_wire::{FaultCode, WireRequest, write_fault, write_reply};
 use std::alloc::{AllocError, Global};
 
-// Adds the frame of a question's answer to what is due, and keeps a reply.
+// Adds the frame of an answer to the output, and stores the frame of a reply.
 fn tell(
     alloc: Global,
     session: &mut Session,
@@ -49,7 +49,7 @@ fn tell(
     }
 }
 
-/// Deals with one request: does what it calls for, and adds what is to be written for it to what is due.
+/// Does what one request calls for, and adds what is to be written for it to the output.
 pub fn answer_one<A: Asker>(
     alloc: Global,
     session: &mut Session,

@@ -1,5 +1,6 @@
-//! A server that stays while a growth is refused: one connection ends at most, and the others are answered. With ample
-//! memory nothing is refused; the toolchain's failing allocations refuse one.
+//! The server of `serve --stay` while a growth is refused: at most one connection ends for it, and
+//! the others are answered. With ample memory nothing is refused; the toolchain's failing
+//! allocations refuse one.
 
 use chord_command::Finish;
 use chord_front::Front;
@@ -16,10 +17,11 @@ use std::thread;
 use std::thread::Threads;
 use std::time::Clock;
 
-// Insert `x` under `a`, number 1. Clients take no memory, so that it is the server's which is refused.
+// Inserts `x` under `a`, with number 1. Clients take no memory, so that a refused growth is the
+// server's.
 const INSERT: &[u8] = b"\x00\x00\x00\x0f\x01\x01\x00\x00\x00\x00\x00\x00\x00\x01\x01a\x00\x01x";
 
-/// Serves into these bytes until the input ends. Then the port is given up.
+/// Serves until the input ends, writing into these bytes, and then frees the port.
 fn stays<
     R: Threads
         + Wait
@@ -47,7 +49,7 @@ fn stays<
     stay(rt, &front, stores, input, written)
 }
 
-/// Whether the server answers an insert, and then closes the connection.
+/// Checks that the server answers an insert, and then closes the connection.
 fn is_answered<S: Read + Write + OpenStream>(stream: &mut S) -> bool {
     let mut answer = [0u8; 15];
     stream.write_all(INSERT).is_ok()
@@ -57,7 +59,8 @@ fn is_answered<S: Read + Write + OpenStream>(stream: &mut S) -> bool {
         && stream.read(&mut answer).is_ok_and(|count| count == 0)
 }
 
-/// How many of three clients are answered, whose connections are open at once. Then the input ends.
+/// Opens three connections at once, asks over each, and ends the input. Gives how many were
+/// answered.
 fn three_clients<R: Net>(rt: &R, address: SocketAddr, input: PipeWriter) -> io::Result<usize> {
     let mut first = TcpStream::connect(rt, address)?;
     let mut second = TcpStream::connect(rt, address)?;
@@ -78,16 +81,16 @@ struct Ended {
     answered: usize,
     /// How many lines it wrote.
     lines: usize,
-    /// How many of them tell that memory ran out.
+    /// How many of them say that memory ran out.
     refused: usize,
 }
 
-/// How often a byte stands there.
+/// How many times a byte occurs.
 fn count_of(bytes: &[u8], wanted: u8) -> usize {
     bytes.iter().filter(|byte| **byte == wanted).count()
 }
 
-/// Serves three clients.
+/// Serves three clients, and gives how that ended.
 fn served<
     R: Threads
         + Wait
@@ -111,12 +114,13 @@ fn served<
         stayed,
         answered: answered.unwrap_or(0),
         lines: count_of(&room, b'\n'),
-        // Of all results only `memory` has this letter.
+        // No other result has this letter: only `memory`.
         refused: count_of(&room, b'y'),
     })
 }
 
-/// One growth that is refused ends one connection at most, with `memory`, unless the start needed it.
+/// A refused growth ends at most one connection, with `memory`, unless the server needed it to
+/// start.
 #[test]
 fn a_refused_growth_ends_one_connection(rt: HostRuntime) -> Result<(), Fail> {
     let ended = served(&rt, rt.alloc(), io::pipe(&rt)?).ok_or("not served")?;

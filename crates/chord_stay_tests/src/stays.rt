@@ -19,7 +19,7 @@ use std::thread;
 use std::thread::Threads;
 use std::time::Clock;
 
-/// Serves until the input ends, over two stores with room for so many pairs.
+/// Serves until the input ends, over two stores with room for `limit` pairs.
 fn stay_over<
     R: Threads
         + Wait
@@ -51,7 +51,7 @@ fn stay_over<
     stay(rt, &front, stores, input, writer)
 }
 
-/// The same, and gives what was written.
+/// Serves until the input ends, and gives what was written.
 fn stayed_and_noted<
     R: Threads
         + Wait
@@ -76,7 +76,7 @@ fn stayed_and_noted<
     Ok(written)
 }
 
-/// The same into 32 bytes, which have room for the address alone.
+/// Serves until the input ends, and writes into 32 bytes, which have room for the address only.
 fn stayed_in_32_bytes<
     R: Threads
         + Wait
@@ -98,7 +98,7 @@ fn stayed_in_32_bytes<
     stay_over(rt, alloc, plan, listener, 4, input, &Discard, written)
 }
 
-/// What clients of a server that stays do before its input ends, and after.
+/// What the clients do before the server's input ends, and afterwards.
 #[derive(Clone, Copy)]
 struct Script {
     before: Acts,
@@ -120,8 +120,8 @@ impl Script {
     }
 }
 
-/// Whether the clients are answered, and these lines written, by a server with so many callers and room for so many
-/// pairs.
+/// Checks that the clients are answered, and these lines written, by a server with this many
+/// callers and room for this many pairs.
 fn writes<
     R: Threads
         + Wait
@@ -153,8 +153,9 @@ fn writes<
     Some(is_served(alloc, address, answered, written, wanted))
 }
 
-/// Three clients, one after another, each with numbers from 1 on: one adds a value twice, one sees it and leaves out a
-/// number, and one removes it, under one number twice. A fourth stays, and the input ends.
+/// Four clients, one after another, each with numbers from 1 on. The first adds a value twice, the
+/// second retrieves it and skips a number, the third removes it, twice under one number. The fourth
+/// is there when the input ends.
 const IN_TURN: Script = Script {
     before: &[
         (0, Act::Connect),
@@ -182,7 +183,7 @@ const IN_TURN: Script = Script {
     after: &[(3, Act::End)],
 };
 
-/// One caller serves all connections in turn. That which is open at the end is ended.
+/// One caller serves all connections in order. The one that is open at the end is closed.
 #[test]
 fn one_caller_for_all(rt: HostRuntime) -> Result<(), Fail> {
     let wanted = "connection 0 ended\nconnection 1 ended\nconnection 2 ended\nconnection 3 ended\n";
@@ -192,7 +193,8 @@ fn one_caller_for_all(rt: HostRuntime) -> Result<(), Fail> {
     Ok(())
 }
 
-/// The one caller is taken, so another client is closed. Once it is free, the next is served.
+/// While the one caller serves, another client is closed. Afterwards the caller serves the next
+/// one.
 const CROWDED: Script = Script {
     before: &[
         (0, Act::Connect),
@@ -209,7 +211,7 @@ const CROWDED: Script = Script {
     after: &[],
 };
 
-/// Lines and notes come in the order in which connections end.
+/// Connections are written and logged in the order in which they end.
 #[test]
 fn a_caller_that_is_taken(rt: HostRuntime) -> Result<(), Fail> {
     let alloc = rt.alloc();
@@ -225,9 +227,10 @@ fn a_caller_that_is_taken(rt: HostRuntime) -> Result<(), Fail> {
     Ok(())
 }
 
-/// A client leaves with a request that found the store full, so its caller is not free, and while another is served a
-/// third is closed. Once there is room the first caller serves again: a fourth sees that the request was done, and finds
-/// the store full, twice, until there is room again.
+/// A client leaves with a request that found the store full, so its caller stays pending; while the
+/// second client is served, a third is closed. Once there is room that caller serves again: a
+/// fourth client sees that the request was executed, and finds the store full, twice, until there
+/// is room again.
 const FULL_AND_AGAIN: Script = Script {
     before: &[
         (0, Act::Connect),
@@ -260,7 +263,7 @@ const FULL_AND_AGAIN: Script = Script {
     after: &[],
 };
 
-/// A caller with a pending request serves only once that is answered.
+/// A caller with a pending request serves again only once that is answered.
 #[test]
 fn a_pending_request(rt: HostRuntime) -> Result<(), Fail> {
     let wanted =
@@ -272,13 +275,13 @@ fn a_pending_request(rt: HostRuntime) -> Result<(), Fail> {
     Ok(())
 }
 
-/// A client's connection begins and ends.
+/// Opens a connection, and leaves.
 fn one_end<R: Net>(rt: &R, address: SocketAddr) -> io::Result<()> {
     let mut first = TcpStream::connect(rt, address)?;
     leave(&mut first)
 }
 
-/// How a server ends whose writer has room for the address alone, while its input goes on.
+/// How a server ends whose writer has room for the address only, while its input is open.
 fn stays_without_room<
     R: Threads
         + Wait

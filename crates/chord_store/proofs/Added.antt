@@ -28,7 +28,7 @@ module _ (m n : Sets) (m_rises : IsStrictlySortedBy key_cmp (keys_of m.entries))
   count_of : (old : ValueSet) → lookup (has_bytes key) m.entries ≡ Some old → length (values_at key (pairs_of_sets m.entries)) ≡ length old.values
   count_of old held = ap (λ (vs : List (List ℕ)). length vs) (values-tree m.entries m_rises key (Some old) held)
 
-  -- what the set answers is what the map replies
+  -- the set answers as the map replies
   pub set_answers : (old : ValueSet) → lookup (has_bytes key) m.entries ≡ Some old → tree.WritesThrough key_cmp (λ k. slice_cmp nat_cmp key k) m set n
       → {E : Type 0} (r : Result Inserted E) → SetInsertIs value old.values r set.values → AddIs (pair_of key value) (pairs_of_sets m.entries) r (pairs_of_sets n.entries)
   set_answers old held written (Ok Added) a =
@@ -43,7 +43,7 @@ module _ (m n : Sets) (m_rises : IsStrictlySortedBy key_cmp (keys_of m.entries))
   set_answers old held written (Err e) a =
       (due_added key value (pairs_of_sets m.entries) (has_of old held ∙ a.0) (rw (count_of old held) a.1), tree-stay m n m_rises n_rises key value set old a.2 held written)
 
--- with no set under its key an insert is due to add
+-- if its key has no set, an insert must add the pair
 pub none_adds : (m : Sets) → IsStrictlySortedBy key_cmp (keys_of m.entries) → (key value : List ℕ) → lookup (has_bytes key) m.entries ≡ None → reply_to (Insert key value) (pairs_of_sets m.entries) ≡ reply.Added
 none_adds m rises key value absent =
     let count : length (values_at key (pairs_of_sets m.entries)) ≡ 0 = ap (λ (vs : List (List ℕ)). length vs) (values-tree m.entries rises key None absent) in
@@ -58,7 +58,7 @@ pub refused_set : (value : List ℕ) (old new : List (List ℕ)) {E : Type 0} (P
 refused_set value old new P (Ok did) is absent room same = absurd is
 refused_set value old new P (Err e) is absent room same = (absent, room, same)
 
--- what an insert leaves: one pair more, or all as it was
+-- after an insert there is one pair more, or nothing changed
 pub count_added : (pair : Pair) (old new : List Pair) → reply_to (insertion pair) old ≡ reply.Added → new ≡ pairs_after (insertion pair) old → length new ≡ length old + 1
 count_added pair old new due same =
     ap (λ (ps : List Pair). length ps) (same ∙ after_reply (insertion pair) reply.Added old due) ∙ length-insert_new pair old (absent (has_pair pair old) refl)
@@ -76,7 +76,7 @@ stays_present pair old new due same = same ∙ after_reply (insertion pair) repl
 pub stays_full : (pair : Pair) (old new : List Pair) → reply_to (insertion pair) old ≡ reply.SetFull → new ≡ pairs_after (insertion pair) old → new ≡ old
 stays_full pair old new due same = same ∙ after_reply (insertion pair) reply.SetFull old due
 
--- where there is room under the key, an insert puts the pair in
+-- if the key has room, an insert adds the pair
 pub put_adds : (pair : Pair) (old new : List Pair) → IsRising old → length (values_at pair.key old) < 1000 → new ≡ pairs_after (insertion pair) old → new ≡ insert_pair pair old
 put_adds pair old new rises room same = put_by (has_pair pair old) refl
   where

@@ -1,4 +1,4 @@
--- What a tree has left where the sets under the keys of some pairs are dropped.
+-- What is left of a tree after the sets under the keys of some pairs are dropped.
 use Rattle.std.proofs.Common.{◌≡◌, ℕ, ◌+◌, ◌<◌, Bool, true, false, cond, not, ◌||◌, ◌&&◌, None, List, [], ◌∷◌, length, take, get_or, filter, refl, sym, ap, ◌∙◌, subst, arith, inl, inr, ⊎_elim, nat_cmp, bytes_eq}
 use Rattle.std.specs.List.Sorted.{IsStrictlySortedBy}
 use Rattle.std.specs.Map.{lookup, keys_of}
@@ -20,7 +20,7 @@ use Rattle.chord_store.proofs.Inside.{rises_outside}
 use Rattle.chord_store.proofs.Puts.{lies_in}
 use Rattle.chord_store.proofs.Sets.{Sets, alike, has-tree, map_after, same_bytes}
 
--- one set less
+-- one set removed
 pub key_dropped : (m n : Sets) → IsStrictlySortedBy key_cmp (keys_of m.entries) → IsStrictlySortedBy key_cmp (keys_of n.entries) → (key : List ℕ) → tree.UpdatesBy key_cmp (λ k. slice_cmp nat_cmp key k) m n None
     → (q : Pair) → has_pair q (pairs_of_sets n.entries) ≡ (not (bytes_eq key q.key) && has_pair q (pairs_of_sets m.entries))
 key_dropped m n m_rises n_rises key updates q =
@@ -36,7 +36,7 @@ two_keys true false s = refl
 two_keys false true s = refl
 two_keys false false s = refl
 
--- one pair further
+-- one more pair
 pub more_dropped : (q : Pair) (pairs : List Pair) (i : ℕ) (d : Pair) (new old start : Bool) → i < length pairs → new ≡ (not (bytes_eq (get_or pairs i d).key q.key) && old)
     → old ≡ (not (has_key q.key (take i pairs)) && start) → new ≡ (not (has_key q.key (take (i + 1) pairs)) && start)
 more_dropped q pairs i d new old start within now before =
@@ -56,7 +56,7 @@ keyed_by key (p ∷ pairs) e =
     ⊎_elim (λ here. (p, inl refl, bytes_same p.key key here)) (λ more. let r = keyed_by key pairs more in (r.0, inr r.1, r.2))
     (or_cases (bytes_eq p.key key) (has_key key pairs) e)
 
--- a pair of the list has one of the keys inside the span where its own is inside
+-- a pair of the list has the key of a pair inside the span exactly if it is inside itself
 keyed_inside : (span : Span) (old : List Pair) (q : Pair) → Has old q → has_key q.key (pairs_inside span old) ≡ lies_in span q
 unfolding pairs_inside
 keyed_inside span old q there =
@@ -70,7 +70,7 @@ keyed_inside span old q there =
     absurd (true≢false (sym (subst (λ key. in_span span (key_id key) ≡ true) r.2 inside) ∙ f)))
     (λ k. k ∙ sym f))
 
--- without the keys inside the span what lies outside is left
+-- dropping the keys inside the span leaves the pairs outside
 pub left_outside : (span : Span) (old new pairs : List Pair) → RisingPairs old → RisingPairs new → pairs_inside span old ≡ pairs
     → ((q : Pair) → has_pair q new ≡ (not (has_key q.key pairs) && has_pair q old)) → new ≡ pairs_outside span old
 unfolding pairs_outside

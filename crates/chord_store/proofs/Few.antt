@@ -1,4 +1,4 @@
--- How many values stand under a key.
+-- How many values are under a key.
 use Rattle.std.proofs.Common.{◌≡◌, ℕ, zero, suc, ◌+◌, ◌<◌, ◌≤◌, Bool, true, false, cond, not, inl, inr, List, [], ◌∷◌, ◌++◌, map, length, take, drop, get_or, Less, Equal, Greater, refl, sym, ap, ◌∙◌, subst, arith, bytes_eq}
 use Rattle.std.specs.List.{filter}
 use Rattle.std.proofs.lemmas.List.{take_more, take-append-drop}
@@ -12,7 +12,7 @@ use Rattle.chord_store.specs.Inside.{pairs_inside, pairs_outside}
 use Rattle.chord_store.specs.Store.{HasFew}
 use Rattle.chord_store.proofs.Puts.{lies_in, each_inside}
 
--- how many values stand under a key
+-- the number of values under a key
 abbrev pub count_at : List ℕ → List Pair → ℕ
 count_at key pairs = length (values_at key pairs)
 
@@ -28,7 +28,7 @@ count-append : (key : List ℕ) (xs ys : List Pair) → count_at key (xs ++ ys) 
 count-append key [] ys = omega arith
 count-append key (x ∷ xs) ys = omega (arith, count-cons key x (xs ++ ys), count-cons key x xs, count-append key xs ys)
 
--- a pair of the key counts once, and one of another key not at all
+-- a pair of the key counts once, one of another key not at all
 count-one : (pair : Pair) → count_at pair.key (pair ∷ []) ≡ 1
 count-one pair = ap (λ b. length (map (λ (p : Pair). p.value) (cond b (pair ∷ []) []))) (bytes_itself pair.key pair.key refl)
 
@@ -59,7 +59,7 @@ count-filter key test (first ∷ rest) =
       | false ↦ omega (arith, count-cons key first rest, more)
     ]
 
--- one more where there is room
+-- one more pair, if there is room for it
 pub few-insert : (pair : Pair) (pairs : List Pair) → HasFew pairs → count_at pair.key pairs < 1000 → HasFew (insert_pair pair pairs)
 few-insert pair pairs few room key =
     by_test (bytes_eq pair.key key)
@@ -76,7 +76,7 @@ pub few-outside : (span : Span) (pairs : List Pair) → HasFew pairs → HasFew 
 unfolding pairs_outside
 few-outside span pairs few key = omega (arith, count-filter key (λ (pair : Pair). not (lies_in span pair)) pairs, few key)
 
--- a list that has nothing in a span has nothing under a key there
+-- a list with no pair in a span has none under a key there
 count-vacant : (span : Span) (item : Pair) (pairs : List Pair) → lies_in span item ≡ true → pairs_inside span pairs ≡ [] → count_at item.key pairs ≡ 0
 unfolding pairs_inside
 count-vacant span item [] inside vacant = refl
@@ -94,7 +94,7 @@ has_at [] i d within = absurd (omega arith)
 has_at (x ∷ xs) zero d within = inl refl
 has_at (x ∷ xs) (suc i) d within = inr (has_at xs i d (omega arith))
 
--- each pair of those that are put in finds room in its set
+-- each pair that is put in finds room in its set
 pub room_for : (span : Span) (more pairs : List Pair) (i : ℕ) (item : Pair) → pairs_inside span pairs ≡ [] → pairs_inside span more ≡ more → HasFew more → i < length more → item ≡ get_or more i item
     → count_at item.key (put_all (take i more) pairs) < 1000
 room_for span more pairs i item vacant within few at is =

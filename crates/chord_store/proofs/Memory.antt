@@ -1,4 +1,4 @@
--- Where copies take memory.
+-- When copies need memory.
 use Rattle.std.proofs.Common.{◌≡◌, ◌≢◌, ◌<◌, ℕ, suc, Bool, true, cond, List, [], ◌∷◌, ◌++◌, length, take, drop, get_or, filter, refl, sym, ap, ◌∙◌, arith}
 use Rattle.std.proofs.Math.Seq.{split_at}
 use Rattle.chord_ident.specs.Circle.{in_span, key_id}
@@ -12,7 +12,7 @@ use Rattle.chord_store.specs.Tree.{Key, pairs_under, pairs_of_sets}
 some_there : {A : Type 0} (x : A) (xs : List A) → x ∷ xs ≢ []
 some_there x xs none = cc
 
--- what is behind another list is nothing where both are
+-- if two joined lists are empty, the second one is
 pub none_behind : {A : Type 0} (xs ys : List A) → xs ++ ys ≡ [] → ys ≡ []
 none_behind [] ys none = none
 none_behind (x ∷ xs) ys none = absurd (some_there x (xs ++ ys) none)
@@ -30,7 +30,7 @@ under_some key (value ∷ values) some none = some_there _ (pairs_under key valu
 pub under_inside : (span : Span) (key : List ℕ) (values : List (List ℕ)) → 0 < length values → true ≡ in_span span (key_id key) → pairs_inside span (pairs_under key values) ≢ []
 under_inside span key values some inside none = under_some key values some (sym (inside-under span key values true inside) ∙ none)
 
--- where no pair is inside, none of the next key is
+-- if no pair is inside the span, none of the next key is
 pub first_none : (span : Span) (es rest : List (Key × ValueSet)) (e : Key × ValueSet) (copies : List Pair) → es ≡ e ∷ rest → copies ++ pairs_inside span (pairs_of_sets es) ≡ []
     → pairs_inside span (pairs_under e.0 e.1.values) ≡ []
 unfolding pairs_inside
@@ -40,7 +40,7 @@ first_none span es rest e copies is none =
     ∙ ap (λ (xs : List (Key × ValueSet)). pairs_inside span (pairs_of_sets xs)) (sym is)
     ∙ none_behind copies (pairs_inside span (pairs_of_sets es)) none)
 
--- nor where one that stands there is
+-- a pair at an index is not inside either
 pub inside_at : (span : Span) (pairs : List Pair) (i : ℕ) (pair : Pair) → i < length pairs → pair ≡ get_or pairs i pair → in_span span (key_id pair.key) ≡ true → pairs_inside span pairs ≢ []
 unfolding pairs_inside
 inside_at span pairs i pair less is inside none =

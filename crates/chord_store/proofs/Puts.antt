@@ -17,7 +17,7 @@ use Rattle.chord_store.specs.declared.outcome.Inserted.TheVariants.{Added}
 use Rattle.chord_store.specs.Inside.{pairs_inside, pairs_outside}
 use Rattle.chord_store.specs.Store.{insertion, reply_for}
 
--- an insert that did what was due
+-- an insert that did as the map replies
 pub did_is : (pair : Pair) (pairs pairs' : List Pair) (limit : ℕ) (did : Inserted) → reply_to (insertion pair) pairs ≡ reply_for did → (did ≡ Added → length pairs < limit)
     → pairs' ≡ pairs_by (insertion pair) (reply_for did) pairs
     → (reply_to (insertion pair) pairs ≡ reply_for did) × (did ≡ Added → length pairs < limit) × (pairs' ≡ pairs_after (insertion pair) pairs)
@@ -33,11 +33,11 @@ unfolding put_all
 put_all-push [] pair pairs = refl
 put_all-push (first ∷ more) pair pairs = put_all-push more pair (insert_pair first pairs)
 
--- one pair further
+-- one more pair
 pub put_all-more : (more : List Pair) (i : ℕ) (d : Pair) (pairs : List Pair) → i < length more → put_all (take (i + 1) more) pairs ≡ insert_pair (get_or more i d) (put_all (take i more) pairs)
 put_all-more more i d pairs within = ap (λ (xs : List Pair). put_all xs pairs) (take_more more i d within) ∙ put_all-push (take i more) (get_or more i d) pairs
 
--- a pair that fails a test is not kept
+-- an inserted pair that fails a test does not pass the filter
 filter-insert : (test : Pair → Bool) (pair : Pair) (pairs : List Pair) → test pair ≡ false → filter test (insert_pair pair pairs) ≡ filter test pairs
 unfolding insert_pair
 filter-insert test pair [] fails = ap (λ b. cond b (pair ∷ []) []) fails
@@ -55,7 +55,7 @@ outside-put_all span (pair ∷ more) pairs all =
     outside-put_all span more (insert_pair pair pairs) (λ x h. all x (inr h))
     ∙ filter-insert (λ (p : Pair). not (lies_in span p)) pair pairs (ap not (all pair (inl refl)))
 
--- nothing is dropped from a list that has nothing in the span
+-- nothing is dropped from a list with no pair in the span
 pub outside_vacant : (span : Span) (pairs : List Pair) → pairs_inside span pairs ≡ [] → pairs_outside span pairs ≡ pairs
 unfolding pairs_inside pairs_outside
 outside_vacant span [] vacant = refl
@@ -70,12 +70,12 @@ pub each_inside : (span : Span) (more : List Pair) → pairs_inside span more �
 unfolding pairs_inside
 each_inside span more all x h = (has_filter (lies_in span) more x (subst (λ (xs : List Pair). Has xs x) (sym all) h)).1
 
--- to take the span out is to undo
+-- taking the span out undoes putting the pairs in
 pub undo : (span : Span) (more pairs : List Pair) (i : ℕ) → pairs_inside span pairs ≡ [] → pairs_inside span more ≡ more → pairs_outside span (put_all (take i more) pairs) ≡ pairs
 undo span more pairs i vacant within =
     outside-put_all span (take i more) pairs (λ x h. each_inside span more within x (has_taken i more x h)) ∙ outside_vacant span pairs vacant
 
--- the pairs inside, as far as a walk has come
+-- the pairs inside the span, as far as the scan has come
 pub filter-push : {A : Type 0} (test : A → Bool) (xs : List A) (x : A) → filter test (xs ++ x ∷ []) ≡ cond (test x) (filter test xs ++ x ∷ []) (filter test xs)
 filter-push test [] x = refl
 filter-push test (y ∷ ys) x = elim (test y) as (λ b. cond b (y ∷ filter test (ys ++ x ∷ [])) (filter test (ys ++ x ∷ [])) ≡ cond (test x) (cond b (y ∷ filter test ys) (filter test ys) ++ x ∷ []) (cond b (y ∷ filter test ys) (filter test ys))) [
@@ -88,7 +88,7 @@ pub inside-more : (span : Span) (pairs : List Pair) (i : ℕ) (d : Pair) → i <
 unfolding pairs_inside
 inside-more span pairs i d within = ap (filter (lies_in span)) (take_more pairs i d within) ∙ filter-push (lies_in span) (take i pairs) (get_or pairs i d)
 
--- what is left is no more than what was there
+-- no more pairs are left than there were
 pub length-outside_le : (span : Span) (pairs : List Pair) → length (pairs_outside span pairs) ≤ length pairs
 unfolding pairs_outside
 length-outside_le span [] = omega arith
@@ -96,7 +96,7 @@ length-outside_le span (first ∷ rest) =
     let more = length-outside_le span rest in
     elim (not (lies_in span first)) as (λ b. length (cond b (first ∷ pairs_outside span rest) (pairs_outside span rest)) ≤ length (first ∷ rest)) [ true ↦ omega arith | false ↦ omega arith ]
 
--- each pair put in is at most one more
+-- each pair put in adds at most one
 pub length-put_all_le : (more pairs : List Pair) → length (put_all more pairs) ≤ length pairs + length more
 unfolding put_all
 length-put_all_le [] pairs = omega arith

@@ -1,4 +1,4 @@
--- The pairs of a key stand one behind another.
+-- The pairs of a key are neighbours.
 use Rattle.std.proofs.Common.{◌≡◌, ℕ, suc, ◌+◌, ◌-◌, ◌<◌, ◌≤◌, Bool, true, false, cond, List, [], ◌∷◌, ◌++◌, length, take, drop, get_or, Ordering, Less, Equal, Greater, refl, sym, ap, ◌∙◌, subst, arith, inl, inr, ◌⊎◌, bytes_eq, is_eq, nat_cmp}
 use Rattle.std.specs.Ordering.{ordering_index, ordering_reverse, ordering_then, is_lt, is_le}
 use Rattle.std.specs.Cmp.Lexicographic.{slice_cmp}
@@ -14,7 +14,7 @@ use Rattle.chord_map.specs.Pairs.{IsRising}
 use Rattle.chord_map.proofs.MapLemmas.{values_total}
 use Rattle.chord_store.proofs.Sets.{filter-append}
 
--- how a pair's key stands to another
+-- how a pair's key compares with another
 abbrev pub stands : List ℕ → Pair → Ordering
 stands key pair = slice_cmp nat_cmp pair.key key
 

@@ -27,7 +27,7 @@ use Rattle.chord_store.specs.ValueSet.{has_value, Gains, Loses}
 use Rattle.chord_store.specs.Store.{HasFew}
 use Rattle.chord_store.specs.Tree.{Key, key_cmp, has_bytes, pairs_under, pairs_of_sets, set_has, set_values}
 
--- whether two byte strings are the same, by their order
+-- whether two byte strings are equal, by their order
 abbrev pub same_bytes : List ℕ → List ℕ → Bool
 same_bytes x y = is_eq (slice_cmp nat_cmp x y)
 
@@ -52,7 +52,7 @@ none_later : (bytes : List ℕ) (key : Key) → bytes ≡ key → (es : List (Ke
 none_later bytes key same [] above = tt
 none_later bytes key same (e ∷ es) above = (ap (λ (b : List ℕ). is_eq (slice_cmp nat_cmp b e.0)) same ∙ ap is_eq above.0, none_later bytes key same es above.1)
 
--- a tree has a pair where the set under its key has the value
+-- a tree has a pair if the set under its key has the value
 pub has-tree : (es : List (Key × ValueSet)) → IsStrictlySortedBy key_cmp (keys_of es) → (q : Pair) → has_pair q (pairs_of_sets es) ≡ set_has q.value (lookup (has_bytes q.key) es)
 has-tree [] rises q = refl
 has-tree (e ∷ es) rises q =
@@ -66,7 +66,7 @@ has-tree (e ∷ es) rises q =
       | false ↦ λ _. refl
     ] refl
 
--- the pairs of a tree rise
+-- the pairs of a tree are sorted
 
 in_under : (key : List ℕ) (vs : List (List ℕ)) (p : Pair) → Has (pairs_under key vs) p → (p.key ≡ key) × Has vs p.value
 in_under key [] p h = absurd h
@@ -99,7 +99,7 @@ rises-tree (e ∷ es) rises =
     (rises-tree es (sorted_tail key_cmp e.0 (keys_of es) rises))
     (λ p q hp hq. key_less p q (ap (λ (k : List ℕ). slice_cmp nat_cmp k q.key) (in_under e.0 e.1.values p hp).0 ∙ above_key e.0 es (sorted_head key_cmp e.0 (keys_of es) rises) q hq))
 
--- what a change at the key leaves at any bytes
+-- the values under any key after a change at this one
 
 apart : (x y k : List ℕ) → same_bytes x y ≡ false → same_bytes x k ≡ true → same_bytes y k ≡ false
 apart x y k differ same = ap (λ (z : List ℕ). same_bytes y z) (sym (same_bytes-is x k same)) ∙ same_bytes-symm y x ∙ differ
@@ -120,7 +120,7 @@ by_bytes f g bytes w here others other = elim (same_bytes bytes other) as (λ b.
 pub map_after : {X : Type 0} (key : List ℕ) (m n : BTreeMap Key X) (w : Option X) → tree.UpdatesBy key_cmp (λ k. slice_cmp nat_cmp key k) m n w → (other : List ℕ) → lookup (has_bytes other) n.entries ≡ cond (same_bytes key other) w (lookup (has_bytes other) m.entries)
 map_after key m n w h = by_bytes (λ b. lookup (has_bytes b) m.entries) (λ b. lookup (has_bytes b) n.entries) key w h.1 (λ other differ. other_entries _ _ _ _ h.3 (has_bytes other) (is_test other) (λ k same. apart key other k differ same))
 
--- the change of a set under a key, as the tree's: what a test of values says after it
+-- a change of the set under a key as a change of the tree: what a test of values says after it
 at_pair : (es fs : List (Key × ValueSet)) (key : List ℕ) (o : Option ValueSet) (change : Bool → Bool → Bool) (value : List ℕ)
     → ((b : Bool) → change false b ≡ b)
     → ((other : List ℕ) → lookup (has_bytes other) fs ≡ cond (same_bytes key other) o (lookup (has_bytes other) es))
@@ -150,7 +150,7 @@ module _ (es fs : List (Key × ValueSet)) (es_rises : IsStrictlySortedBy key_cmp
       has-tree fs fs_rises q ∙ at_pair es fs key o ◌||◌ value (λ b. refl) at_keys at_values q
       ∙ ap (λ b. same_pair q (pair_of key value) || b) (sym (has-tree es es_rises q)) ∙ sym (has_inserted_pair q (pair_of key value) (pairs_of_sets es)))
 
-  -- a value less under a key is a pair less of the tree
+  -- a value removed under a key removes a pair from the tree
   pub tree-remove : ((v : List ℕ) → set_has v o ≡ (not (bytes_eq v value) && set_has v (lookup (has_bytes key) es))) → pairs_of_sets fs ≡ remove_pair (pair_of key value) (pairs_of_sets es)
   unfolding remove_pair
   tree-remove at_values =
@@ -204,7 +204,7 @@ pub first-filter : (p : List ℕ → Bool) (key : List ℕ) (vs : List (List ℕ
     → filter (λ (q : Pair). p q.key) (pairs_under key vs ++ rest) ≡ cond (p key) (pairs_under key vs) [] ++ filter (λ (q : Pair). p q.key) rest
 first-filter p key vs rest = filter-append (λ (q : Pair). p q.key) (pairs_under key vs) rest ∙ ap (λ l. l ++ filter (λ (q : Pair). p q.key) rest) (under-filter p key vs)
 
--- to keep the keys that pass is to keep their pairs
+-- keeping the keys that pass keeps their pairs
 pub sets-filter : (p : List ℕ → Bool) (es : List (Key × ValueSet)) → pairs_of_sets (filter (λ (e : Key × ValueSet). p e.0) es) ≡ filter (λ (q : Pair). p q.key) (pairs_of_sets es)
 sets-filter p [] = refl
 sets-filter p (e ∷ es) =
@@ -226,7 +226,7 @@ length-tree e es = omega (arith, length-append (pairs_under e.0 e.1.values) (pai
 abbrev pub Sets : Type 0
 Sets = BTreeMap Key ValueSet
 
--- a change that no test of values sees leaves the pairs as they were
+-- a change that no test of values sees leaves the pairs unchanged
 pub tree-same : (es fs : List (Key × ValueSet)) → IsStrictlySortedBy key_cmp (keys_of es) → IsStrictlySortedBy key_cmp (keys_of fs) → (key : List ℕ) (o : Option ValueSet)
     → ((other : List ℕ) → lookup (has_bytes other) fs ≡ cond (same_bytes key other) o (lookup (has_bytes other) es))
     → ((v : List ℕ) → set_has v o ≡ set_has v (lookup (has_bytes key) es)) → pairs_of_sets fs ≡ pairs_of_sets es
@@ -242,14 +242,14 @@ at_written : (m n : Sets) (key : List ℕ) (old set : ValueSet) → lookup (has_
 at_written m n key old set held written = map_after key m n (Some set) (written.3 (is_there _ old held))
 
 module _ (m n : Sets) (m_rises : IsStrictlySortedBy key_cmp (keys_of m.entries)) (n_rises : IsStrictlySortedBy key_cmp (keys_of n.entries)) (key value : List ℕ) (set : ValueSet) where
-  -- a value joins the set of a key that is there
+  -- a value is added to the set of a known key
   pub tree-join : (old : ValueSet) → lookup (has_bytes key) m.entries ≡ Some old → tree.WritesThrough key_cmp (λ k. slice_cmp nat_cmp key k) m set n → Gains value old.values set.values
       → pairs_of_sets n.entries ≡ insert_pair (pair_of key value) (pairs_of_sets m.entries)
   tree-join old held written gains =
       tree-insert m.entries n.entries m_rises n_rises key value (Some set) (at_written m n key old set held written)
       (λ v. gains.each v ∙ ap (λ o. bytes_eq v value || set_has v o) (sym held))
 
-  -- a set of one value comes under a new key
+  -- a set of one value is inserted under a new key
   pub tree-open : (key' : Key) → key' ≡ key → set.values ≡ value ∷ [] → lookup (has_bytes key) m.entries ≡ None
       → tree.UpdatesBy key_cmp (λ k. slice_cmp nat_cmp key' k) m n (Some set)
       → pairs_of_sets n.entries ≡ insert_pair (pair_of key value) (pairs_of_sets m.entries)
@@ -258,13 +258,13 @@ module _ (m n : Sets) (m_rises : IsStrictlySortedBy key_cmp (keys_of m.entries))
       (λ other. map_after key' m n (Some set) updates other ∙ ap (λ (k : List ℕ). cond (same_bytes k other) (Some set) (lookup (has_bytes other) m.entries)) same)
       (λ v. ap (has_value v) one ∙ ap (λ o. bytes_eq v value || set_has v o) (sym absent))
 
-  -- a set with the values that it had
+  -- a set with unchanged values
   pub tree-stay : (old : ValueSet) → set.values ≡ old.values → lookup (has_bytes key) m.entries ≡ Some old → tree.WritesThrough key_cmp (λ k. slice_cmp nat_cmp key k) m set n
       → pairs_of_sets n.entries ≡ pairs_of_sets m.entries
   tree-stay old same held written =
       tree-same m.entries n.entries m_rises n_rises key (Some set) (at_written m n key old set held written) (λ v. ap (has_value v) same ∙ ap (set_has v) (sym held))
 
-  -- a value leaves the set of its key
+  -- a value is removed from the set of its key
   pub tree-leave : (old : ValueSet) → lookup (has_bytes key) m.entries ≡ Some old → tree.WritesThrough key_cmp (λ k. slice_cmp nat_cmp key k) m set n → Loses value old.values set.values
       → pairs_of_sets n.entries ≡ remove_pair (pair_of key value) (pairs_of_sets m.entries)
   tree-leave old held written loss =
@@ -274,12 +274,12 @@ module _ (m n : Sets) (m_rises : IsStrictlySortedBy key_cmp (keys_of m.entries))
 pub length_first : (es rest : List (Key × ValueSet)) (e : Key × ValueSet) → es ≡ e ∷ rest → length (pairs_of_sets es) ≡ length e.1.values + length (pairs_of_sets rest)
 length_first es rest e is = ap (λ (xs : List (Key × ValueSet)). length (pairs_of_sets xs)) is ∙ length-tree e rest
 
--- the pairs of one key are inside together
+-- the pairs of one key are all inside or all outside
 pub inside-under : (span : Span) (key : List ℕ) (vs : List (List ℕ)) (b : Bool) → b ≡ in_span span (key_id key) → pairs_inside span (pairs_under key vs) ≡ cond b (pairs_under key vs) []
 unfolding pairs_inside
 inside-under span key vs b test = under-filter (λ (k : List ℕ). in_span span (key_id k)) key vs ∙ ap (λ t. cond t (pairs_under key vs) []) (sym test)
 
--- one key further in a walk that copies the pairs inside the span
+-- one key further in a scan that copies the pairs inside the span
 pub inside_first : (span : Span) (es rest : List (Key × ValueSet)) (e : Key × ValueSet) (copies copies' whole : List Pair) → es ≡ e ∷ rest
     → copies' ≡ copies ++ pairs_inside span (pairs_under e.0 e.1.values) → copies ++ pairs_inside span (pairs_of_sets es) ≡ whole → copies' ++ pairs_inside span (pairs_of_sets rest) ≡ whole
 unfolding pairs_inside
@@ -289,7 +289,7 @@ inside_first span es rest e copies copies' whole is made before =
     ∙ ap (λ (ps : List Pair). copies ++ ps) (sym (filter-append (λ (q : Pair). in_span span (key_id q.key)) (pairs_under e.0 e.1.values) (pairs_of_sets rest)))
     ∙ ap (λ (xs : List (Key × ValueSet)). copies ++ pairs_inside span (pairs_of_sets xs)) (sym is) ∙ before
 
--- a set of one value goes with its pair
+-- a set of one value is removed with its pair
 pub tree-close : (m n : Sets) → IsStrictlySortedBy key_cmp (keys_of m.entries) → IsStrictlySortedBy key_cmp (keys_of n.entries) → (key value : List ℕ) → tree.UpdatesBy key_cmp (λ k. slice_cmp nat_cmp key k) m n None
     → set_values (lookup (has_bytes key) m.entries) ≡ value ∷ [] → pairs_of_sets n.entries ≡ remove_pair (pair_of key value) (pairs_of_sets m.entries)
 tree-close m n m_rises n_rises key value updates one =

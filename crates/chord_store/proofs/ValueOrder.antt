@@ -51,18 +51,18 @@ without : (e other : List ℕ) (xs : List (List ℕ)) → has_value e xs ≡ fal
 without e other xs none true is = ap (λ (v : List ℕ). has_value v xs) (bytes_same other e is) ∙ none
 without e other xs none false is = refl
 
--- a value that is not there is no loss
+-- removing a value that is not there changes nothing
 pub loses_nothing : (xs : List (List ℕ)) (e : List ℕ) → has_value e xs ≡ false → Loses e xs xs
 loses_nothing xs e none = record { each = λ other. without e other xs none (bytes_eq other e) refl }
 
--- a list that has the value and is not that value alone has another one
+-- a list that has the value, and not only that, has another one
 pub others_at : (xs : List (List ℕ)) (e : List ℕ) (place : ℕ) → IsAt xs e place → xs ≢ e ∷ [] → 1 < length xs
 others_at [] e place at more = absurd (let lt = at.in_range in omega arith)
 others_at (x ∷ []) e zero at more = absurd (more (ap (λ (y : List ℕ). y ∷ []) (at.is_element x)))
 others_at (x ∷ []) e (suc place) at more = absurd (let lt = at.in_range in omega arith)
 others_at (x ∷ (y ∷ ys)) e place at more = omega arith
 
--- a list with one more, or as it was
+-- a list with one value more, or unchanged
 pub one_more : {T E : Type 0} (r : Result T E) (xs ys zs : List (List ℕ)) → OnOk r (ys ≡ zs) → OnErr r (ys ≡ xs) → length zs ≡ length xs + 1 → 0 < length xs → length xs < 1000 → (0 < length ys) × (length ys ≤ 1000)
 one_more (Ok v) xs ys zs made same longer some few = let e = ap length made in (omega (arith, e, longer), omega (arith, e, longer))
 one_more (Err v) xs ys zs made same longer some few = let e = ap length same in (omega (arith, e), omega (arith, e))

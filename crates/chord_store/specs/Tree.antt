@@ -1,4 +1,4 @@
--- What a tree of sets has.
+-- The pairs of a tree that maps each key to its set of values.
 use Rattle.std.specs.Prelude.{ℕ, Bool, false, List, [], ◌∷◌, ◌++◌, map, Option, None, Some, bytes_eq}
 use Rattle.std.specs.List.{list_any}
 use Rattle.std.specs.declared.cmp.Ordering.{Ordering}
@@ -13,7 +13,7 @@ use Rattle.chord_store.specs.ValueSet.{has_value}
 abbrev pub Key : Type 0
 Key = List ℕ
 
--- how keys compare
+-- the order of keys
 abbrev pub key_cmp : Key → Key → Ordering
 key_cmp = slice_cmp nat_cmp
 

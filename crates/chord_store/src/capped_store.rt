@@ -10,8 +10,8 @@ use chord_map::{Bytes, Pair, PairList, Values};
 use std::alloc::{AllocError, Global};
 use std::marker::Model;
 
-/// A store over a list that takes so many pairs and no more. It finds a place and the pairs of a key by halving; a
-/// change moves what lies behind it.
+/// A store over a list of at most `limit` pairs. It finds a
+/// pair by binary search; a change moves the pairs behind it.
 #[derive(Debug, Drop)]
 pub struct CappedStore {
     pairs: PairList,

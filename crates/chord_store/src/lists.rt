@@ -1,4 +1,4 @@
-//! What the stores over a list of pairs do.
+//! The operations of the stores over a list of pairs.
 ghost use Rattle.std.specs.Prelude.{◌≡◌, [], bytes_eq, filter, length, IfOk, IsOk};
 ghost use Rattle.std.specs.Ordering.{is_le, is_lt, nat_cmp};
 ghost use Rattle.std.specs.Cmp.Lexicographic.{slice_cmp};
@@ -15,7 +15,7 @@ use chord_map::limits::SET_VALUES;
 use chord_map::{Pair, PairList, Values};
 use std::alloc::{AllocError, Global};
 
-/// The pairs of a key, which stand one behind another in a rising list: both ends are found by halving.
+/// The pairs of a key, which are neighbours in a sorted list: both ends are found by binary search.
 fn run_of<'a>(pairs: &'a [Pair], key: &[u8]) -> &'a [Pair]
     requires { IsRising pairs.now }
     ensures { result.now ≡ filter (λ pair. bytes_eq pair.key key.now) pairs.now }
@@ -33,7 +33,7 @@ fn run_of<'a>(pairs: &'a [Pair], key: &[u8]) -> &'a [Pair]
     &pairs[start..][..end - start]
 }
 
-/// How many values stand under a key of a rising list.
+/// The number of values under a key of a sorted list.
 fn count_under(pairs: &[Pair], key: &[u8]) -> usize
     requires { IsRising pairs.now }
     ensures { result ≡ length (values_at key.now pairs.now) }
@@ -41,7 +41,7 @@ fn count_under(pairs: &[Pair], key: &[u8]) -> usize
     run_of(pairs, key).len()
 }
 
-/// Copies of the values under a key of a rising list, in byte order.
+/// Copies of the values under a key of a sorted list, in byte order.
 pub fn values_under(alloc: Global, pairs: &[Pair], key: &[u8]) -> Result<Values, AllocError>
     requires { IsRising pairs.now }
     ensures copy { IfOk result (λ values. values ≡ values_at key.now pairs.now) }
@@ -54,7 +54,7 @@ pub fn values_under(alloc: Global, pairs: &[Pair], key: &[u8]) -> Result<Values,
     Ok(values)
 }
 
-/// Puts the value under the key of a list with at most `limit` pairs.
+/// Adds the value under the key in a list of at most `limit` pairs.
 pub fn insert_within(
     pairs: &mut PairList,
     limit: u64,
@@ -87,7 +87,7 @@ pub fn is_inside(span: &Span, pair: &Pair) -> bool
     span.contains(Id::of_bytes(pair.key.as_slice()))
 }
 
-/// Drops the pairs whose keys lie in the span.
+/// Removes the pairs whose keys lie in the span.
 pub fn take_out(pairs: &mut PairList, span: &Span)
     ensures change { pairs.new ≡ pairs_outside span.now pairs.old }
     ensures few { HasFew pairs.old → HasFew pairs.new }
@@ -110,8 +110,8 @@ pub fn copy_span(alloc: Global, pairs: &[Pair], span: &Span) -> Result<Vec<Pair>
     Ok(copies)
 }
 
-/// Puts the pairs, which lie in a span where the list has nothing, into a list with at most `limit`
-/// pairs: all of them or none.
+/// Adds the pairs, which lie in a span where the list has none,
+/// to a list of at most `limit` pairs: all of them or none.
 pub fn put_all_within(
     list: &mut PairList,
     limit: u64,

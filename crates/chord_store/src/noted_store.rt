@@ -1,4 +1,4 @@
-//! A store that notes how many pairs it has where it is dropped.
+//! A store that reports how many pairs it has when it is dropped.
 ghost use Rattle.std.specs.Prelude.{◌≡◌, ◌-◌, ◌^◌, List, []};
 ghost use Rattle.chord_map.specs.declared.pair.Pair.{Pair};
 
@@ -11,7 +11,7 @@ use std::alloc::{AllocError, Global};
 use std::marker::Model;
 use std::sync::{Arc, OnceLock};
 
-/// A store over a list. Its drop puts its count into the cell, where the cell is empty.
+/// A store over a list. Dropping it puts its count into the cell, if the cell is empty.
 pub struct NotedStore {
     list: CappedStore,
     note: Arc<OnceLock<u64>>,
@@ -42,7 +42,7 @@ impl NotedStore {
 impl Drop for NotedStore {
     fn drop(self) {
         let NotedStore { list, note } = self;
-        // A cell that is full stays as it is.
+        // A cell that has a count already stays unchanged.
         let _ = note.try_set(list.count());
     }
 }

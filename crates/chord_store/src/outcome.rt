@@ -1,4 +1,4 @@
-//! What a store answers.
+//! The answers of a store.
 
 use thiserror::Error;
 
@@ -10,7 +10,7 @@ pub enum Inserted {
     SetFull,
 }
 
-/// Why a store did not take a pair.
+/// Why a store did not add a pair.
 #[derive(Clone, Copy, Debug, PartialEq, Eq, Error)]
 pub enum StoreFault {
     #[error("the store is full")]

@@ -12,19 +12,20 @@ use chord_ident::Span;
 use chord_map::{Bytes, Pair, Values};
 use std::alloc::{AllocError, Global};
 
-/// A map of sets of at most 1,000 values, as the rising list of its pairs, with a limit on how many they are.
+/// A map of sets of at most 1,000 values, as the sorted
+/// list of its pairs, with a limit on their number.
 pub trait EntryStore: Drop {
     ghost content: { Self → List Pair };
 
     ghost limit: { Self → ℕ };
 
-    /// Adds the value to the set under the key. A value that is there and a set that is full are
-    /// seen before the limit, and being out of memory last.
+    /// Adds the value to the set under the key. Present and SetFull are answered before the limit
+    /// is checked, and memory comes last.
     fn insert(&mut self, key: &Bytes, value: &[u8]) -> Result<Inserted, StoreFault>
         ensures answer { InsertIs (record { key = key.now; value = value.now }) (content self.old) (limit self.old) result (content self.new) }
         ensures limit { limit self.new ≡ limit self.old };
 
-    /// Takes the value out of the set under the key, and says whether it was there.
+    /// Removes the value from the set under the key, and answers whether it was there.
     fn remove(&mut self, key: &Bytes, value: &[u8]) -> bool
         ensures was_there { result ≡ has_pair (record { key = key.now; value = value.now }) (content self.old) }
         ensures change { content self.new ≡ remove_pair (record { key = key.now; value = value.now }) (content self.old) }
@@ -35,30 +36,33 @@ pub trait EntryStore: Drop {
         ensures change { content self.new ≡ pairs_outside span.now (content self.old) }
         ensures limit { limit self.new ≡ limit self.old };
 
-    /// Drops the pairs whose keys lie in the span, of which these are the copies. A tree looks up each of them and walks
-    /// nothing; a list moves what stands behind the first one anyway, and walks once.
+    /// Drops the pairs whose keys lie in the span; these are their
+    /// copies. A tree looks each of them up and scans nothing; a list
+    /// moves all that is behind the first one anyway, so it scans once.
     fn drop_copied(&mut self, span: &Span, copies: &[Pair])
         requires { pairs_inside span.now (content self.old) ≡ copies.now }
         ensures change { content self.new ≡ pairs_outside span.now (content self.old) }
         ensures limit { limit self.new ≡ limit self.old };
 
-    /// How many pairs it has.
+    /// The number of its pairs.
     fn count(&self) -> u64
         ensures count { result ≡ length (content self.now) }
         ensures rising { IsRising (content self.now) }
         ensures few { HasFew (content self.now) };
 
-    /// The values under the key, in byte order. No value takes no memory, nor does a single one of up to 16 bytes.
+    /// The values under the key, in byte order. None, or
+    /// a single one of up to 16 bytes, needs no memory.
     fn values(&self, alloc: Global, key: &Bytes) -> Result<Values, AllocError>
         ensures copy { IfOk result (λ values. values ≡ values_at key.now (content self.now)) }
         ensures few { AreFew (values_at key.now (content self.now)) → IsOk result };
 
-    /// Copies of the pairs whose keys lie in the span, by key bytes and then by value bytes. No pair takes no memory.
+    /// Copies of the pairs whose keys lie in the span, by
+    /// key and then by value. Copying none needs no memory.
     fn copy_span(&self, alloc: Global, span: &Span) -> Result<Vec<Pair>, AllocError>
         ensures copies { IfOk result (λ pairs. pairs.items ≡ pairs_inside span.now (content self.now)) }
         ensures none { pairs_inside span.now (content self.now) ≡ [] → IsOk result };
 
-    /// Adds the pairs, which lie in a span where the store has nothing: all of them or none.
+    /// Adds the pairs, which lie in a span where the store has none: all of them or none.
     fn put_all(&mut self, span: &Span, pairs: &[Pair]) -> Result<(), StoreFault>
         requires vacant { pairs_inside span.now (content self.old) ≡ [] }
         requires within { pairs_inside span.now pairs.now ≡ pairs.now }

@@ -19,7 +19,7 @@ use std::alloc::{AllocError, Global};
 use std::collections::BTreeMap;
 use std::marker::Model;
 
-/// Each key's set of values, and how many values all sets have.
+/// Each key's set of values, and the number of values in all sets.
 #[derive(Drop)]
 pub struct Tree {
     alloc: Global,
@@ -70,7 +70,7 @@ impl Tree {
         }
     }
 
-    /// How many values stand under the key.
+    /// The number of values under the key.
     pub fn count_under(&self, key: &Bytes) -> usize
         ensures { result ≡ length (values_at key.now self.now) }
     {
@@ -91,7 +91,8 @@ impl Tree {
         }
     }
 
-    /// Adds the pair, unless it is there or its set is full. It looks the key up once, and a new key twice.
+    /// Adds the pair, unless it is there or its set is full.
+    /// A known key is looked up once, a new one twice.
     pub fn insert(&mut self, key: &Bytes, value: &[u8]) -> Result<Inserted, AllocError>
         requires { length self.old < 2 ^ 64 - 1 }
         ensures answer { AddIs (record { key = key.now; value = value.now }) self.old result self.new }
@@ -107,7 +108,7 @@ impl Tree {
         }
     }
 
-    /// Puts the pair in, unless it is there.
+    /// Adds the pair, unless it is there.
     pub fn put(&mut self, pair: &Pair) -> Result<(), AllocError>
         requires room { length self.old < 2 ^ 64 - 1 }
         requires few { length (values_at pair.now.key self.old) < 1000 }
@@ -118,7 +119,7 @@ impl Tree {
         Ok(())
     }
 
-    /// Takes the pair out, and says whether it was there.
+    /// Removes the pair, and answers whether it was there.
     pub fn remove(&mut self, key: &Bytes, value: &[u8]) -> bool
         ensures was_there { result ≡ has_pair (record { key = key.now; value = value.now }) self.old }
         ensures change { self.new ≡ remove_pair (record { key = key.now; value = value.now }) self.old }
@@ -131,7 +132,7 @@ impl Tree {
         }
     }
 
-    /// Drops the pairs whose keys lie in the span. Each key's identifier is computed once.
+    /// Drops the pairs whose keys lie in the span. It computes each key's identifier once.
     pub fn take_out(&mut self, span: &Span)
         ensures { self.new ≡ pairs_outside span.now self.old }
     {
@@ -139,7 +140,7 @@ impl Tree {
         self.count = count_values(&self.sets);
     }
 
-    /// Drops the pairs whose keys lie in the span, of which these are the copies: each costs a look-up.
+    /// Drops the pairs whose keys lie in the span; these are their copies. Each costs one look-up.
     pub fn drop_copied(&mut self, _span: &Span, copies: &[Pair])
         requires { pairs_inside _span.now self.old ≡ copies.now }
         ensures { self.new ≡ pairs_outside _span.now self.old }
@@ -148,7 +149,8 @@ impl Tree {
         self.count -= copies.len() as u64;
     }
 
-    /// Copies of the pairs whose keys lie in the span, in order. Each key's identifier is computed once.
+    /// Copies of the pairs whose keys lie in the span,
+    /// in order. It computes each key's identifier once.
     pub fn copy_span(&self, alloc: Global, span: &Span) -> Result<Vec<Pair>, AllocError>
         ensures copies { IfOk result (λ pairs. pairs.items ≡ pairs_inside span.now self.now) }
         ensures none { pairs_inside span.now self.now ≡ [] → IsOk result }
@@ -178,7 +180,7 @@ fn add(
     }
 }
 
-// Takes the value out of the set under the key. A set whose only value it is goes with it.
+// Removes the value from the set under the key. A set with no other value is removed.
 fn drop_value(sets: &mut BTreeMap<Bytes, ValueSet>, key: &Bytes, value: &[u8]) -> bool
     requires { IsStrictlySortedBy key_cmp (keys sets.old) }
     ensures ordered { IsStrictlySortedBy key_cmp (keys sets.new) }
@@ -192,7 +194,7 @@ fn drop_value(sets: &mut BTreeMap<Bytes, ValueSet>, key: &Bytes, value: &[u8]) -
     drop_among(sets, key, value)
 }
 
-// Whether the set under the key has this value alone.
+// Whether this is the only value in the set under the key.
 fn is_only(sets: &BTreeMap<Bytes, ValueSet>, key: &Bytes, value: &[u8]) -> bool
     ensures { IsTrue result ↔ (set_values (lookup (has_bytes key.now) sets.now.entries) ≡ value.now ∷ []) }
 {
@@ -202,7 +204,7 @@ fn is_only(sets: &BTreeMap<Bytes, ValueSet>, key: &Bytes, value: &[u8]) -> bool
     }
 }
 
-// Takes the value out of the set under the key, where it is not the only one.
+// Removes the value from the set under the key; the set has other values.
 fn drop_among(sets: &mut BTreeMap<Bytes, ValueSet>, key: &Bytes, value: &[u8]) -> bool
     requires ordered { IsStrictlySortedBy key_cmp (keys sets.old) }
     requires others { set_values (lookup (has_bytes key.now) sets.old.entries) ≢ value.now ∷ [] }
@@ -235,7 +237,7 @@ fn drop_keys(sets: &mut BTreeMap<Bytes, ValueSet>, pairs: &[Pair])
     }
 }
 
-// How many values all sets have.
+// The number of values in all sets.
 fn count_values(sets: &BTreeMap<Bytes, ValueSet>) -> u64
     requires { length (pairs_of_sets sets.now.entries) < 2 ^ 64 }
     ensures { result ≡ length (pairs_of_sets sets.now.entries) }
@@ -263,7 +265,7 @@ fn copy_sets(
     Ok(copies)
 }
 
-// Adds copies of the pairs of one key, where it lies in the span.
+// Adds copies of the pairs of one key, if it lies in the span.
 fn copy_set(
     alloc: Global,
     copies: &mut Vec<Pair>,

@@ -13,11 +13,11 @@ use chord_map::{Bytes, Pair, Values};
 use std::alloc::{AllocError, Global};
 use std::marker::Model;
 
-// The most pairs of a tree, whose count is a number of 64 bits.
+// The most pairs of a tree: their count is a 64-bit number.
 const LIMIT: u64 = u64::MAX;
 
-/// A store whose insert, remove and look-up take time in the logarithm of its keys, with no limit
-/// of its own.
+/// A store whose insert, remove and look-up take time logarithmic
+/// in the number of keys. It has no limit of its own.
 #[derive(Drop)]
 pub struct TreeStore {
     tree: Tree,
@@ -77,7 +77,7 @@ impl EntryStore for TreeStore {
     }
 }
 
-// Puts the value under the key, where it is new and the set has room.
+// Adds the value under the key, if it is new and the set has room.
 fn insert_new(tree: &mut Tree, key: &Bytes, value: &[u8]) -> Result<Inserted, StoreFault>
     ensures { InsertIs (record { key = key.now; value = value.now }) tree.old (2 ^ 64 - 1) result tree.new }
 {
@@ -90,7 +90,7 @@ fn insert_new(tree: &mut Tree, key: &Bytes, value: &[u8]) -> Result<Inserted, St
     }
 }
 
-// What an insert answers where the tree has as many pairs as it may.
+// The answer to an insert into a full tree.
 fn insert_into_full(tree: &Tree, key: &Bytes, value: &[u8]) -> Result<Inserted, StoreFault>
     requires { length tree.now ≡ 2 ^ 64 - 1 }
     ensures { InsertIs (record { key = key.now; value = value.now }) tree.now (2 ^ 64 - 1) result tree.now }
@@ -104,7 +104,7 @@ fn insert_into_full(tree: &Tree, key: &Bytes, value: &[u8]) -> Result<Inserted, 
     Err(StoreFault::Full)
 }
 
-// Puts all the pairs, which lie in a span where the tree has nothing, or none of them.
+// Adds all the pairs, which lie in a span where the tree has none, or none of them.
 fn put_all_new(tree: &mut Tree, span: &Span, pairs: &[Pair]) -> Result<(), StoreFault>
     requires vacant { pairs_inside span.now tree.old ≡ [] }
     requires within { pairs_inside span.now pairs.now ≡ pairs.now }

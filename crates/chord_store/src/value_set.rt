@@ -12,7 +12,7 @@ use chord_map::{Bytes, Values};
 use std::alloc::{AllocError, Global};
 use std::cmp::Ordering;
 
-/// A set of values in byte order. It has one at least, and at most 1,000, so a change moves few.
+/// A set of 1 to 1,000 values in byte order. Since it is small, a change moves few values.
 #[derive(Debug, Drop)]
 pub struct ValueSet {
     pub values: Values,
@@ -21,7 +21,7 @@ pub struct ValueSet {
     ghost few: { length values ≤ 1000 },
 }
 
-// Where the value is, or where it would go.
+// The index of the value, or the index at which to insert it.
 fn place_of(values: &[Bytes], value: &[u8]) -> Result<usize, usize>
     requires { IsStrictlySortedBy (slice_cmp nat_cmp) values.now }
     ensures found { IfOk result (IsAt values.now value.now) }
@@ -81,7 +81,7 @@ impl ValueSet {
         }
     }
 
-    /// Takes the value out, which is not the only one, and says whether it was there.
+    /// Removes the value, which is not the only one, and answers whether it was there.
     pub fn remove(&mut self, value: &[u8]) -> bool
         requires { self.old.values ≢ value.now ∷ [] }
         ensures was_there { result ≡ has_value value.now self.old.values }

@@ -1,4 +1,4 @@
-//! Each kind of store answers the same.
+//! Tests that every kind of store passes.
 ghost use Rattle.std.specs.Prelude.{◌≡◌, [], IfOk, OnErr};
 
 use chord_ident::{Id, Span};
@@ -13,7 +13,7 @@ use std::test::Fail;
 
 mod growths;
 
-// A key of so few bytes that it takes no memory.
+// A key short enough to need no memory.
 fn key(alloc: Global, bytes: &[u8]) -> Bytes {
     match Bytes::from_slice(alloc, bytes) {
         Ok(key) => key,
@@ -36,7 +36,7 @@ fn insert<S: EntryStore>(
     assert!(rt; answer == expected);
 }
 
-// Takes the value out from under the key, and says whether it was there.
+// Removes the value from under the key, and answers whether it was there.
 fn remove<S: EntryStore>(alloc: Global, store: &mut S, bytes: &[u8], value: &[u8]) -> bool {
     let key = key(alloc, bytes);
     let is_there = store.remove(&key, value);
@@ -56,7 +56,7 @@ fn values_under<S: EntryStore>(
     values
 }
 
-// Puts a set of 1,000 values under `a`.
+// Fills the set under `a` with 1,000 values.
 fn fill<S: EntryStore>(rt: &impl Abort, alloc: Global, store: &mut S) -> Option<()> {
     for n in 0..1000u32 {
         let value = format!(in alloc; "{n:04}").ok()?;
@@ -82,7 +82,7 @@ fn are_from_one(values: Values) -> bool {
     are_from_one
 }
 
-// A set of 1,000 values takes no more, and takes one again after one was removed.
+// A full set of 1,000 values takes no more, and takes one again after a remove.
 fn fill_a_set<S: EntryStore>(rt: &impl Abort, alloc: Global, store: S) {
     let mut store = store;
     assert!(rt; fill(rt, alloc, &mut store).is_some());
@@ -99,12 +99,12 @@ fn fill_a_set<S: EntryStore>(rt: &impl Abort, alloc: Global, store: S) {
     drop(store);
 }
 
-// The identifiers of `a` and `abc` lie in it, that of `b` does not.
+// A span that contains `a` and `abc`, but not `b`.
 fn half() -> Span {
     Span::new(Id::new(0x4 << 124), Id::new(0xc << 124))
 }
 
-// Puts in three pairs of the half and one beside it.
+// Adds three pairs inside the span and one outside.
 fn put_four<S: EntryStore>(rt: &impl Abort, alloc: Global, store: &mut S) {
     for (bytes, value) in [
         (b"b".as_slice(), b"x"),
@@ -116,7 +116,7 @@ fn put_four<S: EntryStore>(rt: &impl Abort, alloc: Global, store: &mut S) {
     }
 }
 
-// How many values stand under the key.
+// The number of values under the key.
 fn count_under<S: EntryStore>(alloc: Global, store: &S, bytes: &[u8]) -> Option<u64> {
     let values = values_under(alloc, store, bytes).ok()?;
     let count = values.as_slice().len();
@@ -124,7 +124,7 @@ fn count_under<S: EntryStore>(alloc: Global, store: &S, bytes: &[u8]) -> Option<
     Some(count as u64)
 }
 
-// How many pairs lie in the half.
+// The number of pairs inside the span.
 fn count_inside<S: EntryStore>(alloc: Global, store: &S) -> Option<u64> {
     let pairs = store.copy_span(alloc, &half()).ok()?;
     let count = pairs.len();
@@ -132,7 +132,7 @@ fn count_inside<S: EntryStore>(alloc: Global, store: &S) -> Option<u64> {
     Some(count as u64)
 }
 
-// Of the four the one beside the half is there.
+// Of the four pairs only the one outside the span is left.
 fn has_one<S: EntryStore>(rt: &impl Abort, alloc: Global, store: S) {
     let counts = [
         Some(store.count()),
@@ -148,7 +148,7 @@ fn is_of(pair: &Pair, key: &[u8], value: &[u8]) -> bool {
     pair.key.as_slice() == key && pair.value.as_slice() == value
 }
 
-// Whether these are the three pairs of the half in order.
+// Whether these are the three pairs inside the span, in order.
 fn are_of_half(pairs: Vec<Pair>) -> bool {
     let are_of_half = match pairs.as_slice() {
         [first, second, third] => {
@@ -160,7 +160,7 @@ fn are_of_half(pairs: Vec<Pair>) -> bool {
     are_of_half
 }
 
-// What lies in the half is copied in order, and leaves the store.
+// The pairs inside the span are copied in order, and then removed.
 fn move_a_span<S: EntryStore>(rt: &impl Abort, alloc: Global, store: S) {
     let mut store = store;
     put_four(rt, alloc, &mut store);
@@ -173,7 +173,7 @@ fn move_a_span<S: EntryStore>(rt: &impl Abort, alloc: Global, store: S) {
     has_one(rt, alloc, store);
 }
 
-// Takes out what was copied of the half, and says how many pairs that was.
+// Removes the pairs inside the span with their copies, and answers how many they were.
 fn drop_half<S: EntryStore>(alloc: Global, store: &mut S) -> Option<usize> {
     let half = half();
     let copies = store.copy_span(alloc, &half).ok()?;
@@ -183,7 +183,7 @@ fn drop_half<S: EntryStore>(alloc: Global, store: &mut S) -> Option<usize> {
     Some(count)
 }
 
-// What was copied of half of the circle leaves the store.
+// The copied pairs of half of the circle are removed.
 fn drop_what_was_copied<S: EntryStore>(rt: &impl Abort, alloc: Global, store: S) {
     let mut store = store;
     put_four(rt, alloc, &mut store);
@@ -191,7 +191,7 @@ fn drop_what_was_copied<S: EntryStore>(rt: &impl Abort, alloc: Global, store: S)
     has_one(rt, alloc, store);
 }
 
-// The pairs come into an empty store.
+// Puts the pairs into an empty store.
 fn put_list<S: EntryStore>(store: &mut S, list: &PairList) -> Result<(), StoreFault>
     requires { S.content store.old ≡ [] }
     ensures { OnErr result (S.content store.new ≡ []) }
@@ -204,7 +204,7 @@ fn put_list<S: EntryStore>(store: &mut S, list: &PairList) -> Result<(), StoreFa
     store.put_all(&circle, list.as_slice())
 }
 
-// An empty store, with a note that nobody looks at.
+// An empty store that reports to a cell that nobody reads.
 fn noted(alloc: Global) -> Result<NotedStore, AllocError>
     ensures { IfOk result (λ store. store ≡ []) }
 {
@@ -259,7 +259,7 @@ fn add_two(pairs: &mut PairList) -> Result<(), AllocError> {
     pairs.insert(b"b", b"x")
 }
 
-// Puts the two pairs into an empty store, and counts what is there then.
+// Puts the two pairs into an empty store, and then counts its pairs.
 fn put_into<S: EntryStore>(alloc: Global, store: S) -> Option<(Result<(), StoreFault>, u64)>
     requires { S.content store ≡ [] }
 {
@@ -308,7 +308,7 @@ fn faults_say_what_is_wrong(rt: HostRuntime) -> Result<(), Fail> {
     Ok(())
 }
 
-// The store notes its count, of three pairs, when it is dropped, and nothing before.
+// The store reports its three pairs when it is dropped, and nothing before.
 fn notes_three<S: EntryStore>(rt: &impl Abort, alloc: Global, store: S, note: &Arc<OnceLock<u64>>) {
     let mut store = store;
     for value in [b"x", b"y", b"z"] {
@@ -319,7 +319,7 @@ fn notes_three<S: EntryStore>(rt: &impl Abort, alloc: Global, store: S, note: &A
     assert!(rt; [before, note.get().copied()] == [None, Some(3)]);
 }
 
-// The same of a store in a box.
+// The same for a store in a box.
 fn box_notes_three(rt: &impl Abort, alloc: Global, note: &Arc<OnceLock<u64>>) -> Result<(), Fail> {
     let list = NotedStore::new(alloc, note.clone()?);
     let store: Box<dyn EntryStore + Send> = Box::new(alloc, list)?;
@@ -336,7 +336,7 @@ fn a_dropped_store_notes_its_count(rt: HostRuntime) -> Result<(), Fail> {
     noted
 }
 
-// What the note says when a store with these values under `a` was dropped.
+// The count in the cell after a store with these values under `a` was dropped.
 fn noted_after(
     rt: &impl Abort,
     alloc: Global,

@@ -1,4 +1,4 @@
--- A client's core and the caller that its seat shows go on together.
+-- A client's core and the caller of its seat change together.
 use Rattle.std.proofs.Common.{◌≡◌, None, Some, Ok, Err, sym, ◌∙◌, ap, subst}
 use Rattle.chord_caller.specs.Answers.{SubmitIs}
 use Rattle.chord_caller.specs.Caller.{Caller, CallerStep, AskLetter, with_request}
@@ -10,11 +10,11 @@ use Rattle.chord_caller.specs.declared.fault.SubmitFault.TheVariants.{Bad, Windo
 use Rattle.chord_caller.proofs.Steps.{submit_steps}
 use Rattle.chord_map.specs.declared.request.Request.{Request}
 
--- a caller that submitted a call has its request behind the others
+-- a caller that submitted a call has its request after the others
 with_ask : (request : Request) (ask : Ask) (old after : Caller) → SubmitIs request old (Ok ask) after → after ≡ with_request ask.request old
 with_ask request ask old after (fit, window, small, sent, is) = is ∙ ap (λ r. with_request r old) (sym sent.request)
 
--- a submission of a client's core is one of the caller that it is the core of
+-- a submission by a client's core is one by its caller
 pub record IsSubmission (request : Request) (ask : Ask) (core : Client) (caller : Caller) : Type 0 where
   pub answer : SubmitIs request caller (Ok ask) (with_request ask.request caller)
   pub step : CallerStep caller None (with_request ask.request caller) (Some (AskLetter ask))
@@ -36,7 +36,7 @@ same_refused request WindowFull old new h = h.2
 same_refused request NumbersSpent old new h = h.3
 same_refused request Memory old new h = h.3
 
--- and a refusal is the caller's, which stays as it is
+-- a refusal by a client's core is one by its caller, which stays as it is
 pub record IsRefusal (request : Request) (fault : SubmitFault) (core : Client) (caller : Caller) : Type 0 where
   pub answer : SubmitIs request caller (Err fault) caller
   pub core_is : IsCoreOf core caller

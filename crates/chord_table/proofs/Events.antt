@@ -1,4 +1,4 @@
--- Which views an event, or an actor more, leaves true.
+-- Views that stay true after an event, or after an actor was admitted.
 use Rattle.std.proofs.Common.{◌≡◌, ℕ, inl, inr, List, [], ◌∷◌, ◌++◌, map, set, Option, Some, None, sym, ap, ◌∙◌, Contains, All}
 use Rattle.std.proofs.lemmas.List.{map-append}
 use Rattle.std.proofs.lemmas.List.Elements.{All-contains, All-weaker, All-nil, All-cons, All-head, All-tail}
@@ -36,7 +36,7 @@ one_right (OfCaller old) (OfNode new) other same one = absurd same
 one_right (OfNode old) (OfNode new) (OfCaller other) same one = absurd one
 one_right (OfCaller old) (OfCaller new) (OfNode other) same one = absurd one
 
--- where one is the new state of an actor, one is the old state
+-- if the list has a sight of an actor in its new state, it has one of the old state
 one_is_left : (old new : Actor) (taken : List Sight) → AreOne old new → OneIs taken new → OneIs taken old
 one_is_left old new [] same h = h
 one_is_left old new (sight ∷ rest) same (inl h) = inl (one_right old new sight.actor same h)
@@ -83,7 +83,7 @@ all_sent_after : (world : World) (new : Actor) (sent : Option Message) (call : O
 all_sent_after world new sent call messages all =
     All-weaker (Contains world.sent) (Contains (after world new sent call).sent) (λ m. sent_after world new sent call m) messages all
 
--- what is true of others that gave their seats up stays true
+-- the sights of other actors whose seats were taken in stay true
 all_seen_after : (world : World) (old new : Actor) (sent : Option Message) (call : Option Done) (taken : List Sight) → AreOne old new → (OneIs taken old → ⊥)
     → All (IsSeen world) taken → All (IsSeen (after world new sent call)) taken
 all_seen_after world old new sent call [] same apart all = All-nil (IsSeen (after world new sent call))
@@ -93,7 +93,7 @@ all_seen_after world old new sent call (sight ∷ rest) same apart all =
     (others_after world new sight.actor sent call (λ one. apart (inl (one_right old new sight.actor same one))) first.0, all_sent_after world new sent call sight.messages first.1)
     (all_seen_after world old new sent call rest same (λ one. apart (inr one)) (All-tail (IsSeen world) sight rest all))
 
--- what is true before an event is true afterwards, but for the views of its actor
+-- each view stays true after an event, except those of its actor
 true_after : (world : World) (old new : Actor) (messages : List Message) (sent : Option Message) (call : Option Done) → AreOne old new → GoesOn old new → IsThere world old
     → (u : View) → (HaveOneOwner u (Shown old messages) → ⊥) → IsTrueOf world u → IsTrueOf (after world new sent call) u
 true_after world old new messages sent call same on here (Admitted nodes callers taken) apart (n, c, differ, all) =
@@ -109,7 +109,7 @@ known_was_sent : (world : World) (messages : List Message) (taken : Option Messa
 known_was_sent world messages None all known = known
 known_was_sent world messages (Some message) all known = All-contains (Contains world.sent) messages message all known
 
--- an event of the actor that a seat shows is a step of the world, and the seats show the world after it
+-- an event of the actor that a seat shows is a step of the world, and the seats show the new world
 pub event_shown : (world : World) (views : List View) (id : ℕ) (old new : Actor) (messages : List Message) (taken sent : Option Message) (call : Option Done)
     → Shows world views → get_elem? views id ≡ some (Shown old messages) → WasSent messages taken → Event old taken new sent call
     → WorldStep world (after world new sent call) × Shows (after world new sent call) (set views id (Shown new messages))
@@ -122,9 +122,9 @@ event_shown world views id old new messages taken sent call shows at known event
           (λ seat u apart e. true_after world old new messages sent call same (event_goes_on old new taken sent call event) mine.0 u (λ one. apart (shows.apart seat id u (Shown old messages) e at one)) (shows.agrees seat u e)),
     )
 
--- ---- an actor more
+-- ---- a new actor
 
--- what is true before an actor enters is true afterwards, but for the registrar's view
+-- each view stays true after an actor was admitted, except the registrar's
 pub true_entered : (world : World) (new : Actor) (nodes callers : List ℕ) → IsNew world new
     → (u : View) → (HaveOneOwner u (Admitted nodes callers []) → ⊥) → IsTrueOf world u → IsTrueOf (entered world new) u
 true_entered world new nodes callers none (Admitted _ _ _) apart h = absurd (apart tt)

@@ -1,4 +1,4 @@
--- What stands in a history, of callers as they were at some time.
+-- Which calls are in a history, for callers as they were at some time.
 use Rattle.std.proofs.Common.{◌≡◌, ℕ, zero, suc, eqb, false, inl, inr, ⊎_elim, refl, sym, ap, ◌∙◌, subst, List, [], ◌∷◌, ◌++◌, take, Option, Some, None, is_some, All}
 use Rattle.std.proofs.lemmas.Bool.{true≢false, eq-eqb, cond-true, cond-false}
 use Rattle.std.proofs.lemmas.Option.{none-some, same_Some}
@@ -13,11 +13,11 @@ use Rattle.chord_model.specs.World.{World, caller_at}
 use Rattle.chord_table.specs.Later.{IsLater, WasThere}
 use Rattle.chord_table.specs.Shown.{IsIn, latest, taken_by_all}
 
--- what holds of each of a longer list holds of each of the shorter
+-- what is true of all of a list is true of all of a prefix
 all_left : {A : Type 0} (P : A → Type 0) (xs more longer : List A) → longer ≡ xs ++ more → All P longer → All P xs
 all_left P xs more longer is all = all_each P xs (λ x h. each_all P (xs ++ more) (subst (λ l. All P l) is all) x (has_left xs more x h))
 
--- in a shorter list no call stands twice either
+-- a prefix of a list without a call is without it too
 none_left : (caller number : ℕ) (dones more : List Done) → done_at caller number (dones ++ more) ≡ None → done_at caller number dones ≡ None
 none_left caller number dones more none =
     by_option (done_at caller number dones)
@@ -28,7 +28,7 @@ once_left : (dones more : List Done) → EachOnce (dones ++ more) → EachOnce d
 once_left [] more once = tt
 once_left (first ∷ dones) more once = (none_left first.caller first.number dones more once.0, once_left dones more once.1)
 
--- nor in two lists, if no call of the first is one of the second
+-- a list has each call once if two parts do that share no call
 once_both : (dones more : List Done) → EachOnce dones → EachOnce more → Each (λ call. done_at call.caller call.number more ≡ None) dones → EachOnce (dones ++ more)
 once_both [] more once others apart = others
 once_both (first ∷ dones) more once others apart = (
@@ -36,7 +36,7 @@ once_both (first ∷ dones) more once others apart = (
   once_both dones more once.1 others (λ call h. apart call (inr h)),
 )
 
--- what a shorter list has up to a place, the longer has too
+-- what is among the first n of a list is among the first n of a longer one
 has_earlier : {A : Type 0} (n : ℕ) (xs more : List A) (x : A) → Has (take n xs) x → Has (take n (xs ++ more)) x
 has_earlier zero xs more x h = h
 has_earlier (suc n) [] more x h = absurd h
@@ -54,7 +54,7 @@ seen_later old new later submission x h =
     (λ b. has_right (take submission.mine_seen new.mine) (take submission.told_seen new.told) x (told b))
     (has_cases (take submission.mine_seen old.mine) (take submission.told_seen old.told) x h)
 
--- what stands of a caller stands of it as it was
+-- what is true of a caller now is true of the caller as it was
 pub was_in : (world : World) → OneHistory world → (caller : Caller) → WasThere world caller → IsIn world.history caller
 was_in world one caller (now, at, later) = record {
   mine = all_left (λ call. (call.caller ≡ caller.number) × StandsIn world.history call) caller.mine (later.mine).0 now.mine (later.mine).1 (one.mine caller.number now at);
@@ -78,11 +78,11 @@ was_in world one caller (now, at, later) = record {
 
 -- ---- all callers
 
--- the facts about one caller that the whole rests on
+-- the two facts about a single caller that the rest needs
 abbrev IsOwn : Caller → Type 0
 IsOwn caller = EachOnce caller.mine × Each (λ call. call.caller ≡ caller.number) caller.mine
 
--- what was taken by all was taken by one of them
+-- each call taken by these callers was taken by one of them
 from_one : (callers : List Caller) (call : Done) → Has (taken_by_all (latest callers)) call → (caller : Caller) × Has callers caller × Has caller.mine call
 from_one [] call h = absurd h
 from_one (first ∷ rest) call h =
@@ -102,7 +102,7 @@ not_at number callers caller none h same =
     let (other, some) = finds (λ (c : Caller). eqb c.number number) callers caller h (eq-eqb caller.number number same) in
     true≢false (sym (ap is_some some) ∙ none)
 
--- of two callers, no call of one is one of the other's
+-- two callers have no call in common
 others_apart : (first : Caller) (rest : List Caller) → IsOwn first → Each IsOwn rest → is_some (caller_at first.number rest) ≡ false
     → Each (λ call. done_at call.caller call.number (taken_by_all (latest rest)) ≡ None) first.mine
 others_apart first rest own others none call h =
@@ -122,7 +122,7 @@ once_all (first ∷ rest) each =
     (λ f. subst (λ l. EachOnce (taken_by_all l)) (sym (cond-false (is_some (caller_at first.number rest)) (latest rest) (first ∷ latest rest) f))
     (once_both first.mine (taken_by_all (latest rest)) (each first (inl refl)).0 others (others_apart first rest (each first (inl refl)) (λ c h. each c (inr h)) f)))
 
--- no call was taken by two callers
+-- no call was taken by two of the callers
 pub once_in_all : (history : List Done) (callers : List Caller) → All (IsIn history) callers → EachOnce (taken_by_all (latest callers))
 once_in_all history callers all = once_all callers (λ caller h. own caller (each_all (IsIn history) callers all caller h))
   where

@@ -1,4 +1,4 @@
--- Each move of the table keeps its rule.
+-- Each step of the table keeps its rule.
 use Rattle.std.proofs.Common.{◌≡◌, ◌≢◌, ℕ, ◌<◌, arith, List, [], ◌∷◌, ◌++◌, set, zero, suc, Option, Some, refl, sym, ap, ◌∙◌, subst, inl, inr, ⊎_elim, Contains, All}
 use Rattle.std.proofs.lemmas.List.Elements.{All-append, All-cons, All-push, All-nil, All-head, All-tail, Contains-push}
 use mathlib.Core.Option.{some, some-ne-none, some-injective}
@@ -18,11 +18,11 @@ use Rattle.chord_table.specs.Later.{WasThere}
 use Rattle.chord_table.specs.Seen.{Actor, OfNode, OfCaller, Sight, View, Admitted, Shown, Witnessed, Sent, Spent}
 use Rattle.chord_table.specs.Views.{Name, word_of, sight_of, OneIs, IsSeen, IsTrueOf, HaveOneOwner, Shows, IsKept, IsTrueOfSome, view_of, Register, changed, admitting, told, testimony, gathered, MayBecome, MayEnter}
 
--- where there is a word, the table has some
+-- a table with a word has more than 0 words
 pub some_words : {word words : ℕ} → word < words → 0 < words
 some_words at = omega arith
 
--- after an event the seat shows the actor's new state, and it is still the actor's own seat
+-- after an event the seat shows the actor's new state and has the same word
 pub still_seated : (name : Name) (word : ℕ) (old next : Me ℕ View) (s : Sight) (new : Actor) → old ≡ (view_of s, []) → next ≡ (changed new old.0, old.1)
     → word ≡ word_of name s.actor → word_of name s.actor ≡ word_of name new
     → (next ≡ (view_of (sight_of next.0), [])) × (word ≡ word_of name (sight_of next.0).actor)
@@ -75,7 +75,7 @@ local_as slots id word me s new f is (sent, (taken, call, known, event)) =
         let next = event_shown world t.views id s.actor new s.messages taken sent call shows at known event in
         (Shown new s.messages, keeps, tt, (after world new sent call, Goes_on reached next.0, next.1), refl)
 
--- an event whose message goes out with a new seat
+-- an event whose message gets a new seat
 pub send_as : (id : ℕ) (me : Me ℕ View) (s : Sight) (new : Actor) (message : Message) → me ≡ (view_of s, []) → MayBecome s.actor s.messages new (Some message)
     → Splits IsKept id me.0 (changed new me.0) (Sent message)
 send_as id me s new message is (taken, call, known, event) =
@@ -93,13 +93,13 @@ send_as id me s new message is (taken, call, known, event) =
           shows_added (after world new (Some message) call) (set t.views id (Shown new s.messages)) (Sent message) next.1 (was_sent world new) (λ seat u e. (nobodys message u, λ h. h)),
         )
 
--- a new actor is none of those that the world has
+-- the world has no actor with the number of a new one
 none_is_new : (world : World) (new : Actor) → IsNew world new → (taken : List Sight) → All (IsSeen world) taken → OneIs taken new → ⊥
 none_is_new world new none [] all h = h
 none_is_new world new none (sight ∷ rest) all (inl h) = new_apart world new sight.actor none (All-head (IsSeen world) sight rest all).0 h
 none_is_new world new none (sight ∷ rest) all (inr h) = none_is_new world new none rest (All-tail (IsSeen world) sight rest all) h
 
--- a new actor, with a new seat
+-- a new actor gets a new seat
 pub admit_as : (id : ℕ) (new : Actor) (me : Me ℕ View) (register : Register) → me ≡ (Admitted register.nodes register.callers [], []) → MayEnter register new
     → Splits IsKept id me.0 (admitting new me.0) (Shown new [])
 admit_as id new me register is may =
@@ -167,7 +167,7 @@ spends other w views shows = record {
       (at_set views other seat Spent u e);
 }
 
--- a message that was sent, beside the actor's state
+-- an actor takes in a message that was sent
 pub receive_as : (id other : ℕ) (me you : Me ℕ View) (s : Sight) (message : Message) → me ≡ (view_of s, []) → you ≡ (Sent message, [])
     → Joins IsKept id me.0 other you.0 (told me.0 you.0) Spent
 receive_as id other me you s message is came =
@@ -201,7 +201,7 @@ look_at slots id word me v f is =
     allowed s (w, reached, shows) len at fits =
         (v, keeps, tt, (w, reached, subst (Shows w) (sym (set_again s.views id v at)) shows), (refl, (w, reached, shows.agrees id v at)))
 
--- a witness of nobody, with a new seat
+-- a new witness of no caller gets a new seat
 pub attend_as : (slots word : ℕ) → Enters IsKept slots word (λ found w. ◌≡◌ {A = Me ℕ View} (w, []) (Witnessed [], []))
 attend_as slots word t (world, reached, shows) len fits = (
   Witnessed [],
@@ -209,7 +209,7 @@ attend_as slots word t (world, reached, shows) len fits = (
   refl,
 )
 
--- what a caller's seat shows, beside it
+-- a caller's seat gives a witness of what it shows
 pub testify_as : (id : ℕ) (me : Me ℕ View) (s : Sight) (caller : Caller) → me ≡ (view_of s, []) → s.actor ≡ OfCaller caller → Splits IsKept id me.0 me.0 (testimony me.0)
 testify_as id me s caller is calls =
     subst (λ (m : Me ℕ View). Splits IsKept id m.0 m.0 (testimony m.0)) (sym (is ∙ ap (λ actor. (Shown actor s.messages, [])) calls)) allowed

@@ -1,4 +1,4 @@
--- Callers go on: what a caller submitted, took and was told of stays.
+-- Callers only grow: what one submitted, took or learned by notes stays.
 use Rattle.std.proofs.Common.{◌≡◌, Option, Some, List, ◌∷◌, [], ◌++◌, ⊎_elim, refl, sym, ap, ◌∙◌, subst}
 use Rattle.std.proofs.lemmas.Bool.{cases_eq}
 use Rattle.std.proofs.lemmas.List.{append_assoc}
@@ -15,7 +15,7 @@ use Rattle.chord_table.specs.Seen.{Actor, OfNode, OfCaller}
 pub later_itself : (caller : Caller) → IsLater caller caller
 later_itself caller = record { number = refl; submitted = nothing_more caller.submitted; mine = nothing_more caller.mine; told = nothing_more caller.told }
 
--- more, and then more
+-- a prefix of a prefix is a prefix
 more_then : {A : Type 0} (xs ys zs : List A) → (more : List A) × (ys ≡ xs ++ more) → (more : List A) × (zs ≡ ys ++ more) → (more : List A) × (zs ≡ xs ++ more)
 more_then xs ys zs (first, is) (second, then) = (first ++ second, then ∙ ap (λ l. l ++ second) is ∙ append_assoc xs first second)
 
@@ -39,7 +39,7 @@ step_later old new taken sent CallerStep.Shows = later_itself old
 step_later old new taken sent (CallerStep.Meets note) =
     record { number = refl; submitted = nothing_more old.submitted; mine = nothing_more old.mine; told = (_, refl) }
 
--- both are nodes, or the new caller is the old one later
+-- both are nodes, or the new caller is a later state of the old one
 abbrev pub GoesOn : Actor → Actor → Type 0
 GoesOn (OfNode old) (OfNode new) = Unit {0}
 GoesOn (OfCaller old) (OfCaller new) = IsLater old new
@@ -49,7 +49,7 @@ pub event_goes_on : (old new : Actor) (taken sent : Option Message) (call : Opti
 event_goes_on _ _ _ _ _ (Event.Acts step) = tt
 event_goes_on _ _ _ _ _ (Event.Calls {old = old} {new = new} {taken = taken} {sent = sent} step) = step_later old new taken sent step
 
--- a caller that was there was there after an event too
+-- a caller that was there is there after an event, then or later
 pub was_there_after : (world : World) (old new : Actor) (sent : Option Message) (call : Option Done) → AreOne old new → GoesOn old new → IsThere world old
     → (caller : Caller) → WasThere world caller → WasThere (after world new sent call) caller
 was_there_after world (OfNode old) (OfNode new) sent call same on here caller was = was
@@ -67,7 +67,7 @@ was_there_after world (OfCaller old) (OfCaller new) sent call same on here calle
 was_there_after world (OfNode old) (OfCaller new) sent call same on here caller was = absurd same
 was_there_after world (OfCaller old) (OfNode new) sent call same on here caller was = absurd same
 
--- and after an actor entered
+-- a caller that was there is there after an actor was admitted
 pub was_there_entered : (world : World) (new : Actor) (caller : Caller) → WasThere world caller → WasThere (entered world new) caller
 was_there_entered world (OfNode new) caller was = was
 was_there_entered world (OfCaller new) caller (now, at, later) = (now, caller_left caller.number world.callers (new ∷ []) now at, later)

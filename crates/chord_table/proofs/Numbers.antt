@@ -43,24 +43,24 @@ same_caller old new taken sent (CallerStep.Hears_full caller number) = refl
 same_caller old new taken sent CallerStep.Shows = refl
 same_caller old new taken sent (CallerStep.Meets note) = refl
 
--- an event is one of one actor
+-- an event keeps its actor's number
 pub one_actor : (old new : Actor) (taken sent : Option Message) (call : Option Done) → Event old taken new sent call → AreOne old new
 one_actor _ _ _ _ _ (Event.Acts {old = old} {new = new} {taken = taken} {sent = sent} {done = call} step) = same_node old new taken sent call step
 one_actor _ _ _ _ _ (Event.Calls {old = old} {new = new} {taken = taken} {sent = sent} step) = same_caller old new taken sent step
 
--- so it keeps its word
+-- an event keeps its actor's word
 pub same_word : (name : Name) (old new : Actor) (taken sent : Option Message) (call : Option Done) → Event old taken new sent call → word_of name old ≡ word_of name new
 same_word name _ _ _ _ _ (Event.Acts {old = old} {new = new} {taken = taken} {sent = sent} {done = call} step) = same_node old new taken sent call step
 same_word name _ _ _ _ _ (Event.Calls {old = old} {new = new} {taken = taken} {sent = sent} step) = ap (λ n. name.slots + n) (same_caller old new taken sent step)
 
--- who has a number that none has is not found
+-- a number that no element has is not found
 pub absent : {A : Type 0} (number_of : A → ℕ) (xs : List A) (number : ℕ) → (Contains (map number_of xs) number → ⊥) → find (λ x. eqb (number_of x) number) xs ≡ None
 absent number_of [] number none = refl
 absent number_of (x ∷ xs) number none =
     rw (eqb_other (number_of x) number (λ same. none (contains_has (map number_of (x ∷ xs)) number (inl same))))
     (absent number_of xs number (λ there. none (contains_has (map number_of (x ∷ xs)) number (inr (has_contained (map number_of xs) number there)))))
 
--- a put leaves the numbers as they were
+-- putting a node leaves the numbers as they were
 pub node_put : (node : Node) (nodes : List Node) → map (λ (n : Node). n.number) (put_node node nodes) ≡ map (λ (n : Node). n.number) nodes
 unfolding put_node
 node_put node [] = refl

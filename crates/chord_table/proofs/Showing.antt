@@ -1,4 +1,4 @@
--- Views of seats, one changed or one added.
+-- Views of seats, with one changed or one added.
 use Rattle.std.proofs.Common.{◌≡◌, ◌≢◌, ◌⊎◌, ℕ, zero, suc, List, [], ◌∷◌, ◌++◌, length, set, refl, sym, ap, ◌∙◌, subst, inl, inr, ⊎_elim}
 use mathlib.Core.Option.{some, some-ne-none, some-injective}
 use lib.ListN.{get_elem?}
@@ -8,14 +8,14 @@ use Rattle.chord_model.specs.World.{World}
 use Rattle.chord_table.specs.Views.{IsTrueOf, HaveOneOwner, Shows}
 
 module _ {A : Type 0} where
-  -- an element of a list with one more is an old one, or the last
+  -- an element of a list with one appended is an old one, or the appended one
   pub at_snoc : (l : List A) (a b : A) (j : ℕ) → get_elem? (l ++ a ∷ []) j ≡ some b → (get_elem? l j ≡ some b) ⊎ ((j ≡ length l) × (a ≡ b))
   at_snoc [] a b zero e = inr (refl, some-injective a b e)
   at_snoc [] a b (suc j) e = absurd (some-ne-none b (sym e))
   at_snoc (x ∷ xs) a b zero e = inl e
   at_snoc (x ∷ xs) a b (suc j) e = ⊎_elim (λ t. inl t) (λ t. inr (ap suc t.0, t.1)) (at_snoc xs a b j e)
 
--- whoever shares an owner with the new view shared it with the old one
+-- each view with the same owner as the new view had the same owner as the old one
 pub record IsHeir (v w : View) : Type 0 where
   pub left : (u : View) → HaveOneOwner w u → HaveOneOwner v u
   pub right : (u : View) → HaveOneOwner u w → HaveOneOwner u v
@@ -41,7 +41,7 @@ shows_changed old new views id v w shows at heir mine others = record {
       (at_set views id seat w u e);
 }
 
--- one more view, of an owner that has no seat yet
+-- one more view, whose owner has no seat yet
 pub shows_added : (w : World) (views : List View) (v : View) → Shows w views → IsTrueOf w v
     → ((seat : ℕ) (u : View) → get_elem? views seat ≡ some u → (HaveOneOwner u v → ⊥) × (HaveOneOwner v u → ⊥))
     → Shows w (views ++ v ∷ [])

@@ -1,4 +1,4 @@
--- The registrar's seat takes in an actor's seat, and gives it back.
+-- The registrar's seat takes in an actor's seat.
 use Rattle.std.proofs.Common.{◌≡◌, ◌≢◌, ℕ, List, [], ◌∷◌, ◌++◌, set, ◌⊎◌, sym, ◌∙◌, subst, inl, inr, ⊎_elim}
 use Rattle.std.proofs.lemmas.List.Elements.{All-push}
 use mathlib.Core.Option.{some}
@@ -18,7 +18,7 @@ one_turned (OfCaller a) (OfCaller b) one = sym one
 one_turned (OfNode a) (OfCaller b) one = one
 one_turned (OfCaller a) (OfNode b) one = one
 
--- one of the list with one more is an old one, or that one
+-- a sight in a list with one appended is an old one, or the appended one
 one_of_push : (taken : List Sight) (sight : Sight) (actor : Actor) → OneIs (taken ++ sight ∷ []) actor → OneIs taken actor ⊎ AreOne sight.actor actor
 one_of_push [] sight actor (inl one) = inr one
 one_of_push [] sight actor (inr none) = absurd none
@@ -32,7 +32,7 @@ differ_push (first ∷ rest) sight differ none = (
   differ_push rest sight differ.1 (λ o. none (inr o)),
 )
 
--- ---- one seat takes in another, which is spent
+-- ---- one seat takes in another
 
 spent_left : (u : View) → HaveOneOwner Spent u → ⊥
 spent_left (Admitted _ _ _) h = h
@@ -48,12 +48,12 @@ spent_right (Witnessed _) h = h
 spent_right (Sent _) h = h
 spent_right Spent h = h
 
--- whoever shares an owner with the new view shared it with one of the two old ones
+-- each view with the same owner as the new view had the same owner as one of the two old ones
 record IsHeirOfBoth (v w both : View) : Type 0 where
   pub left : (u : View) → HaveOneOwner both u → HaveOneOwner v u ⊎ HaveOneOwner w u
   pub right : (u : View) → HaveOneOwner u both → HaveOneOwner u v ⊎ HaveOneOwner u w
 
--- where a view stands after one was changed and another spent
+-- where a view is, after one view changed and another became `Spent`
 data Stands (views : List View) (id other : ℕ) (both : View) (seat : ℕ) (u : View) : Type 0 where
   Is_spent : seat ≡ other → Spent ≡ u → Stands views id other both seat u
   Is_both : seat ≡ id → both ≡ u → Stands views id other both seat u

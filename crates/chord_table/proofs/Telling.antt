@@ -1,4 +1,4 @@
--- What a look tells, with the theorem over worlds.
+-- What a look proves, by the theorem over worlds.
 use Rattle.std.proofs.Common.{◌≡◌, subst, List, All}
 use Rattle.std.specs.Prelude.{Contains}
 use Rattle.std.proofs.lemmas.List.Elements.{All-contains, All-weaker}
@@ -13,7 +13,7 @@ use Rattle.chord_table.specs.Seen.{Actor, OfNode, OfCaller, Witnessed}
 use Rattle.chord_table.specs.Shown.{IsShown, NodeShown, CallerShown, IsIn, WitnessShown}
 use Rattle.chord_table.specs.Views.{IsTrueOfSome, Sight, NodeSight, CallerSight, node_in, caller_in}
 
--- every world that some steps lead to has the headline
+-- the headline is true of every reachable world
 abbrev HasHeadline : Type 0
 HasHeadline = (world : World) → ∥ Reached world ∥₁ → Headline world
 

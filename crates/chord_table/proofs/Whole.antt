@@ -1,4 +1,4 @@
--- Where all that are registered gave their seats up, the world has these alone.
+-- If the seats of all that are registered were taken in, the world has these actors only.
 use Rattle.std.proofs.Common.{◌≡◌, ◌≢◌, ℕ, List, [], ◌∷◌, map, Some, None, refl, sym, ap, ◌∙◌, subst, inl, inr, All}
 use Rattle.std.specs.Prelude.{Contains}
 use Rattle.std.proofs.lemmas.List.Elements.{All-nil, All-cons, All-head, All-tail, All-weaker}
@@ -62,7 +62,7 @@ no_more_nodes : (nodes : List Node) → map (λ (n : Node). n.number) nodes ≡ 
 no_more_nodes [] e = refl
 no_more_nodes (node ∷ nodes) e = cc
 
--- one that gave its seat up, and behind it the others
+-- the sight of one actor, before the sights of others
 node_step : (nodes : List Node) (actor : Actor) (rest : List Sight) → map (λ (n : Node). n.number) nodes ≡ map (λ (n : Node). n.number) (with_node actor (nodes_among rest))
     → (OneIs rest actor → ⊥) → IsNodeOf nodes actor → All (λ (s : Sight). IsNodeOf nodes s.actor) rest
     → ((others : List Node) → map (λ (n : Node). n.number) others ≡ map (λ (n : Node). n.number) (nodes_among rest)
@@ -119,7 +119,7 @@ no_more_callers : (callers : List Caller) → map (λ (c : Caller). c.number) ca
 no_more_callers [] e = refl
 no_more_callers (caller ∷ callers) e = cc
 
--- one that gave its seat up, and behind it the others
+-- the sight of one actor, before the sights of others
 caller_step : (callers : List Caller) (actor : Actor) (rest : List Sight) → map (λ (c : Caller). c.number) callers ≡ map (λ (c : Caller). c.number) (with_caller actor (callers_among rest))
     → (OneIs rest actor → ⊥) → IsCallerOf callers actor → All (λ (s : Sight). IsCallerOf callers s.actor) rest
     → ((others : List Caller) → map (λ (c : Caller). c.number) others ≡ map (λ (c : Caller). c.number) (callers_among rest)
@@ -141,7 +141,7 @@ whole_callers callers (sight ∷ rest) e differ all =
     (All-tail (λ (s : Sight). IsCallerOf callers s.actor) sight rest all)
     (λ others same found. whole_callers others rest same differ.1 found)
 
--- ---- what a look tells
+-- ---- what a look proves
 
 caller_seen : (world : World) (actor : Actor) (callers : List Caller) → IsThere world actor → All (WasThere world) callers → All (WasThere world) (with_caller actor callers)
 caller_seen world (OfNode node) callers there all = all
@@ -153,7 +153,7 @@ callers_seen world (sight ∷ rest) all =
     let first : IsSeen world sight = All-head (IsSeen world) sight rest all in
     caller_seen world sight.actor (callers_among rest) first.0 (callers_seen world rest (All-tail (IsSeen world) sight rest all))
 
--- none of these is the caller, so its number is not found
+-- no actor of the list is the caller, so its number is not found
 none_step : (actor : Actor) (callers : List Caller) (caller : Caller) → (AreOne actor (OfCaller caller) → ⊥) → caller_at caller.number callers ≡ None → caller_at caller.number (with_caller actor callers) ≡ None
 none_step (OfNode node) callers caller apart none = none
 none_step (OfCaller other) callers caller apart none = caller_missed other callers caller.number apart ∙ none
@@ -164,7 +164,7 @@ none_found [] caller apart = refl
 none_found (sight ∷ rest) caller apart =
     none_step sight.actor (callers_among rest) caller (λ one. apart (inl one)) (none_found rest caller (λ one. apart (inr one)))
 
--- no number is twice among them, so each is the latest of its number
+-- no number occurs twice, so each caller is the latest of its number
 latest_step : (actor : Actor) (rest : List Sight) → (OneIs rest actor → ⊥) → latest (callers_among rest) ≡ callers_among rest
     → latest (with_caller actor (callers_among rest)) ≡ with_caller actor (callers_among rest)
 latest_step (OfNode node) rest apart same = same

@@ -1,4 +1,4 @@
--- Worlds after an event, and with an actor more.
+-- Worlds after an event, or with a new actor.
 use Rattle.std.proofs.Common.{◌≡◌, eqb, Option, Some, None, List, [], ◌∷◌, ◌++◌, map, Contains, inl, inr, refl, sym, ap, ◌∙◌, subst}
 use Rattle.std.proofs.lemmas.List.Elements.{Contains-append_left}
 use Rattle.std.proofs.lemmas.Option.{none-some}
@@ -26,7 +26,7 @@ event_steps world _ _ _ _ _ there was (Event.Acts {old = old} {new = new} {taken
 event_steps world _ _ _ _ _ there was (Event.Calls {old = old} {new = new} {taken = taken} {sent = sent} step) =
     WorldStep.Calls old.number old new taken sent there was step
 
--- the actor is there afterwards, in its new state
+-- after an event the world has the actor in its new state
 pub there_after : (world : World) (old new : Actor) (sent : Option Message) (call : Option Done) → AreOne old new → IsThere world old → IsThere (after world new sent call) new
 there_after world (OfNode old) (OfNode new) sent call same there =
     node_at-put_same new old world.nodes (subst (λ n. node_at n world.nodes ≡ Some old) same there)
@@ -35,7 +35,7 @@ there_after world (OfCaller old) (OfCaller new) sent call same there =
 there_after world (OfNode old) (OfCaller new) sent call same there = absurd same
 there_after world (OfCaller old) (OfNode new) sent call same there = absurd same
 
--- and so is any other, as before
+-- after an event the world has each other actor as before
 pub others_after : (world : World) (new other : Actor) (sent : Option Message) (call : Option Done) → (AreOne other new → ⊥) → IsThere world other → IsThere (after world new sent call) other
 others_after world (OfNode new) (OfNode other) sent call apart there = node_at-put_other other.number new world.nodes apart ∙ there
 others_after world (OfCaller new) (OfCaller other) sent call apart there = put_apart new world.callers other.number apart ∙ there
@@ -50,14 +50,14 @@ pub callers_after : (world : World) (new : Actor) (sent : Option Message) (call 
 callers_after world (OfNode new) sent call = refl
 callers_after world (OfCaller new) sent call = caller_put new world.callers
 
--- what was sent before was sent
+-- what was sent before an event is sent after it
 pub sent_after : (world : World) (new : Actor) (sent : Option Message) (call : Option Done) (message : Message) → Contains world.sent message → Contains (after world new sent call).sent message
 sent_after world (OfNode new) None call message was = was
 sent_after world (OfNode new) (Some sent) call message was = Contains-append_left world.sent (sent ∷ []) message was
 sent_after world (OfCaller new) None call message was = was
 sent_after world (OfCaller new) (Some sent) call message was = Contains-append_left world.sent (sent ∷ []) message was
 
--- ---- an actor more
+-- ---- a new actor
 
 -- no actor of this kind has that number
 abbrev pub IsNew : World → Actor → Type 0
@@ -90,7 +90,7 @@ no_node : (nodes : List Node) → map (λ (n : Node). n.number) nodes ≡ [] →
 no_node [] e = refl
 no_node (node ∷ nodes) e = cc
 
--- what the registrar may admit enters the world that it shows by one step
+-- admitting an actor that the registrar may admit is one step of the world
 pub may_enter : (world : World) (register : Register) (new : Actor) → IsTrueOf world (Admitted register.nodes register.callers []) → MayEnter register new
     → IsNew world new × WorldStep world (entered world new)
 unfolding node_at caller_at

@@ -8,7 +8,7 @@ use Rattle.chord_model.specs.World.{World, node_at, put_node, caller_at, put_cal
 use Rattle.chord_map.specs.declared.done.Done.{Done}
 use Rattle.chord_table.specs.Seen.{Actor, OfNode, OfCaller}
 
--- the actor is there, in this state
+-- the world has the actor, in this state
 abbrev pub IsThere : World → Actor → Type 0
 IsThere world (OfNode node) = node_at node.number world.nodes ≡ Some node
 IsThere world (OfCaller caller) = caller_at caller.number world.callers ≡ Some caller
@@ -19,13 +19,14 @@ AreOne (OfNode node) (OfNode other) = node.number ≡ other.number
 AreOne (OfCaller caller) (OfCaller other) = caller.number ≡ other.number
 AreOne _ _ = ⊥
 
--- from one state, with a message taken in, to another state, with a message sent and a call executed
+-- an event: the actor's old state, the message taken in, its new state, the message sent and the
+-- call executed
 pub data Event : Actor → Option Message → Actor → Option Message → Option Done → Type 0 where
   Acts : {old new : Node} {taken sent : Option Message} {done : Option Done} → NodeStep old taken new sent done → Event (OfNode old) taken (OfNode new) sent done
   Calls : {old new : Caller} {taken sent : Option Letter} → CallerStep old taken new sent
       → Event (OfCaller old) (letter_sent taken) (OfCaller new) (letter_sent sent) None
 
--- the world with this actor in the place of its older state, where that message was sent and that call executed
+-- the world after an event: this actor in its new state, the message sent and the call executed
 abbrev pub after : World → Actor → Option Message → Option Done → World
 after world (OfNode node) sent done =
     record world { nodes = put_node node world.nodes; sent = with_one world.sent sent; history = with_one world.history done }

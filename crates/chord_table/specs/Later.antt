@@ -1,10 +1,11 @@
--- Callers as they were at some time, beside what they are later.
+-- Callers as they were at some time, compared with later.
 use Rattle.std.specs.Prelude.{◌≡◌, Some, List, ◌++◌}
 use Rattle.chord_caller.specs.Caller.{Caller, Submission}
 use Rattle.chord_map.specs.declared.done.Done.{Done}
 use Rattle.chord_model.specs.World.{World, caller_at}
 
--- the same caller later: all that it submitted, took and was told of stays, and more may come behind it
+-- the same caller later: what it submitted, took and learned by notes is a prefix of what it has
+-- now
 pub record IsLater (old new : Caller) : Type 0 where
   pub number : new.number ≡ old.number
   pub submitted : (more : List Submission) × (new.submitted ≡ old.submitted ++ more)

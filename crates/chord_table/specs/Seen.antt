@@ -16,7 +16,7 @@ pub record Sight : Type 0 where
 
 -- what a seat shows
 pub data View : Type 0 where
-  -- the numbers of the nodes and of the callers, in the order admitted, and the actors whose seats this one took in
+  -- the registrar's: the numbers of nodes and callers, and what each seat that it took in showed
   Admitted : (nodes callers : List ℕ) → List Sight → View
   -- an actor, and messages that were sent
   Shown : Actor → List Message → View

@@ -28,17 +28,17 @@ pub record Name : Type 0 where
 abbrev pub no_name : Name
 no_name = record { table = record { words = 0; slots = 0; views_name = 0; atom = 0; block = 0; offset = 0; slot_names = [] }; slots = 0; callers = 0 }
 
--- the place of an actor's word: those of the nodes come first
+-- the index of an actor's word: nodes come first
 abbrev pub word_of : Name → Actor → ℕ
 word_of name (OfNode node) = node.number
 word_of name (OfCaller caller) = name.slots + caller.number
 
--- one of these is a state of this actor
+-- one of these sights is of this actor
 abbrev pub OneIs : List Sight → Actor → Type 0
 OneIs [] actor = ⊥
 OneIs (sight ∷ rest) actor = AreOne sight.actor actor ⊎ OneIs rest actor
 
--- no two of them are states of one actor
+-- no two of these sights are of one actor
 abbrev pub AllDiffer : List Sight → Type 0
 AllDiffer [] = Unit {0}
 AllDiffer (sight ∷ rest) = (¬ OneIs rest sight.actor) × AllDiffer rest
@@ -55,7 +55,8 @@ IsTrueOf world (Witnessed callers) = All (WasThere world) callers
 IsTrueOf world (Sent message) = Contains world.sent message
 IsTrueOf world Spent = Unit {0}
 
--- both are the registrar's, or both are views of one actor: the registrar's is one of each actor that it took in
+-- Both views belong to one actor, or both to the registrar. The registrar's view belongs to each
+-- actor whose seat it took in.
 abbrev pub HaveOneOwner : View → View → Type 0
 HaveOneOwner (Admitted nodes callers taken) (Admitted others more given) = Unit {0}
 HaveOneOwner (Admitted nodes callers taken) (Shown actor messages) = OneIs taken actor
@@ -68,15 +69,15 @@ pub record Shows (world : World) (views : List View) : Type 0 where
   pub agrees : (seat : ℕ) (view : View) → get_elem? views seat ≡ some view → IsTrueOf world view
   pub apart : (seat other : ℕ) (view more : View) → get_elem? views seat ≡ some view → get_elem? views other ≡ some more → HaveOneOwner view more → seat ≡ other
 
--- the rule of the table: its seats show a world that some list of steps leads to
+-- the rule of the table: its seats show a reachable world
 abbrev pub IsKept : State ℕ View → Type 0
 IsKept state = (world : World) × Reached world × Shows world state.views
 
--- what the view says is true of some world that some list of steps leads to
+-- the view is true of some reachable world
 abbrev pub IsTrueOfSome : View → Type 0
 IsTrueOfSome view = (world : World) × Reached world × IsTrueOf world view
 
--- the view with this actor in the place of its older state
+-- an actor's view, with this new state
 abbrev pub changed : Actor → View → View
 changed new (Shown actor messages) = Shown new messages
 changed new view = view
@@ -87,12 +88,12 @@ admitting (OfNode node) (Admitted nodes callers taken) = Admitted (nodes ++ node
 admitting (OfCaller caller) (Admitted nodes callers taken) = Admitted nodes (callers ++ caller.number ∷ []) taken
 admitting actor view = view
 
--- the view with one message more
+-- an actor's view with this message behind its others
 abbrev pub told : View → View → View
 told (Shown actor messages) (Sent message) = Shown actor (messages ++ message ∷ [])
 told view other = view
 
--- what a caller's seat shows, for a witness
+-- the witness's view of the caller that this view shows
 abbrev pub testimony : View → View
 testimony (Shown (OfCaller caller) messages) = Witnessed (caller ∷ [])
 testimony view = Spent
@@ -102,38 +103,38 @@ abbrev pub gathered : View → View → View
 gathered (Witnessed callers) (Witnessed more) = Witnessed (callers ++ more)
 gathered view other = view
 
--- the callers that the view shows, where it is a witness's
+-- the callers of a witness's view
 abbrev pub callers_of : View → List Caller
 callers_of (Witnessed callers) = callers
 callers_of _ = []
 
--- such a view
+-- the view of an actor's seat that shows this
 abbrev pub view_of : Sight → View
 view_of sight = Shown sight.actor sight.messages
 
--- any node, where none is picked
+-- any node, where the proof needs one
 abbrev pub no_node : Node
 no_node = newborn (alone (record { no = 0; id = record { number = 0 } }) 2) 0
 
--- any caller, where none is picked
+-- any caller, where the proof needs one
 abbrev pub no_caller : Caller
 no_caller = new_caller 0 1
 
--- any message, where none is sent
+-- any message, where the proof needs one
 abbrev pub no_message : Message
 no_message = Full 0 0
 
--- what the view shows, where it is an actor's
+-- what an actor's view shows
 abbrev pub sight_of : View → Sight
 sight_of (Shown actor messages) = record { actor = actor; messages = messages }
 sight_of _ = record { actor = OfNode no_node; messages = [] }
 
--- the actor before these nodes, if it is a node
+-- the nodes with the actor in front, if it is a node
 abbrev pub with_node : Actor → List Node → List Node
 with_node (OfNode node) nodes = node ∷ nodes
 with_node (OfCaller caller) nodes = nodes
 
--- the actor before these callers, if it is a caller
+-- the callers with the actor in front, if it is a caller
 abbrev pub with_caller : Actor → List Caller → List Caller
 with_caller (OfNode node) callers = callers
 with_caller (OfCaller caller) callers = caller ∷ callers
@@ -143,31 +144,31 @@ pub record Register : Type 0 where
   pub nodes : List ℕ
   pub callers : List ℕ
 
--- what the view shows, where it is the registrar's
+-- the numbers that the registrar's view shows
 abbrev pub register_of : View → Register
 register_of (Admitted nodes callers taken) = record { nodes = nodes; callers = callers }
 register_of _ = record { nodes = []; callers = [] }
 
--- such a view
+-- the registrar's view of these numbers, with no seat taken in
 abbrev pub view_of_register : Register → View
 view_of_register register = Admitted register.nodes register.callers []
 
--- the registrar's view with one actor more, which gave its seat up
+-- the registrar's view, with one more actor whose seat it took in
 abbrev pub taking : View → View → View
 taking (Admitted nodes callers taken) (Shown actor messages) = Admitted nodes callers (taken ++ record { actor = actor; messages = messages } ∷ [])
 taking view other = view
 
--- what an assembly's seat shows: who is registered, and who gave a seat up, in that order
+-- what an assembly's seat shows: who is registered, and what each seat that it took in showed
 pub record Assembled : Type 0 where
   pub register : Register
   pub taken : List Sight
 
--- what the view shows, where it is the registrar's
+-- what the registrar's view shows
 abbrev pub assembled_of : View → Assembled
 assembled_of (Admitted nodes callers taken) = record { register = record { nodes = nodes; callers = callers }; taken = taken }
 assembled_of _ = record { register = record { nodes = []; callers = [] }; taken = [] }
 
--- such a view
+-- the registrar's view that shows this
 abbrev pub view_of_assembled : Assembled → View
 view_of_assembled assembled = Admitted assembled.register.nodes assembled.register.callers assembled.taken
 
@@ -181,7 +182,7 @@ abbrev pub callers_among : List Sight → List Caller
 callers_among [] = []
 callers_among (sight ∷ rest) = with_caller sight.actor (callers_among rest)
 
--- each that is registered gave its seat up, in the order of registration
+-- it took in the seats of all that are registered, in the order of registration
 pub record IsWhole (assembled : Assembled) : Type 0 where
   pub nodes : map (λ (node : Node). node.number) (nodes_among assembled.taken) ≡ assembled.register.nodes
   pub callers : map (λ (caller : Caller). caller.number) (callers_among assembled.taken) ≡ assembled.register.callers
@@ -201,30 +202,31 @@ pub record CallerSight : Type 0 where
   pub caller : Caller
   pub messages : List Message
 
--- the actor as a node
+-- the node that the actor is
 abbrev pub node_in : Actor → Node
 node_in (OfNode node) = node
 node_in (OfCaller caller) = no_node
 
--- the actor as a caller
+-- the caller that the actor is
 abbrev pub caller_in : Actor → Caller
 caller_in (OfNode node) = no_caller
 caller_in (OfCaller caller) = caller
 
--- the caller after it submitted the call that this message is, if it is one
+-- the caller after it submitted the call in this message; unchanged if the message is no call
 abbrev pub submitting : Message → Caller → Caller
 submitting (Ask ask) caller = with_request ask.request caller
 submitting message caller = caller
 
--- with one of these messages taken in, or none, an event leads to the new state and sends that message, if any
+-- some event leads from the old to the new state and sends this message, if any; it takes in one of
+-- these messages or none
 abbrev pub MayBecome : Actor → List Message → Actor → Option Message → Type 0
 MayBecome old messages new sent = (taken : Option Message) × (done : Option Done) × WasSent messages taken × Event old taken new sent done
 
--- the same of a node
+-- `MayBecome` of a node
 abbrev pub MayAct : Node → List Message → Node → Option Message → Type 0
 MayAct old messages new sent = (taken : Option Message) × (done : Option Done) × WasSent messages taken × NodeStep old taken new sent done
 
--- the same of a caller, which sends that letter, if any
+-- `MayBecome` of a caller, which sends this letter, if any
 abbrev pub MayCall : Caller → List Message → Caller → Option Letter → Type 0
 MayCall old messages new sent = (taken : Option Letter) × WasSent messages (letter_sent taken) × CallerStep old taken new sent
 
@@ -236,15 +238,15 @@ IsFounder node = (links : NodeLinks) × (limit : ℕ) × (links.me.id.number < 2
 abbrev pub IsNewborn : Node → Type 0
 IsNewborn node = (links : NodeLinks) × (limit : ℕ) × (links.me.id.number < 2 ^ 128) × (node ≡ newborn links limit)
 
--- it may be admitted beside the nodes of these numbers
+-- the node may be admitted after the nodes of these numbers
 abbrev pub MayFound : List ℕ → Node → Type 0
 MayFound nodes node = ((nodes ≡ []) × IsFounder node) ⊎ ((nodes ≢ []) × (¬ Contains nodes node.number) × IsNewborn node)
 
--- it may be admitted beside the callers of these numbers
+-- the caller may be admitted after the callers of these numbers
 abbrev pub MayOpen : List ℕ → Caller → Type 0
 MayOpen callers caller = (¬ Contains callers caller.number) × ((window : ℕ) × (1 ≤ window) × (window ≤ 16) × (caller ≡ new_caller caller.number window))
 
--- it may be admitted beside those that the registrar's seat shows
+-- the actor may be admitted after those that the registrar's seat shows
 abbrev pub MayEnter : Register → Actor → Type 0
 MayEnter register (OfNode node) = MayFound register.nodes node
 MayEnter register (OfCaller caller) = MayOpen register.callers caller

@@ -16,7 +16,8 @@ use atomic_table::Seat;
 use chord_node::Message;
 use std::marker::{Model, PhantomData};
 
-/// An actor's seat, with the place of its word. Contracts see the actor, and messages that were sent.
+/// An actor's seat, with the index of its word. Contracts see the actor, and messages that were
+/// sent.
 #[derive(Drop)]
 pub(crate) struct ActorSeat<J: Naming> {
     pub(crate) seat: Seat<u8, View>,
@@ -36,8 +37,8 @@ impl<J: Naming> Model for ActorSeat<J> {
 }
 
 impl<J: Naming> ActorSeat<J> {
-    /// The actor becomes the picked one, and a message that it sends is lost. The reference is there for the pick to
-    /// name it.
+    /// Records an event whose message, if any, is lost. The proof names the new state by `E.actor`;
+    /// `after` is passed only so that the proof can refer to it.
     pub(crate) fn local<E: Event, A>(&mut self, table: &Shared<J>, after: &A)
         requires event { (sent : Option Content) × MayBecome self.old.actor self.old.messages E.actor sent }
         ensures { self.new ≡ record self.old { actor = E.actor } }
@@ -50,7 +51,7 @@ impl<J: Naming> ActorSeat<J> {
             .fetch_add::<Local<E>>(&mut self.seat, word, 1);
     }
 
-    /// The actor becomes the picked one, and the message goes out.
+    /// Records an event and sends its message. The proof names the new state by `E.actor`.
     pub(crate) fn send<E: Event, A>(
         &mut self,
         table: &Shared<J>,
@@ -71,7 +72,7 @@ impl<J: Naming> ActorSeat<J> {
         }
     }
 
-    /// A message comes to the actor.
+    /// Takes in a message that was sent to the actor.
     pub(crate) fn receive(&mut self, table: &Shared<J>, parcel: Parcel<J>) -> Message
         ensures message { result ≡ parcel }
         ensures seat { self.new ≡ record self.old { messages = self.old.messages ++ parcel ∷ [] } }
@@ -101,7 +102,7 @@ impl<J: Naming> ActorSeat<J> {
         }
     }
 
-    /// What the seat shows is true of a world that some steps lead to.
+    /// Proves that what the seat shows is true of some reachable world.
     pub(crate) fn look(&mut self, table: &Shared<J>)
         ensures same { self.new ≡ self.old }
         ensures shown { IsShown self.old }

@@ -16,8 +16,8 @@ use atomic_table::Seat;
 use chord_model::laws;
 use std::marker::{Model, PhantomData};
 
-/// The registrar's seat with the seats that were given up to it. Contracts see who is registered, and what each of
-/// these seats showed, in the order that they were taken.
+/// The registrar's seat with the seats that it took in. Contracts see who is registered, and what
+/// each of these seats showed, in the order taken.
 #[derive(Drop)]
 pub struct Assembly<J: Naming> {
     pub(crate) seat: Seat<u8, View>,
@@ -36,7 +36,7 @@ impl<J: Naming> Model for Assembly<J> {
 }
 
 impl<J: Naming> Assembly<J> {
-    /// The registrar's seat, with no other yet.
+    /// The registrar's seat alone.
     pub fn of(registrar: Registrar<J>) -> Assembly<J>
         ensures { result ≡ record { register = registrar; taken = [] } }
     {
@@ -47,7 +47,7 @@ impl<J: Naming> Assembly<J> {
         }
     }
 
-    /// A node's seat is given up.
+    /// Takes in a node's seat.
     pub fn take_node(&mut self, table: &Shared<J>, seat: NodeSeat<J>)
         ensures { self.new ≡ record self.old { taken = self.old.taken ++ record { actor = OfNode seat.node; messages = seat.messages } ∷ [] } }
     {
@@ -55,7 +55,7 @@ impl<J: Naming> Assembly<J> {
         self.take(table, seat);
     }
 
-    /// A caller's seat is given up.
+    /// Takes in a caller's seat.
     pub fn take_caller(&mut self, table: &Shared<J>, seat: CallerSeat<J>)
         ensures { self.new ≡ record self.old { taken = self.old.taken ++ record { actor = OfCaller seat.caller; messages = seat.messages } ∷ [] } }
     {
@@ -63,7 +63,8 @@ impl<J: Naming> Assembly<J> {
         self.take(table, seat);
     }
 
-    /// In one world each of these is as it is shown, beside no others than those registered, and the theorem holds.
+    /// Proves that the theorem holds of one world that has those registered and no others, and each
+    /// actor taken in as its seat showed it.
     pub fn look(&mut self, table: &Shared<J>)
         ensures same { self.new ≡ self.old }
         ensures shown { AssemblyShown self.old }
@@ -72,7 +73,7 @@ impl<J: Naming> Assembly<J> {
         table.table.shared.load::<Look>(&mut self.seat, 0);
     }
 
-    /// Where all that are registered gave their seats up, these nodes and callers are a world that some steps lead to.
+    /// If all seats were taken in, proves that these nodes and callers are a reachable world.
     pub fn look_whole(&mut self, table: &Shared<J>)
         requires whole { IsWhole self.old }
         ensures same { self.new ≡ self.old }

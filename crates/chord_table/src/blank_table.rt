@@ -10,7 +10,7 @@ use atomic_table::{Seat, Table};
 use std::alloc::Global;
 use std::marker::{Model, PhantomData};
 
-/// A table with no actor, which has no name yet. Contracts see what names it.
+/// A table with no actor and no name. Contracts see the name that it will get.
 #[derive(Drop)]
 pub struct BlankTable {
     pub(crate) table: Table<u8, View, (), Law, Global>,
@@ -32,7 +32,7 @@ impl Model for BlankTable {
 }
 
 impl BlankTable {
-    /// Gives the table its name. It takes no memory.
+    /// Gives the table its name, without new memory.
     pub fn open<J: Naming>(self) -> (Shared<J>, Registrar<J>)
         requires { self ≡ J.name }
         ensures { result.1 ≡ record { nodes = []; callers = [] } }

@@ -36,7 +36,7 @@ impl<J: Naming> Model for CallerSeat<J> {
 }
 
 impl<J: Naming> CallerSeat<J> {
-    /// The caller did an event that sends nothing, or whose message is lost.
+    /// Records an event of the caller that sends nothing, or whose message is lost.
     pub fn local(&mut self, table: &Shared<J>, after: &CallerCore)
         requires event { (sent : Option Letter) × MayCall self.old.caller self.old.messages after.now sent }
         ensures { self.new ≡ record self.old { caller = after.now } }
@@ -44,7 +44,7 @@ impl<J: Naming> CallerSeat<J> {
         self.seat.local::<Brand, CallerCore>(table, after);
     }
 
-    /// The caller did an event, and its message goes out.
+    /// Records an event of the caller, and sends its message.
     pub fn send(&mut self, table: &Shared<J>, after: &CallerCore, message: Message) -> Parcel<J>
         requires event { (sent : Letter) × (message ≡ message_of sent) × MayCall self.old.caller self.old.messages after.now (Some sent) }
         ensures seat { self.new ≡ record self.old { caller = after.now } }
@@ -53,7 +53,8 @@ impl<J: Naming> CallerSeat<J> {
         self.seat.send::<Brand, CallerCore>(table, after, message)
     }
 
-    /// The caller submitted a call, which goes out. No core need keep what the seat shows.
+    /// Records that the caller submitted a call, and sends it. No core has to hold what the seat
+    /// shows.
     pub fn submit(&mut self, table: &Shared<J>, ask: Ask) -> Parcel<J>
         requires event { CallerStep self.old.caller None (with_request ask.request self.old.caller) (Some (AskLetter ask)) }
         ensures seat { self.new ≡ record self.old { caller = with_request ask.request self.old.caller } }
@@ -62,7 +63,7 @@ impl<J: Naming> CallerSeat<J> {
         self.seat.send::<Brand, ()>(table, &(), Message::Ask(ask))
     }
 
-    /// A pending call goes out again, which leaves the caller as it is.
+    /// Sends a pending call again, which leaves the caller as it is.
     pub fn resend(&mut self, table: &Shared<J>, ask: Ask) -> Parcel<J>
         requires event { CallerStep self.old.caller None self.old.caller (Some (AskLetter ask)) }
         ensures seat { self.new ≡ self.old }
@@ -72,7 +73,7 @@ impl<J: Naming> CallerSeat<J> {
         self.seat.send::<Brand, ()>(table, &(), again)
     }
 
-    /// The caller heard a reply that came.
+    /// Records that the caller heard a reply that came.
     pub fn hear(&mut self, table: &Shared<J>, told: &Told)
         requires came { Contains self.old.messages (ToldMessage told.now) }
         ensures { self.new ≡ record self.old { caller = hearing told.now self.old.caller } }
@@ -80,7 +81,7 @@ impl<J: Naming> CallerSeat<J> {
         self.seat.local::<Brand, Told>(table, told);
     }
 
-    /// A message comes to the caller.
+    /// Takes in a message for the caller.
     pub fn receive(&mut self, table: &Shared<J>, parcel: Parcel<J>) -> Message
         ensures message { result ≡ parcel }
         ensures seat { self.new ≡ record self.old { messages = self.old.messages ++ parcel ∷ [] } }
@@ -96,7 +97,8 @@ impl<J: Naming> CallerSeat<J> {
         self.seat.testify(table)
     }
 
-    /// All that the caller took stands in one legal history, each call once, in the order that callers had seen.
+    /// Proves that all that the caller took is in one legal history, each call once, in the order
+    /// that callers had seen.
     pub fn look(&mut self, table: &Shared<J>)
         ensures same { self.new ≡ self.old }
         ensures shown { CallerShown self.old }

@@ -1,8 +1,9 @@
-//! What a step of the table is about.
+//! The event that a step of the table records.
 
 use std::marker::Brand;
 
-/// The actor after an event, and the message that goes out. Each call with `Brand` picks them.
+/// The actor after an event, and the message that it sends. The proof picks them at each call with
+/// `Brand`.
 pub trait Event {
     ghost use Rattle.chord_model.specs.declared.message.Message.{Message};
     ghost use Rattle.chord_table.specs.Seen.{Actor};

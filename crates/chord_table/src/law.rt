@@ -3,7 +3,7 @@
 use crate::view::View;
 use atomic_table::TableRule;
 
-/// The seats show a world that some list of steps leads to.
+/// The seats show a reachable world: one that some list of steps leads to.
 pub struct Law;
 
 impl TableRule<u8, View, ()> for Law {

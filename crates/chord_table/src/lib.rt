@@ -1,17 +1,19 @@
 //! What running threads know of one world of nodes and callers.
 //!
-//! One table is shared by all threads. Each node and each caller has a seat of it ([`NodeSeat`], [`CallerSeat`]), and
-//! each message under way is a [`Parcel`] with a seat of its own. What a seat shows is data that only proofs see: the
-//! actor's state, and messages that were sent. The rule of the table is that at every moment its seats show a world
-//! that some list of steps leads to, so the theorem over worlds holds of what threads see.
+//! One table is shared by all threads. Each node and each caller has a seat of it ([`NodeSeat`],
+//! [`CallerSeat`]), and each message under way is a [`Parcel`] with a seat of its own. What a seat
+//! shows is data that only proofs see: the actor's state, and messages that were sent. The rule of
+//! the table is that at every moment its seats show a reachable world, so the theorem over worlds
+//! holds of what threads see.
 //!
-//! A [`Registrar`] admits nodes and callers. A node that answered a call says so to its seat, which gives the reply as
-//! a parcel: `let parcel = seat.send(&table, &node, Message::Told(told));`. The caller's seat takes it in with
-//! `seat.receive(&table, parcel)`. A step that is no event of the core from the state that the seat shows is refused
-//! by the prover.
+//! A [`Registrar`] admits nodes and callers. A node that answered a call says so to its seat, which
+//! gives the reply as an envelope: `let parcel = seat.send(&table, &node, Message::Told(told));`.
+//! The caller's seat takes it in with `seat.receive(&table, parcel)`. The prover refuses a step
+//! that is no event of the core from the state that the seat shows.
 //!
-//! Two looks tell of two worlds. To have one world for several callers a [`Witness`] of each is taken,
-//! `seat.witness(&table)`, from whichever thread; they are joined, and the last one looks.
+//! Each look proves something of one world; two looks need not be of the same run. To prove
+//! something of several callers in one world, take a [`Witness`] of each by `seat.witness(&table)`,
+//! on any thread, join them, and let the last one look.
 #![tactic(auto)]
 
 mod actor_seat;

@@ -1,4 +1,4 @@
-//! The kinds of step of the table. These types are for proofs alone: no value of them is made.
+//! The kinds of step of the table. These types are for proofs alone: no value of them exists.
 
 use crate::event::Event;
 use crate::view::View;
@@ -17,7 +17,7 @@ impl<E: Event> Play<u8, View> for Local<E> {
     ghost then = { λ step me found new. new ≡ (changed E.actor me.0, me.1) };
 }
 
-/// A look, which tells that what the seat shows is true of a world.
+/// A look, which proves that what the seat shows is true of some world.
 pub struct Look;
 
 impl Play<u8, View> for Look {
@@ -56,7 +56,7 @@ impl<E: Event> Split<View> for Admit<E> {
     ghost right = { λ v. Shown E.actor [] };
 }
 
-/// A witness of nobody, with a seat of its own.
+/// A new witness of no caller, with a seat of its own.
 pub struct Attend;
 
 impl Play<u8, View> for Attend {
@@ -66,7 +66,7 @@ impl Play<u8, View> for Attend {
     ghost then = { λ step me found new. new ≡ (Witnessed [], []) };
 }
 
-/// What a caller's seat shows goes to a witness, and stays.
+/// A copy of what a caller's seat shows, for a witness.
 pub struct Testify;
 
 impl Split<View> for Testify {
@@ -89,7 +89,7 @@ impl Join<View> for Gather {
     ghost spent = { Spent };
 }
 
-/// A message that was sent comes to an actor.
+/// An actor takes in a message that was sent.
 pub struct Receive;
 
 impl Join<View> for Receive {

@@ -2,7 +2,8 @@
 
 use std::marker::Brand;
 
-/// Which table it is, and how many nodes and callers it is for. The user of a table picks it, by a call with `Brand`.
+/// Which table it is, and how many nodes and callers it has room for. The user of a table picks it
+/// at a call with `Brand`.
 pub trait Naming {
     ghost use Rattle.chord_table.specs.Views.{Name};
 

@@ -32,7 +32,7 @@ impl<J: Naming> Model for NodeSeat<J> {
 }
 
 impl<J: Naming> NodeSeat<J> {
-    /// The node did an event that sends nothing, or whose message is lost.
+    /// Records an event of the node that sends nothing, or whose message is lost.
     pub fn local<S: EntryStore>(&mut self, table: &Shared<J>, after: &Node<S>)
         requires event { (sent : Option Content) × MayAct self.old.node self.old.messages after.now sent }
         ensures { self.new ≡ record self.old { node = after.now } }
@@ -40,7 +40,7 @@ impl<J: Naming> NodeSeat<J> {
         self.seat.local::<Brand, Node<S>>(table, after);
     }
 
-    /// The node did an event, and its message goes out.
+    /// Records an event of the node, and sends its message.
     pub fn send<S: EntryStore>(
         &mut self,
         table: &Shared<J>,
@@ -54,7 +54,7 @@ impl<J: Naming> NodeSeat<J> {
         self.seat.send::<Brand, Node<S>>(table, after, message)
     }
 
-    /// A message comes to the node.
+    /// Takes in a message for the node.
     pub fn receive(&mut self, table: &Shared<J>, parcel: Parcel<J>) -> Message
         ensures message { result ≡ parcel }
         ensures seat { self.new ≡ record self.old { messages = self.old.messages ++ parcel ∷ [] } }
@@ -62,7 +62,8 @@ impl<J: Naming> NodeSeat<J> {
         self.seat.receive(table, parcel)
     }
 
-    /// What the seat shows is true of a world that some steps lead to, and so the theorem holds there.
+    /// Proves that what the seat shows is true of some reachable world, for which the theorem
+    /// holds.
     pub fn look(&mut self, table: &Shared<J>)
         ensures same { self.new ≡ self.old }
         ensures shown { NodeShown self.old }

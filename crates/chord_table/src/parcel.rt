@@ -1,4 +1,4 @@
-//! Messages under way.
+//! Envelopes of messages under way.
 ghost use Rattle.std.specs.Prelude.{◌≡◌};
 
 use crate::naming::Naming;

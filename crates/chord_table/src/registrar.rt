@@ -1,4 +1,4 @@
-//! Who is admitted.
+//! The registrar, which admits nodes and callers.
 ghost use Rattle.std.specs.Prelude.{◌≡◌, ◌<◌, ◌≤◌, ◌++◌, [], ◌∷◌, IfOk};
 ghost use Rattle.chord_caller.specs.Answers.{new_caller};
 ghost use Rattle.chord_table.specs.Views.{MayEnter, MayFound, MayOpen, with_number, word_of};
@@ -39,7 +39,8 @@ impl<J: Naming> Model for Registrar<J> {
 }
 
 impl Registrar<Brand> {
-    /// A table with a word for each node and each caller, some node at least. Too many of them count as out of memory.
+    /// A table with a word for each of `slots` nodes, one at least, and of `callers` callers. More
+    /// than 2^64 - 1 of them together count as out of memory.
     pub fn open(alloc: Global, slots: usize, callers: usize) -> Result<BlankTable, AllocError>
         requires some { 1 ≤ slots }
         ensures { IfOk result (λ blank. (blank.slots ≡ slots) × (blank.callers ≡ callers)) }
@@ -59,7 +60,7 @@ impl Registrar<Brand> {
 }
 
 impl<J: Naming> Registrar<J> {
-    /// A new node enters, and its seat shows it.
+    /// Admits a new node, and gives the seat that shows it.
     pub fn admit_node<S: EntryStore>(
         &mut self,
         table: &Shared<J>,
@@ -76,7 +77,7 @@ impl<J: Naming> Registrar<J> {
         NodeSeat { seat }
     }
 
-    /// A new caller enters, and its seat shows it.
+    /// Admits a new caller, and gives the seat that shows it.
     pub fn admit_caller(&mut self, table: &Shared<J>, no: u64, core: &CallerCore) -> CallerSeat<J>
         requires own { no ≡ core.now.number }
         requires place { no < J.name.callers }
@@ -89,7 +90,7 @@ impl<J: Naming> Registrar<J> {
         CallerSeat { seat }
     }
 
-    /// A new caller of this number and window enters, and its seat shows it.
+    /// Admits a new caller of this number and window, and gives the seat that shows it.
     pub fn open_caller(&mut self, table: &Shared<J>, no: u64, window: u64) -> CallerSeat<J>
         requires place { no < J.name.callers }
         requires may { MayOpen self.old.callers (new_caller no window) }
@@ -102,7 +103,8 @@ impl<J: Naming> Registrar<J> {
         CallerSeat { seat }
     }
 
-    /// The picked actor enters. The reference is there for the pick to name it.
+    /// Admits the actor that the proof names by `E.actor`; `actor` is passed only so that the proof
+    /// can refer to it.
     fn admit<E: Event, A>(&mut self, table: &Shared<J>, word: usize, actor: &A) -> ActorSeat<J>
         requires own { word ≡ word_of J.name E.actor }
         requires word { word < J.name.table.words }

@@ -2,7 +2,7 @@
 
 use std::marker::Model;
 
-/// What a seat shows. It is for proofs alone: no value of it is made.
+/// What a seat shows. It is for proofs alone: no value of it exists.
 pub struct View;
 
 impl Model for View {

@@ -10,8 +10,7 @@ use atomic_table::Seat;
 use chord_model::laws;
 use std::marker::{Model, PhantomData};
 
-/// What is known of callers, each as it was when its witness was taken. Contracts see these callers, in the order that
-/// they were joined.
+/// Callers, each as it was when its witness was taken. Contracts see them in the order joined.
 #[derive(Drop)]
 pub struct Witness<J: Naming> {
     pub(crate) seat: Seat<u8, View>,
@@ -43,7 +42,7 @@ impl<J: Naming> Witness<J> {
         }
     }
 
-    /// The other's callers come behind its own.
+    /// Appends the other's callers.
     pub fn join(&mut self, table: &Shared<J>, other: Witness<J>)
         ensures { self.new ≡ self.old ++ other }
     {
@@ -51,8 +50,8 @@ impl<J: Naming> Witness<J> {
         table.table.shared.join_seat::<Gather>(&mut self.seat, seat);
     }
 
-    /// In one world all that these callers took stands in one legal history, each call once and after what its own
-    /// caller had seen, and each identifier has one holder.
+    /// Proves of one world that all that these callers took is in one legal history, each call once
+    /// and after what its own caller had seen, and that each identifier has one holder.
     pub fn look(&mut self, table: &Shared<J>)
         ensures same { self.new ≡ self.old }
         ensures shown { WitnessShown self.old }

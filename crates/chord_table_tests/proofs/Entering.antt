@@ -1,4 +1,4 @@
--- A caller enters where there is none.
+-- A caller may be admitted to a table without callers.
 use Rattle.std.proofs.Common.{◌≡◌, ◌∙◌, ℕ, List, [], refl, sym, ap, subst, arith, Contains}
 use Rattle.chord_caller.specs.Answers.{new_caller}
 use Rattle.chord_caller.specs.Caller.{Caller}

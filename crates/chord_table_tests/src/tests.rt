@@ -26,7 +26,7 @@ fn insert(alloc: Global) -> Result<Request, AllocError> {
     Request::insert(alloc, b"abc", b"x")
 }
 
-/// Whether it is the first call of caller 0, to insert `x` under `abc`.
+/// Checks that it is the first call of caller 0, to insert `x` under `abc`.
 fn is_first_call(message: &Message) -> bool {
     let Message::Ask(ask) = message else {
         return false;
@@ -38,7 +38,7 @@ fn is_first_call(message: &Message) -> bool {
     sent && key.as_slice() == b"abc".as_slice() && value.as_slice() == b"x".as_slice()
 }
 
-/// The caller submits the request, and its call goes out.
+/// The caller submits the request, and the seat sends its call.
 fn ask<J: Naming>(
     table: &Shared<J>,
     core: &mut CallerCore,
@@ -52,7 +52,7 @@ fn ask<J: Naming>(
     Ok(seat.send(table, core, Message::Ask(ask)))
 }
 
-/// The call that a message is.
+/// The call in a message.
 fn call_in(message: Message) -> Result<Ask, Fail>
     ensures { IfOk result (λ ask. message ≡ AskMessage ask) }
 {
@@ -65,7 +65,7 @@ fn call_in(message: Message) -> Result<Ask, Fail>
     }
 }
 
-/// What the node tells where it does the call.
+/// The reply of the node to a call that it does.
 fn told_by<S: EntryStore>(node: &mut Node<S>, ask: Ask) -> Result<Told, Fail>
     ensures { IfOk result (λ told. AskSteps ask node.old (Ok (ToldAnswer told)) node.new) }
 {
@@ -82,7 +82,7 @@ fn told_by<S: EntryStore>(node: &mut Node<S>, ask: Ask) -> Result<Told, Fail>
     }
 }
 
-/// The node does the call that comes, and its reply goes out.
+/// The node does the call in an envelope, and the seat sends its reply.
 fn reply<J: Naming, S: EntryStore>(
     table: &Shared<J>,
     node: &mut Node<S>,
@@ -96,7 +96,7 @@ fn reply<J: Naming, S: EntryStore>(
     Ok(seat.send(table, node, Message::Told(told)))
 }
 
-/// The first node of a ring, under this number.
+/// The first node of a ring, with this number.
 fn founded<S: EntryStore>(alloc: Global, no: u64, store: S) -> Result<Node<S>, Fail>
     requires vacant { S.content store ≡ [] }
     ensures { IfOk result (λ node. node ≡ founder (alone (record { no = no; id = record { number = 5 } }) 3) (S.limit store)) }
@@ -111,7 +111,7 @@ fn founded<S: EntryStore>(alloc: Global, no: u64, store: S) -> Result<Node<S>, F
     }
 }
 
-/// The caller takes the reply that comes.
+/// The caller takes the reply in an envelope.
 fn take<J: Naming>(
     table: &Shared<J>,
     core: &mut CallerCore,
@@ -128,7 +128,7 @@ fn take<J: Naming>(
     Ok(heard)
 }
 
-/// How many replies the caller took that say added.
+/// How many replies Added the caller took.
 fn added_replies(core: &CallerCore) -> usize {
     core.mine()
         .iter()
@@ -136,8 +136,8 @@ fn added_replies(core: &CallerCore) -> usize {
         .count()
 }
 
-/// A caller's call comes to a node, and the reply to it comes to the caller: whether the call was the first one, what
-/// the caller heard, and how many replies it has that say added.
+/// A caller's call goes to a node, and its reply to the caller. Gives whether the call was the
+/// first one, what the caller heard, and how many replies Added it has.
 fn hears<J: Naming, S: EntryStore>(
     alloc: Global,
     table: &Shared<J>,
@@ -158,7 +158,7 @@ fn hears<J: Naming, S: EntryStore>(
     Ok((is_first, heard, added_replies(core)))
 }
 
-/// The same at a node and with a caller that enter for it.
+/// Admits a node with this store and a caller for that, and gives the same three results.
 fn is_answered<J: Naming, S: EntryStore>(
     alloc: Global,
     blank: BlankTable,
@@ -184,7 +184,7 @@ fn is_answered<J: Naming, S: EntryStore>(
     heard
 }
 
-/// The same over a boxed store.
+/// `is_answered` with a boxed store.
 fn is_answered_from_a_box<J: Naming>(
     alloc: Global,
     blank: BlankTable,
@@ -208,7 +208,7 @@ fn a_caller_is_answered(rt: HostRuntime) -> Result<(), Fail> {
     Ok(())
 }
 
-/// Whether the message that a node takes in is the call that was sent.
+/// Checks that the message that a node takes in is the call that was sent.
 fn comes<J: Naming>(
     alloc: Global,
     table: &Shared<J>,
@@ -225,7 +225,7 @@ fn comes<J: Naming>(
     Ok(is_first)
 }
 
-/// The same at a node and with a caller that enter for it.
+/// Admits a node and a caller for that check, and gives its result.
 fn comes_as_it_was_sent<J: Naming>(alloc: Global, blank: BlankTable) -> Result<bool, Fail>
     requires name { blank ≡ J.name }
     requires slots { blank.slots ≡ 2 }
@@ -253,7 +253,7 @@ fn a_call_comes_as_it_was_sent(rt: HostRuntime) -> Result<(), Fail> {
     Ok(())
 }
 
-/// A node enters beside another, and does an event of its own.
+/// Admits a node beside another, and records an event of it.
 fn enters_later<J: Naming>(alloc: Global, blank: BlankTable) -> Result<(), Fail>
     requires name { blank ≡ J.name }
     requires slots { blank.slots ≡ 2 }

@@ -22,7 +22,7 @@ use Rattle.chord_wire.proofs.AnswerLaws.{answer_takes, status_again, fault_again
 use Rattle.chord_wire.proofs.FaultLaws.{Fails, fails_ok, fails_err, fails_if, fails_then, fails_so, number_fails, value_fails, broke, body_of, fields_fit, body_there, head_in, no_body, ok_then, err_not, err_is, length_fault}
 use Rattle.chord_wire.proofs.FaultLaws.Broke.{First, Then}
 
--- ---- what stands behind the number fails as a value
+-- ---- the bytes after the number fail as a value
 
 known_fails : {A : Type 0} (d : WireFault) (o : Option A) → Fails d (or_fault d o)
 known_fails d None = fails_err d
@@ -129,7 +129,7 @@ trailing_reads : (kind number : ℕ) (fields rest : List ℕ) (a : Answer) → n
 unfolding answer_fields
 trailing_reads kind number fields rest a fits h some = rw (number_again w64 (2 ^ 64) wide64 (fault BadLength 0) number fields fits, h, some) refl
 
--- what is read begins the fields
+-- the fields begin with the answer that is read
 begun : {bytes : List ℕ} (head : AnswerHead bytes) (x : Answer × List ℕ) → IsKind head.op → IsBytes bytes → answer_at head.op head.number head.fields ≡ Ok x → BeginsWithAnswer head x.0 x.1
 begun head x known fits e =
     let t = answer_takes head.op head.number head.fields x known (fields_fit head fits) e in

@@ -133,7 +133,7 @@ remove_status status reply =
     case_of (StatusTaken 131 status) status 0 Absent _ reply (λ e. (one_byte 0 status e, refl, tt))
     (case_of (StatusTaken 131 status) status 1 Removed None reply (λ e. (one_byte 1 status e, refl, tt)) (λ e. absurd (no_reply reply e)))
 
--- ---- what stands behind the number
+-- ---- the bytes after the number
 
 abbrev pub FieldsFit : Answer → Type 0
 FieldsFit (answer.Reply number reply) = IsReply reply
@@ -142,7 +142,7 @@ FieldsFit (answer.Fault number code) = code ≢ Memory
 abbrev pub AnswerTaken : ℕ → ℕ → List ℕ → (Answer × List ℕ) → Type 0
 AnswerTaken kind number bytes x = Takes bytes (fields_of x.0) x.1 × (kind_of x.0 ≡ kind) × (number_of x.0 ≡ number) × FieldsFit x.0
 
--- what an option gave
+-- the value of an option
 given_ok : {X : Type 0} (f : WireFault) (o : Option X) (x : X) → or_fault f o ≡ Ok x → o ≡ Some x
 given_ok f None x e = absurd cc
 given_ok f (Some y) x e = ap there_is (ok_is y x e)
@@ -349,7 +349,7 @@ spelled_is_taken (Err f) old new taken a rest fits e =
       | inr out ↦ inr (ap (λ (x : WireFault). Err x) out.0)
     ]
 
--- ---- what is decided stays so
+-- ---- what is decided does not change
 
 abbrev Body : Type 0
 Body = Option (List ℕ × List ℕ)
@@ -368,7 +368,7 @@ decided_before (Ok (Some body)) h = tt
 decided_before (Ok None) h = absurd h
 decided_before (Err e) h = tt
 
--- more bytes change nothing of what is decided
+-- more bytes do not change what is decided
 pub answer_stays : (bytes more : List ℕ) → IsDecided (next_answer bytes) → next_answer (bytes ++ more) ≡ with_more more (next_answer bytes)
 unfolding next_answer
 answer_stays bytes more h =

@@ -36,7 +36,7 @@ pub fails_then : {A B : Type 0} (d : WireFault) (r : Result A WireFault) (f : A 
 fails_then d (Ok x) f g h = h x
 fails_then d (Err c) f g h = λ e i. g e (let same : c ≡ e = cc in ap (λ (w : WireFault). Err w) same)
 
--- what does not give a value fails
+-- a reading that gives no value gives a fault
 pub fails_so : {A : Type 0} (d : WireFault) (r : Result A WireFault) → Fails d r → ((x : A) → r ≡ Ok x → ⊥) → r ≡ Err d
 fails_so d (Ok x) f none = absurd (none x refl)
 fails_so d (Err e) f none = ap (λ (w : WireFault). Err w) (f e refl)
@@ -71,7 +71,7 @@ value_fails number bytes =
 abbrev pub failed : {A : Type 0} → WireFault → Result A WireFault
 failed e = Err e
 
--- the first step failed, or the second did over what the first gave
+-- the first step failed, or the second did on the first one's result
 pub data Broke {A B : Type 0} (r : Result A WireFault) (f : A → Result B WireFault) (e : WireFault) : Type 0 where
   First : r ≡ Err e → Broke r f e
   Then : (x : A) → r ≡ Ok x → f x ≡ Err e → Broke r f e
@@ -88,7 +88,7 @@ body_of head = head.version ∷ head.op ∷ to_be_bytes w64 head.number ++ head.
 length_body : {least most : ℕ} {bytes : List ℕ} (head : Head least most bytes) → length (body_of head) ≡ 10 + length head.fields
 length_body head = omega (arith, length-append (to_be_bytes w64 head.number) head.fields)
 
--- what stands in a frame are bytes
+-- the body of a frame of bytes consists of bytes
 body_fits : (bytes body rest : List ℕ) → bytes ≡ frame body ++ rest → IsBytes bytes → IsBytes body
 body_fits bytes body rest front fits =
     IsBytes-front body rest (IsBytes-back (to_be_bytes w32 (length body)) (body ++ rest) (subst IsBytes (front ∙ append_assoc (to_be_bytes w32 (length body)) body rest) fits))

@@ -1,4 +1,4 @@
--- A length and the fields behind it are a frame, where the length is theirs.
+-- A length and then fields are a frame, if the length is that of the fields.
 use Rattle.std.proofs.Common.{◌≡◌, ℕ, ◌+◌, List, ◌++◌, length, sym, ap, ◌∙◌, append_assoc}
 use Rattle.std.specs.Int.{w32, to_be_bytes}
 use Rattle.std.proofs.lemmas.List.{length-append}

@@ -20,7 +20,7 @@ value_in pair = pair.value
 abbrev under : List ℕ → Pair → Bool
 under key pair = bytes_eq pair.key key
 
--- what holds of the first value, where it is under the key, and of the others
+-- a property of the first value, if it is under the key, and of the others
 by_key : (P : List (List ℕ) → Type 0) (key : List ℕ) (first : Pair) (rest : List Pair) → (bytes_eq first.key key ≡ true → P (first.value ∷ values_at key rest)) → P (values_at key rest) → P (values_at key (first ∷ rest))
 by_key P key first rest here other =
     let go : (b : Bool) → bytes_eq first.key key ≡ b → P (map value_in (cond b (first ∷ filter (under key) rest) (filter (under key) rest))) = λ b. elim b as (λ v. bytes_eq first.key key ≡ v → P (map value_in (cond v (first ∷ filter (under key) rest) (filter (under key) rest)))) [

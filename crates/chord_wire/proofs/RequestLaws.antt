@@ -1,4 +1,4 @@
--- What a whole frame asks is what it spells, and a spelling is read again, whatever follows it.
+-- A whole frame asks what it spells, and a spelling is read again, whatever bytes follow.
 use Rattle.std.proofs.Common.{◌≡◌, ℕ, ◌+◌, ◌-◌, ◌^◌, ◌<◌, ◌≤◌, ◌&&◌, ◌||◌, not, Bool, true, false, cond, eqb, ltb, List, [], ◌∷◌, ◌++◌, length, take, drop, Option, Some, None, Result, Ok, Err, refl, sym, ap, subst, ◌∙◌, append_assoc, arith, ◌⊎◌, inl, inr}
 use Rattle.std.specs.Prelude.{IfOk, IfSome}
 use Rattle.std.specs.Int.{w32, w64, to_be_bytes, from_be_bytes}
@@ -17,11 +17,11 @@ use Rattle.chord_wire.specs.Reading.{◌>>=◌, number_at, floor_at, operands_at
 use Rattle.chord_wire.proofs.Steps.{IsBytes-rest, IsBytes-drop, IsBytes-front, IsBytes-back, bind_ok, guard_then, guard_on, Takes, Takes-then, wide32, wide64, number_takes, number_again}
 use Rattle.chord_wire.proofs.FieldLaws.{floor_takes, floor_again, operands_take, operands_again}
 
--- nothing stands behind the text
+-- nothing comes after the text
 pub ends : (bytes text rest : List ℕ) → bytes ≡ text ++ rest → rest ≡ [] → bytes ≡ text
 ends bytes text rest parts nothing = parts ∙ ap (λ (w : List ℕ). text ++ w) nothing ∙ append-nil text
 
--- what stands behind the operation
+-- the bytes after the operation
 abbrev tail_of : WireRequest → List ℕ
 tail_of r = to_be_bytes w64 r.number ++ (floor_field r.version r.floor ++ operands r.request)
 
@@ -130,7 +130,7 @@ body_takes least most bytes x fits e =
     let made : BodyFound least most bytes (take n behind) (drop n behind) = record { parts = whole; low = omega (arith, len, low); high = omega (arith, len, high) } in
     subst (λ (y : List ℕ × List ℕ). BodyFound least most bytes y.0 y.1) (some_is _ _ c.1) made
 
--- what stands behind the body is the end of the bytes
+-- the bytes after the body are the end of the bytes
 pub rest_is_end : (least most : ℕ) (bytes : List ℕ) (x : List ℕ × List ℕ) → IsBytes bytes → body_at least most bytes ≡ Ok (Some x) → (length x.1 ≤ length bytes) × (drop (length bytes - length x.1) bytes ≡ x.1)
 rest_is_end least most bytes x fits e =
     let parts = (body_takes least most bytes x fits e).parts.parts in
@@ -237,7 +237,7 @@ spelled_is_taken (Err f) old new taken r rest fits e =
       | inr out ↦ inr (ap (λ (g : WireFault). Err g) out.0)
     ]
 
--- ---- what is decided stays so
+-- ---- what is decided does not change
 
 longer : (n : ℕ) (xs ys : List ℕ) → ltb (length xs) n ≡ false → ltb (length (xs ++ ys)) n ≡ false
 longer n xs ys h = le-ltb _ _ (omega (arith, ltb-false _ _ h, length-append xs ys))
@@ -278,7 +278,7 @@ decided_before (Ok (Some body)) h = tt
 decided_before (Ok None) h = absurd h
 decided_before (Err e) h = tt
 
--- more bytes change nothing of what is decided
+-- more bytes do not change what is decided
 pub next_stays : (bytes more : List ℕ) → IsDecided (next_request bytes) → next_request (bytes ++ more) ≡ with_more more (next_request bytes)
 unfolding next_request
 next_stays bytes more h =

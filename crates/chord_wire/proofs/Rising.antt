@@ -1,4 +1,4 @@
--- Values each above the one before are strictly sorted, and the other way round.
+-- Values that are each above the one before are strictly sorted, and the reverse.
 use Rattle.std.proofs.Common.{◌≡◌, ℕ, ◌≤◌, Bool, true, false, not, cond, ltb, leb, ◌||◌, ◌&&◌, List, [], ◌∷◌, length, Option, Some, None, Ordering, Less, Equal, Greater, refl, sym, ap, subst, ◌∙◌, inl, inr}
 use Rattle.std.specs.Prelude.{IsTrue}
 use Rattle.chord_map.specs.declared.reply.Reply.{Reply}

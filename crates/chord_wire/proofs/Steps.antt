@@ -32,17 +32,17 @@ pub bind_ok : {A B : Type 0} (r : Result A WireFault) (f : A → Result B WireFa
 bind_ok (Ok x) f y e = (x, refl, e)
 bind_ok (Err d) f y e = absurd cc
 
--- a test that did not fail, where it fails at true
+-- a test that did not fail, if it fails at true
 pub guard_ok : {A : Type 0} (b : Bool) (d : WireFault) (x y : A) → cond b (Err d) (Ok x) ≡ Ok y → (b ≡ false) × (x ≡ y)
 guard_ok true d x y e = absurd cc
 guard_ok false d x y e = (refl, cc)
 
--- the same, where it fails at false
+-- a test that did not fail, if it fails at false
 pub guard_then : {A : Type 0} (b : Bool) (d : WireFault) (x y : A) → cond b (Ok x) (Err d) ≡ Ok y → (b ≡ true) × (x ≡ y)
 guard_then true d x y e = (refl, cc)
 guard_then false d x y e = absurd cc
 
--- the same before a further step
+-- a test that fails at true, before a further step
 pub guard_on : {A : Type 0} (b : Bool) (d : WireFault) (r : Result A WireFault) (y : A) → cond b (Err d) r ≡ Ok y → (b ≡ false) × (r ≡ Ok y)
 guard_on true d r y e = absurd cc
 guard_on false d r y e = (refl, e)
@@ -53,7 +53,7 @@ done x = Ok x
 pub ok_is : {A : Type 0} (x y : A) → done x ≡ done y → x ≡ y
 ok_is x y e = cc
 
--- what a reader took from the front
+-- what a reader took from the start of the bytes
 pub record Takes (bytes text rest : List ℕ) : Type 0 where
   pub parts : bytes ≡ text ++ rest
   pub rest_fits : IsBytes rest
@@ -108,7 +108,7 @@ number_again w limit wide f n rest lt =
     let long : ltb (length (to_be_bytes w n ++ rest)) (byte_len w) ≡ false = le-ltb _ _ (omega (arith, length-append (to_be_bytes w n) rest)) in
     rw (long, take_at (to_be_bytes w n) rest (byte_len w) len, drop_at (to_be_bytes w n) rest (byte_len w) len, wide.again n lt) refl
 
--- ---- so many bytes
+-- ---- a given number of bytes
 
 pub bytes_take : (refused : Bool) (f : WireFault) (count : ℕ) (bytes text rest : List ℕ) → IsBytes bytes → bytes_at refused f count bytes ≡ Ok (text, rest) → Takes bytes text rest × (length text ≡ count) × (refused ≡ false)
 bytes_take refused f count bytes text rest fits e =

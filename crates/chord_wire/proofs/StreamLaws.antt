@@ -5,7 +5,7 @@ use Rattle.std.proofs.lemmas.List.Concat.{flat_map-cons}
 use Rattle.std.proofs.lemmas.List.{append-nil}
 use Rattle.chord_wire.specs.declared.fault.WireFault.{WireFault}
 
--- what has a frame is read from the front of the bytes
+-- a value that has a frame is read from the start of the bytes
 module _ {X : Type 0} (Fits : X → Type 0) (text : X → List ℕ) (next : List ℕ → Result (Option (X × List ℕ)) WireFault)
     (again : (x : X) (rest : List ℕ) → Fits x → next (text x ++ rest) ≡ Ok (Some (x, rest))) where
   abbrev found : X × List ℕ → Result (Option (X × List ℕ)) WireFault
@@ -14,7 +14,7 @@ module _ {X : Type 0} (Fits : X → Type 0) (text : X → List ℕ) (next : List
   same_found : (x y : X × List ℕ) → found x ≡ found y → x ≡ y
   same_found x y e = cc
 
-  -- the first of some is next
+  -- the first item of a list is next
   first_is_next : (x : X) (xs : List X) (rest : List ℕ) → Fits x → next (flat_map text (x ∷ xs) ++ rest) ≡ Ok (Some (x, flat_map text xs ++ rest))
   first_is_next x xs rest fits =
       ap (λ (bytes : List ℕ). next (bytes ++ rest)) (flat_map-cons text x xs)
@@ -27,7 +27,7 @@ module _ {X : Type 0} (Fits : X → Type 0) (text : X → List ℕ) (next : List
   abbrev pub IsLast : List ℕ → Type 0
   IsLast rest = (x : X) (behind : List ℕ) → next rest ≡ Ok (Some (x, behind)) → ⊥
 
-  -- both begin with one
+  -- both lists begin with the same item
   same_first : (x y : X) (xs ys : List X) (bytes rest rest' : List ℕ) → Said bytes (x ∷ xs) rest → Said bytes (y ∷ ys) rest' → (x ≡ y) × (flat_map text xs ++ rest ≡ flat_map text ys ++ rest')
   same_first x y xs ys bytes rest rest' p q =
       let one = ap next p.1 ∙ first_is_next x xs rest p.0.0 in

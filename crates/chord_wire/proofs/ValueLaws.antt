@@ -8,7 +8,7 @@ use Rattle.chord_wire.specs.Reading.{◌>>=◌, value_at}
 use Rattle.chord_wire.specs.ReadingReplies.{is_above}
 use Rattle.chord_wire.specs.ReadingReplies.{rising_at}
 
--- what was read before, and what is still read
+-- the values read so far, and those still to read
 abbrev pub with_front : List (List ℕ) → Result (List (List ℕ) × List ℕ) WireFault → Result (List (List ℕ) × List ℕ) WireFault
 with_front front read = read >>= λ x. Ok (front ++ x.0, x.1)
 

@@ -1,4 +1,5 @@
--- Which fault a stream of requests, or of answers, has at its front: the table of faults, a line a case. Source: our own.
+-- The table of faults, a line a case: the first fault of a stream of requests, or of answers.
+-- Source: our own.
 use Rattle.std.specs.Prelude.{◌≡◌, ◌≢◌, ◌++◌, ℕ, ◌+◌, ◌<◌, ◌≤◌, ◌^◌, List, [], ◌∷◌, length, ◌⊎◌}
 use Rattle.std.specs.Int.{w32, w64, to_be_bytes}
 use Rattle.chord_map.specs.declared.request.Request.{Request}
@@ -10,8 +11,8 @@ use Rattle.chord_wire.specs.Fault.{fault}
 use Rattle.chord_wire.specs.Spelling.{operation, key_field, value_field, operands, floor_field, frame, HasFloor}
 use Rattle.chord_wire.specs.Replies.{kind_of, number_of, fields_of, IsAnswer}
 
--- the frame at the front, whose body has so many bytes at least and at most: its version, operation and number, what
--- stands behind the number, and what behind the frame
+-- the first frame, with a body of `least` to `most` bytes: its version, operation and number, the
+-- bytes after the number, and the bytes after the frame
 pub record Head (least most : ℕ) (bytes : List ℕ) : Type 0 where
   pub version : ℕ
   pub op : ℕ
@@ -28,14 +29,14 @@ pub record Head (least most : ℕ) (bytes : List ℕ) : Type 0 where
 abbrev pub RequestHead : List ℕ → Type 0
 RequestHead bytes = Head 12 4372 bytes
 
--- its version, and its operation too, are ones that there are
+-- the versions and the operations that exist
 abbrev pub IsVersion : ℕ → Type 0
 IsVersion version = (version ≡ 1) ⊎ (version ≡ 2)
 
 abbrev pub IsKnown : {bytes : List ℕ} → RequestHead bytes → Type 0
 IsKnown head = IsVersion head.version × (1 ≤ head.op) × (head.op ≤ 3)
 
--- the bytes begin with a floor that the version allows, with a key, with a value, and the rest stands behind it
+-- the bytes are a valid floor (a key, a value) and then the rest
 abbrev pub BeginsWithFloor : ℕ → ℕ → List ℕ → ℕ → List ℕ → Type 0
 BeginsWithFloor version number bytes floor rest = (bytes ≡ floor_field version floor ++ rest) × HasFloor version number floor
 
@@ -45,7 +46,7 @@ BeginsWithKey bytes key rest = (bytes ≡ key_field key ++ rest) × IsKey key
 abbrev pub BeginsWithValue : List ℕ → List ℕ → List ℕ → Type 0
 BeginsWithValue bytes value rest = (bytes ≡ value_field value ++ rest) × IsValue value
 
--- the head and the floor are well, and this stands behind them
+-- the head and the floor are valid, and `rest` comes after them
 pub record Floored {bytes : List ℕ} (head : RequestHead bytes) (rest : List ℕ) : Type 0 where
   pub known : IsKnown head
   pub floor : ℕ
@@ -70,11 +71,11 @@ pub data FaultOf (bytes : List ℕ) : WireFault → Type 0 where
 abbrev pub AnswerHead : List ℕ → Type 0
 AnswerHead bytes = Head 11 4098014 bytes
 
--- to an insert or a remove, to a retrieve, or a fault
+-- the kinds of answers: to an insert or a remove, to a retrieve, or a fault
 abbrev pub IsKind : ℕ → Type 0
 IsKind kind = ((kind ≡ 129) ⊎ (kind ≡ 131)) ⊎ ((kind ≡ 130) ⊎ (kind ≡ 255))
 
--- its fields begin with those of this answer, and the rest stands behind them
+-- the frame's fields begin with those of this answer, and the rest comes after them
 pub record BeginsWithAnswer {bytes : List ℕ} (head : AnswerHead bytes) (answer : Answer) (rest : List ℕ) : Type 0 where
   pub kind : kind_of answer ≡ head.op
   pub number : number_of answer ≡ head.number

@@ -1,4 +1,4 @@
--- Reading answers from left to right, with the first fault that is met. Source: our own.
+-- Reading answers from left to right, up to the first fault. Source: our own.
 use Rattle.std.specs.Prelude.{◌≡◌, ℕ, zero, suc, Bool, true, false, not, ◌||◌, List, [], ◌∷◌, length, Option, Some, None, Result, Ok, Err, nat_lt, ◌==◌, if◌then◌else◌, ◌⊎◌, IsOk}
 use Rattle.std.specs.Int.{w32, w64}
 use Rattle.std.specs.Ordering.{nat_cmp, is_lt}
@@ -12,42 +12,42 @@ use Rattle.chord_wire.specs.declared.fault.WireFault.{WireFault}
 use Rattle.chord_wire.specs.Fault.{fault, out_of_memory, code_of}
 use Rattle.chord_wire.specs.Reading.{◌>>=◌, number_at, value_at, body_at}
 
--- what is there, or the fault
+-- the value, or the fault if there is none
 abbrev pub or_fault : {X : Type 0} → WireFault → Option X → Result X WireFault
 or_fault f None = Err f
 or_fault f (Some x) = Ok x
 
--- the reply with this status
+-- the reply of this kind with this status
 abbrev pub status_of : ℕ → ℕ → Option Reply
 status_of kind status =
     if kind == 129 then (if status == 0 then Some Present else (if status == 1 then Some Added else (if status == 2 then Some SetFull else None)))
     else (if status == 0 then Some Absent else (if status == 1 then Some Removed else None))
 
--- a status byte
+-- the reply of a status byte
 unfoldable pub status_at : ℕ → ℕ → List ℕ → Result (Answer × List ℕ) WireFault
 status_at kind number [] = Err (fault BadValue number)
 status_at kind number (status ∷ rest) = do
   reply ← or_fault (fault BadValue number) (status_of kind status)
   Ok (answer.Reply number reply, rest)
 
--- a fault's code
+-- the fault of a code byte
 unfoldable pub code_at : ℕ → List ℕ → Result (Answer × List ℕ) WireFault
 code_at number [] = Err (fault BadValue number)
 code_at number (code ∷ rest) = do
   known ← or_fault (fault BadValue number) (code_of code)
   Ok (answer.Fault number known, rest)
 
--- a value is above the one before, if there is one, in byte order
+-- whether a value is above the one before it, if any, in byte order
 abbrev pub is_above : Option (List ℕ) → List ℕ → Bool
 is_above None value = true
 is_above (Some before) value = is_lt (slice_cmp nat_cmp before value)
 
--- each value has at most 4,096 bytes and is above the one before
+-- whether each value has at most 4,096 bytes and is above the one before it
 abbrev pub rise_from : Option (List ℕ) → List (List ℕ) → Bool
 rise_from before [] = true
 rise_from before (value ∷ values) = if nat_lt 4096 (length value) || not (is_above before value) then false else rise_from (Some value) values
 
--- so many values, each above the one before
+-- `count` values, each above the one before it
 unfoldable pub rising_at : ℕ → Option (List ℕ) → ℕ → List ℕ → Result (List (List ℕ) × List ℕ) WireFault
 rising_at number before zero bytes = Ok ([], bytes)
 rising_at number before (suc count) bytes = do
@@ -64,21 +64,21 @@ values_from number bytes = do
     values ← rising_at number None count.0 count.1
     Ok (answer.Reply number (Values values.0), values.1))
 
--- what stands behind the number
+-- the fields after the number
 unfoldable pub answer_at : ℕ → ℕ → List ℕ → Result (Answer × List ℕ) WireFault
 answer_at kind number bytes = if kind == 130 then values_from number bytes else (if kind == 255 then code_at number bytes else status_at kind number bytes)
 
--- nothing may stand behind the last field
+-- no byte may come after the last field
 abbrev pub ended : ℕ → Result (Answer × List ℕ) WireFault → Result Answer WireFault
 ended number read = read >>= λ x. if length x.1 == 0 then Ok x.0 else Err (fault Trailing number)
 
--- what stands behind the kind
+-- the fields after the kind
 unfoldable pub answer_fields : ℕ → List ℕ → Result Answer WireFault
 answer_fields kind bytes = do
   number ← number_at w64 (fault BadLength 0) bytes
   ended number.0 (answer_at kind number.0 number.1)
 
--- what a whole body answers, or its first fault
+-- the answer of a whole body, or its first fault
 unfoldable pub answer_in : List ℕ → Result Answer WireFault
 answer_in (version ∷ kind ∷ rest) =
     if not (version == 1) then Err (fault BadVersion 0)
@@ -86,28 +86,28 @@ answer_in (version ∷ kind ∷ rest) =
     else answer_fields kind rest)
 answer_in _ = Err (fault BadLength 0)
 
--- what a body that is whole answers
+-- the answer of a whole body
 abbrev pub answer_of_body : Option (List ℕ × List ℕ) → Result (Option (Answer × List ℕ)) WireFault
 answer_of_body None = Ok None
 answer_of_body (Some body) = do
   answer ← answer_in body.0
   Ok (Some (answer, body.1))
 
--- what the next frame answers, and the bytes behind it
+-- the answer of the next frame, and the bytes after it
 unfoldable pub next_answer : List ℕ → Result (Option (Answer × List ℕ)) WireFault
 next_answer bytes = body_at 11 4098014 bytes >>= answer_of_body
 
--- Where reading gives something, so much was read; the value itself is not copied.
+-- If the reading gives a value, this is the rest after it; the value itself is not copied.
 abbrev pub ReadsPast : {X Y : Type 0} → (X → List ℕ) → Result X WireFault → Result (Y × List ℕ) WireFault → Type 0
 ReadsPast {Y = Y} view (Ok rest) read = (y : Y) × (read ≡ Ok (y, view rest))
 ReadsPast view (Err e) read = read ≡ Err e
 
--- what a function returned is what reading gives, unless memory ran out
+-- what a function returned is what the reading gives, unless memory ran out
 abbrev pub Copies : {X Y : Type 0} → (X → Y) → Result X WireFault → Result Y WireFault → Type 0
 Copies view (Ok x) read = read ≡ Ok (view x)
 Copies view (Err e) read = (read ≡ Err e) ⊎ (e ≡ out_of_memory)
 
--- the same, where all faults come before being out of memory
+-- `Copies` for a function that answers every other fault before Memory
 abbrev pub CopiesLast : {X : Type 0} → Result X WireFault → Result X WireFault → Type 0
 CopiesLast (Ok x) read = read ≡ Ok x
 CopiesLast (Err e) read = (read ≡ Err e) ⊎ ((e ≡ out_of_memory) × IsOk read)

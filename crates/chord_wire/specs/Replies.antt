@@ -15,7 +15,7 @@ use Rattle.chord_wire.specs.declared.answer.Answer.TheVariants as answer
 use Rattle.chord_wire.specs.Fault.{code_number}
 use Rattle.chord_wire.specs.Spelling.{value_field}
 
--- replies to inserts, retrieves and removes
+-- the kind of the reply: to an insert, to a retrieve or to a remove
 abbrev pub reply_kind : Reply → ℕ
 reply_kind Added = 129
 reply_kind Present = 129
@@ -51,7 +51,7 @@ pub record AreValues (values : List (List ℕ)) : Type 0 where
   pub each : AllByRecursion IsValue values
   pub rising : IsStrictlySortedBy (slice_cmp nat_cmp) values
 
--- what has a spelling
+-- replies that have a spelling
 abbrev pub IsReply : Reply → Type 0
 IsReply Added = Unit {0}
 IsReply Present = Unit {0}
@@ -60,17 +60,17 @@ IsReply (Values values) = AreValues values
 IsReply Removed = Unit {0}
 IsReply Absent = Unit {0}
 
--- what an answer's frame has
+-- the body of an answer's frame
 abbrev pub answer_body : Answer → List ℕ
 answer_body (answer.Reply number reply) = reply_body number reply
 answer_body (answer.Fault number code) = fault_body number code
 
--- what has a spelling: being out of memory stands in no frame
+-- answers that have a spelling; no frame says that memory ran out
 abbrev pub IsAnswer : Answer → Type 0
 IsAnswer (answer.Reply number reply) = (number < 2 ^ 64) × IsReply reply
 IsAnswer (answer.Fault number code) = (number < 2 ^ 64) × (code ≢ Memory)
 
--- which answer it is, the number of its request, and what stands behind that
+-- the kind of an answer; its number; its fields
 abbrev pub kind_of : Answer → ℕ
 kind_of (answer.Reply number reply) = reply_kind reply
 kind_of (answer.Fault number code) = 255

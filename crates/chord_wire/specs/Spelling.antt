@@ -20,7 +20,7 @@ key_field key = length key ∷ key
 abbrev pub value_field : List ℕ → List ℕ
 value_field value = to_be_bytes w16 (length value) ++ value
 
--- what the operation is about
+-- the fields of the operation
 abbrev pub operands : Request → List ℕ
 operands (Insert key value) = key_field key ++ value_field value
 operands (Retrieve key) = key_field key
@@ -38,15 +38,15 @@ request_body r = r.version ∷ operation r.request ∷ to_be_bytes w64 r.number 
 abbrev pub frame : List ℕ → List ℕ
 frame body = to_be_bytes w32 (length body) ++ body
 
--- each number is a byte
+-- each element is a byte
 abbrev pub IsBytes : List ℕ → Type 0
 IsBytes bytes = (i : ℕ) → slice_index bytes i < 256
 
--- In version 1 the floor is the number before, or 0. In version 2 the number is 1 to 16 above it.
+-- Version 1: the floor is number - 1, at least 0. Version 2: the number is 1 to 16 above the floor.
 abbrev pub HasFloor : ℕ → ℕ → ℕ → Type 0
 HasFloor version number floor = ((version ≡ 1) × (floor ≡ number - 1)) ⊎ ((version ≡ 2) × (floor < number) × (number ≤ floor + 16))
 
--- what has a spelling
+-- requests that have a spelling
 pub record IsWireRequest (r : WireRequest) : Type 0 where
   pub number : r.number < 2 ^ 64
   pub floor : HasFloor r.version r.number r.floor

@@ -16,20 +16,20 @@ request_frame r = frame (request_body r)
 abbrev pub answer_frame : Answer → List ℕ
 answer_frame a = frame (answer_body a)
 
--- the bytes spell these requests, and behind them stands the rest
+-- the bytes are the frames of these requests, and then the rest
 pub record Spells (bytes : List ℕ) (requests : List WireRequest) (rest : List ℕ) : Type 0 where
   pub each : AllByRecursion IsWireRequest requests
   pub parts : bytes ≡ flat_map request_frame requests ++ rest
 
--- the bytes spell these answers, and behind them stands the rest
+-- the bytes are the frames of these answers, and then the rest
 pub record SpellsAnswers (bytes : List ℕ) (answers : List Answer) (rest : List ℕ) : Type 0 where
   pub each : AllByRecursion IsAnswer answers
   pub parts : bytes ≡ flat_map answer_frame answers ++ rest
 
--- no request is next: a fault is, or nothing is decided
+-- the rest begins with no whole request: it has a fault, or more bytes must come
 abbrev pub HasNoNext : List ℕ → Type 0
 HasNoNext rest = (r : WireRequest) (behind : List ℕ) → next_request rest ≡ Ok (Some (r, behind)) → ⊥
 
--- no answer is next: a fault is, or nothing is decided
+-- the rest begins with no whole answer: it has a fault, or more bytes must come
 abbrev pub HasNoNextAnswer : List ℕ → Type 0
 HasNoNextAnswer rest = (a : Answer) (behind : List ℕ) → next_answer rest ≡ Ok (Some (a, behind)) → ⊥

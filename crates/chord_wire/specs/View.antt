@@ -1,4 +1,4 @@
--- A request that lies in a frame, as the request that it says. Source: our own.
+-- A request that borrows its frame's bytes, as the request that it spells. Source: our own.
 use Rattle.chord_map.specs.declared.request.Request.{Request}
 use Rattle.chord_map.specs.declared.request.Request.TheVariants as whole
 use Rattle.chord_wire.specs.declared.request.RequestView.{RequestView}
@@ -12,6 +12,6 @@ request_of (lent.Insert key value) = whole.Insert key.now value.now
 request_of (lent.Retrieve key) = whole.Retrieve key.now
 request_of (lent.Remove key value) = whole.Remove key.now value.now
 
--- the same with version, number and floor
+-- the request with its version, number and floor
 abbrev pub wire_request : BodyView → WireRequest
 wire_request b = record { version = b.version; number = b.number; floor = b.floor; request = request_of b.request }

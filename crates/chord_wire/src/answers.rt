@@ -1,4 +1,4 @@
-//! A stream of answers, in whatever pieces it comes.
+//! A stream of answers, in pieces of any length.
 ghost use Rattle.std.specs.Prelude.{◌≡◌, ◌⊎◌, List, ℕ, IfOk, IfSome, ◌++◌, [], length, OnOk, OnErr, IsOkUnless};
 ghost use Rattle.chord_wire.specs.Fault.{out_of_memory};
 ghost use Rattle.chord_wire.specs.Reading.{TakesNext, FindsNext};
@@ -16,7 +16,7 @@ use crate::stream::Stream;
 use std::alloc::Global;
 use std::marker::Model;
 
-// The next answer, and how many bytes its frame takes.
+// The next answer, and the length of its frame.
 #[tactic(auto, unfolding(crate::specs::ReadingReplies::next_answer))]
 fn next_answer(alloc: Global, bytes: &[u8]) -> Result<Option<(Answer, usize)>, WireFault>
     ensures bytes { IsBytes bytes.now }
@@ -29,7 +29,7 @@ fn next_answer(alloc: Global, bytes: &[u8]) -> Result<Option<(Answer, usize)>, W
     Ok(Some((answer, bytes.len() - rest.len())))
 }
 
-/// The bytes fed and not yet consumed, which are what a contract sees.
+/// The bytes fed and not consumed yet; contracts see just these.
 #[derive(Debug, Drop)]
 pub struct Answers {
     stream: Stream,
@@ -69,14 +69,14 @@ impl Answers {
         Ok(())
     }
 
-    /// The next answer, where all of its frame was fed.
+    /// The next answer, if all of its frame was fed.
     pub fn next(&mut self) -> Result<Option<Answer>, WireFault>
-        // What is read is spelled so, and its frame is consumed.
+        // An answer comes from its one spelling, and its frame is consumed.
         ensures found { IfOk result (λ next. IfSome next (λ a. IsAnswer a × (self.old ≡ frame (answer_body a) ++ self.new))) }
-        // What is spelled so is read, unless memory runs out.
+        // An answer that the bytes spell is found, unless memory runs out.
         ensures only { (a : Answer) (rest : List ℕ) → IsAnswer a → self.old ≡ frame (answer_body a) ++ rest
             → (result ≡ Ok (Some a)) ⊎ (result ≡ Err out_of_memory) }
-        // Which fault it is, and when nothing is decided yet.
+        // Which fault it is, and when more bytes must come.
         ensures exact { TakesNext next_answer self.old result self.new }
     {
         self.take()

@@ -1,4 +1,4 @@
-//! The bytes that frames use, and their limits.
+//! The codes in frames, and the limits of frames.
 
 /// Requests without a floor field, and all answers.
 pub const VERSION_1: u8 = 1;
@@ -23,7 +23,7 @@ pub const REMOVED: u8 = 131;
 
 pub const FAULT: u8 = 255;
 
-/// Nothing was changed: the value was there already, or was not there.
+/// Nothing changed: the value was there already, or was not there.
 pub const UNCHANGED: u8 = 0;
 
 /// The value was added, or removed.
@@ -44,7 +44,7 @@ pub const BAD_VALUE: u8 = 5;
 
 pub const TRAILING: u8 = 6;
 
-/// Out of memory, which stands in no frame.
+/// Memory ran out; no frame has this code.
 pub const MEMORY: u8 = 7;
 
 pub const NUMBER_REUSED: u8 = 8;

@@ -1,4 +1,4 @@
-//! What is wrong with a frame, or with what it asks.
+//! What is wrong with a frame, or with its request.
 ghost use Rattle.std.specs.Prelude.{◌≡◌};
 ghost use Rattle.chord_wire.specs.Fault.{out_of_memory, code_number, code_of};
 
@@ -36,7 +36,7 @@ pub enum FaultCode {
 }
 
 impl FaultCode {
-    /// The fault with this code in a frame. Out of memory stands in none.
+    /// The fault with this code in a frame; none for the code of Memory.
     pub fn from_number(number: u8) -> Option<FaultCode>
         ensures { result ≡ code_of number }
     {
@@ -56,7 +56,7 @@ impl FaultCode {
         }
     }
 
-    /// The code in a frame.
+    /// The code of the fault in a frame.
     pub fn to_number(self) -> u8
         ensures { result ≡ code_number self }
     {
@@ -77,7 +77,7 @@ impl FaultCode {
     }
 }
 
-/// A fault, and the number of the request that has it, or 0 where none is known.
+/// A fault, and the number of its request, or 0 if that is not known.
 #[derive(Clone, Copy, Debug, PartialEq, Eq, Error)]
 #[error("request {number}: {code}")]
 pub struct WireFault {

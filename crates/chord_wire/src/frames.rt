@@ -1,4 +1,4 @@
-//! A stream of requests, in whatever pieces it comes.
+//! A stream of requests, in pieces of any length.
 ghost use Rattle.std.specs.Prelude.{◌≡◌, ◌++◌, ◌⊎◌, List, ℕ, [], length, IfOk, IfSome, OnOk, OnErr, IsOkUnless};
 ghost use Rattle.chord_wire.specs.Fault.{out_of_memory};
 ghost use Rattle.chord_wire.specs.Spelling.{IsBytes, IsWireRequest, frame, request_body};
@@ -14,7 +14,7 @@ use crate::stream::Stream;
 use std::alloc::Global;
 use std::marker::Model;
 
-/// The bytes fed and not yet consumed, which are what a contract sees.
+/// The bytes fed and not consumed yet; contracts see just these.
 #[derive(Debug, Drop)]
 pub struct Frames {
     stream: Stream,
@@ -54,14 +54,14 @@ impl Frames {
         Ok(())
     }
 
-    /// The next request, where all of its frame was fed.
+    /// The next request, if all of its frame was fed.
     pub fn next(&mut self) -> Result<Option<WireRequest>, WireFault>
-        // What is read is spelled so, and its frame is consumed.
+        // A request comes from its one spelling, and its frame is consumed.
         ensures found { IfOk result (λ next. IfSome next (λ r. IsWireRequest r × (self.old ≡ frame (request_body r) ++ self.new))) }
-        // What is spelled so is read, unless memory runs out.
+        // A request that the bytes spell is found, unless memory runs out.
         ensures only { (r : WireRequest) (rest : List ℕ) → IsWireRequest r → self.old ≡ frame (request_body r) ++ rest
             → (result ≡ Ok (Some r)) ⊎ (result ≡ Err out_of_memory) }
-        // Which fault it is, and when nothing is decided yet.
+        // Which fault it is, and when more bytes must come.
         ensures exact { TakesNext next_request self.old result self.new }
     {
         self.take()
@@ -80,7 +80,7 @@ impl Frames {
     }
 }
 
-// The next request, and how many bytes its frame takes.
+// The next request, and the length of its frame.
 #[tactic(auto, unfolding(crate::specs::Reading::next_request))]
 fn next_request(alloc: Global, bytes: &[u8]) -> Result<Option<(WireRequest, usize)>, WireFault>
     ensures bytes { IsBytes bytes.now }

@@ -1,4 +1,4 @@
-//! What is true of all streams, with no code.
+//! What holds of all streams. These functions have no code; their contracts are the laws.
 ghost use Rattle.std.specs.Prelude.{◌≡◌, ◌≤◌, ◌↔◌, ◌++◌, List, [], ℕ, Err, length};
 ghost use Rattle.chord_wire.specs.declared.request.WireRequest.{WireRequest};
 ghost use Rattle.chord_wire.specs.Reading.{IsDecided, with_more, next_request};
@@ -15,13 +15,14 @@ ghost use Rattle.chord_map.specs.Pairs.{IsRising};
 ghost use Rattle.chord_map.specs.Checked.{IsValue};
 ghost use Rattle.std.specs.List.{AllByRecursion};
 
-/// What is decided stays so, whatever bytes follow: how the stream was cut does not matter.
+/// A request, answer or fault stays the same whatever
+/// bytes follow: how the stream was cut does not matter.
 pub fn cuts_do_not_matter()
     ensures requests { (bytes more : List ℕ) → IsDecided (next_request bytes) → next_request (bytes ++ more) ≡ with_more more (next_request bytes) }
     ensures answers { (bytes more : List ℕ) → IsDecided (next_answer bytes) → next_answer (bytes ++ more) ≡ with_more more (next_answer bytes) }
 {}
 
-/// A stream spells one list of requests, or of answers: up to where none is next, and up to any count.
+/// A stream spells one list of requests, or of answers: in full, or of a given length.
 pub fn one_reading()
     ensures ended { (bytes : List ℕ) (rs ss : List WireRequest) (rest rest' : List ℕ) → Spells bytes rs rest → HasNoNext rest → Spells bytes ss rest' → HasNoNext rest' → (rs ≡ ss) × (rest ≡ rest') }
     ensures same_count { (bytes : List ℕ) (rs ss : List WireRequest) (rest rest' : List ℕ) → Spells bytes rs rest → Spells bytes ss rest' → length rs ≡ length ss → (rs ≡ ss) × (rest ≡ rest') }
@@ -29,18 +30,18 @@ pub fn one_reading()
     ensures answers_same_count { (bytes : List ℕ) (xs ys : List Answer) (rest rest' : List ℕ) → SpellsAnswers bytes xs rest → SpellsAnswers bytes ys rest' → length xs ≡ length ys → (xs ≡ ys) × (rest ≡ rest') }
 {}
 
-/// No frame begins another, nor is it the frame of another request or answer.
+/// No frame is a prefix of another, and no two requests or answers have the same frame.
 pub fn no_frame_begins_another()
     ensures requests { (r s : WireRequest) (more : List ℕ) → IsWireRequest r → IsWireRequest s → request_frame r ++ more ≡ request_frame s → (r ≡ s) × (more ≡ []) }
     ensures answers { (x y : Answer) (more : List ℕ) → IsAnswer x → IsAnswer y → answer_frame x ++ more ≡ answer_frame y → (x ≡ y) × (more ≡ []) }
 {}
 
-/// The values that a map of sets has under a key, at most 1,000 of at most 4,096 bytes, have a frame.
+/// A map's values under a key (at most 1,000 of at most 4,096 bytes each) have a frame.
 pub fn values_of_a_map_have_a_frame()
     ensures { (key : List ℕ) (pairs : List Pair) → IsRising pairs → AllByRecursion (λ (pair : Pair). IsValue pair.value) pairs → length (values_at key pairs) ≤ 1000 → AreValues (values_at key pairs) }
 {}
 
-/// Reading tells a fault exactly where the table of faults has it at the front of the stream.
+/// Reading answers a fault exactly if the table of faults has it for the start of the stream.
 pub fn faults_are_those_of_the_table()
     ensures requests { (bytes : List ℕ) (fault : WireFault) → IsBytes bytes → (next_request bytes ≡ Err fault) ↔ FaultOf bytes fault }
     ensures answers { (bytes : List ℕ) (fault : WireFault) → IsBytes bytes → (next_answer bytes ≡ Err fault) ↔ AnswerFaultOf bytes fault }

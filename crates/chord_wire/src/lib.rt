@@ -1,10 +1,11 @@
 //! Frames of requests and answers, versions 1 and 2.
 //!
-//! [`Frames`] takes the bytes of a stream in as they come, by `feed`, and gives the whole requests by `next`;
-//! [`Answers`] does the same for a client. The writers, as [`write_request`] and [`write_reply`], make one frame
-//! each. A frame that breaks a rule is a [`WireFault`] with its code.
+//! [`Frames`] takes in the bytes of a stream by `feed`, in pieces of any
+//! length, and gives its whole requests by `next`; [`Answers`] does so for a
+//! client. The writers, as [`write_request`] and [`write_reply`], make one
+//! frame each. A frame that breaks a rule is a [`WireFault`] with its code.
 //!
-//! [`laws`] says of all streams that they read in one way, however they are cut.
+//! [`laws`] says that every stream has one reading, however it was cut.
 #![tactic(auto)]
 
 mod answer;

@@ -1,4 +1,4 @@
-//! Reading bodies from left to right. A reader copies nothing before the whole body was looked at.
+//! Reading bodies from left to right. A reader copies nothing before it has checked the whole body.
 
 pub mod answer_body;
 pub mod fields;

@@ -1,14 +1,14 @@
-//! The bytes of a stream, in whatever pieces they come.
+//! The bytes of a stream, in pieces of any length.
 ghost use Rattle.std.specs.Prelude.{◌≡◌, ◌≤◌, ◌++◌, [], drop, length, OnOk, OnErr};
 
 use std::alloc::{AllocError, Global};
 use std::marker::Model;
 
-/// The bytes fed and not yet consumed, which are what a contract sees.
+/// The bytes fed and not consumed yet; contracts see just these.
 #[derive(Debug, Drop)]
 pub struct Stream {
     bytes: Vec<u8>,
-    // How many of them are consumed.
+    // How many of `bytes` are consumed.
     start: usize,
 }
 
@@ -54,7 +54,7 @@ impl Stream {
         ensures ok { OnOk result (self.new ≡ self.old ++ piece.now) }
         ensures err { OnErr result (self.new ≡ self.old) }
     {
-        // Each byte is moved up at most once for each one that was consumed.
+        // A byte moves up at most once for each consumed byte.
         if self.start > self.bytes.len() - self.start {
             self.bytes.drain(..self.start);
             self.start = 0;
@@ -62,7 +62,7 @@ impl Stream {
         self.bytes.extend_from_slice(piece)
     }
 
-    /// Drops so many bytes at the front.
+    /// Drops the first `count` bytes.
     pub fn consume(&mut self, count: usize)
         requires { count ≤ length self.old }
         ensures { self.new ≡ drop count self.old }

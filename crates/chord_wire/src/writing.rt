@@ -1,4 +1,4 @@
-//! Writing frames, each into one buffer of its length.
+//! Writing frames, each into one buffer of exactly its length.
 ghost use Rattle.std.specs.Prelude.{◌≡◌, ◌≢◌, ◌<◌, ◌^◌, IfOk};
 ghost use Rattle.std.specs.Int.{w32, to_be_bytes};
 ghost use Rattle.chord_map.specs.Checked.{IsRequest};
@@ -16,12 +16,12 @@ use std::alloc::{AllocError, Global};
 pub mod fields;
 pub mod writable;
 
-// Version, operation and number.
+// The bytes of version, operation and number.
 const HEAD_BYTES: usize = 10;
 
 const FLOOR_BYTES: usize = 8;
 
-// The length of a body, in a buffer with room for it.
+// A buffer for a frame, with the length of its body written.
 fn begin(alloc: Global, body: usize) -> Result<Vec<u8>, AllocError>
     requires { body < 2 ^ 32 }
     ensures { IfOk result (λ out. out.items ≡ to_be_bytes w32 body) }
@@ -70,7 +70,7 @@ pub fn write_reply(alloc: Global, number: u64, reply: &Reply) -> Result<Vec<u8>,
     Ok(out)
 }
 
-/// The frame of a fault. No reader takes one that says out of memory.
+/// The frame of a fault. Readers refuse the frame of Memory.
 pub fn write_fault(alloc: Global, number: u64, code: FaultCode) -> Result<Vec<u8>, AllocError>
     requires { code ≢ FaultCode.Memory }
     ensures { IfOk result (λ out. out.items ≡ frame (fault_body number code)) }

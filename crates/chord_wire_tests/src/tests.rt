@@ -15,7 +15,7 @@ const INSERT: [u8; 19] = [
     0, 0, 0, 0x0f, 1, 1, 0, 0, 0, 0, 0, 0, 0, 1, 1, 0x61, 0, 1, 0x78,
 ];
 
-// The same in version 2, with floor 0.
+// Insert x under a, number 1, in version 2 with floor 0.
 const INSERT_2: [u8; 27] = [
     0, 0, 0, 0x17, 2, 1, 0, 0, 0, 0, 0, 0, 0, 1, 0, 0, 0, 0, 0, 0, 0, 0, 1, 0x61, 0, 1, 0x78,
 ];
@@ -53,20 +53,20 @@ fn values(alloc: Global, all: &[&[u8]]) -> Result<Reply, AllocError> {
     Ok(Reply::Values(values))
 }
 
-/// Whether the two are equal, where both are there.
+/// Whether the two are equal, if both were made.
 fn equal<T: PartialEq + Drop>(first: Option<T>, second: Option<T>) -> Option<bool> {
     let (first, second) = first.zip(second)?;
     Some(first == second)
 }
 
-/// Whether nothing is there yet, and no fault.
+/// Whether there is neither a whole frame nor a fault yet.
 fn is_nothing<T: Drop>(next: Result<Option<T>, WireFault>) -> bool {
     let is_nothing = matches!(&next, Ok(None));
     drop(next);
     is_nothing
 }
 
-/// What a fresh stream of these bytes gives.
+/// The first request in a new stream of these bytes.
 fn request_of(alloc: Global, bytes: &[u8]) -> Result<Option<WireRequest>, WireFault> {
     let mut frames = Frames::new(alloc);
     frames.feed(bytes)?;
@@ -79,7 +79,8 @@ fn answer_of(alloc: Global, bytes: &[u8]) -> Result<Option<Answer>, WireFault> {
     answers.next()
 }
 
-/// Feeds the bytes one at a time, and tells whether the stream kept each and gave nothing before the last.
+/// Feeds the bytes one at a time. Whether the stream
+/// stored each and gave no request before the last.
 fn keeps_pieces(frames: &mut Frames, bytes: &[u8]) -> Result<bool, WireFault> {
     for (place, byte) in bytes.iter().enumerate() {
         if frames.left() != place || !is_nothing(frames.next()) {
@@ -90,7 +91,7 @@ fn keeps_pieces(frames: &mut Frames, bytes: &[u8]) -> Result<bool, WireFault> {
     Ok(true)
 }
 
-/// Feeds answers whole, byte by byte, and whole again.
+/// Feeds an answer whole, then one byte by byte, then one whole.
 fn feed_in_pieces(answers: &mut Answers) -> Result<(), WireFault> {
     answers.feed(&ADDED)?;
     for byte in &ONE_VALUE {
@@ -99,7 +100,7 @@ fn feed_in_pieces(answers: &mut Answers) -> Result<(), WireFault> {
     answers.feed(&TWO_VALUES)
 }
 
-/// The bytes with another byte at a place.
+/// The bytes with `byte` at the index `place`.
 fn changed(alloc: Global, bytes: &[u8], place: usize, byte: u8) -> Result<Vec<u8>, AllocError> {
     let mut copy = Vec::from_slice(alloc, bytes)?;
     if let Some(old) = copy.get_mut(place) {
@@ -122,7 +123,7 @@ fn is_insert(alloc: Global, wire: Option<WireRequest>, version: u8) -> Option<bo
     Some(is_same? & is_first)
 }
 
-/// The reply in the answer, where it has this number.
+/// The reply in the answer, if it has this number.
 fn reply_in(answer: Option<Answer>, wanted: u64) -> Option<Reply> {
     match answer? {
         Answer::Reply { number, reply } => {
@@ -164,7 +165,7 @@ fn request_frame(alloc: Global, version: u8, request: &Request) -> Option<Vec<u8
     }
 }
 
-/// Whether these bytes are there, and are this frame.
+/// Whether the bytes were written and are this frame.
 fn is_frame(written: Option<Vec<u8>>, frame: &[u8]) -> Option<bool> {
     let written = written?;
     let is_same = written.as_slice() == frame;
@@ -278,7 +279,8 @@ fn next_is_insert(alloc: Global, frames: &mut Frames, version: u8) -> Option<boo
     is_insert(alloc, frames.next().ok()?, version)
 }
 
-/// Whether these bytes, fed one at a time, are the insert in this version, and how many are left then.
+/// Whether these bytes, fed one at a time, are the insert
+/// in this version; and how many bytes are left then.
 fn reads_pieces(alloc: Global, bytes: &[u8], version: u8) -> (bool, usize) {
     let mut frames = Frames::new(alloc);
     let are_kept = matches!(keeps_pieces(&mut frames, bytes), Ok(true));
@@ -358,7 +360,7 @@ const ROWS: [(&[u8], FaultCode, u64); 6] = [
         FaultCode::Trailing,
         1,
     ),
-    // The floor is not whole.
+    // The floor is cut off.
     (
         &[0, 0, 0, 0x0c, 2, 2, 0, 0, 0, 0, 0, 0, 0, 1, 1, 0x61],
         FaultCode::BadFloor,
@@ -375,7 +377,7 @@ fn tells_the_faults_of_the_rows(rt: HostRuntime) {
     }
 }
 
-/// The fault of these bytes, where it is told again and nothing is consumed.
+/// The fault of these bytes, if a second call gives it again and nothing is consumed.
 fn fault_told_again(frames: &mut Frames, bytes: &[u8]) -> Option<WireFault> {
     frames.feed(bytes).ok()?;
     let fault = frames.next().err()?;
@@ -387,7 +389,7 @@ fn fault_told_again(frames: &mut Frames, bytes: &[u8]) -> Option<WireFault> {
     }
 }
 
-/// The fault of a request with another byte at a place.
+/// The fault of a request with `byte` at the index `place`.
 fn request_fault(alloc: Global, frame: &[u8], place: usize, byte: u8) -> Option<WireFault> {
     let bytes = changed(alloc, frame, place, byte).ok()?;
     let mut frames = Frames::new(alloc);
@@ -396,7 +398,7 @@ fn request_fault(alloc: Global, frame: &[u8], place: usize, byte: u8) -> Option<
     fault
 }
 
-/// The first place where a request with another byte has another fault than its row says.
+/// The first index at which a changed byte gives the request another fault than its row says.
 fn other_request_fault(
     alloc: Global,
     frame: &[u8],
@@ -412,7 +414,7 @@ fn other_request_fault(
     None
 }
 
-// A place, the byte put there, and the code and the number of the fault.
+// An index, the byte put there, and the code and the number of the fault.
 const INSERT_FAULTS: [(usize, u8, FaultCode, u64); 12] = [
     (3, 0x0b, FaultCode::BadLength, 0),
     (2, 0x12, FaultCode::BadLength, 0),
@@ -460,13 +462,13 @@ fn each_field_of_a_request_has_its_faults(rt: HostRuntime) {
     assert!(rt; others == [None; 3]);
 }
 
-/// The fault of an answer with another byte at a place.
+/// The fault of an answer with `byte` at the index `place`.
 fn answer_fault(alloc: Global, frame: &[u8], place: usize, byte: u8) -> Option<WireFault> {
     let bytes = changed(alloc, frame, place, byte).ok()?;
     answer_of(alloc, &bytes).err()
 }
 
-/// The first place where an answer with another byte has another fault than its row says.
+/// The first index at which a changed byte gives the answer another fault than its row says.
 fn other_answer_fault(
     alloc: Global,
     frame: &[u8],
@@ -526,7 +528,7 @@ fn fault_read(alloc: Global, number: u8) -> Option<(u64, FaultCode)> {
     fault_in(answer.ok()?)
 }
 
-/// Whether the code of this number has it, is one of the protocol, and is read from its frame.
+/// Whether the code of this number has this number, is in the protocol, and is read from its frame.
 fn is_read_back(alloc: Global, number: u8) -> bool {
     let Some(code) = FaultCode::from_number(number) else {
         return false;
@@ -579,13 +581,13 @@ fn longest_request(alloc: Global) -> Option<Request> {
     Request::insert(alloc, &long[..255], &long).ok()
 }
 
-/// Its frame with number 17 and floor 1.
+/// The frame of the request with number 17 and floor 1.
 fn longest_frame(alloc: Global, request: &Request) -> Option<Vec<u8>> {
     request.check().ok()?;
     write_request_2(alloc, 17, 1, request).ok()
 }
 
-/// How long the frame of the longest request is, whether it is read back, and its number and floor.
+/// The length of the longest request's frame, whether it is read back, and its number and floor.
 fn longest(alloc: Global) -> Option<(usize, bool, (u64, u64))> {
     let request = longest_request(alloc)?;
     let frame = longest_frame(alloc, &request);

@@ -1,4 +1,4 @@
--- A node does a step: the world and its ring are kept.
+-- A node does a step: the world keeps its rules, and so does its ring.
 use Rattle.std.proofs.Common.{◌≡◌, ◌≢◌, ℕ, ◌≤◌, ◌||◌, Bool, true, false, Option, None, Some, List, [], length, set, refl, sym, ◌∙◌, ap, subst, arith}
 use Rattle.std.specs.Prelude.{slice_get, slice_index_or}
 use Rattle.std.proofs.lemmas.Bool.{true≢false}
@@ -22,7 +22,7 @@ use Rattle.chord_world.proofs.Keeping.{further}
 
 -- ---- what holds after a step
 
--- the new world is one, by a step of the old one, and its ring is kept
+-- the new world keeps the rules, comes from the old one by a step, and keeps its ring
 pub record After (old new : WorldState) : Type 0 where
   pub world : IsWorld new
   pub step : WorldStep old.world new.world
@@ -45,7 +45,7 @@ node_there place nodes node here none = let within = slice_get_within nodes plac
 
 -- ---- a node that does a step
 
--- what is sent is a message of one of so many callers, or of a handover between two of so many nodes
+-- the sent message is of one of the callers, or of a handover between two of the nodes
 abbrev pub SendsCall : ℕ → ℕ → Option Message → Type 0
 SendsCall nodes count None = Unit {0}
 SendsCall nodes count (Some message) = IsKnown nodes count message
@@ -54,7 +54,7 @@ pub calls_with : (nodes count : ℕ) (sent : List Message) (message : Option Mes
 calls_with nodes count sent None all here = all
 calls_with nodes count sent (Some message) all here = calls_pushed nodes count sent message all here
 
--- the world after a node is this one, sent this message to this node, and executed this call
+-- the world after a node became this one, sent this message to this target, and executed this call
 abbrev pub acted : Node → Option Message → Option (Option ℕ) → Option Done → WorldState → WorldState
 acted after sent target done view =
     record view {
@@ -62,7 +62,7 @@ acted after sent target done view =
       targets = with_one view.targets target;
     }
 
--- the node at the place did a step
+-- the node at this index did a step
 pub record Acting (place : ℕ) (node after : Node) (taken sent : Option Message) (target : Option (Option ℕ)) (done : Option Done) (view : WorldState) : Type 0 where
   pub here : slice_get view.world.nodes place ≡ Some node
   pub running : is_crashed place view ≡ false
@@ -73,7 +73,7 @@ pub record Acting (place : ℕ) (node after : Node) (taken sent : Option Message
   pub aimed : AreAimed (with_one view.world.sent sent) (with_one view.targets target)
   pub ring : Kept (ring_of view) (ring_with (set view.world.nodes place after) view.crashed)
 
--- what the ring sees of the node stays
+-- what the ring reads of the node is unchanged
 pub ring_is : (place : ℕ) (node after : Node) (view : WorldState) → IsWorld view → slice_get view.world.nodes place ≡ Some node → after.links.me ≡ node.links.me
     → member_links (is_crashed place view) after ≡ member_links (is_crashed place view) node → Kept (ring_of view) (ring_with (set view.world.nodes place after) view.crashed)
 ring_is place node after view kept here me links =
@@ -82,7 +82,7 @@ ring_is place node after view kept here me links =
     subst (Kept (ring_of view)) (λ i. record { ids = sym ids i; members = sym members i })
     (record { sound = kept.ring (node_there place view.world.nodes node here); principals = λ _ principal _. principal })
 
--- its links stay, and it is gone as it was
+-- its links stay, and it is gone exactly if it was
 pub ring_stays : (place : ℕ) (node after : Node) (view : WorldState) → IsWorld view → slice_get view.world.nodes place ≡ Some node
     → is_gone after.phase ≡ is_gone node.phase → after.links ≡ node.links → Kept (ring_of view) (ring_with (set view.world.nodes place after) view.crashed)
 ring_stays place node after view kept here gone links =
@@ -126,7 +126,7 @@ acts place node after taken sent target done view kept acting =
           };
     }
 
--- over the view of the fields, which is the old value, and in the words of the code
+-- stated over the view of the fields, in the terms of the code
 pub acts_at : (place : ℕ) (node after : Node) (taken sent : Option Message) (target : Option (Option ℕ)) (done : Option Done) (view old new : WorldState) → view ≡ old → IsWorld view
     → Acting place node after taken sent target done view → new ≡ acted after sent target done view → After old new
 acts_at place node after taken sent target done view old new same kept acting is =

@@ -42,7 +42,7 @@ use Rattle.chord_world.proofs.Acting.{After, SendsCall, ring_stays, acts_at}
 use Rattle.chord_world.proofs.Posting.{got, got_of, set_same, slice_get_there}
 use Rattle.chord_world.proofs.Speaking.{heard_is_world}
 
--- a message at its place was sent
+-- the message at an index was sent
 pub was_sent : (sent : List Message) (place : ℕ) (message : Message) → slice_get sent place ≡ Some message → Contains sent message
 was_sent sent place message e = (place, slice_get_within sent place message e, get_or_from_slice_get sent place message message e)
 
@@ -84,7 +84,7 @@ answer_aimed sent targets ask (answer.Forward to passed) all = aimed_pushed sent
 answer_aimed sent targets ask answer.Dropped all = all
 answer_aimed sent targets ask answer.Full all = aimed_pushed sent targets (FullMessage ask.caller ask.number) None all tt
 
--- a delivered call, by what the node at its place did
+-- a delivered call, by what the node at this index answered
 pub record Asked (place to : ℕ) (ask : Ask) (view : WorldState) (answered : Answered) (node after : Node) : Type 0 where
   pub sent : slice_get view.world.sent place ≡ Some (AskMessage ask)
   pub target : slice_get view.targets place ≡ Some (Some to)
@@ -125,7 +125,7 @@ answer_delivers place to ask view old answered node after same kept asked runnin
     (To_node ask to node after answered asked.sent asked.target (node_at_place 0 to to view.world.nodes kept.nodes (omega arith) ∙ asked.here)
     (ap (is_crashed to) same ∙ running) asked.answers)
 
--- in the words of the code
+-- restated in the terms of the code
 abbrev pub after_answer : List Node → List Message → List Done → List (Option ℕ) → WorldState → WorldState
 after_answer nodes sent history targets view = record view { world = record view.world { nodes = nodes; sent = sent; history = history }; targets = targets }
 
@@ -151,7 +151,7 @@ heard_number : (told : Told) (heard : Heard) (core after : Caller) → TakeIs to
 heard_number told Fresh core after h = ap (λ (c : Caller). c.number) h.2
 heard_number told Known core after h = ap (λ (c : Caller). c.number) h.2
 
--- a delivered reply, by what the caller at its place did
+-- a delivered reply, by what the caller at this index heard
 pub record ToldTo (place : ℕ) (told : Told) (view : WorldState) (heard : Heard) (core after : Caller) : Type 0 where
   pub sent : slice_get view.world.sent place ≡ Some (ToldMessage told)
   pub here : slice_get view.world.callers told.caller ≡ Some core
@@ -173,7 +173,7 @@ told_delivers place told view old heard core after same kept to =
     subst (λ (w : WorldState). Delivers place w (outcome_heard heard told.caller) (with_heard after view)) same
     (To_caller told core after heard to.sent (caller_at_place 0 told.caller told.caller view.world.callers kept.callers (omega arith) ∙ to.here) to.hears)
 
--- in the words of the code
+-- restated in the terms of the code
 abbrev pub after_hearing : List Caller → WorldState → WorldState
 after_hearing callers view = record view { world = record view.world { callers = callers } }
 
@@ -235,7 +235,7 @@ answers_from place ask old node after (Ok both) new within here h is =
 answers_from place ask old node after (Err fault) new within here h is =
     is ∙ ap (set old place) h.1 ∙ set_same old place node (got old place node within here)
 
--- a message that stands at a place is one of those sent
+-- an index with a message is within the list of those sent
 pub place_within : (items before : List Sent) (place : ℕ) (message : Message) → items ≡ before → slice_get (messages_of before) place ≡ Some message → place < length items
 place_within items before place message same here =
     let within = slice_get_within (messages_of before) place message here in
@@ -243,7 +243,7 @@ place_within items before place message same here =
     let room = ap length same in
     omega arith
 
--- the message that was read at a place is what stands there
+-- the message that was read at an index is the one there
 pub read : (items before : List Sent) (place : ℕ) (x : Sent) (message : Message) → items ≡ before → place < length items → x ≡ get_or items place x → x.message ≡ message
     → slice_get (messages_of before) place ≡ Some message
 read items before place x message same within e is =
@@ -254,7 +254,7 @@ pub read_is : (items before : List Sent) (place : ℕ) (x : Sent) (message : Mes
 read_is items before place x message same within e here =
     let both : Some x.message ≡ Some message = sym (read items before place x x.message same within e refl) ∙ here in cc
 
--- and so is the node that it goes to, which an Ask has
+-- an Ask that was read has the node that it goes to
 pub read_target : (items : List Sent) (place : ℕ) (x : Sent) (to : ℕ) → place < length items → x ≡ get_or items place x → x.to ≡ Some to → slice_get (targets_of items) place ≡ Some (Some to)
 read_target items place x to within e is = got_of (λ (one : Sent). one.to) items place x within e ∙ ap (λ t. Some t) is
 
@@ -263,7 +263,7 @@ pub has_target : (items : List Sent) (place : ℕ) (x : Sent) (ask : Ask) → Ar
 has_target items place x ask all within e sent =
     aimed_at (messages_of items) (targets_of items) place ask x.to all sent (got_of (λ (one : Sent). one.to) items place x within e)
 
--- the message that is asked for, over the view of the fields
+-- the message asked for, stated over the view of the fields
 pub sent_here : (view old : WorldState) (place : ℕ) (message : Message) → view ≡ old → slice_get old.world.sent place ≡ Some message → slice_get view.world.sent place ≡ Some message
 sent_here view old place message same here = ap (λ (w : WorldState). slice_get w.world.sent place) same ∙ here
 
@@ -311,7 +311,7 @@ pub same_fields : (view : WorldState) (nodes : List Node) (sent : List Message) 
     → history ≡ view.world.history → targets ≡ view.targets → after_answer nodes sent history targets view ≡ view
 same_fields view nodes sent history targets n s h t = λ i. after_answer (n i) (s i) (h i) (t i) view
 
--- out of memory for a message that takes some
+-- memory ran out for a message that needs some
 pub stays : (view old new : WorldState) (place : ℕ) → view ≡ old → TakesMemory place view → new ≡ view → TakesMemory place old × (new ≡ old)
 stays view old new place same takes e = (subst (TakesMemory place) same takes, e ∙ same)
 
@@ -364,7 +364,7 @@ call_delivers place to view old outcome nodes sent targets history same kept rec
     delivers_after place old _ _ outcome _ (call_is place to view outcome nodes sent targets history kept did) did.outcome_is
     (answer_delivers place to did.ask view old did.answered did.answers.node did.answers.after same kept (call_asked place to view old outcome nodes sent targets history same receiver did) receiver.running)
 
--- out of memory for it
+-- memory ran out for it
 pub call_same : (view : WorldState) (nodes : List Node) (sent : List Message) (targets : List (Option ℕ)) (history : List Done)
     → (nodes ≡ view.world.nodes) × (sent ≡ view.world.sent) × (targets ≡ view.targets) × (history ≡ view.world.history) → after_answer nodes sent history targets view ≡ view
 call_same view nodes sent targets history (n, s, t, h) = same_fields view nodes sent history targets n s h t

@@ -1,4 +1,4 @@
--- Nodes that act on what they hold: the world and its ring are kept.
+-- Nodes that change, give or drop what they hold: the world keeps its rules, and so does its ring.
 use Rattle.std.proofs.Common.{◌≡◌, ◌≢◌, ℕ, zero, suc, ◌<◌, inl, inr, Bool, true, false, Option, None, Some, Result, Ok, Err, List, [], ◌∷◌, ◌++◌, length, set, refl, sym, ◌∙◌, ap, subst, arith}
 use Rattle.std.specs.Prelude.{slice_get, IsErrAnd, ◌==◌, cond, ◌&&◌, nat_le, is_some}
 use Rattle.std.proofs.lemmas.Bool.{true≢false}
@@ -57,11 +57,11 @@ no_nodes : (nodes : List Node) → length nodes ≡ 0 → nodes ≡ []
 no_nodes [] e = refl
 no_nodes (node ∷ nodes) e = absurd (omega arith)
 
--- there is no node
+-- no node exists
 pub uncreated : (view old : WorldState) → view ≡ old → length view.world.nodes ≡ 0 → old.world.nodes ≡ []
 uncreated view old same none = ap (λ (w : WorldState). w.world.nodes) (sym same) ∙ no_nodes view.world.nodes none
 
--- the node that may act is at its place
+-- the node that may act is at its index
 pub acts_within : (place : ℕ) (view old : WorldState) → view ≡ old → IsWorld view → HasNode place old → place < length view.world.nodes
 acts_within place view old same kept has =
     let here : slice_get view.world.nodes place ≡ Some has.node =
@@ -95,7 +95,7 @@ still_leave node after h = record {
   links = ap (λ (n : Node). n.links) h.1;
 }
 
--- a node that refused is as it was
+-- a node that refused is unchanged
 kept_held : (node after : Node) → after ≡ with_held after.held node → after.held ≡ node.held → after ≡ node
 kept_held node after is same = is ∙ ap (λ held. with_held held node) same
 
@@ -198,13 +198,13 @@ advances_not old new P (Err refusal) is same = same
 
 -- ---- a step of a node, whole
 
--- a step that is answered so is one of the world, and keeps its ring
+-- a step with this answer is a step of the world, and keeps its ring
 pub record Stepped (Is : WorldState → Result Outcome Refusal → WorldState → Type 0) (old : WorldState) (result : Result Outcome Refusal) (new : WorldState) : Type 0 where
   pub answer : Is old result new
   pub step : Advances old result new
   pub ring : KeepsRing old new
 
--- a node that refused leaves the world as it was
+-- a node that refused leaves the world unchanged
 pub left_world : {A : Type 0} (Is Steps : Call A) (place : ℕ) (result : A) (view : WorldState) (nodes : List Node) → IsWorld view → DoesAt Is Steps place view.world.nodes result nodes
     → ((node after : Node) → Is node result after → after ≡ node) → IsWorld (with_nodes nodes view)
 left_world Is Steps place result view nodes kept does stays =
@@ -235,7 +235,7 @@ pub moved_world : {E : Type 0} (Is : Call (Result (Unit {0}) E)) (place : ℕ) (
     → DoesAt Is MoveSteps place view.world.nodes (Ok tt) nodes → ((node after : Node) → Is node (Ok tt) after → IsStill node after) → IsWorld (with_nodes nodes view)
 moved_world Is place view old nodes same kept running does stays = (moves Is place view old nodes same kept running does (stays does.node does.after does.is)).world
 
--- ---- a part that goes out
+-- ---- a part that is sent
 
 pub still_give : (place to : ℕ) (part : Part) (node after : Node) → GiveIs place to node (Ok part) after → IsStill node after
 still_give place to part node after h = subst (IsStill node) (sym h.4) (record { number = refl; gone = refl; links = refl })
@@ -279,7 +279,7 @@ sends_part Is place number node after part view old new same kept here running d
     subst (λ w. SendsPart Is place w number new) same
     (record { node = node; after = after; part = part; here = node_stands place view view node refl kept here; running = ap (is_crashed place) same ∙ running; is = does; numbered = at; new_is = is })
 
--- in the words of the code
+-- restated in the terms of the code
 abbrev pub after_giving : List Node → List Message → List (Option ℕ) → WorldState → WorldState
 after_giving nodes sent targets view = record view { world = record view.world { nodes = nodes; sent = sent }; targets = targets }
 
@@ -346,7 +346,7 @@ part_refused place to item slot node fault view old new (Ok outcome) same kept t
 part_refused place to item slot node fault view old new (Err refusal) same kept there running here why is e =
     (inr (inr (there, record { node = node; fault = fault; here = node_stands place view old node same kept here; running = running; is = (why, refl); told = is })), e)
 
--- a node that stays as it is
+-- a node that stays unchanged
 pub same_node : (place : ℕ) (node : Node) (view : WorldState) → IsWorld view → slice_get view.world.nodes place ≡ Some node → with_node node view ≡ view
 same_node place node view kept here =
     ap (λ ns. with_nodes ns view)

@@ -1,4 +1,4 @@
--- The search for a holder finds the one that there is.
+-- The search for a holder finds the one there is.
 use Rattle.std.proofs.Common.{◌≡◌, ◌≢◌, ℕ, zero, suc, ◌+◌, ◌<◌, ◌≤◌, Bool, true, false, cond, Option, None, Some, List, [], ◌∷◌, length, filter, map, ◌⊎◌, inl, inr, ⊎_elim, refl, sym, ◌∙◌, ap, subst, arith}
 use Rattle.std.specs.Prelude.{slice_get, Contains, flat_map, is_some, IfSome, IfNone}
 use Rattle.std.proofs.lemmas.Bool.{cases_lt}
@@ -15,7 +15,7 @@ use Rattle.chord_world.specs.Holding.{is_open, way_of, holders_at, HolderIs}
 use Rattle.chord_world.specs.State.{WorldState, NodesFrom}
 use Rattle.chord_world.proofs.Placing.{node_at_place}
 
--- the node of a number stands at that place
+-- the node of a number is at that index
 pub taken_at : (nodes : List Node) (to from : ℕ) (found : Option Node) → NodesFrom 0 nodes → found ≡ slice_get nodes to → taken_by found from ≡ last_taken nodes to from
 unfolding last_taken
 taken_at nodes to from found numbered e = ap (λ (o : Option Node). taken_by o from) (e ∙ sym (node_at_place 0 to to nodes numbered (omega arith)))

@@ -1,4 +1,4 @@
--- Each step leads to a world that is kept.
+-- Each step leads to a world that keeps the rules.
 use Rattle.std.proofs.Common.{◌≡◌, ◌≢◌, ℕ, ◌<◌, ◌≤◌, Bool, false, Some, Ok, List, [], ◌∷◌, ◌++◌, length, get_or, map, refl, sym, ◌∙◌, ap, subst, arith, length-append}
 use Rattle.std.proofs.lemmas.Option.{slice_get_past, none-some}
 use Rattle.std.specs.Prelude.{slice_get, ◌^◌}
@@ -21,7 +21,7 @@ use Rattle.chord_world.specs.Steps.{with_founder, CreateIs, IsWindow, with_calle
 use Rattle.chord_world.proofs.Placing.{callers_pushed, caller_at_place, calls_of_more}
 use Rattle.chord_world.proofs.RingLemmas.{member_past, flag_within}
 
--- the world after one more step is reached
+-- the world after one more step is reachable
 pub further : (old new : World) → ∥ Reached old ∥₁ → WorldStep old new → ∥ Reached new ∥₁
 further old new reached step = ∥∥₁_map reached (λ run. Goes_on run step)
 
@@ -90,11 +90,11 @@ pub none_in : {A : Type 0} (xs : List A) → length xs ≡ 0 → xs ≡ []
 none_in [] e = refl
 none_in (x ∷ xs) e = absurd (omega arith)
 
--- where there was no memory
+-- memory ran out
 pub no_room : (view old : WorldState) (nodes : List Node) (flags : List Bool) → view ≡ old → nodes ≡ view.world.nodes → flags ≡ view.crashed → with_more nodes flags view ≡ old
 no_room view old nodes flags same n f = (λ i. with_more (n i) (f i) view) ∙ same
 
--- a first node, in the words of the code
+-- a first node, in the terms of the code
 pub founded_items : (id : Id) (limit : ℕ) (view : WorldState) (nodes before : List Node) (node : Node) → view.world.nodes ≡ []
     → nodes ≡ before ++ node ∷ [] → before ≡ view.world.nodes → node ≡ founder (alone (record { no = 0; id = id }) view.r) limit
     → nodes ≡ founder (alone (record { no = 0; id = id }) view.r) limit ∷ []
@@ -140,7 +140,7 @@ founded_step id limit view old nodes flags same circle none is =
     subst (λ w. WorldStep w.world (with_more nodes flags view).world) same
     (subst (λ ns. WorldStep view.world (with_more ns flags view).world) (sym is) (founds id limit view circle none))
 
--- there was no ring before
+-- no ring existed before
 pub founded_keeps : (view old : WorldState) (nodes : List Node) (flags : List Bool) → view ≡ old → IsWorld view → view.world.nodes ≡ [] → KeepsRing old (with_more nodes flags view)
 founded_keeps view old nodes flags same kept none =
     subst (λ w. KeepsRing w (with_more nodes flags view)) same
@@ -151,7 +151,7 @@ founded_keeps view old nodes flags same kept none =
           absurd (let within = flag_within view.crashed number out in let empty = ap (λ (ns : List Node). length ns) none in let count = kept.crashed in omega arith);
     })
 
--- a caller, in the words of the code
+-- a caller, in the terms of the code
 pub opened_items : (window number : ℕ) (view : WorldState) (callers before : List Caller) (caller : Caller)
     → callers ≡ before ++ caller ∷ [] → before ≡ view.world.callers → caller ≡ new_caller number window → number ≡ length view.world.callers
     → callers ≡ view.world.callers ++ new_caller (length view.world.callers) window ∷ []

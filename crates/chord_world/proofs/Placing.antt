@@ -1,4 +1,5 @@
--- Nodes and callers stand in the order of their numbers: a look-up is by place, and a put is a write.
+-- The numbers of nodes and callers are their indices:
+-- a look-up reads an index, and a put writes it.
 use Rattle.std.proofs.Common.{◌≡◌, ◌≢◌, ℕ, zero, suc, ◌+◌, ◌≤◌, Option, None, Some, List, [], ◌∷◌, ◌++◌, length, set, refl, ◌∙◌, ap, subst, arith}
 use Rattle.std.specs.Prelude.{slice_get}
 use Rattle.chord_map.proofs.Equal.{eqb_same, eqb_other}

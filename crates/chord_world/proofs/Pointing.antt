@@ -27,7 +27,7 @@ node_missing place view old same kept past =
     subst (λ (w : WorldState). node_at place w.world.nodes ≡ None) same
     (node_at_place 0 place place view.world.nodes kept.nodes (omega arith) ∙ slice_get_past view.world.nodes place past)
 
--- the ring after it: the same but for the fingers
+-- the ring after it: unchanged except for the fingers
 pointed_ring : (place finger : ℕ) (peer : Peer) (node : Node) (view : WorldState) → IsWorld view → slice_get view.world.nodes place ≡ Some node → is_crashed place view ≡ false
     → Kept (ring_of view) (ring_with (set view.world.nodes place (pointed finger peer node)) view.crashed)
 pointed_ring place finger peer node view kept here running =
@@ -65,7 +65,7 @@ pointed_after place finger peer node view old new same kept here running is =
     })
     is
 
--- in the words of the code
+-- restated in the terms of the code
 pub pointed_is : (place finger : ℕ) (peer : Peer) (view : WorldState) (nodes : List Node) → IsWorld view → (points : PointsAt place finger peer view.world.nodes nodes)
     → with_nodes nodes view ≡ with_node (pointed finger peer points.node) view
 pointed_is place finger peer view nodes kept points =

@@ -25,7 +25,7 @@ use Rattle.chord_world.specs.Sending.{CanSubmit, Submitted}
 use Rattle.chord_world.proofs.Placing.{caller_at_place, put_caller_place, callers_set, caller_number, calls_pushed, aimed_pushed}
 use Rattle.chord_world.proofs.Keeping.{further}
 
--- only memory can be missing
+-- the submission can fail for memory only
 pub submit_memory : (request : Request) (core after : Caller) (fault : SubmitFault) → SubmitIs request core (Err Memory) core → SubmitIs request core (Err fault) after → after ≡ core
 submit_memory request core after (Bad KeyEmpty) can refused = absurd (let a = can.0.0.0 in let b = refused.0 in omega arith)
 submit_memory request core after (Bad KeyLong) can refused = absurd (let a = can.0.0.1 in let b = refused.0 in omega arith)
@@ -34,7 +34,7 @@ submit_memory request core after WindowFull can refused = absurd (let a = can.1 
 submit_memory request core after NumbersSpent can refused = absurd (let a = can.2 in let b = refused.2 in omega arith)
 submit_memory request core after Memory can refused = refused.3
 
--- what is read at a place
+-- what is read at an index
 pub got : {A : Type 0} (xs : List A) (place : ℕ) (x : A) → place < length xs → x ≡ get_or xs place x → slice_get xs place ≡ Some x
 got [] place x within e = absurd (omega arith)
 got (y ∷ xs) zero x within e = ap (λ z. Some z) (sym e)
@@ -45,19 +45,19 @@ slice_get_there [] place within = absurd (omega arith)
 slice_get_there (y ∷ xs) zero within = (y, refl)
 slice_get_there (y ∷ xs) (suc place) within = slice_get_there xs place (omega arith)
 
--- and what of it is kept in another list
+-- and what another list has of it
 pub got_of : {A B : Type 0} (f : A → B) (xs : List A) (place : ℕ) (x : A) → place < length xs → x ≡ get_or xs place x → slice_get (map f xs) place ≡ Some (f x)
 got_of f [] place x within e = absurd (omega arith)
 got_of f (y ∷ xs) zero x within e = ap (λ z. Some (f z)) (sym e)
 got_of f (y ∷ xs) (suc place) x within e = got_of f xs place x (omega arith) e
 
--- writing what stands there changes nothing
+-- writing the element that is there changes nothing
 pub set_same : {A : Type 0} (xs : List A) (place : ℕ) (x : A) → slice_get xs place ≡ Some x → set xs place x ≡ xs
 set_same [] place x e = cc
 set_same (y ∷ xs) zero x e = let same : y ≡ x = cc in ap (λ z. z ∷ xs) (sym same)
 set_same (y ∷ xs) (suc place) x e = ap (λ zs. y ∷ zs) (set_same xs place x e)
 
--- the caller that stands at its place
+-- the caller of a number is at its index
 pub caller_stands : (caller : ℕ) (view old : WorldState) (core : Caller) → view ≡ old → IsWorld view → slice_get view.world.callers caller ≡ Some core → caller_at caller old.world.callers ≡ Some core
 caller_stands caller view old core same kept here =
     subst (λ (w : WorldState). caller_at caller w.world.callers ≡ Some core) same (caller_at_place 0 caller caller view.world.callers kept.callers (omega arith) ∙ here)
@@ -76,7 +76,7 @@ pub not_zero : (n : ℕ) → false ≡ (n == 0) → 0 < n
 not_zero zero e = cc
 not_zero (suc n) e = omega arith
 
--- a node is there
+-- if a node exists, one was created
 pub created : (view old : WorldState) → view ≡ old → 0 < length view.world.nodes → old.world.nodes ≢ []
 created view old same some none = let count = ap (λ (w : WorldState). length w.world.nodes) same in let empty = ap (λ (ns : List Node). length ns) none in omega arith
 
@@ -120,7 +120,7 @@ sent_is_world caller via request old core after ask there submits kept =
       high = kept.high;
     }
 
--- in the words of the code: the callers, the messages and the targets as they are then
+-- restated in the terms of the code: the callers, the messages and the targets afterwards
 abbrev pub posted : List Caller → List Message → List (Option ℕ) → WorldState → WorldState
 posted callers sent targets view = record view { world = record view.world { callers = callers; sent = sent }; targets = targets }
 
@@ -156,7 +156,7 @@ pub submit_refused : (caller via : ℕ) (request : Request) (old : WorldState) (
     → RefusesSubmit caller via request old refusal
 submit_refused caller via request old fault refusal e h = subst (RefusesSubmit caller via request old) (sym e) (refused_by caller via request old fault h)
 
--- all of it, over the view of the fields
+-- all of it, stated over the view of the fields
 pub node_there : (caller via : ℕ) (request : Request) (view old : WorldState) → view ≡ old → RefusesCall caller via request old Memory → via < length view.world.nodes
 node_there caller via request view old same may = subst (λ (w : WorldState). via < length w.world.nodes) (sym same) may.there.0
 

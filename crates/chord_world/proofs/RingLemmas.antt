@@ -1,4 +1,4 @@
--- The ring that the nodes make, where a node changes, joins or crashes.
+-- The ring formed by the nodes, after a node changes, joins or crashes.
 use Rattle.std.proofs.Common.{◌≡◌, ◌≢◌, ℕ, zero, suc, ◌<◌, ◌≤◌, ◌||◌, Bool, true, false, None, Some, List, [], ◌∷◌, ◌++◌, length, map, set, refl, sym, ◌∙◌, ap, arith}
 use Rattle.std.specs.Prelude.{slice_get, slice_index_or}
 use Rattle.std.proofs.lemmas.List.{get_or_past, length-map}
@@ -24,7 +24,7 @@ get_pushed [] place x within = absurd (omega arith)
 get_pushed (y ∷ xs) zero x within = refl
 get_pushed (y ∷ xs) (suc place) x within = get_pushed xs place x (omega arith)
 
--- a flag that stands is at a place
+-- a flag that is set has an index in the list
 pub flag_within : (flags : List Bool) (place : ℕ) → slice_index_or flags place false ≡ true → place < length flags
 flag_within [] place e = cc
 flag_within (flag ∷ flags) zero e = omega arith
@@ -130,7 +130,7 @@ members_crash (suc place) (other ∷ nodes) (out ∷ crashed) e = ap (λ ms. mem
 
 -- ---- who is a member
 
--- the links are shown of one that did not depart
+-- the links of a node that did not depart
 pub links_shown : (out : Bool) (links shown : NodeLinks) → links_unless out links ≡ Some shown → (out ≡ false) × (links ≡ shown)
 links_shown true links shown e = cc
 links_shown false links shown e = (refl, cc)
@@ -160,7 +160,7 @@ member_node (suc number) (node ∷ nodes) (out ∷ crashed) links e is =
 
 -- ---- the ring after a node changed
 
--- a member has other links
+-- the links of a member are replaced
 pub ring_relinked : (place : ℕ) (node : Node) (links : NodeLinks) (nodes : List Node) (crashed : List Bool) → length crashed ≡ length nodes → slice_get nodes place ≡ Some node
     → slice_index_or crashed place false ≡ false → is_gone node.phase ≡ false → links.me ≡ node.links.me
     → ring_with (set nodes place (record node { links = links })) crashed ≡ with_links (ring_with nodes crashed) place links

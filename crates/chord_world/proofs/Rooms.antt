@@ -1,4 +1,4 @@
--- Room that was had.
+-- Reserved room.
 use Rattle.std.proofs.Common.{◌≡◌, false, Result, Ok, Err}
 use Rattle.std.specs.Prelude.{OnOk, is_err}
 

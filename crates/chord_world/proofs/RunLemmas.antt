@@ -71,7 +71,7 @@ pub limits_after : {S : Type 0} (f : S → ℕ) (step : Step) (answer : Answer) 
     → StoresLeft step result stores left → map f left ≡ limits_left step answer (map f stores)
 limits_after f step answer result stores left e h = limits_by f step answer stores left (subst (λ r. StoresLeft step r stores left) (sym e) h)
 
--- the run goes on, or stays where it is
+-- the run goes on by the step, or stays at its world
 run_by : (first : World) (middle last : WorldState) (result : Result Outcome Refusal) → ∥ Run first middle.world ∥₁ → Advances middle result last → ∥ Run first last.world ∥₁
 run_by first middle last (Ok outcome) run step = ∥∥₁_map run (λ r. Goes_on r step)
 run_by first middle last (Err refusal) run same = subst (λ (w : WorldState). ∥ Run first w.world ∥₁) (sym same) run
@@ -101,7 +101,7 @@ run_more first middle last (Finger node finger to) result run step = run_by firs
 pub run_none : (first : World) → ∥ Run first first ∥₁
 run_none first = ∣ Stays ∣₁
 
--- what holds of all stores holds of those that are left
+-- a property of all stores holds of those that are left
 pub vacant_left : {S : Type 0} (P : S → Type 0) (result : Result Outcome Refusal) (stores left : List S) → CreateLeaves result stores left → All P stores → All P left
 vacant_left P (Ok outcome) stores left e all = subst (All P) (sym e) (All-drop P 1 stores all)
 vacant_left P (Err refusal) stores left e all = subst (All P) (sym e) all

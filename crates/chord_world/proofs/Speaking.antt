@@ -1,4 +1,4 @@
--- Callers that send again, show a note or meet one.
+-- Callers that send a request again, send a note or meet one.
 use Rattle.std.proofs.Common.{◌≡◌, ℕ, ◌<◌, Option, None, Some, Result, Ok, Err, List, [], ◌∷◌, ◌++◌, length, set, get_or, refl, sym, ◌∙◌, ap, subst, arith}
 use Rattle.std.specs.Prelude.{slice_get, slice_set, Contains, OnOk, OnErr, IsErrAnd}
 use Rattle.std.specs.declared.alloc.AllocError.{AllocError}
@@ -52,7 +52,7 @@ sent_is_world place to core letter view kept here step call aim = record {
   high = kept.high;
 }
 
--- in the words of the code
+-- restated in the terms of the code
 pub sent_now : (message : Message) (to : Option ℕ) (view : WorldState) (number : ℕ) (sent : List Message) (targets : List (Option ℕ)) → SentIs message to view.world.sent view.targets (Ok number) sent targets
     → posted view.world.callers sent targets view ≡ with_sent message to view
 sent_now message to view number sent targets h = λ i. posted view.world.callers (h.1 i) (h.2 i) view
@@ -61,7 +61,7 @@ pub sent_not : (message : Message) (to : Option ℕ) (view : WorldState) (refuse
     → posted view.world.callers sent targets view ≡ view
 sent_not message to view refused sent targets h = λ i. posted view.world.callers (h.0 i) (h.1 i) view
 
--- the call that goes out again is the caller's own
+-- the call that is sent again is the caller's own
 pub again_call : (named : Option ℕ) (place : ℕ) (core : Caller) (ask : Ask) (view : WorldState) → IsWorld view → slice_get view.world.callers place ≡ Some core → AsksAgain named core ask
     → IsKnown (length view.world.nodes) (length view.world.callers) (AskMessage ask)
 again_call named place core ask view kept here asks =
@@ -104,7 +104,7 @@ pub met_step : (place : ℕ) (note : Note) (core : Caller) (view : WorldState) �
 met_step place note core view kept here sent =
     Calls place core (with_note note core) (Some (NoteLetter note)) None (caller_at_place 0 place place view.world.callers kept.callers (omega arith) ∙ here) sent (Meets note)
 
--- in the words of the code
+-- restated in the terms of the code
 pub met_is : (place : ℕ) (note : Note) (view : WorldState) (callers : List Caller) → IsWorld view → (met : Met place note view.world.callers callers)
     → posted callers view.world.sent view.targets view ≡ with_heard (with_note note met.core) view
 met_is place note view callers kept met =
@@ -124,7 +124,7 @@ meets_from place note old core after (Ok met) within e ok err =
 meets_from place note old core after (Err refused) within e ok err =
     ap (λ (c : Caller). set old place c) err ∙ set_same old place core (got old place core within e)
 
--- the caller of the code, at its place
+-- the caller of the code, at its index
 pub caller_index : (caller : ℕ) (view old : WorldState) (core : Caller) → view ≡ old → IsWorld view → caller_at caller old.world.callers ≡ Some core → slice_get view.world.callers caller ≡ Some core
 caller_index caller view old core same kept here =
     sym (caller_at_place 0 caller caller view.world.callers kept.callers (omega arith)) ∙ ap (λ (w : WorldState). caller_at caller w.world.callers) same ∙ here
@@ -132,7 +132,7 @@ caller_index caller view old core same kept here =
 pub caller_in : (caller : ℕ) (view old : WorldState) (core : Caller) → view ≡ old → IsWorld view → caller_at caller old.world.callers ≡ Some core → caller < length view.world.callers
 caller_in caller view old core same kept here = slice_get_within view.world.callers caller core (caller_index caller view old core same kept here)
 
--- the caller that is read is the one that is there
+-- the caller that is read is the one that exists
 pub there_now : (caller via : ℕ) (view old : WorldState) (core found : Caller) → view ≡ old → IsWorld view → IsThere caller via old core → slice_get view.world.callers caller ≡ Some found → IsThere caller via old found
 there_now caller via view old core found same kept there here = (there.0, caller_stands caller view old found same kept here)
 
@@ -141,7 +141,7 @@ again_because : (caller via : ℕ) (named : Option ℕ) (old : WorldState) (core
 again_because caller via named old core refusal there (Is_idle idle) = ((core, there, idle), refl)
 again_because caller via named old core refusal there (No_memory waiting) = ((core, there, waiting), refl)
 
--- a request that does not go out again
+-- a request that is not sent again
 pub again_refused : (caller via : ℕ) (named : Option ℕ) (old : WorldState) (core : Caller) (refusal : Refusal) (result : Result Outcome Refusal) → IsThere caller via old core
     → AgainIs named core (Err refusal) → IsErrAnd result (λ e. e ≡ refusal) → ResendStepIs caller via named old result old
 again_refused caller via named old core refusal (Ok outcome) there why is = absurd is
@@ -174,7 +174,7 @@ again_sends caller via number named view old core ask sent targets same there as
   new_is = sent_now (AskMessage ask) (Some via) view number sent targets goes ∙ ap (with_sent (AskMessage ask) (Some via)) same;
 }
 
--- a note that goes out
+-- a note that is sent
 pub show_sends : (caller number : ℕ) (view old : WorldState) (core : Caller) (note : Note) (sent : List Message) (targets : List (Option ℕ)) → view ≡ old → caller_at caller old.world.callers ≡ Some core
     → note ≡ note_of core → SentIs (NoteMessage note) None view.world.sent view.targets (Ok number) sent targets → SendsNote caller old number (posted view.world.callers sent targets view)
 show_sends caller number view old core note sent targets same here is goes = record {

@@ -1,4 +1,4 @@
--- Parts, and what comes of them, that are delivered.
+-- Delivery of Part, Got and Declined.
 use Rattle.std.proofs.Common.{◌≡◌, ◌≢◌, ℕ, ◌<◌, inl, inr, Bool, true, false, Option, None, Some, Ok, Err, List, length, get_or, refl, sym, ◌∙◌, ap, subst, arith}
 use Rattle.std.specs.Prelude.{slice_get, Contains}
 use Rattle.std.specs.declared.alloc.AllocError.{AllocError}
@@ -29,7 +29,7 @@ use Rattle.chord_world.proofs.Keeping.{with_nodes}
 use Rattle.chord_world.proofs.Placing.{node_number, call_at, aimed_pushed}
 use Rattle.chord_world.proofs.Pointing.{node_stands, node_within}
 
--- ---- what a node takes in leaves it where it is
+-- ---- a node that takes in a message keeps its number and links
 
 still_same : (node after : Node) → after ≡ node → IsStill node after
 still_same node after e = subst (IsStill node) (sym e) (record { number = refl; gone = refl; links = refl })
@@ -52,12 +52,12 @@ still_back declined back.Unknown node after h = still_same node after h.1
 still_back declined back.Clash node after h = still_same node after h.3
 still_back declined back.Full node after h = still_same node after h.4
 
--- ---- the node and the place
+-- ---- the node and its index
 
 pub numbered : (place : ℕ) (view : WorldState) → IsWorld view → IsNumbered place view.world.nodes
 numbered place view kept node here = let at = node_number 0 place node view.world.nodes kept.nodes here in omega arith
 
--- the message at the place is this one
+-- the message at this index is this part
 pub same_part : (view : WorldState) (place : ℕ) (part other : Part) → slice_get view.world.sent place ≡ Some (PartMessage part) → slice_get view.world.sent place ≡ Some (PartMessage other) → part ≡ other
 same_part view place part other e f = let same : Some (PartMessage part) ≡ Some (PartMessage other) = sym e ∙ f in cc
 
@@ -105,7 +105,7 @@ reply_aimed sent targets part given.Clash all = all
 reply_aimed sent targets part given.Full all = all
 reply_aimed sent targets part given.Part all = all
 
--- in the words of the code
+-- restated in the terms of the code
 abbrev pub after_part : List Node → List Message → List (Option ℕ) → WorldState → WorldState
 after_part nodes sent targets view = record view { world = record view.world { nodes = nodes; sent = sent }; targets = targets }
 
@@ -146,7 +146,7 @@ part_delivers place to part answer view old new nodes outcome same kept running 
     (ap (λ n. node_at n view.world.nodes) took.own ∙ node_stands to view view took.does.node refl kept took.does.here)
     (ap (λ n. is_crashed n view) took.own ∙ ap (is_crashed to) same ∙ running) took.does.is told))
 
--- the part that came, by what was read at its place
+-- the part that was delivered, as read at its index
 pub record Came (place to : ℕ) (part : Part) (view : WorldState) : Type 0 where
   pub sent : slice_get view.world.sent place ≡ Some (PartMessage part)
   pub own : part.to ≡ to
@@ -181,7 +181,7 @@ back_fits place declined answer view nodes kept sent does law clash =
     (node_stands declined.from view view does.node refl kept does.here)
     (subst (λ a. BackIs declined does.node (Ok a) does.after) clash does.is)
 
--- the place of the part's receiver
+-- the index of the part's receiver
 pub receiver_place : (place to : ℕ) (view old : WorldState) (asked : Part) → view ≡ old → IsWorld view → slice_get old.world.sent place ≡ Some (PartMessage asked) → asked.to ≡ to
     → to < length view.world.nodes
 receiver_place place to view old asked same kept here own =
@@ -208,7 +208,7 @@ pub back_takes : (place : ℕ) (declined : Ticket) (fault : AllocError) (view ol
 back_takes place declined fault view old node after same kept sent here running (item, there, clear, fits, is) =
     Declined_takes declined node sent (node_stands declined.from view view node refl kept here) (ap (is_crashed declined.from) same ∙ running) (item, there, clear, fits, refl)
 
--- ---- what comes of it
+-- ---- the outcome
 
 pub got_after : (place : ℕ) (got : Ticket) (found : Bool) (view old : WorldState) (nodes : List Node) → view ≡ old → IsWorld view → is_crashed got.from old ≡ false
     → slice_get view.world.sent place ≡ Some (GotMessage got) → (does : DoesAt (GotIs got) (GotSteps got) got.from view.world.nodes found nodes) → After old (with_nodes nodes view)

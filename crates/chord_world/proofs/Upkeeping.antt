@@ -1,4 +1,4 @@
--- Joins, crashes and the ring's upkeep keep the world and its ring.
+-- Joins, crashes and the ring's upkeep keep the rules of the world and of its ring.
 use Rattle.std.proofs.Common.{◌≡◌, ◌≢◌, ℕ, ◌+◌, ◌<◌, Bool, true, false, None, Some, Result, Ok, Err, List, [], ◌∷◌, ◌++◌, length, map, set, refl, sym, ◌∙◌, ap, subst, arith}
 use Rattle.std.specs.Prelude.{slice_get, IsErrAnd}
 use Rattle.std.specs.List.{Contains}
@@ -80,7 +80,7 @@ upkept step place links view old nodes same kept own moves relinks =
     (upkept_here step place links view nodes kept (subst (λ w. AreOwn (ring_of w) place links) (sym same) own)
     (subst (λ w. Step (ring_of w) step (with_links (ring_of w) place links)) (sym same) moves) relinks)
 
--- the node is there, and the links are its own
+-- the node exists, and the links are its own
 pub own_fits : (place : ℕ) (links : NodeLinks) (view old : WorldState) → view ≡ old → IsWorld view → AreOwn (ring_of old) place links → (place < length view.world.nodes) × FitAt place links view.world.nodes
 own_fits place links view old same kept own' =
     let own : AreOwn (ring_of view) place links = subst (λ w. AreOwn (ring_of w) place links) (sym same) own' in
@@ -254,7 +254,7 @@ used_is id view old read same is has =
     let path : (ring_of old).ids ≡ map id_of_node read = ap (λ w. (ring_of w).ids) (sym same) ∙ sym (ids_are view.world.nodes) ∙ ap (map id_of_node) (sym is) in
     subst (λ ids. Contains ids id) (sym path) has
 
--- in the words of the code
+-- restated in the terms of the code
 pub joins_at : (id : Id) (behind limit number : ℕ) (pred links : NodeLinks) (view old : WorldState) (nodes : List Node) (crashed : List Bool) → view ≡ old → IsWorld view → MayJoin id behind pred old
     → number ≡ length view.world.nodes → links ≡ joined (record { no = number; id = id }) pred → nodes ≡ view.world.nodes ++ newborn links limit ∷ [] → crashed ≡ view.crashed ++ false ∷ []
     → AfterJoin id behind limit old number (with_more nodes crashed view)

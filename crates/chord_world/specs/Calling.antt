@@ -1,4 +1,4 @@
--- What a World answers where a request goes out again, and where a note is shown or met.
+-- What a World answers to a request sent again, and to a note sent or met.
 use Rattle.std.specs.Prelude.{◌≡◌, ◌≢◌, ℕ, ◌<◌, ◌≤◌, true, false, Option, None, Some, Result, Ok, Err, List, [], ◌∷◌, ◌++◌, length, slice_get, slice_set}
 use Rattle.std.specs.declared.alloc.AllocError.{AllocError}
 use Rattle.chord_caller.specs.declared.ask.Ask.{Ask}
@@ -15,7 +15,7 @@ use Rattle.chord_world.specs.declared.refusal.StepFault.TheVariants as step_faul
 use Rattle.chord_world.specs.Refusals.{DoneOrRefused}
 use Rattle.chord_world.specs.State.{WorldState, IsThere, with_heard, with_sent}
 
--- the caller and the node are there, or the first refusal that fits is answered
+-- the caller and the node exist, or this is the first refusal that applies
 abbrev pub AreThere : ℕ → ℕ → WorldState → Result (Unit {0}) Refusal → Type 0
 AreThere caller via state (Ok there) = (core : Caller) × IsThere caller via state core
 AreThere caller via state (Err refused.NotCreated) = state.world.nodes ≡ []
@@ -23,7 +23,7 @@ AreThere caller via state (Err refused.NoSuchNode) = (state.world.nodes ≢ []) 
 AreThere caller via state (Err refused.NoSuchCaller) = (via < length state.world.nodes) × (caller_at caller state.world.callers ≡ None)
 AreThere caller via state (Err refusal) = ⊥
 
--- the same without a node
+-- the caller exists, or this is the first refusal that applies
 abbrev pub CallerIs : ℕ → WorldState → Result (Unit {0}) Refusal → Type 0
 CallerIs caller state (Ok there) = (state.world.nodes ≢ []) × ((core : Caller) × (caller_at caller state.world.callers ≡ Some core))
 CallerIs caller state (Err refused.NotCreated) = state.world.nodes ≡ []
@@ -32,17 +32,17 @@ CallerIs caller state (Err refusal) = ⊥
 
 -- ---- a request again
 
--- the number to send again: the one that is named, else the least that is pending, if one is
+-- the number to send again: the one given, else the least pending one, if any
 abbrev pub WantedIs : Option ℕ → Caller → Option ℕ → Type 0
 WantedIs (Some number) core wanted = wanted ≡ Some number
 WantedIs None core wanted = PendingIs core wanted
 
--- that number is not pending, or there is none
+-- the number to send again is not pending, or there is none
 pub data IsIdle (named : Option ℕ) (core : Caller) : Type 0 where
   Not_pending : (number : ℕ) → WantedIs named core (Some number) → is_pending number core ≡ false → IsIdle named core
   None_pending : WantedIs named core None → IsIdle named core
 
--- that number is pending
+-- the number to send again is pending
 pub record IsWaiting (named : Option ℕ) (core : Caller) : Type 0 where
   pub number : ℕ
   pub wanted : WantedIs named core (Some number)
@@ -54,7 +54,7 @@ pub record AsksAgain (named : Option ℕ) (core : Caller) (ask : Ask) : Type 0 w
   pub wanted : WantedIs named core (Some number)
   pub resends : ResendIs number core (Ok ask)
 
--- why it does not
+-- why the caller does not send it again
 pub data CannotAskAgain (named : Option ℕ) (core : Caller) : Refusal → Type 0 where
   Is_idle : IsIdle named core → CannotAskAgain named core (refused.Step step_fault.Idle)
   No_memory : IsWaiting named core → CannotAskAgain named core refused.Memory
@@ -63,7 +63,7 @@ abbrev pub AgainIs : Option ℕ → Caller → Result Ask Refusal → Type 0
 AgainIs named core (Ok ask) = AsksAgain named core ask
 AgainIs named core (Err refusal) = CannotAskAgain named core refusal
 
--- the request went out under this number
+-- the request was sent again in this message
 pub record SendsAgain (caller via : ℕ) (named : Option ℕ) (old : WorldState) (message : ℕ) (new : WorldState) : Type 0 where
   pub core : Caller
   pub ask : Ask
@@ -86,11 +86,11 @@ ResendStepIs caller via named = DoneOrRefused (DoesResend caller via named) (Ref
 
 -- ---- a note
 
--- what a caller shows
+-- the note of what a caller knows
 abbrev pub note_of : Caller → Note
 note_of core = record { caller = core.number; done = known core }
 
--- the note went out under this number
+-- the note was sent in this message
 pub record SendsNote (caller : ℕ) (old : WorldState) (message : ℕ) (new : WorldState) : Type 0 where
   pub core : Caller
   pub here : caller_at caller old.world.callers ≡ Some core
@@ -112,7 +112,7 @@ ShowIs caller = DoneOrRefused (DoesShow caller) (RefusesShow caller)
 abbrev pub with_note : Note → Caller → Caller
 with_note note core = record core { told = core.told ++ unknown core note.done }
 
--- the caller met the note that was sent under this number
+-- the caller met the note of this message
 pub record MeetsNote (caller message : ℕ) (old new : WorldState) : Type 0 where
   pub core : Caller
   pub note : Note
@@ -120,7 +120,7 @@ pub record MeetsNote (caller message : ℕ) (old new : WorldState) : Type 0 wher
   pub sent : slice_get old.world.sent message ≡ Some (NoteMessage note)
   pub new_is : new ≡ with_heard (with_note note core) old
 
--- no note was sent under this number
+-- the message of this number is no note
 abbrev pub IsNoNote : ℕ → WorldState → Type 0
 IsNoNote message state = (message < length state.world.sent) × ((note : Note) → slice_get state.world.sent message ≢ Some (NoteMessage note))
 
@@ -137,20 +137,20 @@ RefusesMeet caller message old refusal = CallerIs caller old (Err refusal)
 abbrev pub MeetIs : ℕ → ℕ → WorldState → Result Outcome Refusal → WorldState → Type 0
 MeetIs caller message = DoneOrRefused (DoesMeet caller message) (RefusesMeet caller message)
 
--- ---- how it comes about
+-- ---- how it happens
 
--- one more message, or was out of memory, and nothing changed
+-- one more message was sent, or memory ran out and nothing changed
 abbrev pub SentIs : Message → Option ℕ → List Message → List (Option ℕ) → Result ℕ AllocError → List Message → List (Option ℕ) → Type 0
 SentIs message to sent targets (Ok number) sent' targets' = (number ≡ length sent) × (sent' ≡ sent ++ message ∷ []) × (targets' ≡ targets ++ to ∷ [])
 SentIs message to sent targets (Err refused) sent' targets' = (sent' ≡ sent) × (targets' ≡ targets)
 
--- the caller at the place met the note, and is another then
+-- the caller at this index met the note; the list has the caller afterwards
 pub record Met (place : ℕ) (note : Note) (old new : List Caller) : Type 0 where
   pub core : Caller
   pub here : slice_get old place ≡ Some core
   pub new_is : new ≡ slice_set old place (with_note note core)
 
--- it did, or was out of memory, and nothing changed
+-- it met the note, or memory ran out and nothing changed
 abbrev pub MeetsAt : ℕ → Note → List Caller → Result (Unit {0}) AllocError → List Caller → Type 0
 MeetsAt place note old (Ok met) new = Met place note old new
 MeetsAt place note old (Err refused) new = new ≡ old

@@ -1,4 +1,4 @@
--- What comes of a message that is delivered.
+-- What a World answers to the delivery of a message.
 use Rattle.std.specs.Prelude.{◌≡◌, ◌≢◌, ℕ, Bool, true, false, ◌≤◌, Option, None, Some, alloc_error, Result, Ok, Err, [], length, slice_get}
 use Rattle.chord_caller.specs.declared.ask.Ask.{Ask}
 use Rattle.chord_caller.specs.declared.told.Told.{Told}
@@ -27,21 +27,21 @@ use Rattle.chord_world.specs.State.{WorldState, with_heard, is_crashed}
 use Rattle.chord_world.specs.Linking.{with_node}
 use Rattle.chord_world.specs.Taking.{outcome_of_given, outcome_of_freed, outcome_of_back, with_reply}
 
--- what an answer is as an outcome, where this many messages were sent before
+-- the outcome of an answer to a call, if `count` messages were sent before
 abbrev pub outcome_of : Answered → ℕ → Outcome
 outcome_of (answer.Told told) count = did.Told count
 outcome_of (answer.Forward to passed) count = did.Forwarded count
 outcome_of answer.Dropped count = did.Dropped
 outcome_of answer.Full count = did.Full count
 
--- what an answer sends goes to this node, where it is an Ask
+-- the node that the answer's message is for, if it is an Ask
 abbrev pub target_of : Answered → Option (Option ℕ)
 target_of (answer.Told told) = Some None
 target_of (answer.Forward to passed) = Some (Some to)
 target_of answer.Dropped = None
 target_of answer.Full = Some None
 
--- the world after this node answered a call so
+-- the world after this node answered a call with this
 abbrev pub with_answer : Ask → Node → Node → Answered → WorldState → WorldState
 with_answer ask node after answered old =
     record old {
@@ -53,38 +53,38 @@ with_answer ask node after answered old =
       targets = with_one old.targets (target_of answered);
     }
 
--- what hearing a reply is as an outcome
+-- the outcome of hearing a reply
 abbrev pub outcome_heard : Heard → ℕ → Outcome
 outcome_heard FreshReply caller = did.Fresh caller
 outcome_heard KnownReply caller = did.Known
 
--- What comes of the message of this number, where it is delivered.
+-- How the message of this number is delivered, and its outcome.
 pub data Delivers (message : ℕ) (old : WorldState) : Outcome → WorldState → Type 0 where
-  -- a call comes to its node
+  -- an Ask is delivered to its node
   To_node : (ask : Ask) (to : ℕ) (node after : Node) (answered : Answered) → slice_get old.world.sent message ≡ Some (AskMessage ask)
       → slice_get old.targets message ≡ Some (Some to) → node_at to old.world.nodes ≡ Some node → is_crashed to old ≡ false → AskIs ask node (Ok answered) after
       → Delivers message old (outcome_of answered (length old.world.sent)) (with_answer ask node after answered old)
-  -- a reply comes to its caller
+  -- a Told is delivered to its caller
   To_caller : (told : Told) (core after : Caller) (heard : Heard) → slice_get old.world.sent message ≡ Some (ToldMessage told)
       → caller_at told.caller old.world.callers ≡ Some core → TakeIs told core (Ok heard) after
       → Delivers message old (outcome_heard heard told.caller) (with_heard after old)
-  -- a part comes to its receiver
+  -- a Part is delivered to its receiver
   Part_to_node : (part : Part) (node after : Node) (given : Given) (outcome : Outcome) → slice_get old.world.sent message ≡ Some (PartMessage part)
       → node_at part.to old.world.nodes ≡ Some node → is_crashed part.to old ≡ false → PartIs part node (Ok given) after
       → outcome_of_given given (length old.world.sent) ≡ Some outcome → Delivers message old outcome (with_reply after (sent_for part given) old)
-  -- that a handover was taken comes to its sender
+  -- a Got is delivered to the giver
   Got_to_node : (got : Ticket) (node after : Node) (found : Bool) → slice_get old.world.sent message ≡ Some (GotMessage got)
       → node_at got.from old.world.nodes ≡ Some node → is_crashed got.from old ≡ false → GotIs got node found after
       → Delivers message old (outcome_of_freed found) (with_node after old)
-  -- so does that it was declined
+  -- a Declined is delivered to the giver
   Declined_to_node : (declined : Ticket) (node after : Node) (back : Back) (outcome : Outcome) → slice_get old.world.sent message ≡ Some (DeclinedMessage declined)
       → node_at declined.from old.world.nodes ≡ Some node → is_crashed declined.from old ≡ false → BackIs declined node (Ok back) after
       → outcome_of_back back ≡ Some outcome → Delivers message old outcome (with_node after old)
-  -- a caller hears that a store was full
+  -- a Full is delivered to its caller
   Full_to_caller : (caller number : ℕ) (core : Caller) → slice_get old.world.sent message ≡ Some (FullMessage caller number)
       → caller_at caller old.world.callers ≡ Some core → Delivers message old did.HeardFull old
 
--- the call of this number is for a node that is not there
+-- the message of this number is an Ask for a node that does not exist
 pub record IsAstray (message : ℕ) (old : WorldState) : Type 0 where
   pub ask : Ask
   pub to : ℕ
@@ -99,7 +99,7 @@ pub data IsFor (message : ℕ) (old : WorldState) : ℕ → Type 0 where
   Got_for : (got : Ticket) → slice_get old.world.sent message ≡ Some (GotMessage got) → IsFor message old got.from
   Declined_for : (declined : Ticket) → slice_get old.world.sent message ≡ Some (DeclinedMessage declined) → IsFor message old declined.from
 
--- the message of this number is for a node that crashed
+-- the message of this number is for a node that has crashed
 pub record IsForCrashed (message : ℕ) (old : WorldState) : Type 0 where
   pub to : ℕ
   pub node : Node
@@ -107,7 +107,7 @@ pub record IsForCrashed (message : ℕ) (old : WorldState) : Type 0 where
   pub here : node_at to old.world.nodes ≡ Some node
   pub crashed : is_crashed to old ≡ true
 
--- the message of this number copies something, or makes something grow, where it is taken in
+-- taking in the message of this number copies something or makes something grow
 pub data TakesMemory (message : ℕ) (old : WorldState) : Type 0 where
   Ask_takes : (ask : Ask) (to : ℕ) (node : Node) → slice_get old.world.sent message ≡ Some (AskMessage ask) → slice_get old.targets message ≡ Some (Some to)
       → node_at to old.world.nodes ≡ Some node → is_crashed to old ≡ false → TakesMemory message old
@@ -118,7 +118,7 @@ pub data TakesMemory (message : ℕ) (old : WorldState) : Type 0 where
       → node_at declined.from old.world.nodes ≡ Some node → is_crashed declined.from old ≡ false → BackIs declined node (Err alloc_error) node
       → TakesMemory message old
 
--- why the message of this number is not delivered
+-- why the message of this number is refused
 abbrev pub RefusesDeliver : ℕ → WorldState → Refusal → Type 0
 RefusesDeliver message old refused.NotCreated = old.world.nodes ≡ []
 RefusesDeliver message old refused.NoSuchNode = IsAstray message old
@@ -128,6 +128,6 @@ RefusesDeliver message old (refused.Step step_fault.NeedsMeet) = (note : Note) �
 RefusesDeliver message old refused.Memory = TakesMemory message old
 RefusesDeliver message old refusal = ⊥
 
--- what a World answers where it is delivered
+-- what a World answers to the delivery of this message
 abbrev pub DeliverIs : ℕ → WorldState → Result Outcome Refusal → WorldState → Type 0
 DeliverIs message = DoneOrRefused (Delivers message) (RefusesDeliver message)

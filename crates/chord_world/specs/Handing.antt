@@ -1,4 +1,4 @@
--- What a World answers where a node cuts, merges, gives, sends a part again, begins to leave or is gone.
+-- What a World answers if a node cuts, merges, gives, resends a part, begins to leave or is gone.
 use Rattle.std.specs.Prelude.{◌≡◌, ◌≢◌, ◌⊎◌, ℕ, Bool, true, false, None, Some, Result, Ok, Err, List, [], length, slice_get, slice_set, IsTrue}
 use Rattle.chord_handover.specs.Handover.{Part}
 use Rattle.chord_ring.specs.Ring.{is_member, CanDepart}
@@ -33,7 +33,7 @@ pub data IsMissing (number : ℕ) (state : WorldState) : Refusal → Type 0 wher
   Uncreated : state.world.nodes ≡ [] → IsMissing number state refused.NotCreated
   Missing : state.world.nodes ≢ [] → node_at number state.world.nodes ≡ None → IsMissing number state refused.NoSuchNode
 
--- a node has it
+-- a node has this number
 pub record HasNode (number : ℕ) (state : WorldState) : Type 0 where
   pub node : Node
   pub here : node_at number state.world.nodes ≡ Some node
@@ -42,12 +42,12 @@ abbrev pub ThereIs : ℕ → WorldState → Result (Unit {0}) Refusal → Type 0
 ThereIs number state (Ok there) = HasNode number state
 ThereIs number state (Err refusal) = IsMissing number state refusal
 
--- the node of this number does nothing
+-- why the node of this number cannot act
 pub data CannotAct (number : ℕ) (state : WorldState) : Refusal → Type 0 where
   Is_missing : (refusal : Refusal) → IsMissing number state refusal → CannotAct number state refusal
   Is_crashed : HasNode number state → is_crashed number state ≡ true → CannotAct number state (refused.Step step_fault.Crashed)
 
--- it is there, and has not crashed
+-- the node of this number exists and has not crashed
 abbrev pub CanAct : ℕ → WorldState → Type 0
 CanAct number state = HasNode number state × (is_crashed number state ≡ false)
 
@@ -57,11 +57,11 @@ ActIs number state (Err refusal) = CannotAct number state refusal
 
 -- ---- a node that changes
 
--- what a node answers, and what it is then
+-- what a node answers, and the node afterwards
 abbrev pub Call : Type 0 → Type 1
 Call A = Node → A → Node → Type 0
 
--- the node did this, and is another then
+-- the node did this and changed
 pub record Moved {E : Type 0} (Is : Call (Result (Unit {0}) E)) (number : ℕ) (old new : WorldState) : Type 0 where
   pub node : Node
   pub after : Node
@@ -70,7 +70,7 @@ pub record Moved {E : Type 0} (Is : Call (Result (Unit {0}) E)) (number : ℕ) (
   pub is : Is node (Ok tt) after
   pub new_is : new ≡ with_node after old
 
--- the node refused it
+-- the node refused this
 pub record RefusedBy {A E : Type 0} (Is : Call (Result A E)) (refusal_of : E → Refusal) (number : ℕ) (old : WorldState) (refusal : Refusal) : Type 0 where
   pub node : Node
   pub fault : E
@@ -91,7 +91,7 @@ MoveIs Is refusal_of number = DoneOrRefused (DoesMove Is number) (RefusesMove Is
 
 -- ---- a node that sends a part
 
--- the part went out under this number
+-- the part was sent in this message
 pub record SendsPart {E : Type 0} (Is : Call (Result Part E)) (number : ℕ) (old : WorldState) (message : ℕ) (new : WorldState) : Type 0 where
   pub node : Node
   pub after : Node
@@ -122,16 +122,16 @@ RefusesGive number place to old refusal = CannotGive number to old refusal ⊎ (
 abbrev pub GiveStepIs : ℕ → ℕ → ℕ → WorldState → Result Outcome Refusal → WorldState → Type 0
 GiveStepIs number place to = DoneOrRefused (DoesGive number place to) (RefusesGive number place to)
 
--- a part again
+-- a part that is sent again
 abbrev pub refusal_of_resend : ResendFault → Refusal
 refusal_of_resend resend.NoPart = refused.Step step_fault.NoPart
 refusal_of_resend resend.Memory = refused.Memory
 
--- the node stays as it is
+-- a resent part leaves the node unchanged
 abbrev pub Resends : ℕ → ℕ → ℕ → Call (Result Part ResendFault)
 Resends to number part node result after = ResendIs to number part node result × (after ≡ node)
 
--- there is no such part, or no receiver that it could be for
+-- there is no such part, or no such receiver
 abbrev pub RefusesPart : ℕ → ℕ → ℕ → ℕ → WorldState → Refusal → Type 0
 RefusesPart number to item place old refusal =
     (CanAct number old × (node_at to old.world.nodes ≡ None) × (refusal ≡ refused.Step step_fault.NoPart))
@@ -170,11 +170,11 @@ refusal_of_retire retire.NotEmpty = refused.Step step_fault.NotEmpty
 
 -- ---- a node that is gone
 
--- a member without which the ring would not stand
+-- a member whose departure would make the ring unsafe
 abbrev pub IsNeeded : ℕ → WorldState → Type 0
 IsNeeded number old = IsTrue (is_member (ring_of old).members number) × (¬ (CanDepart (ring_of old).members number))
 
--- whether it is one: else it is no member, or can depart
+-- whether the node is needed: else it is no member, or can depart
 abbrev pub NeededIs : ℕ → WorldState → Bool → Type 0
 NeededIs number old true = IsNeeded number old
 NeededIs number old false = (is_member (ring_of old).members number ≡ false) ⊎ CanDepart (ring_of old).members number
@@ -190,9 +190,9 @@ RefusesRetire number old refusal = CannotAct number old refusal ⊎ ((¬ IsNeede
 abbrev pub RetireStepIs : ℕ → WorldState → Result Outcome Refusal → WorldState → Type 0
 RetireStepIs number = DoneOrRefused (DoesRetire number) (RefusesRetire number)
 
--- ---- how it comes about
+-- ---- how it happens
 
--- the node at the place did it, or refused and stayed as it was
+-- the node at this index answered this; the list has the node afterwards
 pub record DoesAt {A : Type 0} (Is Steps : Call A) (place : ℕ) (old : List Node) (result : A) (new : List Node) : Type 0 where
   pub node : Node
   pub after : Node

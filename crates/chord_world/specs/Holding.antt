@@ -8,19 +8,19 @@ use Rattle.chord_model.specs.Node.{Node}
 use Rattle.chord_model.specs.World.{at_node, holders, last_taken, under_way}
 use Rattle.chord_world.specs.State.{WorldState}
 
--- whether the item hands x over, and its receiver took less from the node so far
+-- whether the item hands x over and its receiver has not taken it yet
 abbrev pub is_open : ℕ → (ℕ → ℕ → ℕ) → Node → Item → Bool
 is_open x taken node item = in_span item.segment.span x && nat_lt (taken item.to node.number) item.number
 
--- the node's handover of the item
+-- the node's handover of this item, as a holder
 abbrev pub way_of : Node → Item → Holder
 way_of node item = holder.UnderWay node.number item.to item.number
 
--- the node where it holds x, and its handovers of x
+-- the node if it holds x, and its open handovers of x
 abbrev pub holders_at : ℕ → List Node → Node → List Holder
 holders_at x nodes node = at_node x node ++ under_way x (last_taken nodes) node
 
--- its one holder, once there is a node
+-- the one holder of x, once there is a node
 abbrev pub HolderIs : ℕ → WorldState → Option Holder → Type 0
 HolderIs x state None = state.world.nodes ≡ []
 HolderIs x state (Some holder) = holders x state.world.nodes ≡ holder ∷ []

@@ -1,4 +1,4 @@
--- What a World answers where a node joins.
+-- What a World answers if a node joins.
 use Rattle.std.specs.Prelude.{◌≡◌, ◌≢◌, ℕ, ◌<◌, ◌^◌, false, Some, Result, Ok, Err, List, [], ◌∷◌, ◌++◌, length, slice_get, IsTrue}
 use Rattle.std.specs.List.{Contains}
 use Rattle.chord_ident.specs.declared.id.Id.{Id}
@@ -17,19 +17,19 @@ use Rattle.chord_world.specs.declared.refusal.StepFault.TheVariants as step_faul
 use Rattle.chord_world.specs.Refusals.{DoneOrRefused}
 use Rattle.chord_world.specs.State.{WorldState, ring_of}
 
--- the world with one more node, which has these links and a store of this limit
+-- the world with one more node with these links and this store limit
 abbrev pub with_newborn : NodeLinks → ℕ → WorldState → WorldState
 with_newborn links limit old =
     record old { world = record old.world { nodes = old.world.nodes ++ newborn links limit ∷ [] }; crashed = old.crashed ++ false ∷ [] }
 
--- a node with this identifier joined behind a member, with a store of this limit, and has this number
+-- a node with this identifier and store limit joined behind a member under this number
 pub record JoinsBehind (id : Id) (behind limit : ℕ) (old : WorldState) (number : ℕ) (new : WorldState) : Type 0 where
   pub links : NodeLinks
   pub joins : Joins (ring_of old) id.number behind (ring_of new)
   pub numbered : number ≡ length old.world.nodes
   pub new_is : new ≡ with_newborn links limit old
 
--- the limits are those of the stores at hand
+-- the limits are those of the stores that are left
 abbrev pub DoesJoin : Id → ℕ → List ℕ → WorldState → Outcome → WorldState → Type 0
 DoesJoin id behind limits old (did.Node number) new = (limit : ℕ) × (slice_get limits 0 ≡ Some limit) × JoinsBehind id behind limit old number new
 DoesJoin id behind limits old outcome new = ⊥
@@ -46,21 +46,21 @@ RefusesJoin id behind limits old refusal = ⊥
 abbrev pub JoinIs : Id → ℕ → List ℕ → WorldState → Result Outcome Refusal → WorldState → Type 0
 JoinIs id behind limits = DoneOrRefused (DoesJoin id behind limits) (RefusesJoin id behind limits)
 
--- what is known of a node that may join
+-- a node with this identifier may join behind this member
 pub record MayJoin (id : Id) (behind : ℕ) (pred : NodeLinks) (old : WorldState) : Type 0 where
   pub is_its : links_of (ring_of old).members behind ≡ Some pred
   pub is_id : id.number < 2 ^ 128
   pub is_unused : ¬ (Contains (ring_of old).ids id.number)
   pub is_between : IsBetween pred.me.id.number id.number (first_entry pred).id.number
 
--- these are the links of the next node, which may join, and there is a store for it
+-- these are the links of the next node, which may join, and a store is left for it
 pub record CanJoin (id : Id) (behind : ℕ) (limits : List ℕ) (old : WorldState) (links : NodeLinks) : Type 0 where
   pub pred : NodeLinks
   pub may : MayJoin id behind pred old
   pub links_are : links ≡ joined (record { no = length old.world.nodes; id = id }) pred
   pub stocked : limits ≢ []
 
--- they are, or the refusal is due
+-- the links of a node that can join, or the refusal
 abbrev pub LinksToJoin : Id → ℕ → List ℕ → WorldState → Result NodeLinks Refusal → Type 0
 LinksToJoin id behind limits old (Ok links) = CanJoin id behind limits old links
 LinksToJoin id behind limits old (Err refusal) = RefusesJoin id behind limits old refusal

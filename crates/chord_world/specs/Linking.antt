@@ -1,4 +1,4 @@
--- What a World answers where a node's links are set, or read.
+-- What a World answers if a node's links are set or read.
 use Rattle.std.specs.Prelude.{◌≡◌, ◌≢◌, ℕ, ◌≤◌, ◌⊎◌, true, false, Option, None, Some, Result, List, [], slice_get, slice_set}
 use Rattle.std.specs.Borrow.{Bor}
 use Rattle.chord_links.specs.declared.peer.Peer.{Peer}
@@ -18,7 +18,7 @@ use Rattle.chord_world.specs.State.{WorldState, is_crashed}
 abbrev pub IsFinger : ℕ → Type 0
 IsFinger finger = (1 ≤ finger) × (finger ≤ 128)
 
--- the node with this finger at that peer
+-- the node with this finger set to this peer
 abbrev pub pointed : ℕ → Peer → Node → Node
 pointed finger peer node = record node { links = record node.links { fingers = with_finger node.links.fingers finger peer } }
 
@@ -26,7 +26,7 @@ pointed finger peer node = record node { links = record node.links { fingers = w
 abbrev pub with_node : Node → WorldState → WorldState
 with_node after old = record old { world = record old.world { nodes = put_node after old.world.nodes } }
 
--- the finger of the node of this number is at the node `to`
+-- the finger of this node is set to the node `to`
 pub record Points (number finger to : ℕ) (old new : WorldState) : Type 0 where
   pub node : Node
   pub peer : Node
@@ -36,7 +36,7 @@ pub record Points (number finger to : ℕ) (old new : WorldState) : Type 0 where
   pub is_finger : IsFinger finger
   pub new_is : new ≡ with_node (pointed finger peer.links.me node) old
 
--- both nodes are there
+-- both nodes exist
 abbrev pub AreNodes : ℕ → ℕ → WorldState → Type 0
 AreNodes number to state =
     ((node : Node) × (node_at number state.world.nodes ≡ Some node)) × ((peer : Node) × (node_at to state.world.nodes ≡ Some peer))
@@ -55,12 +55,12 @@ RefusesFinger number finger to old refusal = ⊥
 abbrev pub FingerIs : ℕ → ℕ → ℕ → WorldState → Result Outcome Refusal → WorldState → Type 0
 FingerIs number finger to = DoneOrRefused (DoesFinger number finger to) (RefusesFinger number finger to)
 
--- the links of the node of this number, where there is one
+-- the links of the node of this number, if there is one
 abbrev pub LinksAre : ℕ → WorldState → Option (Bor NodeLinks) → Type 0
 LinksAre number state None = node_at number state.world.nodes ≡ None
 LinksAre number state (Some links) = (node : Node) × (node_at number state.world.nodes ≡ Some node) × (links.now ≡ node.links)
 
--- the node at the place has its finger at the peer
+-- the node at this index has its finger set to the peer
 pub record PointsAt (place finger : ℕ) (peer : Peer) (old new : List Node) : Type 0 where
   pub node : Node
   pub here : slice_get old place ≡ Some node

@@ -1,4 +1,4 @@
--- The refusals of steps, and what a step is answered.
+-- The refusals of steps, and the answer to a step.
 use Rattle.std.specs.Prelude.{◌≡◌, ℕ, Result, Ok, Err}
 use Rattle.chord_caller.specs.declared.fault.SubmitFault.{SubmitFault}
 use Rattle.chord_caller.specs.declared.fault.SubmitFault.TheVariants.{Bad, WindowFull, NumbersSpent, Memory as NoMemory}
@@ -13,7 +13,7 @@ use Rattle.chord_world.specs.declared.refusal.Refusal.TheVariants as refused
 use Rattle.chord_world.specs.declared.refusal.StepFault.TheVariants as step_fault
 use Rattle.chord_world.specs.State.{WorldState}
 
--- the place of a refusal in the order in which they are checked
+-- the number of a refusal in the order of the checks
 abbrev pub number_of : Refusal → ℕ
 number_of refused.AlreadyCreated = 1
 number_of refused.NotCreated = 2
@@ -46,7 +46,7 @@ refusal_of_ring (ring.Drop HeadLive) = refused.Step step_fault.HeadLive
 refusal_of_ring (ring.Drop Empty) = refused.Step step_fault.Empty
 refusal_of_ring ring.Memory = refused.Memory
 
--- it did this, or it is refused for this and changes nothing
+-- the step was done with this outcome; or it is refused and nothing changes
 abbrev pub DoneOrRefused : (WorldState → Outcome → WorldState → Type 0) → (WorldState → Refusal → Type 0) → WorldState → Result Outcome Refusal → WorldState → Type 0
 DoneOrRefused Does Refuses old (Ok outcome) new = Does old outcome new
 DoneOrRefused Does Refuses old (Err refusal) new = Refuses old refusal × (new ≡ old)

@@ -1,4 +1,4 @@
--- What a World of the program is seen as, and what it keeps.
+-- A World of the program as a world of the definitions, and what holds of it.
 use Rattle.std.specs.Prelude.{◌≡◌, ◌≢◌, ℕ, Bool, true, false, ◌+◌, ◌<◌, ◌≤◌, Option, None, Some, List, [], ◌∷◌, ◌++◌, map, length, slice_get, slice_index_or}
 use Rattle.chord_ring.specs.Ring.{KeepsPrincipals}
 use Rattle.chord_ring.specs.Sound.{IsSound}
@@ -11,23 +11,23 @@ use Rattle.chord_model.specs.World.{World, Reached, empty_world, caller_at, put_
 use Rattle.chord_world.specs.declared.sent.Sent.{Sent}
 use Rattle.chord_world.specs.Members.{ring_with}
 
--- the messages of what was sent
+-- the messages sent
 abbrev pub messages_of : List Sent → List Message
 messages_of sent = map (λ (one : Sent). one.message) sent
 
--- and for each the node that it goes to, where it is an Ask
+-- for each message sent, the node that it goes to, if it is an Ask
 abbrev pub targets_of : List Sent → List (Option ℕ)
 targets_of sent = map (λ (one : Sent). one.to) sent
 
--- the world of the definitions; for each message sent the node that it goes to, where it is an Ask; for each node
--- whether it crashed; and how many successors a node may list
+-- the world of the definitions; for each message sent, the node that it goes to, if it is an Ask;
+-- for each node, whether it crashed; and how many successors a node may list
 pub record WorldState : Type 0 where
   pub world : World
   pub targets : List (Option ℕ)
   pub crashed : List Bool
   pub r : ℕ
 
--- the ring that its nodes make
+-- the ring formed by the world's nodes
 abbrev pub ring_of : WorldState → Ring
 ring_of state = ring_with state.world.nodes state.crashed
 
@@ -35,17 +35,18 @@ ring_of state = ring_with state.world.nodes state.crashed
 abbrev pub new_world : ℕ → WorldState
 new_world r = record { world = empty_world; targets = []; crashed = []; r = r }
 
--- the nodes' numbers count up from this one
+-- the nodes' numbers are start, start + 1, and so on
 abbrev pub NodesFrom : ℕ → List Node → Type 0
 NodesFrom start [] = Unit {0}
 NodesFrom start (node ∷ rest) = (node.number ≡ start) × NodesFrom (start + 1) rest
 
--- the callers' numbers count up from this one
+-- the callers' numbers are start, start + 1, and so on
 abbrev pub CallersFrom : ℕ → List Caller → Type 0
 CallersFrom start [] = Unit {0}
 CallersFrom start (caller ∷ rest) = (caller.number ≡ start) × CallersFrom (start + 1) rest
 
--- a message of one of so many callers, or of a handover between two of so many nodes
+-- the message is of one of the first `callers` callers, or of a handover between two of the first
+-- `nodes` nodes
 abbrev pub IsKnown : ℕ → ℕ → Message → Type 0
 IsKnown nodes callers (AskMessage ask) = ask.caller < callers
 IsKnown nodes callers (ToldMessage told) = told.caller < callers
@@ -55,26 +56,26 @@ IsKnown nodes callers (GotMessage ticket) = (ticket.from < nodes) × (ticket.to 
 IsKnown nodes callers (DeclinedMessage ticket) = (ticket.from < nodes) × (ticket.to < nodes)
 IsKnown nodes callers (NoteMessage note) = note.caller < callers
 
--- each is one
+-- each of the messages is known
 abbrev pub AreKnown : ℕ → ℕ → List Message → Type 0
 AreKnown nodes callers [] = Unit {0}
 AreKnown nodes callers (message ∷ rest) = IsKnown nodes callers message × AreKnown nodes callers rest
 
--- an Ask goes to a node, and no other message does
+-- an Ask has a node that it goes to; any other message has none
 abbrev pub IsAimed : Message → Option ℕ → Type 0
 IsAimed (AskMessage ask) None = ⊥
 IsAimed (AskMessage ask) (Some to) = Unit {0}
 IsAimed message None = Unit {0}
 IsAimed message (Some to) = ⊥
 
--- each does so
+-- each of the messages has its target
 abbrev pub AreAimed : List Message → List (Option ℕ) → Type 0
 AreAimed [] [] = Unit {0}
 AreAimed (message ∷ rest) (to ∷ targets) = IsAimed message to × AreAimed rest targets
 AreAimed messages targets = ⊥
 
--- some steps lead to it, its nodes and callers stand at their numbers, each Ask has its node, each message is one of its
--- callers' or between its nodes, and its nodes make a sound ring
+-- The world is reachable; its nodes and callers have the numbers 0, 1, ..; each Ask has its node;
+-- each message is of its callers or between its nodes; and its nodes form a sound ring
 pub record IsWorld (state : WorldState) : Type 0 where
   pub reached : ∥ Reached state.world ∥₁
   pub nodes : NodesFrom 0 state.world.nodes
@@ -86,15 +87,15 @@ pub record IsWorld (state : WorldState) : Type 0 where
   pub low : 2 ≤ state.r
   pub high : state.r ≤ 16
 
--- the caller and the node are there
+-- the caller and the node exist
 abbrev pub IsThere : ℕ → ℕ → WorldState → Caller → Type 0
 IsThere caller via state core = (via < length state.world.nodes) × (caller_at caller state.world.callers ≡ Some core)
 
--- the world after a caller took something in
+-- the world after a caller took in a message
 abbrev pub with_heard : Caller → WorldState → WorldState
 with_heard after old = record old { world = record old.world { callers = put_caller after old.world.callers } }
 
--- the world after this message was sent, to this node where it is an Ask
+-- the world after this message was sent, to this node if it is an Ask
 abbrev pub with_sent : Message → Option ℕ → WorldState → WorldState
 with_sent message to old =
     record old { world = record old.world { sent = old.world.sent ++ message ∷ [] }; targets = old.targets ++ to ∷ [] }
@@ -103,7 +104,7 @@ with_sent message to old =
 abbrev pub is_crashed : ℕ → WorldState → Bool
 is_crashed number state = slice_index_or state.crashed number false
 
--- a principal that is still a member stays one, and a node that crashed stays as it was
+-- a principal that is still a member is still a principal; a node that crashed stays the same
 pub record KeepsRing (old new : WorldState) : Type 0 where
   pub principals : KeepsPrincipals (ring_of old).members (ring_of new).members
   pub crashed : (number : ℕ) → is_crashed number old ≡ true

@@ -1,4 +1,4 @@
--- What a World answers to a step, and what it is afterwards.
+-- What a World answers to a step, and the world afterwards.
 use Rattle.std.specs.Prelude.{◌≡◌, ◌≢◌, ℕ, false, ◌≤◌, Some, Result, Ok, Err, List, [], ◌∷◌, ◌++◌, length, slice_get, drop}
 use Rattle.chord_ident.specs.declared.id.Id.{Id}
 use Rattle.chord_links.specs.NodeLinks.{alone}
@@ -28,24 +28,24 @@ use Rattle.chord_world.specs.Upkeep.{DoesUpkeep, RefusesUpkeep, DoesCrash, Refus
 use Rattle.chord_world.specs.Handing.{DoesMove, RefusesMove, DoesGive, RefusesGive, DoesSendPart, RefusesSendPart, DoesRetire, RefusesRetire, refusal_of_cut, refusal_of_merge, refusal_of_leave}
 use Rattle.chord_world.specs.Delivered.{Delivers, RefusesDeliver}
 
--- an answered step is a step of the world, and a refused one changes nothing
+-- a step that is done is a step of the definitions; one that is refused changes nothing
 abbrev pub Advances : WorldState → Result Outcome Refusal → WorldState → Type 0
 Advances old (Ok outcome) new = WorldStep old.world new.world
 Advances old (Err refusal) new = new ≡ old
 
--- so is each step but a crash, which changes nothing of the world
+-- `Advances`, except for a crash, which changes nothing in the world of the definitions
 abbrev pub AdvancesBy : Step → WorldState → Result Outcome Refusal → WorldState → Type 0
 AdvancesBy (Crash node) old result new = new.world ≡ old.world
 AdvancesBy step old result new = Advances old result new
 
 -- ---- a first node
 
--- the world with a first node, whose store has this limit
+-- the world with its first node, whose store has this limit
 abbrev pub with_founder : Id → ℕ → WorldState → WorldState
 with_founder id limit old =
     record old { world = record old.world { nodes = founder (alone (record { no = 0; id = id }) old.r) limit ∷ [] }; crashed = false ∷ [] }
 
--- the limits are those of the stores at hand
+-- the limits are those of the stores that are left
 abbrev pub DoesCreate : Id → List ℕ → WorldState → Outcome → WorldState → Type 0
 DoesCreate id limits old (did.Node number) new =
     (old.world.nodes ≡ []) × (number ≡ 0) × ((limit : ℕ) × (slice_get limits 0 ≡ Some limit) × (new ≡ with_founder id limit old))
@@ -60,14 +60,14 @@ RefusesCreate limits old refusal = ⊥
 abbrev pub CreateIs : Id → List ℕ → WorldState → Result Outcome Refusal → WorldState → Type 0
 CreateIs id limits = DoneOrRefused (DoesCreate id limits) (RefusesCreate limits)
 
--- a node that is created uses up the first store
+-- a node that is created takes the first store
 abbrev pub CreateLeaves : {S : Type 0} → Result Outcome Refusal → List S → List S → Type 0
 CreateLeaves (Ok outcome) stores left = left ≡ drop 1 stores
 CreateLeaves (Err refusal) stores left = left ≡ stores
 
 -- ---- a caller
 
--- a window has 1 to 16 requests
+-- a window is 1 to 16
 abbrev pub IsWindow : ℕ → Type 0
 IsWindow window = (1 ≤ window) × (window ≤ 16)
 
@@ -97,7 +97,7 @@ with_ask after ask via old =
       targets = old.targets ++ Some via ∷ [];
     }
 
--- the call was submitted and sent under this number
+-- the call was submitted and sent in this message
 pub record Sends (caller via : ℕ) (request : Request) (old : WorldState) (number : ℕ) (new : WorldState) : Type 0 where
   pub core : Caller
   pub after : Caller
@@ -113,7 +113,7 @@ pub record RefusesCall (caller via : ℕ) (request : Request) (old : WorldState)
   pub there : IsThere caller via old core
   pub refuses : SubmitIs request core (Err fault) core
 
--- and this is the refusal of the step
+-- RefusesCall as the refusal of the step
 abbrev pub RefusesCallAs : ℕ → ℕ → Request → WorldState → Refusal → Type 0
 RefusesCallAs caller via request old refusal = (fault : SubmitFault) × (refusal ≡ refusal_of fault) × RefusesCall caller via request old fault
 
@@ -131,7 +131,7 @@ SubmitStepIs caller via request = DoneOrRefused (DoesSubmit caller via request) 
 
 -- ---- all steps
 
--- what a step does, where the stores at hand have these limits
+-- what a step does; the stores that are left have these limits
 abbrev pub Does : Step → List ℕ → WorldState → Outcome → WorldState → Type 0
 Does (Create id) limits old outcome new = DoesCreate id limits old outcome new
 Does (Join id behind) limits old outcome new = DoesJoin id behind limits old outcome new
@@ -154,7 +154,7 @@ Does (Rectify node notifier) limits old outcome new = DoesUpkeep (ring.Rectify n
 Does (Crash node) limits old outcome new = DoesCrash node old outcome new
 Does (Finger node finger to) limits old outcome new = DoesFinger node finger to old outcome new
 
--- why it is refused
+-- why a step is refused
 abbrev pub Refuses : Step → List ℕ → WorldState → Refusal → Type 0
 Refuses (Create id) limits old refusal = RefusesCreate limits old refusal
 Refuses (Join id behind) limits old refusal = RefusesJoin id behind limits old refusal
@@ -177,11 +177,11 @@ Refuses (Rectify node notifier) limits old refusal = RefusesUpkeep (ring.Rectify
 Refuses (Crash node) limits old refusal = RefusesCrash node old refusal
 Refuses (Finger node finger to) limits old refusal = RefusesFinger node finger to old refusal
 
--- what it is answered
+-- what a step is answered
 abbrev pub StepIs : Step → List ℕ → WorldState → Result Outcome Refusal → WorldState → Type 0
 StepIs step limits = DoneOrRefused (Does step limits) (Refuses step limits)
 
--- the stores at hand after a step
+-- the stores that are left after a step
 abbrev pub StoresLeft : {S : Type 0} → Step → Result Outcome Refusal → List S → List S → Type 0
 StoresLeft (Create id) result stores left = CreateLeaves result stores left
 StoresLeft (Join id behind) result stores left = CreateLeaves result stores left

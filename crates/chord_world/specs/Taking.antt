@@ -1,4 +1,4 @@
--- How a part, or what comes of it, is taken in by its node.
+-- How a node takes in a Part, a Got or a Declined.
 use Rattle.std.specs.Prelude.{◌≡◌, ℕ, Bool, true, false, Option, None, Some, List, slice_get}
 use Rattle.chord_handover.specs.declared.ticket.Ticket.{Ticket}
 use Rattle.chord_node.specs.declared.handovers.given.Given.{Given}
@@ -14,11 +14,12 @@ use Rattle.chord_world.specs.declared.outcome.Outcome.TheVariants as did
 use Rattle.chord_world.specs.State.{WorldState}
 use Rattle.chord_world.specs.Linking.{with_node}
 
--- each node stands at its number
+-- the node at this index has it as its number
 abbrev pub IsNumbered : ℕ → List Node → Type 0
 IsNumbered place nodes = (node : Node) → slice_get nodes place ≡ Some node → node.number ≡ place
 
--- what an answer to a part is as an outcome, where this many messages were sent before; a clash is none, for it never comes
+-- the outcome of an answer to a part, if `count` messages were sent before; Clash has none, for it
+-- never happens
 abbrev pub outcome_of_given : Given → ℕ → Option Outcome
 outcome_of_given given.Got count = Some (did.Got count)
 outcome_of_given given.Declined count = Some (did.Declined count)
@@ -27,23 +28,23 @@ outcome_of_given given.Full count = Some did.NoRoom
 outcome_of_given given.Part count = Some did.Noted
 outcome_of_given given.Clash count = None
 
--- what it sends back to the sender
+-- the message that the answer sends back to the giver
 abbrev pub confirmation : Ticket → Given → Option Message
 confirmation ticket given.Got = Some (GotMessage ticket)
 confirmation ticket given.Declined = Some (DeclinedMessage ticket)
 confirmation ticket answer = None
 
--- no message of these is an Ask
+-- the target of a message, if there is one, that is no Ask: no node
 abbrev pub no_target : Option Message → Option (Option ℕ)
 no_target None = None
 no_target (Some message) = Some None
 
--- what came of a Got
+-- the outcome of a Got: whether the outbox had its item
 abbrev pub outcome_of_freed : Bool → Outcome
 outcome_of_freed true = did.Freed
 outcome_of_freed false = did.Unknown
 
--- what came of a Declined; a clash never does
+-- the outcome of a Declined; Clash has none, for it never happens
 abbrev pub outcome_of_back : Back → Option Outcome
 outcome_of_back back.Held = Some did.Held
 outcome_of_back back.Unknown = Some did.Unknown

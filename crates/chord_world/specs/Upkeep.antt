@@ -1,4 +1,4 @@
--- What a World answers to a step of the ring's upkeep, and where a node crashes.
+-- What a World answers to a step of the ring's upkeep, and to a crash.
 use Rattle.std.specs.Prelude.{◌≡◌, ◌≢◌, ℕ, true, false, Some, Result, List, [], slice_get, slice_set, IsTrue}
 use Rattle.std.specs.Option.{option_map}
 use Rattle.chord_links.specs.declared.peer.Peer.{Peer}
@@ -22,7 +22,7 @@ use Rattle.chord_world.specs.Linking.{with_node}
 
 -- ---- links
 
--- the node of this number has other links, by this step of the ring
+-- the links of the node of this number are changed by this step of the ring
 pub record Moves (step : RingStep) (number : ℕ) (old new : WorldState) : Type 0 where
   pub node : Node
   pub links : NodeLinks
@@ -30,30 +30,30 @@ pub record Moves (step : RingStep) (number : ℕ) (old new : WorldState) : Type 
   pub moves : Step (ring_of old) step (ring_of new)
   pub new_is : new ≡ with_node (record node { links = links }) old
 
--- the links are of the node at the place: the same node, with as many successors at most
+-- the links are of the node at this index: the same node, listing as many successors at most
 abbrev pub FitAt : ℕ → NodeLinks → List Node → Type 0
 FitAt place links nodes = (node : Node) → slice_get nodes place ≡ Some node → (links.me ≡ node.links.me) × (links.r ≡ node.links.r)
 
--- the node at the place has other links
+-- the links of the node at this index are changed
 pub record RelinksAt (place : ℕ) (links : NodeLinks) (old new : List Node) : Type 0 where
   pub node : Node
   pub here : slice_get old place ≡ Some node
   pub new_is : new ≡ slice_set old place (record node { links = links })
 
--- what a step of the ring did, as an outcome
+-- the outcome of a step of the ring
 abbrev pub outcome_of_ring : RingDid → Outcome
 outcome_of_ring (ring.Joined number) = did.Node number
 outcome_of_ring (ring.Candidate candidate) = did.Candidate (option_map (λ (peer : Peer). peer.no) candidate)
 outcome_of_ring ring.Done = did.Done
 
--- the step was done, and this came of it
+-- the ring did the step, with this outcome
 pub record DoesUpkeep (step : RingStep) (number : ℕ) (old : WorldState) (outcome : Outcome) (new : WorldState) : Type 0 where
   pub did : RingDid
   pub told : outcome ≡ outcome_of_ring did
   pub is : Did (ring_of old) step did
   pub moves : Moves step number old new
 
--- the ring refused it
+-- the ring refused the step
 pub record RingRefuses (step : RingStep) (old : WorldState) (refusal : Refusal) : Type 0 where
   pub fault : RingFault
   pub told : refusal ≡ refusal_of_ring fault

@@ -1,4 +1,4 @@
--- What the fields of a World are seen as.
+-- The fields of a World as a world of the definitions.
 use Rattle.chord_world.specs.declared.world.World.TheInside.{Inside}
 use Rattle.chord_world.specs.State.{WorldState, messages_of, targets_of}
 

@@ -10,7 +10,7 @@ use chord_ident::Id;
 use chord_node::{Holder, Node};
 use chord_store::EntryStore;
 
-/// The last number that a node took from another, 0 where there is no such node.
+/// The last number that a node took from another; 0 if there is no such node.
 fn taken_last<S: EntryStore>(nodes: &[Node<S>], to: u64, from: u64) -> u64
     requires { NodesFrom 0 nodes.now }
     ensures { result ≡ last_taken nodes.now to from }
@@ -21,7 +21,8 @@ fn taken_last<S: EntryStore>(nodes: &[Node<S>], to: u64, from: u64) -> u64
     nodes[to as usize].last_taken(from)
 }
 
-/// The item of the outbox at the place, where it hands the identifier over and its receiver has not taken it.
+/// The item of the outbox at this index, if it hands the
+/// identifier over and its receiver has not taken it.
 fn under_way_at<S: EntryStore>(
     nodes: &[Node<S>],
     node: &Node<S>,
@@ -41,7 +42,7 @@ fn under_way_at<S: EntryStore>(
     }
 }
 
-/// A handover of the identifier by the node that its receiver has not taken, if there is one.
+/// A handover of the identifier from this node that its receiver has not taken, if any.
 fn find_under_way<S: EntryStore>(nodes: &[Node<S>], node: &Node<S>, id: Id) -> Option<Holder>
     requires { NodesFrom 0 nodes.now }
     ensures found { IfSome result (λ holder. Contains (under_way id.number (last_taken nodes.now) node.now) holder) }
@@ -55,7 +56,7 @@ fn find_under_way<S: EntryStore>(nodes: &[Node<S>], node: &Node<S>, id: Id) -> O
     None
 }
 
-/// The node where it holds the identifier, else a handover of it that its receiver has not taken.
+/// The node if it holds the identifier, else a handover of it that its receiver has not taken.
 fn holder_at<S: EntryStore>(nodes: &[Node<S>], node: &Node<S>, id: Id) -> Option<Holder>
     requires { NodesFrom 0 nodes.now }
     ensures found { IfSome result (λ holder. Contains (holders_at id.number nodes.now node.now) holder) }
@@ -82,7 +83,7 @@ fn find_holder<S: EntryStore>(nodes: &[Node<S>], id: Id) -> Option<Holder>
 }
 
 impl<S: EntryStore> World<S> {
-    /// Who holds the identifier, once there is a node.
+    /// The holder of the identifier, once there is a node.
     pub fn holder(&self, id: Id) -> Option<Holder>
         ensures { HolderIs id.number self.now result }
     {

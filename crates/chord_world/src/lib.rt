@@ -1,8 +1,8 @@
-//! All nodes and callers in one place, taking any steps in any order.
+//! All nodes and callers in one process, taking any steps in any order: a deterministic simulator.
 //!
-//! A [`World`] does a [`Step`] by `world.step(step)`, and says what came of it or why it refuses. Messages wait in it
-//! until a step delivers them, in any order and as often as one likes. [`run`] does a list of steps, and its contract
-//! is the theorem: the replies are those of one map of sets.
+//! A [`World`] does a [`Step`] by `world.step(step)`, and answers its outcome or why it refuses.
+//! Messages stay in it until a step delivers them, in any order and as often as one likes. [`run`]
+//! does a list of steps, and its contract is the theorem: the replies are those of one map of sets.
 #![tactic(auto)]
 
 mod holder;

@@ -1,4 +1,4 @@
-//! The members of the ring that the nodes make.
+//! The members of the ring formed by the nodes.
 ghost use Rattle.std.specs.Prelude.{◌≡◌, slice_index_or, false, map, IsTrue};
 ghost use Rattle.std.specs.List.{Contains};
 ghost use Rattle.std.specs.Option.{option_copied};
@@ -13,7 +13,7 @@ use chord_node::{Node, Phase};
 use chord_ring::MemberReader;
 use chord_store::EntryStore;
 
-/// Whether the node of this number crashed, by the flags of the nodes.
+/// Whether the node of this number crashed, according to these flags.
 pub(crate) fn is_out(crashed: &[bool], no: u64) -> bool
     ensures { result ≡ slice_index_or crashed.now no false }
 {
@@ -23,7 +23,7 @@ pub(crate) fn is_out(crashed: &[bool], no: u64) -> bool
     }
 }
 
-/// The links of a node that has not crashed, where it is a member.
+/// The links of a node that has not crashed, if it is a member.
 fn links_of_member<S: EntryStore>(node: &Node<S>) -> Option<&Links>
     ensures { option_copied result ≡ member_links false node.now }
 {
@@ -62,7 +62,7 @@ impl<S: EntryStore> MemberReader for World<S> {
 }
 
 impl<S: EntryStore> World<S> {
-    /// The links of the node of this number, where it is a member.
+    /// The links of the node of this number, if it is a member.
     pub(crate) fn links_in_ring(&self, no: u64) -> Option<Links>
         ensures { result ≡ links_of (ring_of self.now).members no }
     {

@@ -11,7 +11,7 @@ use chord_ring::{CandidateFault, DropFault, RingFault, StabiliseFault};
 use std::alloc::AllocError;
 use thiserror::Error;
 
-/// The first reason against a step, in this order.
+/// Why a step is refused: the first reason that applies, in this order.
 #[derive(Clone, Copy, Debug, PartialEq, Eq, Error)]
 pub enum Refusal {
     #[error("the first node was created before")]
@@ -30,14 +30,14 @@ pub enum Refusal {
     NoStore,
     #[error("the ring would not stand without the member")]
     Unsafe,
-    /// A node or a caller refused.
+    /// A node, a caller or the ring refused.
     #[error(transparent)]
     Step(StepFault),
     #[error("out of memory")]
     Memory,
 }
 
-/// Why a part of the world refused its part of a step.
+/// Why a node, a caller or the ring refused its part of a step.
 #[derive(Clone, Copy, Debug, PartialEq, Eq, Error)]
 pub enum StepFault {
     #[error("a window has 1 to 16 requests")]
@@ -93,7 +93,7 @@ pub enum StepFault {
 }
 
 impl Refusal {
-    /// Its number in the order in which refusals are checked: 9 for those of parts, 10 for being out of memory.
+    /// The number of the refusal in the order of the checks: 9 for a `Step`, 10 for memory.
     pub fn number(self) -> u8
         ensures { result ≡ number_of self }
     {

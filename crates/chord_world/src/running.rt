@@ -11,14 +11,14 @@ use crate::world::World;
 use chord_store::EntryStore;
 use std::alloc::{AllocError, Global};
 
-/// What came of a step of a run.
+/// The answer to one step of a run.
 #[derive(Clone, Copy, Debug, PartialEq, Eq)]
 pub enum Answer {
     Did(Outcome),
     Refused(Refusal),
 }
 
-/// The answer that tells the result of a step.
+/// The result of a step as an answer.
 fn answer_of(did: Result<Outcome, Refusal>) -> Answer
     ensures { result_of result ≡ did }
 {
@@ -28,8 +28,8 @@ fn answer_of(did: Result<Outcome, Refusal>) -> Answer
     }
 }
 
-/// Does the steps one after another, and goes on after a refused one. Memory for the answers is had before the first
-/// step.
+/// Does the steps in order, and goes on after a refused one.
+/// Memory for the answers is reserved before the first step.
 pub fn run<S: EntryStore>(
     alloc: Global,
     world: &mut World<S>,

@@ -2,7 +2,7 @@
 
 use chord_node::Message;
 
-/// A message that was sent, and the node that it goes to, where it is a call.
+/// A sent message, and the node that it goes to if it is an Ask.
 #[derive(Debug, Drop)]
 pub(crate) struct Sent {
     pub(crate) message: Message,

@@ -25,14 +25,14 @@ pub enum Step {
         via: u64,
         request: Request,
     },
-    /// The caller sends a pending request again, to be answered at the node `via`: the one of this number, or the
-    /// least pending one where none is named.
+    /// The caller sends a pending request again, to be answered at the node `via`: the one of this
+    /// number, or, if `None`, the least pending one.
     Resend {
         caller: u64,
         via: u64,
         number: Option<u64>,
     },
-    /// The message that was sent under this number comes to the node or caller that it is for.
+    /// The message that was sent under this number is delivered to its node or caller.
     Deliver {
         message: u64,
     },
@@ -40,24 +40,25 @@ pub enum Step {
     Show {
         caller: u64,
     },
-    /// The caller learns what the note that was sent under this number has.
+    /// The caller learns the calls of the note that was sent under this number.
     Meet {
         caller: u64,
         message: u64,
     },
-    /// The node cuts the held segment at this place, counted from 0.
+    /// The node cuts the held segment at this index.
     Cut {
         node: u64,
         place: u64,
         at: Id,
     },
-    /// The node joins the held segment at the place `behind` behind the one at `place`, in the latter's place.
+    /// The node joins the held segment at the index
+    /// `behind` behind the one at `place`, at that index.
     Merge {
         node: u64,
         place: u64,
         behind: u64,
     },
-    /// The node gives the held segment at this place to the node `to`.
+    /// The node gives the held segment at this index to the node `to`.
     Give {
         node: u64,
         place: u64,
@@ -74,7 +75,7 @@ pub enum Step {
     Leave {
         node: u64,
     },
-    /// The leaving node, which holds nothing and hands nothing over, is gone.
+    /// The leaving node, which holds nothing and has an empty outbox, is gone.
     Retire {
         node: u64,
     },
@@ -101,7 +102,7 @@ pub enum Step {
     Crash {
         node: u64,
     },
-    /// The finger of this node, 1 to 128, goes to the node `to`.
+    /// The finger of this node, 1 to 128, is set to the node `to`.
     Finger {
         node: u64,
         finger: u64,

@@ -1,4 +1,4 @@
-//! The steps of a world, a file for each kind; what they share stands in `checks` and `outgoing`.
+//! The steps of a world, a file for each kind; what they share is in `checks` and `outgoing`.
 
 mod checks;
 mod crash;

@@ -1,4 +1,4 @@
-//! All nodes and callers, every message that was sent, and the history.
+//! All nodes and callers, every message ever sent, and the history.
 ghost use Rattle.std.specs.Prelude.{◌≡◌, ◌≤◌, [], map, slice_get};
 ghost use Rattle.std.specs.List.{All};
 ghost use Rattle.std.specs.Option.{option_copied};
@@ -21,8 +21,8 @@ use chord_store::EntryStore;
 use std::alloc::Global;
 use std::marker::Model;
 
-/// All nodes and callers, every message that was sent, and the calls that were executed, in order. A message may be
-/// delivered at any time, in any order and again; a lost message is one that is never delivered.
+/// All nodes and callers, every message ever sent, and the executed calls in order. A message may
+/// be delivered at any time, in any order and again; a lost message is one that is never delivered.
 #[derive(Drop)]
 pub struct World<S: EntryStore> {
     pub(crate) alloc: Global,
@@ -64,8 +64,8 @@ impl<S: EntryStore> World<S> {
         }
     }
 
-    /// What holds of every world: some steps lead to it, so its executed calls are one history of one map, each call
-    /// at most once, in the order that its callers had seen. It does nothing.
+    /// What holds of every world: it is reachable, so its executed calls are one history of one
+    /// map, each call at most once, in the order that its callers had seen. It does nothing.
     pub fn headline(&self)
         ensures reached { ∥ Reached self.now.world ∥₁ }
         ensures headline { Headline self.now.world }
@@ -103,7 +103,7 @@ impl<S: EntryStore> World<S> {
         Some(self.callers[caller as usize].mine())
     }
 
-    /// The calls that notes told a caller of, in the order told.
+    /// The calls that notes told a caller of, in that order.
     pub fn told(&self, caller: u64) -> Option<&[Done]>
         ensures { ToldIs caller self.now result }
     {
@@ -113,7 +113,7 @@ impl<S: EntryStore> World<S> {
         Some(self.callers[caller as usize].told())
     }
 
-    /// What a node knows of the others.
+    /// What a node knows of other nodes.
     pub fn links(&self, node: u64) -> Option<&Links>
         ensures { LinksAre node self.now result }
     {
@@ -123,8 +123,8 @@ impl<S: EntryStore> World<S> {
         Some(self.nodes[node as usize].links())
     }
 
-    /// Once there is a node: each member's list has a live entry, there is a principal, and the principals stand on
-    /// one ring. It does nothing.
+    /// Once there is a node: each member's list has a live entry, there is a principal, and the
+    /// principals are on one ring. It does nothing.
     pub fn stands_on_one_ring(&self)
         ensures { StandsOnOneRing self.now }
     {

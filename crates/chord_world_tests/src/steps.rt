@@ -20,7 +20,7 @@ mod growths;
 mod rings;
 mod scripts;
 
-/// A caller inserts x under abc, and the call is delivered twice.
+/// A caller inserts x under `abc`, and the call is delivered twice.
 const REPEATED: &[Deed] = &[
     Deed::Deliver(0),
     Deed::Create(A),
@@ -58,7 +58,7 @@ fn one_list(alloc: Global) -> Result<Vec<ListStore>, AllocError>
     Ok(stores)
 }
 
-/// A world that did the steps over one list, and what came of each.
+/// The world after the steps over one list, and the answer to each.
 fn world_after(
     alloc: Global,
     script: &[Deed],
@@ -84,13 +84,13 @@ fn world_of(alloc: Global, script: &[Deed]) -> Result<Box<World<ListStore>>, All
     Ok(world)
 }
 
-/// What came of each of the steps.
+/// The answers to the steps.
 fn answers_to(alloc: Global, script: &[Deed]) -> Result<Vec<Answer>, AllocError> {
     let (_, answers) = world_after(alloc, script)?;
     Ok(answers)
 }
 
-/// How many replies the caller took, where there is one.
+/// How many replies the caller took, if there is such a caller.
 fn count_taken(world: &World<ListStore>, caller: u64) -> Option<usize> {
     Some(world.mine(caller)?.len())
 }
@@ -107,7 +107,7 @@ fn a_repeated_call_is_told_once(rt: HostRuntime) -> Result<(), Fail> {
     Ok(())
 }
 
-/// What comes of the first node where there is no store for it.
+/// The result of creating a first node without a store.
 fn created_without_a_store(alloc: Global) -> Result<Result<Outcome, Refusal>, AllocError> {
     let mut stores: Vec<ListStore> = Vec::new(alloc);
     let mut world = new_world(alloc)?;
@@ -125,7 +125,8 @@ fn a_step_without_a_store(rt: HostRuntime) -> Result<(), Fail> {
     Ok(())
 }
 
-/// Caller 1 inserts x under abc and shows what it knows; caller 0 meets the note and asks for abc, twice.
+/// Caller 1 inserts x under `abc` and sends a note;
+/// caller 0 meets the note and asks for `abc`, twice.
 const NOTED: &[Deed] = &[
     Deed::Create(7),
     Deed::Open(1),
@@ -166,7 +167,7 @@ fn notes_are_met(rt: HostRuntime) -> Result<(), Fail> {
     Ok(())
 }
 
-/// What a caller was told of stands in the history before what it asks then.
+/// What a note told a caller comes in the history before the caller's later requests.
 #[test]
 fn a_note_stands_before_what_is_asked_then(rt: HostRuntime) -> Result<(), Fail> {
     let world = world_of(rt.alloc(), NOTED)?;
@@ -175,12 +176,12 @@ fn a_note_stands_before_what_is_asked_then(rt: HostRuntime) -> Result<(), Fail> 
     Ok(())
 }
 
-/// How many calls the caller was told of, where there is one.
+/// How many calls notes told the caller of, if there is such a caller.
 fn count_told(world: &World<ListStore>, caller: u64) -> Option<usize> {
     Some(world.told(caller)?.len())
 }
 
-/// Whether the first call that the caller was told of added a value.
+/// Whether the first call that a note told the caller of added a value.
 fn was_told_of_an_insert(world: &World<ListStore>, caller: u64) -> Option<bool> {
     let first = world.told(caller)?.first()?;
     Some(first.reply == Reply::Added)
@@ -194,7 +195,7 @@ fn a_caller_knows_what_it_was_told_of(rt: HostRuntime) -> Result<(), Fail> {
     Ok(())
 }
 
-/// The call that is delivered twice, with requests that go out again before it and behind it.
+/// A call that is delivered twice; requests are sent again before and after it.
 const RESENT: &[Deed] = &[
     Deed::Resend(0, None),
     Deed::Resend(0, Some(1)),
@@ -225,7 +226,7 @@ const ANSWERS_BEHIND: &[Answer] = &[
     Answer::Refused(Refusal::Step(StepFault::NotNote)),
 ];
 
-/// Pending requests go out again; none is left in the end.
+/// Pending requests are sent again; none is left in the end.
 #[test]
 fn a_request_goes_out_again(rt: HostRuntime) -> Result<(), Fail> {
     let answers = answers_to(rt.alloc(), RESENT)?;
@@ -236,7 +237,7 @@ fn a_request_goes_out_again(rt: HostRuntime) -> Result<(), Fail> {
     Ok(())
 }
 
-/// A node is created, and its fingers are to go to nodes that there are and are not.
+/// A node is created; its fingers are set to nodes that exist and to some that do not.
 const FINGERS: &[Deed] = &[
     Deed::Create(7),
     Deed::Finger(0, 129, 7),
@@ -251,7 +252,7 @@ const ANSWERS_TO_FINGERS: &[Answer] = &[
     Answer::Did(Outcome::Done),
 ];
 
-/// Whether node 0 is the only node, and its first finger alone is set, to itself.
+/// Whether node 0 is the only node, and only its first finger is set, to itself.
 fn has_its_first_finger(world: &World<ListStore>) -> bool {
     let Some(links) = world.links(0) else {
         return false;

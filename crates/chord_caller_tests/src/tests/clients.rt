@@ -31,12 +31,13 @@ fn asks(alloc: Global, core: &mut ClientCore, key: &[u8]) -> Result<Ask, SubmitF
     }
 }
 
-/// Whether the insert under this key goes out as the call of client 7 of this number and floor.
+/// Whether the insert under this key is sent as the call of client 7 with this number and floor.
 fn sends(alloc: Global, core: &mut ClientCore, number: u64, floor: u64, key: &[u8]) -> bool {
     is_ask(asks(alloc, core, key).ok(), 7, number, floor, key)
 }
 
-/// Client 7 with a window of two, after it submitted two requests, and whether their calls were right.
+/// Client 7 with a window of two after it submitted
+/// two requests, and whether their calls are right.
 fn of_two(alloc: Global) -> Option<(ClientCore, bool, bool)> {
     let mut core = ClientCore::new(alloc, 7, 2).ok()?;
     let first = sends(alloc, &mut core, 1, 0, b"a");
@@ -44,7 +45,7 @@ fn of_two(alloc: Global) -> Option<(ClientCore, bool, bool)> {
     Some((core, first, second))
 }
 
-/// The number of a new client, which request of it is pending, and why it sends none again.
+/// The number of a new client, its pending request, and why it sends none again.
 fn nothing_pending(alloc: Global) -> Option<(u64, Option<u64>, Option<ResendFault>)> {
     let core = ClientCore::new(alloc, 7, 2).ok()?;
     let told = (core.number(), core.pending(), core.resend(1).err());
@@ -52,7 +53,7 @@ fn nothing_pending(alloc: Global) -> Option<(u64, Option<u64>, Option<ResendFaul
     Some(told)
 }
 
-/// Whether two calls go out as they should.
+/// Whether two calls are sent as they should be.
 fn sends_two(alloc: Global) -> Option<(bool, bool)> {
     let (core, first, second) = of_two(alloc)?;
     drop(core);
@@ -66,14 +67,15 @@ fn a_client_sends_two_requests(rt: HostRuntime) {
     assert!(rt; sends_two(rt.alloc()) == Some((true, true)));
 }
 
-/// Whether the second reply is handed out and known when it comes again, which request is pending then, and the floor.
+/// Whether the second reply is handed out, and known when
+/// it comes again; then the pending request and the floor.
 fn takes_the_second(core: &mut ClientCore) -> (bool, bool, Option<u64>, u64) {
     let fresh = is_added(core.take(added(7, 2)));
     let known = is_known(core.take(added(7, 2)));
     (fresh, known, core.pending(), core.floor())
 }
 
-/// What the client says of an insert under `c` before it comes.
+/// Why the client would refuse an insert under `c`, asked beforehand.
 fn refusal(alloc: Global, core: &ClientCore) -> Option<SubmitFault> {
     let Ok(request) = insert(alloc, b"c") else {
         return Some(SubmitFault::Memory);
@@ -83,7 +85,7 @@ fn refusal(alloc: Global, core: &ClientCore) -> Option<SubmitFault> {
     refusal
 }
 
-/// Why a third request is refused, and whether the first call goes out again as it was.
+/// Why a third request is refused, and whether the first call is sent again unchanged.
 fn waits(alloc: Global, core: &ClientCore) -> (Option<SubmitFault>, bool) {
     let again = is_ask(core.resend(1).ok(), 7, 1, 0, b"a");
     (refusal(alloc, core), again)
@@ -107,13 +109,14 @@ fn a_client_with_a_window_of_two(rt: HostRuntime) {
     assert!(rt; second_first(rt.alloc()) == Some((second, waits)));
 }
 
-/// Whether the first reply is handed out then, the floor, and which request is pending.
+/// Whether the first reply is then handed out, the floor, and the pending request.
 fn takes_the_first(core: &mut ClientCore) -> (bool, u64, Option<u64>) {
     let fresh = is_added(core.take(added(7, 1)));
     (fresh, core.floor(), core.pending())
 }
 
-/// Why a third request is refused, whether its call is right, and whether the first reply is known then.
+/// Why a third request would be refused, whether its call
+/// is right, and whether the first reply is then known.
 fn sends_the_third(alloc: Global, core: &mut ClientCore) -> (Option<SubmitFault>, bool, bool) {
     let refusal = refusal(alloc, core);
     let sent = sends(alloc, core, 3, 2, b"c");
@@ -144,14 +147,15 @@ fn pending_insert(alloc: Global) -> Option<(ClientCore, Option<SubmitFault>)> {
     Some((core, empty))
 }
 
-/// Whether it does not hear another client's reply, nor one to another number.
+/// Whether it ignores another client's reply, and replies to other numbers.
 fn hears_none(core: &mut ClientCore) -> (bool, bool, bool) {
     let other = is_foreign(core.take(added(1, 1)));
     let zero = is_foreign(core.take(added(0, 0)));
     (other, zero, is_foreign(core.take(added(0, 2))))
 }
 
-/// Why the empty key was refused, what is not heard, whether a set of values is not, and whether it waits then.
+/// Why the empty key was refused, which replies are ignored, whether a set of values is, and
+/// whether the client still waits.
 fn foreign(alloc: Global) -> Option<(Option<SubmitFault>, (bool, bool, bool), bool, bool)> {
     let (mut core, empty) = pending_insert(alloc)?;
     let others = hears_none(&mut core);
@@ -172,7 +176,8 @@ fn a_client_hears_no_foreign_reply(rt: HostRuntime) {
     assert!(rt; foreign(rt.alloc()) == Some((empty, (true, true, true), true, true)));
 }
 
-/// The number of the call that is submitted, again where there was no memory: it is not pending then.
+/// The number of the submitted call. If memory was refused,
+/// it must not be pending, and is submitted again.
 fn submits(alloc: Global, core: &mut ClientCore, number: u64) -> Result<u64, SubmitFault> {
     let told = asks(alloc, core, b"a").map(number_of);
     if told == Err(SubmitFault::Memory) && !core.is_pending(number) {
@@ -181,7 +186,7 @@ fn submits(alloc: Global, core: &mut ClientCore, number: u64) -> Result<u64, Sub
     told
 }
 
-/// A client with a window of three, made again where there was no memory.
+/// A client with a window of three, made again if memory was refused.
 fn of_three(alloc: Global) -> Option<ClientCore> {
     match ClientCore::new(alloc, 0, 3) {
         Ok(core) => Some(core),
@@ -189,7 +194,8 @@ fn of_three(alloc: Global) -> Option<ClientCore> {
     }
 }
 
-/// The number that is submitted two ahead of this one, whether the reply to this one is handed out, and the floor.
+/// The number submitted two ahead of this one, whether
+/// the reply to this one is handed out, and the floor.
 fn turns(
     alloc: Global,
     core: &mut ClientCore,
@@ -200,7 +206,7 @@ fn turns(
     (ahead, fresh, core.floor())
 }
 
-/// Whether the client turns round at each number below this one.
+/// Whether `turns` goes well for each number below `end`.
 fn turns_until(alloc: Global, core: &mut ClientCore, end: u64) -> bool {
     for number in 1..end {
         let turned = (Ok(number.saturating_add(2)), true, number);
@@ -211,7 +217,8 @@ fn turns_until(alloc: Global, core: &mut ClientCore, end: u64) -> bool {
     true
 }
 
-/// The first two numbers, whether the client turns round at each number below 60, and which request is pending then.
+/// The first two numbers, whether `turns` goes well for
+/// each number below 60, and then the pending request.
 fn turned_round(alloc: Global) -> Option<([Result<u64, SubmitFault>; 2], bool, Option<u64>)> {
     let mut core = of_three(alloc)?;
     let first = submits(alloc, &mut core, 1);

@@ -1,11 +1,11 @@
-//! Each growth refused in turn: a call that wants memory says so, and the caller is as it was.
-// With ample memory nothing is refused. A call that was refused is made again, with room for it.
+//! Each growth is refused in turn: the call answers Memory, and the caller stays unchanged.
+// With ample memory nothing is refused. A refused call is tried again, with memory for it.
 
 use super::{added, asks, number_of};
 use chord_caller::{CallerCore, Heard, Note, ResendFault, SubmitFault, TakeFault};
 use std::alloc::Global;
 
-/// Whether the caller submitted as many requests, and took the replies to as many of them.
+/// Whether the caller submitted `submitted` requests and took the replies to `taken` of them.
 fn stands_at(core: &CallerCore, submitted: u64, taken: u64) -> bool {
     let next = if taken < submitted {
         Some(taken.saturating_add(1))
@@ -28,7 +28,7 @@ fn submits(alloc: Global, core: &mut CallerCore, number: u64) -> bool {
     told == Ok(number)
 }
 
-/// Whether the call of this number goes out again.
+/// Whether the call of this number is sent again.
 fn sends_again(core: &CallerCore, number: u64) -> bool {
     let mut told = core.resend(number).map(number_of);
     if told == Err(ResendFault::Memory) {
@@ -46,7 +46,7 @@ fn takes(core: &mut CallerCore, number: u64) -> bool {
     told == Ok(Heard::Fresh) && stands_at(core, 9, number)
 }
 
-/// What the caller shows.
+/// The note of what the caller knows.
 fn shown(core: &CallerCore) -> Option<Note> {
     match core.show() {
         Ok(note) => Some(note),
@@ -54,7 +54,7 @@ fn shown(core: &CallerCore) -> Option<Note> {
     }
 }
 
-/// How much a new caller was told of that met the note.
+/// How many calls a new caller was told of by the note.
 fn met(alloc: Global, note: &Note) -> Option<usize> {
     let mut core = CallerCore::new(alloc, 1, 1);
     let is_met = core.meet(note).is_ok() || (stands_at(&core, 0, 0) && core.meet(note).is_ok());
@@ -63,7 +63,7 @@ fn met(alloc: Global, note: &Note) -> Option<usize> {
     if is_met { Some(told) } else { None }
 }
 
-/// How much the caller shows, and how much another is told of then.
+/// How many calls the caller's note has, and how many another caller learns from it.
 fn shows(alloc: Global, core: &CallerCore) -> Option<(usize, usize)> {
     let note = shown(core)?;
     let len = note.done.len();
@@ -82,7 +82,7 @@ fn submits_nine(alloc: Global, core: &mut CallerCore) -> bool {
     true
 }
 
-/// Whether each of nine calls goes out again and is answered then.
+/// Whether each of nine calls is sent again and then answered.
 fn takes_nine(core: &mut CallerCore) -> bool {
     for number in 1..10u64 {
         if !sends_again(core, number) || !takes(core, number) {

@@ -8,7 +8,7 @@ use std::test::Fail;
 
 const QUARTER: u128 = 1 << 126;
 
-/// A node, whose identifier is so many quarters round the circle.
+/// A node whose identifier is `quarters` quarters of the way round the circle.
 fn peer(no: u64, quarters: u128) -> Peer
     requires { quarters < 4 }
 {

@@ -22,7 +22,7 @@ const C: Id = Id {
     number: 0xc000_0000_0000_0000_0000_0000_0000_0000,
 };
 
-/// The list of a member.
+/// Checks the list of a member.
 fn list_of(rt: &impl Abort, ring: &RingCore, no: u64, wanted: &[Peer]) {
     let links = ring.links(no).expect(rt, "a member");
     assert!(rt; links.list().entries() == wanted);

@@ -32,7 +32,7 @@ impl LinkReader for Table {
     }
 }
 
-/// A node, whose identifier is so many eighths round the circle.
+/// A node whose identifier is `eighths` eighths of the way round the circle.
 fn peer(no: u64, eighths: u128) -> Peer
     requires { eighths < 8 }
 {

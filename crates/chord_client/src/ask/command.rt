@@ -13,7 +13,7 @@ use std::net::{Net, TcpStream};
 const EXAMPLES: &str =
     "REQUEST is one of\n  insert KEY VALUE\n  retrieve KEY\n  remove KEY VALUE\nA key or value is text as it stands, or hexadecimal digits behind x:, as x:616263.";
 
-/// What is said of words that are no request.
+/// The text printed for words that are no request.
 const NO_REQUEST: &str =
     "the request is none: insert KEY VALUE, retrieve KEY or remove KEY VALUE, a key of 1 to 255 bytes, a value of at most 4096";
 
@@ -27,7 +27,7 @@ pub fn port_option<'a>(alloc: Global) -> Arg<'a> {
         .help("The server's port on 127.0.0.1, 1 to 65535")
 }
 
-/// An option for a number within bounds. Its value has a name, and is the default where there is none.
+/// An option for a number from `least` to `most`, with the name of its value and a default.
 pub fn number_option<'a>(
     alloc: Global,
     (name, value_name): (&'a str, &'a str),
@@ -66,7 +66,7 @@ fn words_argument<'a>(alloc: Global) -> Arg<'a> {
         .help("One request. Without it they are read from standard input, one a line")
 }
 
-/// A command with one more argument.
+/// A command with an argument added.
 pub fn with_argument<'a>(
     command: Result<Command<'a>, AllocError>,
     argument: Arg<'a>,
@@ -80,7 +80,7 @@ pub fn with_argument<'a>(
     }
 }
 
-/// The command `ask` and what it takes.
+/// The command `ask` and its arguments.
 pub fn ask_command<'a>(alloc: Global) -> Result<Command<'a>, AllocError> {
     let ask = Command::new(alloc, "ask")
         .about("Asks a server, and writes one line for each request")
@@ -92,7 +92,7 @@ pub fn ask_command<'a>(alloc: Global) -> Result<Command<'a>, AllocError> {
     with_argument(ask, words_argument(alloc))
 }
 
-/// Tells that the command line of `ask` has a wrong value.
+/// Prints that the command line of `ask` has a wrong value.
 fn refuse(rt: &HostRuntime, message: &str) -> Result<Finish, Finish> {
     let command = ask_command(rt.alloc());
     told(rt, fault_of(command, "chord ask", message)?)
@@ -103,7 +103,7 @@ pub fn number_of(found: &ArgMatches, name: &str) -> u64 {
     found.get_one::<u64>(name).unwrap_or(1)
 }
 
-/// How the command line says that a server is asked.
+/// What the command line says of the server and of how to ask it.
 pub fn manner_of(found: &ArgMatches) -> Manner {
     Manner {
         port: found.get_one::<u16>("port").unwrap_or(1),
@@ -113,7 +113,7 @@ pub fn manner_of(found: &ArgMatches) -> Manner {
     }
 }
 
-/// Does `ask`.
+/// Does the command `ask`.
 pub fn start_ask<R: Net<Stream = TcpStream>>(
     rt: &HostRuntime,
     net: &R,

@@ -9,10 +9,10 @@ use chord_wire::Answer;
 use std::alloc::Global;
 use std::net::{Net, TcpStream};
 
-/// How many reads are made for an answer at most: as many as its frame may have bytes.
+/// How many reads are made for one answer at most: the most bytes that its frame may have.
 const READS: u64 = 4_194_304;
 
-/// Sends those that are open.
+/// Sends the open requests.
 fn send_open(link: &mut Link, questions: &mut [Question]) -> Result<Passing, Finish> {
     for question in questions.iter_mut() {
         if question.send(link)? == Passing::Broken {
@@ -22,7 +22,7 @@ fn send_open(link: &mut Link, questions: &mut [Question]) -> Result<Passing, Fin
     Ok(Passing::Done)
 }
 
-/// Gives the answer to the request of its number. Says whether that is to be asked again.
+/// Gives the answer to the request of this number. Says whether to send that again.
 fn hand_out(questions: &mut [Question], number: u64, answer: Answer, tries: u32) -> bool {
     for question in questions.iter_mut() {
         if question.has(number) {
@@ -42,7 +42,7 @@ fn send_again(link: &mut Link, number: u64) -> Result<Passing, Finish> {
     }
 }
 
-/// Receives one answer, and asks again where that is due.
+/// Receives one answer, and sends its request again if it is due.
 fn receive_one(link: &mut Link, questions: &mut [Question], tries: u32) -> Result<Passing, Finish> {
     let mut reader = &link.stream;
     match link.client.receive(&mut reader, READS) {
@@ -58,7 +58,7 @@ fn receive_one(link: &mut Link, questions: &mut [Question], tries: u32) -> Resul
     }
 }
 
-/// Receives all answers that are awaited. Each request is sent so many times at most.
+/// Receives all answers that are awaited. Each request is sent at most `tries` times.
 fn receive_all(link: &mut Link, questions: &mut [Question], tries: u32) -> Result<Passing, Finish> {
     let most = (questions.len() as u64).saturating_mul(tries as u64);
     for _ in 0..most {
@@ -72,7 +72,7 @@ fn receive_all(link: &mut Link, questions: &mut [Question], tries: u32) -> Resul
     Ok(Passing::Done)
 }
 
-/// Sends those that are open, and receives all their answers.
+/// Sends the open requests, and receives all their answers.
 fn ask_over(link: &mut Link, questions: &mut [Question], tries: u32) -> Result<Passing, Finish> {
     match send_open(link, questions)? {
         Passing::Done => receive_all(link, questions, tries),
@@ -80,7 +80,7 @@ fn ask_over(link: &mut Link, questions: &mut [Question], tries: u32) -> Result<P
     }
 }
 
-/// Asks those that are open once over one connection, which is kept where it stands.
+/// Asks the open requests once over one connection, which stays open for later unless it broke.
 fn ask_round<R: Net<Stream = TcpStream>>(
     rt: &R,
     alloc: Global,
@@ -105,13 +105,13 @@ fn ask_round<R: Net<Stream = TcpStream>>(
     Ok(())
 }
 
-/// Whether all have a reply.
+/// Whether each request has a reply.
 fn are_replied(questions: &[Question]) -> bool {
     questions.iter().all(|question| question.outcome().is_some_and(Outcome::is_reply))
 }
 
-/// Asks until each has an outcome, over a new connection where the one before broke. A connection on which a request
-/// stays without a reply is given up after it, since that one would hold back those that come later.
+/// Asks until each request has an outcome, over a new connection after one that broke. Closes the
+/// connection if a request on it has no reply, since later answers would wait behind that one.
 pub fn ask_group<R: Net<Stream = TcpStream>>(
     rt: &R,
     alloc: Global,

@@ -14,7 +14,7 @@ use std::net::{Net, TcpStream};
 /// How many reads are made of the input at most.
 const READS: u32 = 1_048_576;
 
-/// The most bytes of a line. The longest request has some fewer.
+/// The most bytes of a line. The longest request has a few less.
 const LINE_BYTES: usize = 16_384;
 
 /// A connection, the requests that wait to be sent, and the line that is not whole yet.
@@ -31,7 +31,7 @@ struct Session {
     unanswered: u64,
 }
 
-/// Writes a line for each request that has an outcome. Gives how many of them are no replies.
+/// Writes a line for each request that has an outcome. Gives how many have no reply.
 fn write_outcomes<W: Write>(questions: &[Question], writer: &mut W) -> io::Result<u64> {
     let mut unanswered: u64 = 0;
     for question in questions {
@@ -47,7 +47,7 @@ fn write_outcomes<W: Write>(questions: &[Question], writer: &mut W) -> io::Resul
 }
 
 impl Session {
-    /// With a connection to the server.
+    /// Opens a connection to the server.
     fn open<R: Net<Stream = TcpStream>>(
         rt: &R,
         alloc: Global,
@@ -79,7 +79,7 @@ impl Session {
         Ok(self.end())
     }
 
-    /// Asks what waits, and writes what came of it. Where no server is found, what waits is lost.
+    /// Asks the waiting requests, and writes their outcomes. If no server is found, they are lost.
     fn settle<R: Net<Stream = TcpStream>, W: Write>(
         &mut self,
         rt: &R,
@@ -103,7 +103,7 @@ impl Session {
         asked
     }
 
-    /// What was read before a line outside the grammar is asked, and then the line is a fault.
+    /// Asks the requests before a line outside the grammar, and then answers that line's fault.
     fn refuse<R: Net<Stream = TcpStream>, W: Write>(
         &mut self,
         rt: &R,
@@ -113,7 +113,7 @@ impl Session {
         Err(Finish::Fault(Fault::Line(self.lines)))
     }
 
-    /// Takes in the line that is whole, and asks when as many requests wait as may be in flight.
+    /// Takes in a whole line, and asks once as many requests wait as may be in flight.
     fn finish_line<R: Net<Stream = TcpStream>, W: Write>(
         &mut self,
         rt: &R,
@@ -152,7 +152,7 @@ impl Session {
         self.settle(rt, writer)
     }
 
-    /// Asks all requests of the input.
+    /// Asks all requests on the input.
     fn ask_all<R: Net<Stream = TcpStream>, I: Read, W: Write>(
         &mut self,
         rt: &R,
@@ -163,7 +163,7 @@ impl Session {
         Ok(self.end())
     }
 
-    /// Takes in the input to its end, in pieces of at most 4,096 bytes.
+    /// Reads the input to its end, at most 4,096 bytes at a time.
     fn run<R: Net<Stream = TcpStream>, I: Read, W: Write>(
         &mut self,
         rt: &R,
@@ -186,7 +186,7 @@ impl Session {
         Err(Finish::Fault(Fault::Read))
     }
 
-    /// How a session ends that met no other fault.
+    /// How a session ends that had no other fault.
     fn end(&self) -> Finish {
         if self.unanswered == 0 {
             Finish::Done

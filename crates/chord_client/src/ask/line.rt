@@ -6,7 +6,7 @@ use chord_command::{LineFault, Words};
 use chord_map::{Bytes, Request};
 use std::alloc::Global;
 
-/// The bytes of a word: its text, or behind `x:` pairs of hexadecimal digits, `-` for none.
+/// The bytes of a word: its text, or after `x:` pairs of hexadecimal digits; `-` alone means none.
 fn bytes_of(alloc: Global, word: &str) -> Result<Bytes, LineFault> {
     match word.strip_prefix("x:") {
         Some(digits) => Words::new(digits).bytes(alloc),
@@ -14,7 +14,7 @@ fn bytes_of(alloc: Global, word: &str) -> Result<Bytes, LineFault> {
     }
 }
 
-/// Both, or the first one's fault.
+/// Both results, or the fault of the first that failed.
 fn both<A: Drop, B: Drop>(
     one: Result<A, LineFault>,
     other: Result<B, LineFault>,
@@ -42,7 +42,7 @@ fn parse(alloc: Global, name: &str, key: &str, value: Option<&str>) -> Result<Re
     }
 }
 
-/// The request of these words, where it keeps the limits of keys and values.
+/// The request of these words, if it keeps the limits of keys and values.
 fn request_of(
     alloc: Global,
     name: &str,
@@ -61,7 +61,7 @@ fn request_of(
     }
 }
 
-/// The request of a line without its end. One space stands between two words.
+/// The request on a line without its end, with one space between words.
 pub fn read_line(alloc: Global, line: &[u8]) -> Result<Request, LineFault>
     ensures { IfOk result IsRequest }
 {
@@ -80,7 +80,7 @@ pub fn read_line(alloc: Global, line: &[u8]) -> Result<Request, LineFault>
     request_of(alloc, name, key, value)
 }
 
-/// The request of the words of a command line.
+/// The request in the words of a command line.
 pub fn read_words(alloc: Global, words: &[&str]) -> Result<Request, LineFault>
     ensures { IfOk result IsRequest }
 {

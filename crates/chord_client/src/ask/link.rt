@@ -13,11 +13,11 @@ pub struct Manner {
     /// The version of the protocol.
     pub version: u8,
     pub window: u64,
-    /// How often a request is sent at most.
+    /// How many times a request is sent at most.
     pub tries: u32,
 }
 
-/// A connection, and what is in flight on it.
+/// A connection, and the requests in flight on it.
 #[derive(Drop)]
 pub struct Link {
     pub stream: TcpStream,

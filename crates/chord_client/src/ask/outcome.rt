@@ -1,4 +1,4 @@
-//! What came of a request.
+//! How a request ended.
 
 use chord_command::Shown;
 use chord_map::Reply;
@@ -10,7 +10,7 @@ pub enum Outcome {
     Reply(Reply),
     Full,
     NoAnswer,
-    /// A fault that asking again does not mend.
+    /// A fault that sending again does not mend.
     Fault(FaultCode),
     /// The connection ended before the answer came.
     Lost,

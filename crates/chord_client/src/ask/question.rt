@@ -1,4 +1,4 @@
-//! A request and how far it is.
+//! A request and its progress.
 ghost use Rattle.std.specs.Prelude.{◌≡◌, ◌≢◌, None, true};
 ghost use Rattle.chord_map.specs.Checked.{IsRequest};
 ghost use Rattle.chord_client.specs.Questions.{may_change, is_lost, outcome_after_loss, IsSentOnce};
@@ -10,21 +10,22 @@ use chord_map::Request;
 use chord_serve::SendFault;
 use chord_wire::{Answer, FaultCode};
 
-/// What became of sending or receiving.
+/// Whether the connection can still be used after sending or receiving.
 #[derive(Clone, Copy, Debug, PartialEq, Eq)]
 pub enum Passing {
     Done,
-    /// The connection is of no more use.
+    /// The connection can't be used any more.
     Broken,
 }
 
-/// What may change something is on the connection that stands, or was never sent.
+/// An insert or a remove that is still open was either never sent, or was sent over the connection
+/// that is open now.
 #[derive(Drop)]
 pub struct Question {
     request: Request,
-    /// Its number on the connection, once it was sent there.
+    /// Its number on the open connection, if it was sent there.
     number: Option<u64>,
-    /// How often it was sent.
+    /// How many times it was sent.
     times: u32,
     outcome: Option<Outcome>,
     ghost limits: { IsRequest request },
@@ -41,7 +42,7 @@ fn may_change(request: &Request) -> bool
     }
 }
 
-/// Whether a request that was sent so often, and got no answer, is not to be sent again.
+/// Whether a request with no answer, sent this many times, is given up once its connection ended.
 fn is_lost(request: &Request, times: u32, tries: u32) -> bool
     ensures { result ≡ is_lost request.now times tries }
 {
@@ -74,7 +75,7 @@ impl Question {
         self.number == Some(number)
     }
 
-    /// Sends it over a connection, where it is open and was not sent over that.
+    /// Sends it, if it is open and was not sent over this connection.
     pub fn send(&mut self, link: &mut Link) -> Result<Passing, Finish>
         ensures sent { self.old.number ≢ None → self.new ≡ self.old }
         ensures done { self.old.outcome ≢ None → self.new ≡ self.old }
@@ -97,7 +98,8 @@ impl Question {
         Ok(passing)
     }
 
-    /// Keeps an answer. Says whether it is to be asked again, which it is so many times at most.
+    /// Takes its answer. Says whether to send it again, which is done until it was sent `tries`
+    /// times.
     pub fn take(&mut self, answer: Answer, tries: u32) -> bool {
         let outcome = match answer {
             Answer::Reply { reply, .. } => Outcome::Reply(reply),
@@ -120,8 +122,8 @@ impl Question {
         false
     }
 
-    /// Its connection ended. What may have changed something is lost then, as what was sent often enough; the rest is
-    /// open for a new connection.
+    /// Its connection ended, maybe without an outcome. An insert or remove that was sent becomes
+    /// Lost then, and so does a request with no tries left. Others go over a new connection.
     pub fn lose(&mut self, tries: u32)
         ensures outcome { self.new.outcome ≡ outcome_after_loss self.old.request self.old.times tries self.old.outcome }
         ensures number { self.new.number ≡ None }
@@ -132,7 +134,7 @@ impl Question {
         self.number = None;
     }
 
-    /// Nothing more is done for it.
+    /// Gives it up, if it has no outcome.
     pub fn give_up(&mut self) {
         if self.is_open() {
             self.outcome = Some(Outcome::Lost);

@@ -1,4 +1,4 @@
-//! What a load is made of.
+//! The size and kind of a load.
 
 /// What each request does.
 #[derive(Clone, Copy, Debug, PartialEq, Eq)]
@@ -11,7 +11,7 @@ pub enum Kind {
 #[derive(Clone, Copy, Debug, PartialEq, Eq)]
 pub enum Until {
     Seconds(u64),
-    /// So many were sent over all connections.
+    /// How many are sent over all connections together.
     Requests(u64),
 }
 
@@ -22,7 +22,7 @@ pub struct Load {
     pub connections: u64,
     /// How many requests are in flight on each.
     pub in_flight: u64,
-    /// How many keys are named, in turn.
+    /// How many different keys the requests have.
     pub keys: u64,
     /// How many bytes each value has.
     pub value_size: usize,
@@ -31,7 +31,7 @@ pub struct Load {
 }
 
 impl Load {
-    /// How many requests a connection sends, counted from 0, where the number is bounded.
+    /// How many requests the connection of this number, from 0, sends at most.
     pub fn share(&self, connection: u64) -> u64 {
         match self.until {
             Until::Seconds(_) => u64::MAX,

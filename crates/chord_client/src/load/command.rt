@@ -54,7 +54,7 @@ fn requests_option<'a>(alloc: Global) -> Arg<'a> {
         .help("How many requests are sent in all, in place of seconds, 1 to 1000000000")
 }
 
-/// The command `load` and what it takes.
+/// The command `load` and its arguments.
 pub fn load_command<'a>(alloc: Global) -> Result<Command<'a>, AllocError> {
     let load = Command::new(alloc, "load")
         .about("Asks a server many requests, and writes how long they took")
@@ -68,7 +68,7 @@ pub fn load_command<'a>(alloc: Global) -> Result<Command<'a>, AllocError> {
     with_argument(load, requests_option(alloc))
 }
 
-/// The load that the command line says.
+/// The load that the command line asks for.
 pub fn load_of(found: &ArgMatches) -> Load {
     Load {
         port: found.get_one::<u16>("port").unwrap_or(1),
@@ -88,7 +88,7 @@ pub fn load_of(found: &ArgMatches) -> Load {
     }
 }
 
-/// Does `load`. Where standard error is a terminal, a line goes there each second.
+/// Does the command `load`. If standard error is a terminal, a line goes there each second.
 pub fn start_load<
     T: Threads + Wait + Clock + Net<Listener = TcpListener, Stream = TcpStream> + Sync,
 >(rt: &HostRuntime, threads: &T, found: &ArgMatches) -> Result<Finish, Finish> {

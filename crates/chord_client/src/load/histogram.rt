@@ -1,4 +1,4 @@
-//! How long requests took, in buckets of a fixed number.
+//! How long requests took, counted in a fixed number of buckets.
 ghost use Rattle.std.specs.Prelude.{◌≡◌, ◌≤◌, ◌<◌, ◌+◌, ◌*◌, ◌/◌, ◌%◌, ◌^◌, IfOk, IfSome, None, length};
 ghost use Rattle.chord_client.specs.Recorded.{recorded};
 ghost use Rattle.chord_client.specs.Histogram.{bound, bucket_of, wanted, IsNew, IsLeast, RecordIs, PercentileIs};
@@ -6,10 +6,10 @@ ghost use Rattle.chord_client.specs.Histogram.{bound, bucket_of, wanted, IsNew, 
 use std::alloc::{AllocError, Global};
 use std::marker::Model;
 
-/// 32 of one value each, and then 16 to each doubling up to 2^64.
+/// 32 buckets of one value each, and then 16 for each doubling up to 2^64.
 const BUCKETS: usize = 976;
 
-/// How many values are at or below its bound, and above that of the one before.
+/// How many values are at or below its bound, and above the bound before.
 #[derive(Clone, Copy, Debug)]
 pub struct Bucket {
     pub bound: u64,
@@ -54,7 +54,7 @@ fn bucket_of(value: u64, buckets: &[Bucket]) -> Option<usize>
     buckets.iter().position(|bucket| value <= bucket.bound)
 }
 
-// The least bound with at least so many values at or below it.
+// The least bound with at least `wanted` values at or below it.
 fn least_with(buckets: &[Bucket], wanted: u64) -> Option<u64>
     requires some { 1 ≤ wanted }
     requires fits { recorded buckets.now < 2 ^ 64 }
@@ -72,7 +72,7 @@ fn least_with(buckets: &[Bucket], wanted: u64) -> Option<u64>
 }
 
 impl Histogram {
-    /// Nothing is recorded yet.
+    /// A histogram of no values.
     pub fn new(alloc: Global) -> Result<Histogram, AllocError>
         ensures { IfOk result (λ histogram. IsNew histogram) }
     {
@@ -97,7 +97,8 @@ impl Histogram {
         self.buckets.as_slice()
     }
 
-    /// Records a value so many times, unless that would be 2^64 values or more.
+    /// Records a value `times` times. Says false and records nothing if the total would be 2^64 or
+    /// more.
     pub fn record(&mut self, value: u64, times: u64) -> bool
         ensures { RecordIs result value times self.old self.new }
     {
@@ -112,7 +113,7 @@ impl Histogram {
         true
     }
 
-    /// The least bound with at least so many thousandths of all values at or below it.
+    /// The least bound with at least this many thousandths of all values at or below it.
     pub fn percentile(&self, thousandths: u64) -> Option<u64>
         requires least { 1 ≤ thousandths }
         requires most { thousandths ≤ 1000 }

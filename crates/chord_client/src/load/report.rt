@@ -1,4 +1,4 @@
-//! What a load came to.
+//! The results of a load.
 
 use crate::load::histogram::Histogram;
 use std::alloc::{AllocError, Global};
@@ -26,7 +26,7 @@ impl Report {
         })
     }
 
-    /// With what another connection came to. All went on at once.
+    /// Adds the results of another connection that ran at the same time.
     pub fn join(&mut self, other: &Report) {
         for bucket in other.times.buckets() {
             self.times.record(bucket.bound, bucket.count);
@@ -57,7 +57,7 @@ impl fmt::Display for Report {
     }
 }
 
-/// One line of the table: `-` where there is no request.
+/// One line of the table: `-` if there was no request.
 fn write_percentile<W: fmt::Write>(
     f: &mut fmt::Formatter<W>,
     name: &str,

@@ -13,17 +13,17 @@ use std::thread;
 use std::thread::{Scope, Threads};
 use std::time::{Clock, Duration, Instant};
 
-/// How often each second it is looked whether all connections ended.
+/// How many times a second to check whether all connections ended.
 const LOOKS: u64 = 10;
 
-/// How far all connections are.
+/// Counts over all connections.
 #[derive(Drop)]
 struct Progress {
     answered: AtomicU64,
     has_ended: AtomicBool,
 }
 
-/// Writes a line each second, until all connections ended or no more can be written.
+/// Writes a line each second, until all connections ended or writing fails.
 fn show<R: Clock + Wait, W: Write>(rt: &R, progress: &Progress, writer: &mut W) {
     let mut before = 0;
     let mut looks: u64 = 0;
@@ -46,7 +46,7 @@ fn show<R: Clock + Wait, W: Write>(rt: &R, progress: &Progress, writer: &mut W) 
     }
 }
 
-/// Runs each connection on a thread of its own, and joins what they came to.
+/// Runs each connection on a thread of its own, and joins their reports.
 fn run_connections<
     's,
     E: 's,
@@ -78,8 +78,8 @@ fn run_connections<
     Ok(whole)
 }
 
-/// Runs all connections, and writes lines on the way where there is a writer for them. The first handle starts the
-/// threads.
+/// Runs all connections, and writes lines meanwhile if there is a writer for them. The first handle
+/// starts the threads.
 fn run_all<
     'x,
     R: Threads + Wait + Clock + Net<Listener = TcpListener, Stream = TcpStream> + Sync,
@@ -102,7 +102,7 @@ fn run_all<
     })
 }
 
-/// Writes the table of what a load came to. Says how the command ends.
+/// Writes the table of a load. Says how the command ends.
 fn write_report<W: Write>(report: &Report, writer: &mut W) -> Result<Finish, Finish> {
     writeln!(writer, "{report}")?;
     writer.flush()?;
@@ -113,7 +113,7 @@ fn write_report<W: Write>(report: &Report, writer: &mut W) -> Result<Finish, Fin
     }
 }
 
-/// Runs a load, and writes a table of what it came to.
+/// Runs a load, and writes the table of its results.
 pub fn run_load<
     R: Threads + Wait + Clock + Net<Listener = TcpListener, Stream = TcpStream> + Sync,
     L: Write + Send + Drop,

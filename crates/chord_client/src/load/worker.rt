@@ -14,18 +14,18 @@ use std::net::{Net, TcpStream};
 use std::sync::atomic::{AtomicU64, Ordering};
 use std::time::{Clock, Instant};
 
-/// How many reads are made for an answer at most: as many as its frame may have bytes.
+/// How many reads are made for one answer at most: the most bytes that its frame may have.
 const READS: u64 = 4_194_304;
 
-/// Whether a connection goes on.
+/// Whether a connection can still be used.
 #[derive(Clone, Copy, Debug, PartialEq, Eq)]
 enum Going {
     On,
-    /// It is of no more use.
+    /// It can't be used any more.
     Broken,
 }
 
-/// A connection, with what it sent and what it found.
+/// A connection, with its requests in flight and its results.
 #[derive(Drop)]
 struct Worker<'a, R: Clock> {
     rt: &'a R,
@@ -55,7 +55,7 @@ fn key_of(alloc: Global, number: u64) -> Result<Bytes, AllocError> {
     Bytes::from_slice(alloc, text.as_bytes())
 }
 
-/// The code of a fault, where the answer is one.
+/// The code of the answer, if that is a fault.
 fn code_of(answer: Answer) -> Option<FaultCode> {
     let code = match &answer {
         Answer::Reply { .. } => None,
@@ -66,7 +66,7 @@ fn code_of(answer: Answer) -> Option<FaultCode> {
 }
 
 impl<'a, R: Clock> Worker<'a, R> {
-    /// Whether one more request is to be sent.
+    /// Whether to send one more request.
     fn is_due(&self) -> Result<bool, Finish> {
         match self.load.until {
             Until::Requests(_) => Ok(self.made < self.load.share(self.connection)),
@@ -76,7 +76,8 @@ impl<'a, R: Clock> Worker<'a, R> {
         }
     }
 
-    /// The next request. Connections name keys in turn, each beginning at another one.
+    /// The next request. Connection c of n uses keys c, c + n, c + 2n and so on, modulo the number
+    /// of keys.
     fn next_request(&self) -> Result<Request, AllocError> {
         let place = self
             .made
@@ -95,7 +96,7 @@ impl<'a, R: Clock> Worker<'a, R> {
         }
     }
 
-    /// Counts a request and keeps the time at which it is sent.
+    /// Counts a request, and records the time at which it is sent.
     fn keep_start(&mut self) -> Result<(), Finish> {
         self.made = self.made.saturating_add(1);
         let time = now(self.rt)?;
@@ -116,7 +117,7 @@ impl<'a, R: Clock> Worker<'a, R> {
         }
     }
 
-    /// Sends a request whose beginning was kept.
+    /// Sends a request, if its time was recorded.
     fn pass(&mut self, request: Request, kept: Result<(), Finish>) -> Result<Going, Finish>
         requires { IsRequest request }
     {
@@ -132,7 +133,7 @@ impl<'a, R: Clock> Worker<'a, R> {
         }
     }
 
-    /// Sends a request again that got a fault.
+    /// Sends a request that got a fault again.
     fn again(&mut self, number: u64) -> Result<Going, Finish> {
         self.keep_start()?;
         let mut writer = &self.link.stream;
@@ -166,7 +167,7 @@ impl<'a, R: Clock> Worker<'a, R> {
         Ok(())
     }
 
-    /// Receives an answer. A request that got a fault is sent again in place of a new one.
+    /// Receives an answer. If it is a fault, its request is sent again in place of a new one.
     fn receive(&mut self) -> Result<Going, Finish> {
         let mut reader = &self.link.stream;
         let (number, code) = match self.link.client.receive(&mut reader, READS) {
@@ -183,7 +184,7 @@ impl<'a, R: Clock> Worker<'a, R> {
         }
     }
 
-    /// Counts a fault, and sends its request again where that may pass and a request is due.
+    /// Counts a fault, and sends its request again if that may succeed and a request is due.
     fn retry(&mut self, number: u64, code: FaultCode) -> Result<Going, Finish> {
         self.report.faults = self.report.faults.saturating_add(1);
         self.sent.pop_front();
@@ -216,7 +217,7 @@ impl<'a, R: Clock> Worker<'a, R> {
         Ok(())
     }
 
-    /// What was found. The connection is closed.
+    /// The report, with the connection closed.
     fn into_report(self) -> Report {
         drop(self.link);
         drop(self.sent);
@@ -224,7 +225,7 @@ impl<'a, R: Clock> Worker<'a, R> {
     }
 }
 
-/// What one connection of the load came to. What was in flight when it broke counts as faults.
+/// Runs one connection of the load. What was in flight when it broke counts as faults.
 pub fn work<R: Net<Stream = TcpStream> + Clock>(
     rt: &R,
     alloc: Global,
@@ -255,7 +256,7 @@ pub fn work<R: Net<Stream = TcpStream> + Clock>(
     ended(ran, worker.into_report())
 }
 
-/// The report, unless the run ended by a fault.
+/// The report, unless the connection ended by a fault.
 fn ended<T: Drop>(ran: Result<(), Finish>, report: T) -> Result<T, Finish> {
     ran?;
     Ok(report)

@@ -22,7 +22,7 @@ fn manner(port: u16, version: u8, window: u64, tries: u32) -> Manner {
     }
 }
 
-/// How asking ended, and whether it wrote what it was to write.
+/// How asking ended, and whether it wrote the right lines.
 type Asked = (Result<Finish, Finish>, bool);
 
 fn asks<R: Net<Stream = TcpStream>>(
@@ -40,7 +40,7 @@ fn asks<R: Net<Stream = TcpStream>>(
     (finish, is_written)
 }
 
-/// Asks the one request of these words.
+/// Asks the request in these words.
 fn asks_one<R: Net<Stream = TcpStream>>(
     rt: &R,
     alloc: Global,
@@ -66,7 +66,7 @@ fn free_port<R: Net<Listener = TcpListener, Stream = TcpStream>>(rt: &R) -> io::
     Ok(address?.port())
 }
 
-/// Asks where nobody listens.
+/// Asks at a port at which nobody listens.
 fn asks_nobody<R: Net<Listener = TcpListener, Stream = TcpStream>>(
     rt: &R,
     alloc: Global,
@@ -75,7 +75,7 @@ fn asks_nobody<R: Net<Listener = TcpListener, Stream = TcpStream>>(
     Some(asks(rt, alloc, manner, "insert abc x\n", ""))
 }
 
-/// Asks the one request of these words there.
+/// Asks the request in these words at a port at which nobody listens.
 fn asks_nobody_one<R: Net<Listener = TcpListener, Stream = TcpStream>>(
     rt: &R,
     alloc: Global,
@@ -98,14 +98,15 @@ fn nobody_listens_to_one_request(rt: HostRuntime) {
     assert!(rt; asked == Some((fault, true)));
 }
 
-/// Answers the first bytes of a connection.
+/// Answers the first bytes on a connection.
 fn answer_first<S: Read + Write>(stream: &mut S, answer: &[u8]) -> io::Result<()> {
     let mut bytes = [0u8; 64];
     stream.read(&mut bytes)?;
     stream.write_all(answer)
 }
 
-/// Takes so many connections, and ends each behind its first bytes. The last one gets this answer first.
+/// Accepts `connections` connections, and ends each after its first bytes. The last one gets this
+/// answer first.
 fn ends_early(listener: &TcpListener, connections: usize, answer: &[u8]) -> io::Result<()> {
     for (number, accepted) in listener.incoming().take(connections).enumerate() {
         let mut stream = accepted?;
@@ -117,14 +118,14 @@ fn ends_early(listener: &TcpListener, connections: usize, answer: &[u8]) -> io::
     Ok(())
 }
 
-/// A port at which somebody listens.
+/// A listener, and its port.
 fn bound<R: Net<Listener = TcpListener, Stream = TcpStream>>(rt: &R) -> Option<(TcpListener, u16)> {
     let listener = TcpListener::bind(rt, "127.0.0.1:0").ok()?;
     let port = listener.local_addr().ok()?.port();
     Some((listener, port))
 }
 
-/// Asks the one request of these words, to which Added is answered.
+/// Asks the request in these words of a server that answers Added.
 fn asks_one_of_one<R: Threads + Net<Listener = TcpListener, Stream = TcpStream> + Sync>(
     rt: &R,
     alloc: Global,
@@ -148,7 +149,8 @@ fn one_request(rt: HostRuntime) {
     assert!(rt; asked == Some((Ok(Finish::Done), true)));
 }
 
-/// Asks in so many tries one that ends so many connections, the last one with this answer.
+/// Asks, with `tries` tries, a server that ends each of `ended` connections, the last one after
+/// this answer.
 fn asks_one_that_ends<R: Threads + Net<Listener = TcpListener, Stream = TcpStream> + Sync>(
     rt: &R,
     alloc: Global,
@@ -172,7 +174,8 @@ fn asks_one_that_ends<R: Threads + Net<Listener = TcpListener, Stream = TcpStrea
 // Added, number 1.
 const ADDED: [u8; 15] = [0, 0, 0, 0x0b, 1, 0x81, 0, 0, 0, 0, 0, 0, 0, 1, 1];
 
-/// An insert whose connection ended is lost and not sent again. The next request goes over another connection.
+/// An insert is lost if its connection ends, and not sent again. The next request goes over another
+/// connection.
 #[test]
 fn a_lost_connection(rt: HostRuntime) {
     let unanswered = Finish::Fault(Fault::Unanswered(1));
@@ -189,7 +192,7 @@ fn a_lost_connection(rt: HostRuntime) {
     }
 }
 
-/// A retrieve whose connection ended is asked again over another one, so many times at most.
+/// A retrieve whose connection ended goes over another one, until it has no tries left.
 #[test]
 fn a_retrieve_is_asked_again(rt: HostRuntime) {
     let empty = [0u8, 0, 0, 0x0e, 1, 0x82, 0, 0, 0, 0, 0, 0, 0, 1, 0, 0, 0, 0];
@@ -198,7 +201,7 @@ fn a_retrieve_is_asked_again(rt: HostRuntime) {
     for (tries, answer, wanted, finish) in [
         (3, empty.as_slice(), "values 0\n", Finish::Done),
         (2, [].as_slice(), "lost\n", unanswered),
-        // An answer of another kind ends a connection, and so does a fault.
+        // A wrong kind of answer ends the connection, and so does a fault.
         (1, ADDED.as_slice(), "lost\n", unanswered),
         (1, bad_number.as_slice(), "fault 9\n", unanswered),
     ] {
@@ -280,7 +283,7 @@ fn are_lines_of(alloc: Global, outcomes: &[Outcome], wanted: &str) -> Option<boo
     Some(is_wanted)
 }
 
-/// Whether outcomes of each kind are these lines.
+/// Checks that an outcome of each kind is written as its line.
 fn are_lines(alloc: Global, wanted: &str) -> Option<bool> {
     let outcomes = [
         Outcome::Reply(Reply::SetFull),
@@ -300,7 +303,7 @@ fn outcomes_as_lines(rt: HostRuntime) {
     assert!(rt; are_lines(rt.alloc(), wanted) == Some(true));
 }
 
-/// The port and the version of a command line, its window and tries, and how many words its request has.
+/// The port and version, the window and tries, and how many words the request has.
 type Options = ((u16, u8), (u64, u32), usize);
 
 fn options_of<'a>(alloc: Global, words: &'a [&'static str]) -> Option<Options> {
@@ -331,7 +334,7 @@ fn options_of_ask(rt: HostRuntime) {
     assert!(rt; options == Some(((7001, 2), (1, 3), 3)));
 }
 
-/// The status of words that are refused.
+/// The exit status for words that are refused.
 fn status_of<'a>(alloc: Global, words: &'a [&'static str]) -> Option<i32> {
     let error = ask_command(alloc).ok()?.try_get_matches_from(words).err()?;
     let status = error.exit_code();
@@ -339,7 +342,7 @@ fn status_of<'a>(alloc: Global, words: &'a [&'static str]) -> Option<i32> {
     Some(status)
 }
 
-/// The status of a command line that is refused.
+/// The exit status for a command line that is refused.
 fn refused(alloc: Global, line: &'static str) -> Option<i32> {
     let words = words(alloc, line).ok()?;
     let status = status_of(alloc, words.as_slice());

@@ -21,7 +21,7 @@ fn load(port: u16, kind: Kind, requests: u64) -> Load {
     }
 }
 
-/// How a load ends where nobody listens, and how long its table is.
+/// How a load ends if nobody listens, and the length of its table.
 fn loaded_by_nobody<
     R: Threads + Wait + Clock + Net<Listener = TcpListener, Stream = TcpStream> + Sync,
 >(rt: &R, alloc: Global) -> Option<(Result<Finish, Finish>, usize)> {
@@ -53,7 +53,7 @@ fn shares_of_connections(rt: HostRuntime) {
     }
 }
 
-/// The load that words ask for.
+/// The load that these words ask for.
 fn load_of_words<'a>(alloc: Global, words: &'a [&'static str]) -> Option<Load> {
     let found = load_command(alloc).ok()?.try_get_matches_from(words).ok()?;
     let load = load_of(&found);
@@ -69,7 +69,8 @@ fn load_from(alloc: Global, line: &'static str) -> Option<Load> {
     load
 }
 
-/// Its port, connections and requests in flight, its keys and the length of its values, its kind and its end.
+/// The load that the line asks for: port, connections and requests in flight; keys and value size;
+/// kind and end.
 fn options(
     alloc: Global,
     line: &'static str,
@@ -95,7 +96,7 @@ fn a_load_of_its_own(rt: HostRuntime) {
     assert!(rt; options(rt.alloc(), "load --port 1") == Some(wanted));
 }
 
-/// The status of words that are refused.
+/// The exit status for words that are refused.
 fn status_of<'a>(alloc: Global, words: &'a [&'static str]) -> Option<i32> {
     let error = load_command(alloc).ok()?.try_get_matches_from(words).err()?;
     let status = error.exit_code();
@@ -103,7 +104,7 @@ fn status_of<'a>(alloc: Global, words: &'a [&'static str]) -> Option<i32> {
     Some(status)
 }
 
-/// The status of a command line that is refused.
+/// The exit status for a command line that is refused.
 fn refused(alloc: Global, line: &'static str) -> Option<i32> {
     let words = words(alloc, line).ok()?;
     let status = status_of(alloc, words.as_slice());
@@ -126,7 +127,7 @@ fn refused_options_of_load(rt: HostRuntime) {
     }
 }
 
-/// Whether the report is this table.
+/// Checks that the report is written as this table.
 fn is_shown(alloc: Global, report: Option<Report>, wanted: &str) -> Option<bool> {
     let report = report?;
     let text = format!(in alloc; "{report}");
@@ -137,7 +138,7 @@ fn is_shown(alloc: Global, report: Option<Report>, wanted: &str) -> Option<bool>
     Some(is_wanted)
 }
 
-/// The report of nothing in half a second.
+/// The report of no requests in half a second.
 fn nothing(alloc: Global) -> Option<Report> {
     let mut report = Report::new(alloc).ok()?;
     report.milliseconds = 500;
@@ -152,7 +153,7 @@ fn an_empty_table(rt: HostRuntime) {
     assert!(rt; is_shown(alloc, nothing(alloc), wanted) == Some(true));
 }
 
-/// A report of the values below 1,000.
+/// A report with each value below 1,000 once.
 fn report_of_thousand(alloc: Global) -> Option<Report> {
     let times = first_thousand(alloc)?;
     Some(Report {
@@ -162,7 +163,7 @@ fn report_of_thousand(alloc: Global) -> Option<Report> {
     })
 }
 
-/// A report of one value, with faults.
+/// A report of one value a thousand times, with 3 faults.
 fn report_of_one(alloc: Global) -> Option<Report> {
     let mut report = Report::new(alloc).ok()?;
     report.faults = 3;
@@ -174,7 +175,7 @@ fn report_of_one(alloc: Global) -> Option<Report> {
     }
 }
 
-/// Two reports of known times in one.
+/// The joined report of both.
 fn joined(alloc: Global) -> Option<Report> {
     let mut report = report_of_thousand(alloc)?;
     match report_of_one(alloc) {
@@ -190,7 +191,7 @@ fn joined(alloc: Global) -> Option<Report> {
     }
 }
 
-/// A table of known times.
+/// The joined report as a table.
 #[test]
 fn tables(rt: HostRuntime) {
     let wanted =
@@ -208,7 +209,7 @@ fn record_thousand(histogram: &mut Histogram) -> bool {
     true
 }
 
-/// The values below 1,000, each once.
+/// A histogram with each value below 1,000 once.
 fn first_thousand(alloc: Global) -> Option<Histogram> {
     let mut histogram = Histogram::new(alloc).ok()?;
     if record_thousand(&mut histogram) {
@@ -219,7 +220,7 @@ fn first_thousand(alloc: Global) -> Option<Histogram> {
     }
 }
 
-/// The half of one value.
+/// The 50th percentile of a histogram of this value alone.
 fn half_of(alloc: Global, value: u64) -> Option<u64> {
     let mut histogram = Histogram::new(alloc).ok()?;
     let half = if histogram.record(value, 1) {
@@ -251,7 +252,7 @@ fn buckets_of_values(rt: HostRuntime) {
     }
 }
 
-/// The half of no values, how many they are, and how many buckets there are.
+/// The 50th percentile of an empty histogram, how many values it has, and how many buckets.
 fn of_nothing(alloc: Global) -> Option<(Option<u64>, u64, usize)> {
     let histogram = Histogram::new(alloc).ok()?;
     let half = histogram.percentile(500);
@@ -265,7 +266,7 @@ fn an_empty_histogram(rt: HostRuntime) {
     assert!(rt; of_nothing(rt.alloc()) == Some((None, 0, 976)));
 }
 
-/// A percentile of the values below 1,000.
+/// A percentile of the values below 1,000, in thousandths.
 fn percentile(alloc: Global, thousandths: u64) -> Option<u64> {
     let histogram = first_thousand(alloc)?;
     let found = if 1 <= thousandths && thousandths <= 1000 {
@@ -293,12 +294,13 @@ fn percentiles_of_a_thousand(rt: HostRuntime) {
     }
 }
 
-/// Whether a value is recorded so many times, and how many values there are then.
+/// Records a value `times` times. Gives whether it did, and how many values there are now.
 fn recorded(histogram: &mut Histogram, times: u64) -> (bool, u64) {
     (histogram.record(5, times), histogram.total())
 }
 
-/// The same in turn behind 1,000 values, and how many buckets there are.
+/// Records three times after 1,000 values. Gives how many values there were, the three results, and
+/// how many buckets there are.
 fn filled(alloc: Global) -> Option<(u64, [(bool, u64); 3], usize)> {
     let mut histogram = first_thousand(alloc)?;
     let total = histogram.total();

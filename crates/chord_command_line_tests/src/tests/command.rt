@@ -1,4 +1,4 @@
-//! Ends of commands, words of lines, and replies on them.
+//! How commands end, the words of lines, and replies on them.
 
 use chord_command::{Fault, Finish, Hex, LineFault, Shown, Words};
 use chord_ident::Id;
@@ -20,7 +20,7 @@ fn statuses(rt: HostRuntime) {
     }
 }
 
-/// The status of a fault, and whether it has this text.
+/// The exit status of a fault, and whether it has this text.
 fn tells(alloc: Global, fault: Fault, wanted: &str) -> Option<(u8, bool)> {
     let text = fault.to_string(alloc).ok()?;
     Some((Finish::Fault(fault).status(), text.as_str() == wanted))
@@ -44,7 +44,7 @@ fn texts_of_faults(rt: HostRuntime) {
     }
 }
 
-/// The words of a line one after another, and whether there is one more.
+/// The words of a line in order, and whether another one follows.
 #[test]
 fn words_of_a_line(rt: HostRuntime) {
     let mut words = Words::new("insert  7");
@@ -73,7 +73,7 @@ fn numbers(rt: HostRuntime) {
     }
 }
 
-/// Digits, and the number of their identifier.
+/// Digits, and the identifier that they are, if any.
 const IDENTIFIERS: &[(&str, Option<u128>)] = &[
     (
         "C00000000000000000000000000000ab",
@@ -94,13 +94,13 @@ fn identifiers(rt: HostRuntime) {
     }
 }
 
-/// Whether these are the bytes of a line.
+/// Checks that the line has these bytes.
 fn are_bytes(alloc: Global, line: &str, wanted: &[u8]) -> Option<bool> {
     let bytes = Words::new(line).bytes(alloc).ok()?;
     Some(bytes.as_slice() == wanted)
 }
 
-/// Lines, and their bytes where they are some.
+/// Lines, and the bytes in them, if any.
 const BYTES: &[(&str, Option<&[u8]>)] = &[
     ("0aFF", Some(&[10, 255])),
     ("-", Some(&[])),
@@ -118,7 +118,7 @@ fn bytes_of_digits(rt: HostRuntime) {
     }
 }
 
-/// Whether the values one after another stand so on a line.
+/// Checks that a reply of these values is written so.
 fn are_shown(alloc: Global, all: &[&[u8]], wanted: &str) -> Option<bool> {
     let mut values = Values::new(alloc);
     for value in all {
@@ -127,7 +127,7 @@ fn are_shown(alloc: Global, all: &[&[u8]], wanted: &str) -> Option<bool> {
     is_shown(alloc, &Reply::Values(values), wanted)
 }
 
-/// Whether a reply stands so on a line.
+/// Checks that a reply is written so.
 fn is_shown(alloc: Global, reply: &Reply, wanted: &str) -> Option<bool> {
     let text = Shown(reply).to_string(alloc).ok()?;
     Some(text.as_str() == wanted)
@@ -149,7 +149,7 @@ fn replies_on_a_line(rt: HostRuntime) {
     assert!(rt; are_shown(rt.alloc(), &values, "values 2 0aff -") == Some(true));
 }
 
-/// Whether bytes are these digits.
+/// Checks that the bytes are written as these digits.
 fn are_digits(alloc: Global, bytes: &[u8], wanted: &str) -> Option<bool> {
     let text = Hex(bytes).to_string(alloc).ok()?;
     Some(text.as_str() == wanted)

@@ -9,7 +9,7 @@ pub fn words(alloc: Global, line: &'static str) -> Result<Vec<&'static str>, All
     line.split_whitespace().collect(alloc)
 }
 
-/// Whether the fault of a command line has this text, and the status that the program ends with.
+/// Gives whether the fault of a command line has this text, and its exit status.
 pub fn shows(
     alloc: Global,
     error: Result<clap::Error, AllocError>,
@@ -22,7 +22,7 @@ pub fn shows(
     Some((text.ok()?.as_str() == wanted, status))
 }
 
-/// Whether this is printed for a command line, and the status that the program ends with.
+/// Gives whether a command line prints this text, and its exit status.
 pub fn prints(alloc: Global, line: &'static str, wanted: &str) -> Option<(bool, i32)> {
     let words = words(alloc, line).ok()?;
     let commands = commands(alloc).ok()?;
@@ -38,13 +38,13 @@ pub fn prints(alloc: Global, line: &'static str, wanted: &str) -> Option<(bool, 
 const USAGE: &str =
     "\n\nUsage: chord serve --plan <FILE> --port <N> <--connections <K>|--stay>\n\nFor more information, try '--help'.\n";
 
-/// Whether this text and the usage are printed for a command line, and the status that the program ends with.
+/// Gives whether a command line prints this text and the usage, and its exit status.
 fn prints_usage(alloc: Global, line: &'static str, text: &str) -> Option<(bool, i32)> {
     let wanted = format!(in alloc; "{text}{USAGE}").ok()?;
     prints(alloc, line, wanted.as_str())
 }
 
-/// A plan, a port, and one of `--connections` and `--stay` are wanted.
+/// `serve` requires a plan, a port, and one of `--connections` and `--stay`.
 #[test]
 fn faults_of_serve(rt: HostRuntime) {
     for (line, text) in [
@@ -69,8 +69,8 @@ fn faults_of_serve(rt: HostRuntime) {
     }
 }
 
-/// Whether these are of `serve` with the plan `p` and port 7, whether they have these connections, and whether they
-/// want notes.
+/// Gives whether the command is `serve` with the plan `p` and port 7, whether `connections`
+/// matches, and whether `--notes` is there.
 fn matched(matches: &ArgMatches, connections: Option<&str>) -> Option<(bool, bool, bool)> {
     let (name, found) = matches.subcommand()?;
     let is_serve = name == "serve"
@@ -83,7 +83,7 @@ fn matched(matches: &ArgMatches, connections: Option<&str>) -> Option<(bool, boo
     ))
 }
 
-/// The same of a command line.
+/// What `matched` gives for this command line, or None if it is refused.
 fn serves(
     alloc: Global,
     line: &'static str,
@@ -104,7 +104,7 @@ fn serves(
     }
 }
 
-/// What is taken: each alone, with notes or without.
+/// `serve` takes `--connections` or `--stay`, with or without `--notes`.
 #[test]
 fn lines_of_serve(rt: HostRuntime) {
     let line = "chord serve --plan p --port 7 --stay --notes";

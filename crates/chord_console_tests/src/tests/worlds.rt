@@ -8,7 +8,7 @@ use chord_store::CappedStore;
 use std::alloc::{AllocError, Global};
 use std::fmt::Write;
 
-/// Runs the script over two stores, the second of which has room for so many pairs.
+/// Runs the script over two stores, the second with room for `room` pairs.
 fn over_two(alloc: Global, room: u64, script: &str, wanted: &str) -> Option<Ran> {
     let mut stores = Vec::new(alloc);
     add_store(&mut stores, CappedStore::new(alloc, u64::MAX)).ok()?;
@@ -56,7 +56,7 @@ const LOST_CONFIRMATION_WRITES: &str = concat!(
     "forward 15\ntold 16\nfresh values 1 78\n",
 );
 
-/// A node that is gone declines what it did not take, and the giver holds it again.
+/// A node that is gone declines a handover, and the giver takes the segment back.
 const DECLINED_HANDOVER: &str = concat!(
     "create 40000000000000000000000000000000\njoin c0000000000000000000000000000000 0\n",
     "leave 1\nretire 1\ngive 0 0 1\ndeliver 0\ndeliver 1\ndeliver 1\n",
@@ -67,7 +67,7 @@ const DECLINED_HANDOVER_WRITES: &str = concat!(
     "node 0\nnode 1\nok\nok\nmessage 0\ndeclined 1\nheld\nunknown\nnode 0\n",
 );
 
-/// The second handover of a sender comes before the first.
+/// The second handover of a sender arrives before the first.
 const HANDOVERS_OUT_OF_ORDER: &str = concat!(
     "create 40000000000000000000000000000000\njoin c0000000000000000000000000000000 0\n",
     "cut 0 0 c0000000000000000000000000000000\ncut 0 0 80000000000000000000000000000000\n",
@@ -80,7 +80,7 @@ const HANDOVERS_OUT_OF_ORDER_WRITES: &str = concat!(
     "node 1\nok\nrefused 9 NoSegment\n",
 );
 
-/// A call comes to a node that gave its key away.
+/// A call arrives at a node that gave its key away.
 const INSERT_AFTER_A_HANDOVER: &str = concat!(
     "create 40000000000000000000000000000000\ncaller\n",
     "join c0000000000000000000000000000000 0\ncut 0 0 c0000000000000000000000000000000\n",
@@ -152,7 +152,7 @@ const FLOORS_AFTER_ANOTHER_CUT: &str = concat!(
     "cut 0 0 50000000000000000000000000000000\ndeliver 0\ndeliver 2\n",
 );
 
-/// Each session is done, and writes its lines.
+/// Each session ends as done, with the lines that it should write.
 #[test]
 fn sessions_of_two_nodes(rt: HostRuntime) {
     for (script, wanted) in [
@@ -193,7 +193,7 @@ const IN_TWO_PARTS_WRITES: &str = concat!(
     "got 132\ngot 133\nnode 1\nfreed\nrefused 9 NoPart\n",
 );
 
-/// A node with 65 values under one key, and what is written.
+/// A node with 65 values under one key: the script, and the lines that it should write.
 fn sixty_five_values(alloc: Global) -> Result<(String, String), AllocError> {
     let mut script = String::from_str(alloc, "create 40000000000000000000000000000000\ncaller\n")?;
     let mut wanted = String::from_str(alloc, "node 0\ncaller 0\n")?;
@@ -209,7 +209,7 @@ fn sixty_five_values(alloc: Global) -> Result<(String, String), AllocError> {
     Ok((script, wanted))
 }
 
-/// Runs the script of these values and of their handover.
+/// Runs the script with these values and a handover of them.
 fn over_two_parts(alloc: Global) -> Option<Ran> {
     let (mut script, mut wanted) = sixty_five_values(alloc).ok()?;
     script.push_str(IN_TWO_PARTS).ok()?;
@@ -217,7 +217,7 @@ fn over_two_parts(alloc: Global) -> Option<Ran> {
     over_two(alloc, u64::MAX, script.as_str(), wanted.as_str())
 }
 
-/// A handover of 65 pairs goes in two parts, and is held by its receiver when both have come.
+/// A handover of 65 pairs has two parts; its receiver holds the segment once both have come.
 #[test]
 fn a_handover_in_two_parts(rt: HostRuntime) {
     assert!(rt; over_two_parts(rt.alloc()) == DONE);

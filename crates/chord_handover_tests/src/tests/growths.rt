@@ -1,12 +1,12 @@
-//! A refused growth leaves all as it was, and a second try succeeds. With ample memory nothing is refused; the tests are
-//! run with each growth refused in turn too.
+//! A refused growth leaves everything unchanged, and a second try succeeds. With ample memory
+//! nothing is refused; the tests are also run with each growth refused in turn.
 
 use super::{A, empty_parcel, makes, note, part, said, two_parts};
 use chord_handover::{GiveFault, Outbox, Part, Taken, Ungiven};
 use chord_ident::{Id, Span};
 use std::alloc::{AllocError, Global};
 
-/// The two parts of a handover, at the second try where the first was refused.
+/// The two parts of a handover, made again if memory was refused.
 fn parts(alloc: Global) -> Result<(Part, Part), AllocError> {
     match two_parts(alloc) {
         Ok(parts) => Ok(parts),
@@ -14,7 +14,7 @@ fn parts(alloc: Global) -> Result<(Part, Part), AllocError> {
     }
 }
 
-/// What it makes with what is noted, at the second try where the first was refused.
+/// What the part makes with the buffered parts, tried again if memory was refused.
 fn made(taken: &Taken, part: &Part) -> Result<&'static str, AllocError> {
     match makes(taken, part) {
         Ok(made) => Ok(made),
@@ -22,7 +22,8 @@ fn made(taken: &Taken, part: &Part) -> Result<&'static str, AllocError> {
     }
 }
 
-/// Notes the second part, at the second try where the first was refused. Answers whether a refused one left nothing noted.
+/// Buffers the second part, again if memory was refused.
+/// Answers whether a refused try left nothing buffered.
 fn note_the_second(taken: &mut Taken, (first, second): &(Part, Part)) -> bool {
     if note(taken, second).is_ok() {
         return true;
@@ -30,7 +31,7 @@ fn note_the_second(taken: &mut Taken, (first, second): &(Part, Part)) -> bool {
     said(made(taken, first)) == "more" && note(taken, second).is_ok()
 }
 
-/// What the second part makes, whether it is noted, and what the first makes then.
+/// What the second part makes, whether it is buffered, and then what the first makes.
 fn noted_in_turn(alloc: Global) -> Option<(&'static str, bool, &'static str)> {
     let parts = parts(alloc).ok()?;
     let mut taken = Taken::new(alloc);
@@ -47,7 +48,7 @@ fn refused_notes_and_gathers(rt: HostRuntime) {
     assert!(rt; noted_in_turn(rt.alloc()) == Some(("more", true, "whole")));
 }
 
-/// Makes room, at the second try where the first was refused. Answers whether nothing of node 0 is taken after each.
+/// Reserves room, again if memory was refused. Whether nothing of node 0 is taken after each try.
 fn takes_nothing(mut taken: Taken) -> bool {
     let is_ready = taken.reserve().is_ok() || (taken.last(0) == 0 && taken.reserve().is_ok());
     let is_nothing = taken.last(0) == 0;
@@ -60,7 +61,7 @@ fn a_refused_reserve_takes_nothing(rt: HostRuntime) {
     assert!(rt; takes_nothing(Taken::new(rt.alloc())));
 }
 
-/// Gives again what a refused give handed back, where it left nothing in the outbox.
+/// Gives the payload that a refused give gave back, if that left the outbox empty.
 fn give_again(outbox: &mut Outbox, ungiven: Ungiven) -> Option<u64> {
     let span = Span::new(Id::new(A), Id::new(A));
     let is_same = ungiven.parcelled.segment().span() == span;
@@ -69,7 +70,7 @@ fn give_again(outbox: &mut Outbox, ungiven: Ungiven) -> Option<u64> {
     if is_back { number } else { None }
 }
 
-/// Gives an empty parcel to node 1, at the second try where the first was refused, and answers its number.
+/// Gives an empty payload to node 1, again if memory was refused, and answers its number.
 fn give(outbox: &mut Outbox, alloc: Global) -> Option<u64> {
     match outbox.give(1, empty_parcel(alloc)) {
         Ok(number) => Some(number),
@@ -77,12 +78,12 @@ fn give(outbox: &mut Outbox, alloc: Global) -> Option<u64> {
     }
 }
 
-/// Whether its first item is the first one for node 1.
+/// Whether the outbox's first item is the first one for node 1.
 fn has_the_item(outbox: &Outbox) -> bool {
     outbox.nth(0) == Some((1, 1))
 }
 
-/// The number that was given, and whether the item stays when room is made, at the second try where the first was refused.
+/// The number given, and whether the item stays when room is reserved, again if memory was refused.
 fn given_and_kept(mut outbox: Outbox, alloc: Global) -> (Option<u64>, bool) {
     let number = give(&mut outbox, alloc);
     let is_ready = outbox.reserve().is_ok() || (has_the_item(&outbox) && outbox.reserve().is_ok());
@@ -104,7 +105,7 @@ fn first_part(alloc: Global) -> Result<Part, AllocError> {
     Ok(first)
 }
 
-/// A copy, at the second try where the first was refused.
+/// A copy, made again if memory was refused.
 fn copied(part: &Part) -> Result<Part, AllocError> {
     match part.try_copy() {
         Ok(copy) => Ok(copy),
@@ -130,7 +131,7 @@ fn refused_parts_and_copies(rt: HostRuntime) -> Result<(), AllocError> {
     Ok(())
 }
 
-/// A receiver that noted the first part.
+/// A receiver that buffered the first part.
 fn noted_first(alloc: Global) -> Option<Taken> {
     let first = first_part(alloc).ok()?;
     let mut taken = Taken::new(alloc);
@@ -139,7 +140,7 @@ fn noted_first(alloc: Global) -> Option<Taken> {
     is_noted.then_some(taken)
 }
 
-/// What a second part with the pairs of the first makes with it.
+/// What a second part with the pairs of the first makes with that.
 fn made_again(alloc: Global) -> Option<&'static str> {
     let (taken, first) = noted_first(alloc).zip(first_part(alloc).ok())?;
     let second = part(alloc, 2, first.pairs);
@@ -149,7 +150,7 @@ fn made_again(alloc: Global) -> Option<&'static str> {
     Some(made)
 }
 
-/// Parts that are all there and make no parcel take no memory.
+/// Parts that are all there and make no payload need no memory.
 #[test]
 fn parts_of_no_parcel_are_unfit(rt: HostRuntime) {
     assert!(rt; made_again(rt.alloc()) == Some("unfit"));

@@ -14,14 +14,14 @@ use chord_wire::is_writable;
 use std::sync::Wait;
 use std::time::Clock;
 
-/// Asks at one node, by a caller that keeps no reply, and no request after its reply: what was asked is known to the
-/// proof alone. The session's numbers are the caller's behind those of its earlier sessions.
+/// Asks at one node, by a caller that keeps no replies. The caller's number of a request is the
+/// session's plus `before`. What was asked is data of the proof alone.
 #[derive(Drop)]
 pub struct RingAsker<'a, J: Naming, S: EntryStore, R: Wait + Clock> {
     rt: &'a R,
     caller: Client<'a, J, S>,
     via: u64,
-    /// So many requests had the caller submitted when the session began.
+    /// How many requests the caller had submitted when the session began.
     before: u64,
     ghost begun: { before ≤ length caller.caller.submitted },
 }
@@ -42,7 +42,7 @@ impl<'a, J: Naming, S: EntryStore, R: Wait + Clock> RingAsker<'a, J, S, R> {
         }
     }
 
-    /// The caller, whose numbers go on in its next session.
+    /// The caller, for its next session.
     pub fn into_caller(self) -> Client<'a, J, S>
         ensures { result ≡ self.entry.caller }
     {
@@ -50,7 +50,7 @@ impl<'a, J: Naming, S: EntryStore, R: Wait + Clock> RingAsker<'a, J, S, R> {
     }
 }
 
-/// The reply as an answer, where it has a frame, as each reply of a store has.
+/// The reply as an answer, if it has a frame; each reply of a store has.
 fn told(reply: Reply) -> Asked
     ensures fits { IsAnswer result }
     ensures told { (result ≡ Asked.Reply reply) ⊎ (result ≡ Asked.NoAnswer) }
@@ -67,8 +67,8 @@ impl<'a, J: Naming, S: EntryStore, R: Wait + Clock> Asker for RingAsker<'a, J, S
 
     ghost asked = { λ a. asked_since a.before a.caller };
 
-    /// A request that the caller refuses outright ends the session as out of memory does. None should be within the
-    /// session's window, but no contract says so.
+    /// Asks a request. If the caller refuses it outright the session ends as out of memory. Nothing
+    /// within the session's window should be refused, but no contract says so.
     fn ask(&mut self, request: &Request) -> Asked {
         let Ok(copy) = request.try_copy() else {
             return Asked::Memory;
@@ -81,7 +81,7 @@ impl<'a, J: Naming, S: EntryStore, R: Wait + Clock> Asker for RingAsker<'a, J, S
         }
     }
 
-    /// The request again. Numbers count behind those of earlier sessions.
+    /// Sends the request of this number again; the caller's number is greater by `before`.
     fn retry(&mut self, number: u64) -> Asked {
         let Some(submitted) = self.before.checked_add(number) else {
             return Asked::NoAnswer;

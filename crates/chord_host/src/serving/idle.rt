@@ -1,4 +1,4 @@
-//! A caller that no request is pending of.
+//! A caller with no pending request.
 ghost use Rattle.std.specs.Prelude.{◌≡◌, ℕ, None, true, IfOk, IfErr};
 ghost use Rattle.chord_caller.specs.Answers.{PendingIs, is_pending};
 
@@ -13,7 +13,7 @@ use std::time::Clock;
 /// How many requests of a client may be in flight.
 const WINDOW: u64 = 16;
 
-/// All requests of the caller are answered.
+/// A caller of which all requests are answered.
 #[derive(Drop)]
 pub struct IdleCaller<'a, J: Naming, S: EntryStore> {
     caller: Client<'a, J, S>,
@@ -32,7 +32,7 @@ impl<'a, J: Naming, S: EntryStore> IdleCaller<'a, J, S> {
         }
     }
 
-    /// A caller that the ring opens, or how a connection ends for which there is none.
+    /// Opens a caller, or says how a connection ends that gets none.
     pub fn open(rt: &impl Wait, ring: &'a Ring<J, S>) -> Result<IdleCaller<'a, J, S>, Ended> {
         let caller = match ring.open_client(rt, WINDOW) {
             Ok(caller) => caller,
@@ -45,7 +45,8 @@ impl<'a, J: Naming, S: EntryStore> IdleCaller<'a, J, S> {
         }
     }
 
-    /// The caller once its pending requests are answered. Each is sent again at the node `via`, until one stays pending.
+    /// Sends the caller's pending requests again at node `via`, one after another, until one stays
+    /// pending. Gives the caller as idle if none does.
     pub fn settle<R: Wait + Clock>(
         rt: &R,
         caller: Client<'a, J, S>,

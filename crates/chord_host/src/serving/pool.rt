@@ -14,12 +14,12 @@ use std::time::Clock;
 #[derive(Drop)]
 struct Resting<'r, J: Naming, S: EntryStore> {
     idle: Vec<IdleCaller<'r, J, S>>,
-    /// Those with a pending request, the one that waits longest first.
+    /// Those with a pending request; the one that waited longest comes first.
     pending: VecDeque<Client<'r, J, S>>,
 }
 
 impl<'r, J: Naming, S: EntryStore> Resting<'r, J, S> {
-    /// Adds a caller. There is room for all callers of the ring.
+    /// Adds a caller. All callers of the ring have room.
     fn add(&mut self, caller: Client<'r, J, S>) {
         match IdleCaller::of(caller) {
             Ok(idle) => drop(self.idle.push(idle)),
@@ -28,7 +28,7 @@ impl<'r, J: Naming, S: EntryStore> Resting<'r, J, S> {
     }
 }
 
-/// Gives each connection a caller, and takes it back.
+/// Gives each connection a caller, and takes it back afterwards.
 #[derive(Drop)]
 pub struct Pool<'r, J: Naming, S: EntryStore> {
     ring: &'r Ring<J, S>,
@@ -36,7 +36,7 @@ pub struct Pool<'r, J: Naming, S: EntryStore> {
 }
 
 impl<'r, J: Naming, S: EntryStore> Pool<'r, J, S> {
-    /// No caller of the ring is open yet. It has so many.
+    /// A pool of no callers, with room for `callers`, which is how many the ring may have.
     pub fn new(
         alloc: Global,
         ring: &'r Ring<J, S>,
@@ -48,18 +48,18 @@ impl<'r, J: Naming, S: EntryStore> Pool<'r, J, S> {
         Ok(Pool { ring, resting })
     }
 
-    /// An idle caller.
+    /// Takes an idle caller out, if there is one.
     fn rested(&self, rt: &impl Wait) -> Option<IdleCaller<'r, J, S>> {
         self.resting.lock(rt).idle.pop()
     }
 
-    /// The caller whose pending request waits longest.
+    /// Takes the caller out whose pending request waited longest.
     fn waiting(&self, rt: &impl Wait) -> Option<Client<'r, J, S>> {
         self.resting.lock(rt).pending.pop_front()
     }
 
-    /// An idle caller, or a new one, or one whose pending requests are answered now that they are sent again. Else how a
-    /// connection ends for which there is none.
+    /// Takes an idle caller; else opens one; else resends the pending requests of the caller that
+    /// waited longest. If that leaves it pending, says how the connection ends.
     pub fn take<R: Wait + Clock>(&self, rt: &R, via: u64) -> Result<IdleCaller<'r, J, S>, Ended> {
         if let Some(idle) = self.rested(rt) {
             return Ok(idle);
@@ -80,7 +80,7 @@ impl<'r, J: Naming, S: EntryStore> Pool<'r, J, S> {
         }
     }
 
-    /// The caller may serve again.
+    /// Takes a caller back, for later connections.
     pub fn give_back<R: Wait>(&self, rt: &R, caller: Client<'r, J, S>) {
         self.resting.lock(rt).add(caller);
     }

@@ -1,4 +1,4 @@
-//! A server of so many connections.
+//! A server for a fixed number of connections.
 ghost use Rattle.std.specs.Prelude.{◌≡◌};
 
 use crate::plan_run::blank_of;
@@ -23,10 +23,10 @@ use std::time::Clock;
 /// How many reads a connection makes at most.
 const TURNS: u64 = 65_536;
 
-/// The thread of a connection, or how it ended with none.
+/// The thread of a connection, or how it ended without one.
 type Connection = Result<JoinHandle<Ended>, Ended>;
 
-/// Serves a connection by a caller of its own. How it ended is noted before it is closed.
+/// Serves a connection by a caller of its own. Logs how it ended before it is closed.
 fn serve_client<J: Naming, S: EntryStore, R: Wait + Clock, L: Log>(
     service: &Service<'_, J, S, R, L>,
     number: u64,
@@ -64,7 +64,7 @@ fn start_client<
     }
 }
 
-/// Accepts so many connections, each on a thread and at a node of its own.
+/// Accepts `--connections` connections, each on a thread of its own and at the next node.
 fn start_clients<
     's,
     E: 's,
@@ -90,7 +90,7 @@ fn start_clients<
     Ok(clients)
 }
 
-/// How each connection ended, once all did.
+/// How each connection ended, once all have.
 fn join_clients(
     rt: &(impl Threads + Wait),
     alloc: Global,
@@ -106,7 +106,7 @@ fn join_clients(
     Ok(ends)
 }
 
-/// Starts the nodes, writes where clients are served, and serves so many connections.
+/// Starts the nodes, writes the address at which clients are served, and serves the connections.
 fn start_and_accept<
     's,
     E: 's,
@@ -129,7 +129,7 @@ fn start_and_accept<
     join_clients(service.rt, service.alloc, clients)
 }
 
-/// Serves so many connections, and stops the ring then. The handle starts the threads.
+/// Serves the connections, and then stops the ring. The handle starts the threads.
 fn serve_ring<
     'x,
     J: Naming + Send + Sync,
@@ -152,7 +152,7 @@ fn serve_ring<
     })
 }
 
-/// Serves with a ring under its name.
+/// Gives the ring its name, and serves.
 fn serve_named<
     J: Naming + Send + Sync,
     S: EntryStore + Send,
@@ -190,7 +190,8 @@ fn write_ends<W: Write>(ends: &[Ended], writer: &mut W) -> io::Result<()> {
     Ok(())
 }
 
-/// The command `serve --connections`: the nodes of a plan over these stores, one for each, and so many connections.
+/// The command `serve --connections`: a ring of the plan's nodes over these stores, one for each,
+/// serves that many connections.
 pub fn serve<S: EntryStore + Send, R: Threads + Wait + Clock + Sync, L: Log + Sync, W: Write>(
     rt: &R,
     front: &Front<'_, L>,

@@ -1,4 +1,4 @@
-//! A running ring, as the connections of a server share it.
+//! A running ring, shared by the connections of a server.
 ghost use Rattle.std.specs.Prelude.{◌≡◌, ◌%◌};
 
 use crate::running::{start_nodes, tick_in_turn};
@@ -18,7 +18,7 @@ use std::sync::Wait;
 use std::thread::{Scope, Threads};
 use std::time::Clock;
 
-/// A ring, how many nodes it has, and where it is noted how connections end.
+/// A ring, how many nodes it has, and where to log how connections end.
 #[derive(Drop)]
 pub struct Service<'r, J: Naming, S: EntryStore, R, L> {
     pub rt: &'r R,
@@ -28,7 +28,7 @@ pub struct Service<'r, J: Naming, S: EntryStore, R, L> {
     pub notes: &'r L,
 }
 
-/// The node that a connection asks at.
+/// The node at which a connection asks: its number modulo the number of nodes.
 pub fn node_of(number: u64, nodes: u64) -> u64
     ensures { result ≡ number % nodes }
 {
@@ -36,7 +36,7 @@ pub fn node_of(number: u64, nodes: u64) -> u64
 }
 
 impl<'r, J: Naming, S: EntryStore, R: Wait + Clock, L: Log> Service<'r, J, S, R, L> {
-    /// The ring under the plan of a front.
+    /// A ring that serves the plan of this front.
     pub fn new(
         rt: &'r R,
         ring: &'r Ring<J, S>,
@@ -51,7 +51,7 @@ impl<'r, J: Naming, S: EntryStore, R: Wait + Clock, L: Log> Service<'r, J, S, R,
         }
     }
 
-    /// Starts the nodes of a plan, and their upkeep.
+    /// Starts the nodes of a plan, and the thread of their upkeep.
     pub fn start<'s, E: 's>(
         &'s self,
         scope: &'s Scope<'s, E>,
@@ -71,7 +71,7 @@ impl<'r, J: Naming, S: EntryStore, R: Wait + Clock, L: Log> Service<'r, J, S, R,
         }
     }
 
-    /// Serves a client by this caller, with so many reads at most. The caller comes back.
+    /// Serves a client by this caller, with at most `turns` reads. Gives the caller back.
     pub fn serve_by(
         &self,
         idle: IdleCaller<'r, J, S>,

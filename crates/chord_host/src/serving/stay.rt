@@ -1,4 +1,4 @@
-//! A server that stays.
+//! The server of `serve --stay`.
 ghost use Rattle.std.specs.Prelude.{◌≡◌};
 
 use crate::plan_run::blank_of;
@@ -19,7 +19,7 @@ use std::thread;
 use std::thread::{Scope, Threads};
 use std::time::{Clock, Duration};
 
-/// What the connections of a server that stays share.
+/// What all connections of the server share.
 #[derive(Drop)]
 struct Hall<'r, J: Naming, S: EntryStore, R, L, W> {
     service: &'r Service<'r, J, S, R, L>,
@@ -37,7 +37,7 @@ impl<
     L: Log,
     W: Write,
 > Hall<'r, J, S, R, L, W> {
-    /// Writes and notes how a connection ended. Where it cannot be written, the server stops.
+    /// Writes and logs how a connection ended. If writing fails, the server stops.
     fn tell(&self, number: u64, ended: &Ended) {
         self.service.log_end(number, ended);
         if !self.lines.tell(self.service.rt, number, ended) && !self.stop.is_stopped() {
@@ -58,7 +58,7 @@ impl<
         Ended::Served(served)
     }
 
-    /// A connection from its beginning to its end. How it ended is told before it is closed.
+    /// Serves a connection to its end. Writes how it ended before closing it.
     fn run_client(&self, number: u64, stream: Arc<TcpStream>) {
         let ended = self.serve_client(number, &stream);
         self.tell(number, &ended);
@@ -66,7 +66,7 @@ impl<
         drop(stream);
     }
 
-    /// Runs a connection on a thread of its own. Says whether there was memory for it.
+    /// Serves a connection on a thread of its own. Says false if there was no memory for that.
     fn run_beside<'s, E: 's>(
         &'s self,
         scope: &'s Scope<'s, E>,
@@ -90,7 +90,7 @@ impl<
         scope.spawn(move || self.run_client(number, stream)).is_ok()
     }
 
-    /// Starts the thread of a connection. Where there is no memory for it the connection ends so.
+    /// Starts the thread of a connection, or ends it if there is no memory for that.
     fn start_client<'s, E: 's>(&'s self, scope: &'s Scope<'s, E>, number: u64, stream: TcpStream)
     where
         J: Send + Sync + 's,
@@ -105,7 +105,7 @@ impl<
         }
     }
 
-    /// Takes in what was accepted.
+    /// Serves an accepted connection, or writes that it could not be accepted.
     fn meet<'s, E: 's>(
         &'s self,
         scope: &'s Scope<'s, E>,
@@ -128,7 +128,8 @@ impl<
         }
     }
 
-    /// Accepts connections, each on a thread of its own, until the server stops. Then those that are open are ended.
+    /// Accepts connections, each on a thread of its own, until the server stops. Then ends those
+    /// that are open.
     fn accept<'s, E: 's>(&'s self, scope: &'s Scope<'s, E>, listener: &TcpListener)
     where
         J: Send + Sync + 's,
@@ -147,7 +148,7 @@ impl<
         self.clients.end_all(self.service.rt);
     }
 
-    /// Whether all lines were written.
+    /// Succeeds if all lines were written.
     fn finish(self) -> Result<(), Finish>
     where
         W: Drop,
@@ -165,7 +166,8 @@ impl<
     }
 }
 
-/// Starts the nodes, writes where clients are served, and serves them until the server stops.
+/// Starts the nodes, writes the address at which clients are served, and serves them until the
+/// server stops.
 fn start_and_accept<
     's,
     'r: 's,
@@ -188,7 +190,7 @@ fn start_and_accept<
     Ok(())
 }
 
-/// Serves until the server stops, and stops the ring then. The first handle starts the threads.
+/// Serves until the server stops, and then stops the ring. The first handle starts the threads.
 fn stay_open<
     'x,
     'r: 'x,
@@ -210,7 +212,7 @@ fn stay_open<
     })
 }
 
-/// Stays with a ring.
+/// Serves with this ring until the server stops.
 fn stay_with<
     J: Naming + Send + Sync,
     S: EntryStore + Send,
@@ -240,7 +242,7 @@ fn stay_with<
     finished
 }
 
-/// Stays with a ring under its name.
+/// Gives the ring its name, and serves until the server stops.
 fn stay_named<
     J: Naming + Send + Sync,
     S: EntryStore + Send,
@@ -270,7 +272,7 @@ fn stay_named<
     stayed
 }
 
-/// Waits for the end of the input, on a thread that nothing waits for, and stops the server then.
+/// Starts a thread that stops the server at the end of the input. Nothing waits for that thread.
 fn stop_behind<
     R: Threads + Clock + Net<Listener = TcpListener, Stream = TcpStream> + Copy + Send + 'static,
     I: Read + Send + Drop + 'static,
@@ -284,7 +286,7 @@ fn stop_behind<
     }
 }
 
-/// What stops a server at this front, once the input ends.
+/// What stops the server of this front at the end of the input.
 fn stop_at_end<
     R: Threads + Clock + Net<Listener = TcpListener, Stream = TcpStream> + Copy + Send + 'static,
     L,
@@ -295,7 +297,8 @@ fn stop_at_end<
     Ok(stop)
 }
 
-/// The command `serve --stay`: the nodes of a plan over these stores, one for each, until the input ends.
+/// The command `serve --stay`: a ring of the plan's nodes over these stores, one for each, serves
+/// until the input ends.
 pub fn stay<
     S: EntryStore + Send,
     R: Threads

@@ -42,7 +42,8 @@ fn capped_boxed<J: Naming + Send + Sync, R: Threads + Wait + Clock + Sync>(
     capped::<J, Store, R>(rt, alloc, blank, store)
 }
 
-/// A node with room for one pair, and a worker: whether that ended, and what three callers find.
+/// A node with room for one pair has a worker while three callers ask. Gives whether the worker
+/// ended, and the five results of `use_the_ring`.
 fn capped<J: Naming + Send + Sync, S: EntryStore + Send, R: Threads + Wait + Clock + Sync>(
     rt: &R,
     alloc: Global,
@@ -67,7 +68,7 @@ fn capped<J: Naming + Send + Sync, S: EntryStore + Send, R: Threads + Wait + Clo
     Some(done)
 }
 
-/// Whether what three callers do while the worker runs is answered as it is to be.
+/// Checks five things that callers do while the worker runs, and gives a result for each.
 fn use_the_ring<J: Naming, S: EntryStore, R: Wait + Clock>(
     rt: &R,
     alloc: Global,
@@ -89,7 +90,7 @@ fn use_the_ring<J: Naming, S: EntryStore, R: Wait + Clock>(
     Some([filled, made, collected, told, crashed])
 }
 
-/// A full store answers Full.
+/// Checks that a full store answers Full, and that the request stays pending.
 fn fill<J: Naming, S: EntryStore, R: Wait + Clock>(
     rt: &R,
     alloc: Global,
@@ -101,14 +102,14 @@ fn fill<J: Naming, S: EntryStore, R: Wait + Clock>(
     first & (full == Some(AskFault::Full)) & one.is_pending(1)
 }
 
-/// Whether the request was answered Removed.
+/// Checks that the answer is Removed.
 fn is_removed<F: Copy>(answer: Result<Reply, F>) -> bool {
     let is_removed = matches!(&answer, Ok(Reply::Removed));
     drop(answer);
     is_removed
 }
 
-/// Whether node 0 answers Removed for `a` and x.
+/// Checks that node 0 answers Removed for `a` and x.
 fn removes<J: Naming, S: EntryStore, R: Wait + Clock>(
     rt: &R,
     alloc: Global,
@@ -120,7 +121,7 @@ fn removes<J: Naming, S: EntryStore, R: Wait + Clock>(
     }
 }
 
-/// The same request is answered once there is room.
+/// Removes a pair. Checks that the request that found the store full is answered now.
 fn make_room<J: Naming, S: EntryStore, R: Wait + Clock>(
     rt: &R,
     alloc: Global,
@@ -134,7 +135,7 @@ fn make_room<J: Naming, S: EntryStore, R: Wait + Clock>(
     removed & retried & collected & (counts == (2, 2, 1))
 }
 
-/// Two requests of a third caller in flight are collected in the other order.
+/// A third caller begins two requests. Checks that it can collect the second before the first.
 fn collect_turned<J: Naming, S: EntryStore, R: Wait + Clock>(
     rt: &R,
     alloc: Global,
@@ -151,7 +152,7 @@ fn collect_turned<J: Naming, S: EntryStore, R: Wait + Clock>(
     collected & called & ((first, second) == (Ok(1), Ok(2)))
 }
 
-/// Requests 2 and 1 were begun, and no other.
+/// Checks that requests 2 and 1 are collected, and that request 3 was not begun.
 fn collects<J: Naming, S: EntryStore, R: Wait + Clock>(rt: &R, two: &mut Caller<'_, J, S>) -> bool {
     let second = is_told(two.collect(rt, 2), b"y");
     let first = is_told(two.collect(rt, 1), b"y");
@@ -159,7 +160,7 @@ fn collects<J: Naming, S: EntryStore, R: Wait + Clock>(rt: &R, two: &mut Caller<
     second & first & (third == Some(CollectFault::NotBegun))
 }
 
-/// Caller 1 shows what it knows, and caller 0 meets it.
+/// Caller 0 meets a note of caller 1. Checks that it learned one call.
 fn tell<J: Naming, S: EntryStore>(zero: &mut Caller<'_, J, S>, one: &mut Caller<'_, J, S>) -> bool {
     let Ok(note) = one.show() else {
         return false;
@@ -176,7 +177,7 @@ fn tell<J: Naming, S: EntryStore>(zero: &mut Caller<'_, J, S>, one: &mut Caller<
     }
 }
 
-/// What both took and were told of stands in one history of one world.
+/// Proves that what both took and learned is in one history of one world.
 fn share_a_world<J: Naming, S: EntryStore>(
     ring: &Ring<J, S>,
     zero: &mut Caller<'_, J, S>,
@@ -191,7 +192,7 @@ fn share_a_world<J: Naming, S: EntryStore>(
     drop(all);
 }
 
-/// A caller that was told is answered, and not any more once the node has crashed.
+/// Checks that caller 0 is answered, and that it is not once the node has crashed.
 fn crash<J: Naming, S: EntryStore, R: Wait + Clock>(
     rt: &R,
     alloc: Global,
@@ -205,7 +206,7 @@ fn crash<J: Naming, S: EntryStore, R: Wait + Clock>(
     seen & crashed & (unheard == Some(AskFault::NoAnswer))
 }
 
-/// A node that crashed crashes again and is ticked, and does not leave.
+/// Checks that a crashed node can crash again and be ticked, and does not leave.
 fn crashes<J: Naming, S: EntryStore, R: Wait + Clock>(rt: &R, ring: &Ring<J, S>) -> bool {
     let first = ring.crash(rt, 0).is_ok();
     let second = ring.crash(rt, 0).is_ok();

@@ -36,12 +36,13 @@ fn ask(alloc: Global, number: u64, key: &[u8]) -> Result<Ask, AllocError>
     })
 }
 
-/// Node 0 alone, which holds the circle, with room for so many pairs.
+/// Node 0 alone, which holds the circle, with room for `limit` pairs.
 fn founder(alloc: Global, limit: u64) -> Option<Node<CappedStore>> {
     Node::found(alloc, ZERO, 3, CappedStore::new(alloc, limit)).ok()
 }
 
-/// What a node alone does at a tick, at the next one, and once it leaves, and whether it leaves.
+/// What tidying does at a node alone, the first time, the second, and once it leaves; and whether
+/// it leaves.
 fn tidies(alloc: Global) -> Option<([Option<Tidied>; 3], bool)> {
     let mut node = founder(alloc, 4)?;
     let first = tidy(&mut node, Id::new(C)).ok();
@@ -65,7 +66,7 @@ fn a_node_alone_tidies(rt: HostRuntime) {
 /// What a node sends for a call.
 type Sent = Result<Option<(Target, Message)>, AllocError>;
 
-/// What the node sends for the call of this number under this key.
+/// What the node sends for the call with this number and key.
 fn dealt(alloc: Global, node: &mut Node<CappedStore>, number: u64, key: &[u8]) -> Sent
     requires some { 1 ≤ number }
     requires near { number ≤ 16 }
@@ -73,7 +74,7 @@ fn dealt(alloc: Global, node: &mut Node<CappedStore>, number: u64, key: &[u8]) -
     deal(node, Message::Ask(ask(alloc, number, key)?))
 }
 
-/// Whether the first call of caller 7 is answered Added to it.
+/// Checks that call 1 of caller 7 is answered Added, to that caller.
 fn is_added(sent: Sent) -> bool {
     let is_added = match &sent {
         Ok(Some((Target::Caller(7), Message::Told(told)))) => {
@@ -86,7 +87,7 @@ fn is_added(sent: Sent) -> bool {
     is_added
 }
 
-/// Whether the second one is answered Full.
+/// Checks that call 2 of caller 7 is answered Full, to that caller.
 fn is_full(sent: Sent) -> bool {
     let is_full = match &sent {
         Ok(Some((Target::Caller(7), Message::Full { caller, number }))) => {
@@ -98,7 +99,7 @@ fn is_full(sent: Sent) -> bool {
     is_full
 }
 
-/// Whether a node with room for one pair answers the first call with Added and the second with Full.
+/// Gives whether a node with room for one pair answers call 1 with Added, and call 2 with Full.
 fn answers(alloc: Global) -> Option<(bool, bool)> {
     let mut node = founder(alloc, 1)?;
     let told = is_added(dealt(alloc, &mut node, 1, b"abc"));
@@ -112,14 +113,14 @@ fn a_call_is_answered_to_its_caller(rt: HostRuntime) {
     assert!(rt; answers(rt.alloc()) == Some((true, true)));
 }
 
-/// Whether nothing is sent.
+/// Checks that nothing is sent.
 fn is_nothing(sent: Sent) -> bool {
     let is_nothing = matches!(&sent, Ok(None));
     drop(sent);
     is_nothing
 }
 
-/// Whether a node that holds nothing and knows no other sends nothing for a call.
+/// Checks that a node that holds nothing and knows no other sends nothing for a call.
 fn drops(alloc: Global) -> bool {
     let mut node = Node::newborn(alloc, Links::alone(ONE, 3), CappedStore::new(alloc, 4));
     let sends_nothing = is_nothing(dealt(alloc, &mut node, 1, b"abc"));

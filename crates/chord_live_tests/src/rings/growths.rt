@@ -1,5 +1,5 @@
-//! A refused growth is answered so or is a lost message, and what is tried again succeeds. With ample memory nothing is
-//! refused; the tests are run with each growth refused in turn too.
+//! A refused growth is answered as out of memory or loses a message, and a second try succeeds.
+//! With ample memory nothing is refused; the tests are run with each growth refused in turn too.
 ghost use Rattle.std.specs.Prelude.{◌≡◌, []};
 
 use super::{A, C, begin, inserted, is_added, is_told, settings, succeeds};
@@ -26,7 +26,7 @@ fn refused_growths_of_a_ring(rt: HostRuntime) {
     assert!(rt; done);
 }
 
-/// A ring for two nodes and two callers, made again where it was out of memory.
+/// A ring for two nodes and two callers, tried twice if out of memory.
 fn unnamed(alloc: Global) -> Result<Blank, NewFault> {
     let limits = settings(2, 2, 20, 50);
     match Blank::new(alloc, limits) {
@@ -35,7 +35,7 @@ fn unnamed(alloc: Global) -> Result<Blank, NewFault> {
     }
 }
 
-/// Node 0, made again with the same store where it was out of memory.
+/// Creates node 0, again with the same store if out of memory. Says whether it did.
 fn created<J: Naming, S: EntryStore>(rt: &impl Wait, ring: &Ring<J, S>, store: S) -> bool
     requires { S.content store ≡ [] }
 {
@@ -46,7 +46,7 @@ fn created<J: Naming, S: EntryStore>(rt: &impl Wait, ring: &Ring<J, S>, store: S
     }
 }
 
-/// Node 1, the same.
+/// Adds node 1, again with the same store if out of memory. Says whether it did.
 fn joined<J: Naming, S: EntryStore>(rt: &impl Wait, ring: &Ring<J, S>, store: S) -> bool
     requires { S.content store ≡ [] }
 {
@@ -57,7 +57,7 @@ fn joined<J: Naming, S: EntryStore>(rt: &impl Wait, ring: &Ring<J, S>, store: S)
     }
 }
 
-/// A round of upkeep, done again where it was out of memory.
+/// Ticks a node, again if out of memory. Says whether it did.
 fn ticked<J: Naming, S: EntryStore>(rt: &impl Wait, ring: &Ring<J, S>, no: u64) -> bool {
     match ring.tick(rt, no) {
         Ok(()) => true,
@@ -66,7 +66,7 @@ fn ticked<J: Naming, S: EntryStore>(rt: &impl Wait, ring: &Ring<J, S>, no: u64) 
     }
 }
 
-/// Two nodes, and three rounds of ticks.
+/// Adds two nodes, and does three rounds of ticks. Says whether all succeeded.
 fn settled<J: Naming, R: Wait>(rt: &R, alloc: Global, ring: &Ring<J, CappedStore>) -> bool {
     if !created(rt, ring, CappedStore::new(alloc, 4)) {
         return false;
@@ -82,7 +82,7 @@ fn settled<J: Naming, R: Wait>(rt: &R, alloc: Global, ring: &Ring<J, CappedStore
     true
 }
 
-/// Two nodes, with a worker for the first, which holds `b`, and whether their callers are answered.
+/// Checks that callers are answered by two nodes, the first of which has a worker and holds `b`.
 fn two_nodes<J: Naming + Send + Sync, R: Threads + Wait + Clock + Sync>(
     rt: &R,
     alloc: Global,
@@ -111,7 +111,7 @@ fn two_nodes<J: Naming + Send + Sync, R: Threads + Wait + Clock + Sync>(
     done & ended
 }
 
-/// Whether two callers are answered.
+/// Checks that two callers are answered, and that a note of one reaches the other.
 fn use_the_ring<J: Naming, S: EntryStore, R: Wait + Clock>(
     rt: &R,
     alloc: Global,
@@ -132,7 +132,7 @@ fn use_the_ring<J: Naming, S: EntryStore, R: Wait + Clock>(
     added & seen & told
 }
 
-/// Whether a caller is answered Added, asked again after a refused growth.
+/// Checks that an insert is answered Added, at once or after a refused growth.
 fn adds<J: Naming, S: EntryStore, R: Wait + Clock>(
     rt: &R,
     alloc: Global,
@@ -147,7 +147,7 @@ fn adds<J: Naming, S: EntryStore, R: Wait + Clock>(
     added & (caller.floor() == 1)
 }
 
-/// Sends the request again where it is pending, else asks another one.
+/// Sends the request again if it is pending, else asks another one. Checks for Added.
 fn adds_again<J: Naming, S: EntryStore, R: Wait + Clock>(
     rt: &R,
     alloc: Global,
@@ -159,7 +159,7 @@ fn adds_again<J: Naming, S: EntryStore, R: Wait + Clock>(
     is_added(inserted(rt, alloc, caller, 0, (b"b", b"x")))
 }
 
-/// Sends the pending request again, twice where it was out of memory.
+/// Sends the pending request again, twice if out of memory. Checks for Added.
 fn is_retried<J: Naming, S: EntryStore, R: Wait + Clock>(
     rt: &R,
     caller: &mut Caller<'_, J, S>,
@@ -173,7 +173,7 @@ fn is_retried<J: Naming, S: EntryStore, R: Wait + Clock>(
     added
 }
 
-/// Whether a caller that begins a retrieve is told of x.
+/// Checks that a caller that begins a retrieve collects x.
 fn sees<J: Naming, S: EntryStore, R: Wait + Clock>(
     rt: &R,
     alloc: Global,
@@ -186,7 +186,7 @@ fn sees<J: Naming, S: EntryStore, R: Wait + Clock>(
     begun == Ok(1) && collects(rt, caller)
 }
 
-/// Collects the reply to the first request, which is sent again where it was lost.
+/// Collects the reply to request 1, and sends the request again if that is lost. Checks for x.
 fn collects<J: Naming, S: EntryStore, R: Wait + Clock>(
     rt: &R,
     caller: &mut Caller<'_, J, S>,
@@ -203,7 +203,7 @@ fn collects<J: Naming, S: EntryStore, R: Wait + Clock>(
     seen
 }
 
-/// Sends the request again, and collects its reply where none came.
+/// Sends request 1 again, and collects its reply if none came. Checks for x.
 fn collects_again<J: Naming, S: EntryStore, R: Wait + Clock>(
     rt: &R,
     caller: &mut Caller<'_, J, S>,
@@ -217,7 +217,8 @@ fn collects_again<J: Naming, S: EntryStore, R: Wait + Clock>(
     seen
 }
 
-/// Shows what one caller knows until the other has met it.
+/// Takes up to three notes of one caller until the other has met one. Checks that it learned one
+/// call.
 fn told<J: Naming, S: EntryStore>(from: &mut Caller<'_, J, S>, to: &mut Caller<'_, J, S>) -> bool {
     for _ in 0..3u64 {
         if let Ok(note) = from.show() {

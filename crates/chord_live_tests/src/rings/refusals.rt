@@ -17,7 +17,7 @@ use std::marker::Brand;
 use std::sync::Wait;
 use std::time::Clock;
 
-/// Whether a ring of these settings is refused.
+/// Checks that there is no ring of these settings.
 fn are_bad(alloc: Global, settings: Settings) -> bool {
     let made = Blank::new(alloc, settings);
     let are_bad = matches!(&made, Err(NewFault::BadSettings));
@@ -58,14 +58,14 @@ fn settings_at_their_limits_are_good(rt: HostRuntime) {
     }
 }
 
-/// Whether the store is one with room for a single pair, and empty.
+/// Checks that the store is empty and has room for just one pair.
 fn has_room_for_one(alloc: Global, mut store: CappedStore) -> bool {
     let has_room = takes_one(alloc, &mut store);
     drop(store);
     has_room
 }
 
-/// Whether the store takes one pair and no second one.
+/// Checks that the store takes one pair and no second one.
 fn takes_one(alloc: Global, store: &mut CappedStore) -> bool {
     let Ok(key) = Bytes::from_slice(alloc, b"a") else {
         return false;
@@ -76,7 +76,7 @@ fn takes_one(alloc: Global, store: &mut CappedStore) -> bool {
     (first == Ok(Inserted::Added)) & second.is_err()
 }
 
-/// Whether there is no node, for this reason, and its store came back.
+/// Checks that no node was admitted, for this reason, and that its store came back.
 fn is_refused<F: PartialEq + Copy>(
     alloc: Global,
     entered: Result<Peer, (F, CappedStore)>,
@@ -97,8 +97,8 @@ fn a_ring_refuses(rt: HostRuntime) {
     assert!(rt; refused == Some([true; 6]));
 }
 
-/// Whether a ring refuses what it is to while it has no node, none but the first, two, one that left, and once it is
-/// stopped.
+/// Checks the refusals of a ring in six states: with no node, with the first, with two, with calls
+/// for unknown nodes, with one that left, and stopped. Gives a result for each.
 fn refusals<J: Naming, R: Wait + Clock>(rt: &R, alloc: Global, blank: Blank) -> Option<[bool; 6]>
     requires { blank ≡ J.name }
 {
@@ -114,7 +114,7 @@ fn refusals<J: Naming, R: Wait + Clock>(rt: &R, alloc: Global, blank: Blank) -> 
     Some([without_a_node, created, filled, known, departed, stopped])
 }
 
-/// There is no node 0 yet.
+/// Checks that there is no node 0 yet.
 fn has_no_node<J: Naming, R: Wait + Clock>(rt: &R, ring: &Ring<J, CappedStore>) -> bool {
     let ticked = ring.tick(rt, 0) == Err(TickFault::NoSuchNode);
     let crashed = ring.crash(rt, 0) == Err(NoSuchNode);
@@ -122,7 +122,7 @@ fn has_no_node<J: Naming, R: Wait + Clock>(rt: &R, ring: &Ring<J, CappedStore>) 
     ticked & crashed & worked
 }
 
-/// Whether it is the node of this number and identifier.
+/// Checks that the node has this number and identifier.
 fn is_node<F: Copy>(entered: Result<Peer, (F, CappedStore)>, no: u64, id: u128) -> bool {
     let is_node = match &entered {
         Ok(peer) => peer.no == no && peer.id == Id::new(id),
@@ -132,7 +132,7 @@ fn is_node<F: Copy>(entered: Result<Peer, (F, CappedStore)>, no: u64, id: u128) 
     is_node
 }
 
-/// The first node is node 0, and there is no other first one.
+/// Creates the first node, which gets number 0, and checks that a second one is refused.
 fn is_created_once<J: Naming, R: Wait + Clock>(
     rt: &R,
     alloc: Global,
@@ -144,7 +144,7 @@ fn is_created_once<J: Naming, R: Wait + Clock>(
     is_refused(alloc, again, CreateFault::AlreadyCreated) && first
 }
 
-/// Whether no node joins by this one, for this reason.
+/// Checks that joining by this node is refused, for this reason.
 fn joins_not<J: Naming, R: Wait + Clock>(
     rt: &R,
     alloc: Global,
@@ -156,7 +156,8 @@ fn joins_not<J: Naming, R: Wait + Clock>(
     is_refused(alloc, joined, why)
 }
 
-/// A second node joins by the first, under an identifier of its own; there is no place for a third.
+/// A second node joins by the first, under an identifier of its own. Checks that a third has no
+/// slot.
 fn fills_its_slots<J: Naming, R: Wait + Clock>(
     rt: &R,
     alloc: Global,
@@ -170,7 +171,7 @@ fn fills_its_slots<J: Naming, R: Wait + Clock>(
     taken & nowhere & joined & full
 }
 
-/// There is a node 0 to tick, and no node 2 to leave.
+/// Checks that node 0 is ticked, and that node 2 is unknown.
 fn knows_its_nodes<J: Naming, R: Wait + Clock>(rt: &R, ring: &Ring<J, CappedStore>) -> bool {
     let ticked = ring.tick(rt, 0) == Ok(());
     let left = ring.leave(rt, 2) == Err(LeaveFault::NoSuchNode);
@@ -178,7 +179,8 @@ fn knows_its_nodes<J: Naming, R: Wait + Clock>(rt: &R, ring: &Ring<J, CappedStor
     ticked & left & retired
 }
 
-/// A node that holds nothing leaves and retires; one that holds the circle does not.
+/// Checks that a node that holds nothing leaves and retires, and that one that holds the circle
+/// leaves but does not retire.
 fn departures<J: Naming, R: Wait + Clock>(rt: &R, ring: &Ring<J, CappedStore>) -> bool {
     let staying = ring.retire(rt, 0) == Err(RetireFault::NotLeaving);
     let leaves = ring.leave(rt, 1) == Ok(());
@@ -189,7 +191,7 @@ fn departures<J: Naming, R: Wait + Clock>(rt: &R, ring: &Ring<J, CappedStore>) -
     [staying, leaves, left, retires, holder_leaves, holder_stays] == [true; 6]
 }
 
-/// Nothing enters a stopped ring.
+/// Checks that a stopped ring admits nobody and does not tick.
 fn is_stopped<J: Naming, R: Wait + Clock>(
     rt: &R,
     alloc: Global,
@@ -212,7 +214,8 @@ fn a_caller_refuses(rt: HostRuntime) {
     assert!(rt; refused == Some([true; 6]));
 }
 
-/// Whether a ring refuses a second caller, and its one caller what it is to.
+/// Checks that a ring with one caller refuses a second one, and five refusals of that caller. Gives
+/// a result for each.
 fn caller_refusals<J: Naming, R: Wait + Clock>(
     rt: &R,
     alloc: Global,
@@ -236,7 +239,7 @@ fn caller_refusals<J: Naming, R: Wait + Clock>(
     Some([spent, bad, unknown, nothing, full, unanswered])
 }
 
-/// A request with an empty key is refused, whatever the node.
+/// Checks that a request with an empty key is refused before its node is looked for.
 fn bad_requests<J: Naming, R: Wait + Clock>(
     rt: &R,
     alloc: Global,
@@ -248,7 +251,7 @@ fn bad_requests<J: Naming, R: Wait + Clock>(
     not_begun & (asked == Some(AskFault::Bad(RequestFault::KeyEmpty)))
 }
 
-/// There is no node 5.
+/// Checks that requests at node 5, which does not exist, are refused.
 fn unknown_nodes<J: Naming, R: Wait + Clock>(
     rt: &R,
     alloc: Global,
@@ -259,7 +262,7 @@ fn unknown_nodes<J: Naming, R: Wait + Clock>(
     (begun == Err(BeginFault::NoSuchNode)) & (called == Some(AskFault::NoSuchNode))
 }
 
-/// Nothing was sent so far.
+/// Checks that no request is pending, begun or idle before the first is sent.
 fn nothing_pending<J: Naming, R: Wait + Clock>(
     rt: &R,
     caller: &mut Caller<'_, J, CappedStore>,
@@ -271,7 +274,7 @@ fn nothing_pending<J: Naming, R: Wait + Clock>(
     pending.is_none() & is_collected & (retried == Some(RetryFault::Idle))
 }
 
-/// One request fills the window, and a second one is refused before its node is looked for.
+/// One request fills the window. Checks that a second one is refused before its node is looked for.
 fn a_full_window<J: Naming, R: Wait + Clock>(
     rt: &R,
     alloc: Global,
@@ -286,7 +289,7 @@ fn a_full_window<J: Naming, R: Wait + Clock>(
     is_begun & is_asked & (stands == (true, Some(1), 0))
 }
 
-/// The request that was sent waits, since nobody works for node 0.
+/// Checks that the request gets no answer and stays pending, since node 0 has no worker.
 fn no_answers<J: Naming, R: Wait + Clock>(rt: &R, caller: &mut Caller<'_, J, CappedStore>) -> bool {
     let nowhere = caller.retry(rt, 5, 1).err() == Some(RetryFault::NoSuchNode);
     let retried = caller.retry(rt, 0, 1).err() == Some(RetryFault::NoAnswer);
@@ -303,7 +306,8 @@ fn a_stopped_ring_does_not_answer(rt: HostRuntime) {
     assert!(rt; unheard == Some((true, Some(AskFault::NoAnswer), true)));
 }
 
-/// Whether a caller is answered, how it is not once the ring is stopped twice, and whether its request is pending then.
+/// Asks once, then stops the ring twice and asks again. Gives whether the first is answered, why
+/// the second is not, and whether it is pending.
 fn stopped<J: Naming, R: Wait + Clock>(
     rt: &R,
     alloc: Global,

@@ -1,4 +1,5 @@
-//! What callers of another kind stand on: a core beside its seat, and parcels that they send, carry and wait for.
+//! What callers of other kinds use: a core with its seat, and envelopes that they send, carry and
+//! wait for.
 ghost use Rattle.std.specs.Prelude.{◌≡◌, ◌<◌, None, Some, IfSome};
 ghost use Rattle.chord_caller.specs.Caller.{CallerStep};
 ghost use Rattle.chord_caller.specs.Caller.Letter.{AskLetter};
@@ -24,7 +25,8 @@ fn a_core_and_its_seat(rt: HostRuntime) {
     assert!(rt; stood == Some([true; 4]));
 }
 
-/// Whether a ring of one node says what it is to, has a caller's core and seat once, and carries its call.
+/// Checks the state of a ring of one node, that it admits and answers one caller, refuses a second,
+/// and stops. Gives a result for each.
 fn stands<J: Naming, R: Wait + Clock>(rt: &R, alloc: Global, blank: Blank) -> Option<[bool; 4]>
     requires { blank ≡ J.name }
 {
@@ -38,13 +40,14 @@ fn stands<J: Naming, R: Wait + Clock>(rt: &R, alloc: Global, blank: Blank) -> Op
     Some([runs, admitted, spent, stopped])
 }
 
-/// Node 0 was admitted and node 1 was not; a request is sent three times, with a wait of five milliseconds after each.
+/// Checks that node 0 was admitted and node 1 was not, and that a request is sent three times, with
+/// waits of five milliseconds.
 fn runs<J: Naming, R: Wait + Clock>(rt: &R, ring: &Ring<J, CappedStore>) -> bool {
     let was = [ring.was(0), ring.was(1), ring.is_stopped()] == [true, false, false];
     was & (ring.tries() == 3) & (ring.time_left(rt, &None) == Duration::from_millis(5))
 }
 
-/// Whether the first caller is number 0, and is answered.
+/// Checks that the first caller has number 0, and is answered.
 fn admits<J: Naming, R: Wait + Clock>(rt: &R, alloc: Global, ring: &Ring<J, CappedStore>) -> bool {
     let Ok((mut core, mut seat)) = ring.admit_caller(rt, 1) else {
         return false;
@@ -56,7 +59,7 @@ fn admits<J: Naming, R: Wait + Clock>(rt: &R, alloc: Global, ring: &Ring<J, Capp
     answered & (no == 0)
 }
 
-/// Whether a caller's insert is carried, and answered Added under its number.
+/// Checks that a caller's insert is carried, and answered Added under its number.
 fn is_answered<J: Naming, R: Wait + Clock>(
     rt: &R,
     alloc: Global,
@@ -79,7 +82,7 @@ fn is_answered<J: Naming, R: Wait + Clock>(
     added & ring.hear(rt, no, Duration::from_millis(0)).is_none()
 }
 
-/// An insert of x under a, as its caller sends it.
+/// A caller's call to insert x under `a`.
 fn submitted(alloc: Global, core: &mut CallerCore) -> Option<Ask>
     ensures { IfSome result (λ ask. CallerStep core.old None core.new (Some (AskLetter ask))) }
 {
@@ -87,7 +90,7 @@ fn submitted(alloc: Global, core: &mut CallerCore) -> Option<Ask>
     core.submit(request).ok()
 }
 
-/// What comes back to caller `no` of a parcel that is carried from node 0, posted to it, and waited for.
+/// Carries an envelope from node 0, posts the reply to caller `no`, and waits for it.
 fn carried<J: Naming, R: Wait + Clock>(
     rt: &R,
     ring: &Ring<J, CappedStore>,
@@ -104,7 +107,7 @@ fn carried<J: Naming, R: Wait + Clock>(
     ring.hear(rt, no, Duration::from_millis(1_000))
 }
 
-/// Whether the message tells this caller that its request 1 was answered Added.
+/// Checks that the message is Added to request 1 of this caller.
 fn is_added(message: Message, no: u64) -> bool {
     let is_added = match &message {
         Message::Told(told) => {

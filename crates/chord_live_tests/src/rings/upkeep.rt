@@ -17,10 +17,10 @@ use std::thread;
 use std::thread::Threads;
 use std::time::{Clock, Duration};
 
-/// Lies between the identifiers of `abc` and `eq`, whose first bytes are equal.
+/// An identifier between those of `abc` and `eq`, whose first bytes are equal.
 const M: u128 = 0xa99a0000000000000000000000000000;
 
-/// What is done once the ring is settled.
+/// What a test does once the ring is settled.
 #[derive(Clone, Copy, Debug, PartialEq, Eq)]
 enum Then {
     /// A caller is answered at node 1 while worker 0 is held in its lock.
@@ -35,13 +35,13 @@ enum Then {
     GuessCrashed,
 }
 
-/// Holds worker 0 in the lock until told, for at most 10,000 turns of a millisecond.
+/// Holds worker 0 in its lock until it is opened, at most for 10,000 waits of a millisecond.
 #[derive(Drop)]
 struct Held<'a, R: Clock> {
     rt: &'a R,
     stands: AtomicBool,
     opened: AtomicBool,
-    /// Whether it let the worker go without being told.
+    /// Whether it let the worker go without being opened.
     spent: AtomicBool,
 }
 
@@ -86,7 +86,7 @@ fn a_client_asks_no_crashed_node(rt: HostRuntime) {
     assert!(rt; is_kept(&rt, rt.alloc(), Then::GuessCrashed));
 }
 
-/// Whether all that is done in a ring of two nodes is as it is to be.
+/// Checks a ring of two nodes in which this is done once it is settled.
 fn is_kept<R: Threads + Wait + Clock + Sync>(rt: &R, alloc: Global, then: Then) -> bool {
     match Blank::new(alloc, settings(2, 3, 20, 1_000)) {
         Ok(blank) => two_nodes::<Brand, _>(rt, alloc, blank, then),
@@ -94,12 +94,12 @@ fn is_kept<R: Threads + Wait + Clock + Sync>(rt: &R, alloc: Global, then: Then) 
     }
 }
 
-/// Node M joins by node A.
+/// Node M joins by node A. Says whether it did.
 fn joined<J: Naming, R: Wait>(rt: &R, alloc: Global, ring: &Ring<J, CappedStore>) -> bool {
     succeeds(ring.join(rt, Id::new(M), 0, CappedStore::new(alloc, 4)))
 }
 
-/// Nodes A and M with a worker each, and whether all that is done then is as it is to be.
+/// Starts node A, and then checks the ring as `joined_and_worked` does.
 fn two_nodes<J: Naming + Send + Sync, R: Threads + Wait + Clock + Sync>(
     rt: &R,
     alloc: Global,
@@ -117,7 +117,7 @@ fn two_nodes<J: Naming + Send + Sync, R: Threads + Wait + Clock + Sync>(
     done
 }
 
-/// The same where the first node is there.
+/// Adds node M and a worker for each node, settles the ring, and checks what is done then.
 fn joined_and_worked<J: Naming + Send + Sync, R: Threads + Wait + Clock + Sync>(
     rt: &R,
     alloc: Global,
@@ -152,13 +152,13 @@ fn joined_and_worked<J: Naming + Send + Sync, R: Threads + Wait + Clock + Sync>(
     done & ended & other
 }
 
-/// A round of ticks.
+/// Does a round of ticks. Says whether all succeeded.
 fn ticked<J: Naming, S: EntryStore, R: Wait + Clock>(rt: &R, ring: &Ring<J, S>) -> bool {
     let zero = ring.tick(rt, 0).is_ok();
     ring.tick(rt, 1).is_ok() & zero
 }
 
-/// Eight rounds of ticks, and what comes then.
+/// Does eight rounds of ticks, and checks what is done then.
 fn settle_and_then<J: Naming + Send + Sync, S: EntryStore + Send, R: Threads + Wait + Clock + Sync>(
     rt: &R,
     alloc: Global,
@@ -181,7 +181,7 @@ fn settle_and_then<J: Naming + Send + Sync, S: EntryStore + Send, R: Threads + W
     }
 }
 
-/// Whether a caller of its own is answered Added.
+/// Checks that a new caller's insert is answered Added.
 fn adds_alone<J: Naming, S: EntryStore, R: Wait + Clock>(
     rt: &R,
     alloc: Global,
@@ -197,7 +197,8 @@ fn adds_alone<J: Naming, S: EntryStore, R: Wait + Clock>(
     added
 }
 
-/// `b` lies at node 0, `abc` at node 1.
+/// `b` is held by node 0, `abc` by node 1. Checks that a caller of `abc` is answered while worker 0
+/// is held, and then the caller of `b`.
 fn two_locks<J: Naming + Send + Sync, S: EntryStore + Send, R: Threads + Wait + Clock + Sync>(
     rt: &R,
     alloc: Global,
@@ -225,7 +226,7 @@ fn two_locks<J: Naming + Send + Sync, S: EntryStore + Send, R: Threads + Wait + 
     zero & one
 }
 
-/// Node 0, which held nothing of `abc`, crashes; its neighbour drops it and answers.
+/// Node 0, which held nothing of `abc`, crashes. Checks that node 1 drops it and answers.
 fn crash<J: Naming, S: EntryStore, R: Wait + Clock>(
     rt: &R,
     alloc: Global,
@@ -242,7 +243,7 @@ fn crash<J: Naming, S: EntryStore, R: Wait + Clock>(
     added & crashed & dropped & seen
 }
 
-/// Node 1 leaves; what it held is at node 0 then.
+/// Node 1 leaves. Checks that node 0 then has what node 1 held.
 fn leave<J: Naming, S: EntryStore, R: Wait + Clock>(
     rt: &R,
     alloc: Global,
@@ -263,7 +264,7 @@ fn leave<J: Naming, S: EntryStore, R: Wait + Clock>(
     added & called & retired & forgotten & seen
 }
 
-/// Whether a client that asks at node 0 is answered Added.
+/// Checks that a client's insert by node 0 is answered Added.
 fn client_adds<J: Naming, S: EntryStore, R: Wait + Clock>(
     rt: &R,
     alloc: Global,
@@ -276,7 +277,7 @@ fn client_adds<J: Naming, S: EntryStore, R: Wait + Clock>(
     }
 }
 
-/// Whether one that asks for `abc` is answered x alone.
+/// Checks that a client's retrieve of `abc` by node 0 is answered with x alone.
 fn client_sees<J: Naming, S: EntryStore, R: Wait + Clock>(
     rt: &R,
     alloc: Global,
@@ -288,8 +289,8 @@ fn client_sees<J: Naming, S: EntryStore, R: Wait + Clock>(
     }
 }
 
-/// `abc` lies at node 1, `eq` at node 0: each wrong guess is passed on. The client was answered by node 1 last, so it is
-/// answered there also where node 0, at which it asks, crashed.
+/// `abc` is held by node 1, `eq` by node 0. Checks that calls with a wrong guess are passed on, and
+/// that the client, which node 1 answered last, is still answered after node 0 crashed.
 fn guess<J: Naming, S: EntryStore, R: Wait + Clock>(
     rt: &R,
     alloc: Global,
@@ -308,7 +309,7 @@ fn guess<J: Naming, S: EntryStore, R: Wait + Clock>(
     added & other & seen & crashed & again
 }
 
-/// What the client was handed out stands in one history of one world.
+/// Proves that what the client was handed out is in one history of one world.
 fn stands_in_one_world<J: Naming, S: EntryStore>(ring: &Ring<J, S>, client: &mut Client<'_, J, S>)
     ensures { WitnessShown (client.old.caller ∷ []) }
 {
@@ -318,7 +319,8 @@ fn stands_in_one_world<J: Naming, S: EntryStore>(ring: &Ring<J, S>, client: &mut
     drop(all);
 }
 
-/// Node 1 answered for `abc` and crashes: `eq`, whose guess it is, is asked for at node 0.
+/// Node 1 answers for `abc` and crashes. Checks that `eq`, for which node 1 is the guess, is
+/// answered by node 0.
 fn guess_crashed<J: Naming, S: EntryStore, R: Wait + Clock>(
     rt: &R,
     alloc: Global,
@@ -334,7 +336,7 @@ fn guess_crashed<J: Naming, S: EntryStore, R: Wait + Clock>(
     added & crashed & other
 }
 
-/// Node 1 leaves, and retires once node 0 holds all that it held.
+/// Node 1 leaves. Checks that it retires once node 0 holds all that it held.
 fn retires<J: Naming, S: EntryStore, R: Wait + Clock>(rt: &R, ring: &Ring<J, S>) -> bool {
     if ring.leave(rt, 1).is_err() {
         return false;
@@ -351,7 +353,7 @@ fn retires<J: Naming, S: EntryStore, R: Wait + Clock>(rt: &R, ring: &Ring<J, S>)
     false
 }
 
-/// Whether node 0 has no finger at node 1 any more at its next tick.
+/// Checks that after its next tick node 0 has no finger at node 1.
 fn forgets<J: Naming, S: EntryStore, R: Wait + Clock>(rt: &R, ring: &Ring<J, S>) -> bool {
     if ring.tick(rt, 0).is_err() {
         return false;

@@ -2,15 +2,15 @@
 
 use chord_caller::{Ask, Told};
 
-/// What comes of a call that reached a node.
+/// The answer to a call.
 #[derive(Debug, Drop)]
 pub enum Answered {
-    /// The reply, for the first time or again.
+    /// The reply is sent, for the first time or again.
     Told(Told),
-    /// The call goes on to the node of this number.
+    /// The call is sent on to the node of this number.
     Forward(u64, Ask),
     /// Nothing is sent.
     Dropped,
-    /// The store has no room for what the call would add.
+    /// The store has no room for the pair that the call would add.
     Full,
 }

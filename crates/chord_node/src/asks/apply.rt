@@ -1,4 +1,4 @@
-//! A request applied to a store.
+//! Applying a request to a store.
 ghost use Rattle.std.specs.Prelude.{◌≡◌, IfOk, OnErr, Ok, if◌then◌else◌};
 ghost use Rattle.chord_node.specs.Asked.{Applied, is_full_for};
 ghost use Rattle.chord_store.specs.Store.{reply_for};
@@ -7,7 +7,7 @@ use chord_map::{Bytes, Reply, Request};
 use chord_store::{EntryStore, Inserted, StoreFault};
 use std::alloc::{AllocError, Global};
 
-/// The reply for what an insert did.
+/// The reply to an insert that did this.
 fn reply_to_insert(did: Inserted) -> Reply
     ensures { result ≡ reply_for did }
 {
@@ -18,7 +18,7 @@ fn reply_to_insert(did: Inserted) -> Reply
     }
 }
 
-/// The reply for whether a remove found its value.
+/// The reply to a remove that found its value or not.
 fn reply_to_remove(found: bool) -> Reply
     ensures { result ≡ (if found then Reply.Removed else Reply.Absent) }
 {
@@ -56,7 +56,7 @@ fn apply_remove<S: EntryStore>(store: &mut S, key: &Bytes, value: &Bytes) -> Rep
     reply_to_remove(found)
 }
 
-/// Does the request. A refusal leaves the store as it was.
+/// Executes the request. A refused request leaves the store unchanged.
 pub(crate) fn apply<S: EntryStore>(
     alloc: Global,
     store: &mut S,
@@ -72,7 +72,7 @@ pub(crate) fn apply<S: EntryStore>(
     }
 }
 
-/// Whether the store has no room for the pair. A pair that it takes in is taken out again.
+/// Whether the store is too full for the pair. A pair that it adds on trial is removed again.
 fn is_full_for_pair<S: EntryStore>(store: &mut S, key: &Bytes, value: &Bytes) -> bool
     ensures answer { result ≡ is_full_for (Request.Insert key.now value.now) (S.content store.old) (S.limit store.old) }
     ensures same { S.content store.new ≡ S.content store.old }
@@ -90,7 +90,7 @@ fn is_full_for_pair<S: EntryStore>(store: &mut S, key: &Bytes, value: &Bytes) ->
     }
 }
 
-/// Whether the store has no room for what the request would add. It is as before then.
+/// Whether the store is too full for the pair that the request would add. It stays unchanged.
 pub(crate) fn is_full<S: EntryStore>(store: &mut S, request: &Request) -> bool
     ensures answer { result ≡ is_full_for request.now (S.content store.old) (S.limit store.old) }
     ensures same { S.content store.new ≡ S.content store.old }

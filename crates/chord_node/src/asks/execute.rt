@@ -1,4 +1,4 @@
-//! A call answered by a segment and a store.
+//! Answering a call from a segment and a store.
 ghost use Rattle.std.specs.Prelude.{◌≡◌, Some, true, is_some, IfOk, IfSome, OnOk, OnErr};
 ghost use Rattle.chord_ident.specs.Circle.{in_span};
 ghost use Rattle.chord_segment.specs.Segment.{id_of, past_at};
@@ -27,7 +27,7 @@ fn copy_of(ask: &Ask) -> Result<Ask, AllocError>
     })
 }
 
-/// The reply twice.
+/// Two copies of the reply.
 fn two_copies(reply: &Reply) -> Result<(Reply, Reply), AllocError>
     ensures equal { IfOk result (λ both. (both.0 ≡ reply.now) × (both.1 ≡ reply.now)) }
     ensures memory { OnErr result (IsValues reply.now) }
@@ -42,7 +42,8 @@ fn two_copies(reply: &Reply) -> Result<(Reply, Reply), AllocError>
     }
 }
 
-/// The reply once more, for the segment to keep, and the call with it where its request is to be noted.
+/// One more copy of the reply, for the segment to keep; and
+/// the executed call, if its request is given to be recorded.
 fn copies_of(
     ask: &Ask,
     reply: &Reply,
@@ -72,8 +73,9 @@ fn copies_of(
     }
 }
 
-/// Executes a new call that the segment has room for, unless the store has none. All that can fail comes before the first
-/// change, or behind a Retrieve, which changes nothing. The segment keeps the request itself.
+/// Executes a new call that the segment has room for, unless the store is too full for it. All that
+/// can fail comes before the first change, or after a Retrieve, which changes nothing. The segment
+/// keeps the request itself, not a copy.
 pub(crate) fn execute_ready<S: EntryStore>(
     alloc: Global,
     segment: &mut Segment,
@@ -121,7 +123,8 @@ pub(crate) fn execute_ready<S: EntryStore>(
     }
 }
 
-/// What the execution of a call takes memory for, the store apart: room in the segment, and copies of the request.
+/// Reserves all memory for executing a call, except the
+/// store's: room in the segment, and copies of the request.
 fn prepare(segment: &mut Segment, ask: &Ask) -> Result<(Ask, Request), AllocError>
     ensures same { segment.new.segment ≡ segment.old.segment }
     ensures room { OnOk result (segment.new.room ≡ Some ask.now.caller) }
@@ -138,7 +141,7 @@ fn prepare(segment: &mut Segment, ask: &Ask) -> Result<(Ask, Request), AllocErro
     }
 }
 
-/// Executes a copy of a new call, unless the store has no room.
+/// Executes a copy of a new call, unless the store is too full for it.
 fn execute_in<S: EntryStore>(
     alloc: Global,
     segment: &mut Segment,
@@ -160,7 +163,8 @@ fn execute_in<S: EntryStore>(
     execute_ready(alloc, segment, store, copy, Some(noted))
 }
 
-/// Answers a call whose key lies in the segment's span, and gives a copy of the call that it executed, if it did.
+/// Answers a call whose key lies in the segment's span;
+/// gives a copy of the executed call, if it executed one.
 pub(crate) fn answer_in<S: EntryStore>(
     alloc: Global,
     segment: &mut Segment,

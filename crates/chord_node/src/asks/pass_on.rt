@@ -22,8 +22,8 @@ pub(crate) fn peer_of_hop(hop: Hop) -> Peer
     }
 }
 
-/// Passes the call on to the next hop towards its key's identifier, with one hop less. It is dropped where its hops are
-/// spent or the node knows no other.
+/// Passes the call on to the next hop towards its key, with one hop less. It is dropped if no hops
+/// are left or the node knows no other.
 pub(crate) fn pass_on(links: &Links, ask: &Ask, target: Id) -> Result<Answered, AllocError>
     requires { target.number ≡ id_of ask.now.request }
     ensures passed { IfOk result (λ answered. PassesOn links.now ask.now answered) }

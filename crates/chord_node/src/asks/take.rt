@@ -1,4 +1,4 @@
-//! A call that is handed over: nothing of it is copied.
+//! Answering a call that the node owns: nothing of it is copied.
 ghost use Rattle.std.specs.Prelude.{◌≡◌, true, false};
 ghost use Rattle.chord_ident.specs.Circle.{in_span};
 ghost use Rattle.chord_segment.specs.Segment.{id_of, past_at};
@@ -18,7 +18,7 @@ use chord_segment::{Done, Past, Segment};
 use chord_store::EntryStore;
 use std::alloc::{AllocError, Global};
 
-/// Executes a new call, unless the store has no room.
+/// Executes a new call, unless the store is too full for it.
 fn execute_taken<S: EntryStore>(
     alloc: Global,
     segment: &mut Segment,
@@ -72,8 +72,8 @@ pub(crate) fn answer_taken<S: EntryStore>(
     }
 }
 
-/// Passes the call itself on to the next hop towards its key's identifier, with one hop less. It is dropped where its hops
-/// are spent or the node knows no other.
+/// Passes the call itself on to the next hop towards its key, with one hop less. It is dropped if
+/// no hops are left or the node knows no other.
 pub(crate) fn pass_taken(links: &Links, mut ask: Ask, target: Id) -> Answered
     requires { target.number ≡ id_of ask.request }
     ensures { PassesOn links.now ask result }

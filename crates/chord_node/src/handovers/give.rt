@@ -1,4 +1,4 @@
-//! The beginning of a handover.
+//! Beginning a handover.
 ghost use Rattle.std.specs.Prelude.{◌≡◌, IfOk};
 ghost use Rattle.chord_handover.specs.Handover.{part_at};
 ghost use Rattle.chord_handover.specs.Parcelled.{handed};

@@ -1,30 +1,30 @@
-//! What a node answers to what comes of handovers.
+//! A node's answers to the messages of handovers.
 
-/// What comes of a part that reached its node.
+/// The answer to a part.
 #[derive(Clone, Copy, Debug, PartialEq, Eq)]
 pub enum Given {
-    /// The handover was taken, now or before.
+    /// The handover is taken, now or before.
     Got,
-    /// It will not be taken.
+    /// The node is gone and will not take it.
     Declined,
     /// It is not the next one of its sender.
     Early,
-    /// The parts make no handover, or one whose span meets a held one.
+    /// The parts make no payload, or one whose span overlaps a held one.
     Clash,
     /// The store has no room for its pairs.
     Full,
-    /// The part is noted.
+    /// The part is buffered.
     Part,
 }
 
-/// What comes of a handover that was declined.
+/// The answer to a Declined.
 #[derive(Clone, Copy, Debug, PartialEq, Eq)]
 pub enum Back {
     /// Its segment is held again.
     Held,
     /// The outbox has no such item.
     Unknown,
-    /// Its span meets a held one.
+    /// Its span overlaps a held one.
     Clash,
     /// The store has no room for its pairs.
     Full,

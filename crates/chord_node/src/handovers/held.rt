@@ -1,4 +1,4 @@
-//! Edits of the held segments.
+//! Changes of the held segments.
 ghost use Rattle.std.specs.Prelude.{◌≡◌, ◌<◌, ◌^◌, ◌↔◌, ℕ, IsTrue, Any};
 ghost use Rattle.chord_ident.specs.Circle.{Meet};
 ghost use Rattle.chord_segment.specs.Segment.{RoomySegment};
@@ -12,7 +12,7 @@ use chord_segment::{CutFault, JoinFault, Segment};
 use std::alloc::Global;
 use std::mem::replace;
 
-/// Cuts the segment at the place. The part behind stands behind the part before.
+/// Cuts the segment at this index. The part behind the point gets the next index.
 pub(crate) fn cut_segment(held: &mut Vec<Segment>, place: usize, at: Id) -> Result<(), CutAtFault>
     ensures answer { CutHeld place at (segments_of held.old.items) result (segments_of held.new.items) }
     ensures circle { at.number < 2 ^ 128 }
@@ -50,7 +50,7 @@ fn merge_fault(fault: JoinFault) -> MergeFault
     }
 }
 
-/// Joins the segment at the second place behind the one at the first, in the first one's place.
+/// Joins the segment at `other` behind the one at `place`, at that index.
 pub(crate) fn merge_segments(
     alloc: Global,
     held: &mut Vec<Segment>,
@@ -82,7 +82,7 @@ pub(crate) fn merge_segments(
     }
 }
 
-/// Whether the span meets a held one.
+/// Whether the span overlaps a held one.
 pub(crate) fn meets_any(held: &[Segment], span: Span) -> bool
     ensures { IsTrue result ↔ Any (λ (segment : RoomySegment). Meet span.after.number span.upto.number segment.segment.span.after.number segment.segment.span.upto.number) held.now }
 {

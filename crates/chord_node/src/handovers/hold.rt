@@ -1,4 +1,4 @@
-//! Parcels that come into a node's store.
+//! Putting payloads into a node's store.
 ghost use Rattle.std.specs.Prelude.{◌≡◌, ◌<◌, OnOk};
 ghost use Rattle.std.specs.Vec.{vec_len, vec_capacity};
 ghost use Rattle.chord_handover.specs.Parcelled.{IsParcelled};
@@ -11,7 +11,7 @@ use chord_handover::Parcelled;
 use chord_segment::Segment;
 use chord_store::{EntryStore, StoreFault};
 
-/// Why a parcel's pairs do not come into the store.
+/// Why a payload's pairs are not put into the store.
 #[derive(Clone, Copy, Debug, PartialEq, Eq)]
 pub enum PutFault {
     Clash,
@@ -19,7 +19,7 @@ pub enum PutFault {
     Memory,
 }
 
-/// Puts the pairs of a parcel into the store, if its span meets no held one.
+/// Puts a payload's pairs into the store, if its span overlaps no held one.
 pub(crate) fn put_pairs<S: EntryStore>(
     held: &[Segment],
     store: &mut S,
@@ -42,7 +42,7 @@ pub(crate) fn put_pairs<S: EntryStore>(
     }
 }
 
-/// The same, and makes room for one more held segment.
+/// Puts a payload's pairs into the store, and reserves room for one more held segment.
 pub(crate) fn make_held<S: EntryStore>(
     held: &mut Vec<Segment>,
     store: &mut S,

@@ -1,4 +1,4 @@
-//! Parts of handovers that come.
+//! Taking in parts of handovers.
 ghost use Rattle.std.specs.Prelude.{◌≡◌, ◌+◌, ◌<◌, ◌^◌};
 ghost use Rattle.chord_segment.specs.Marks.{mark_of};
 ghost use Rattle.chord_model.specs.Stock.{IsStocked};
@@ -12,7 +12,7 @@ use chord_segment::Segment;
 use chord_store::EntryStore;
 use std::alloc::AllocError;
 
-/// Takes the next handover of a sender, which is whole.
+/// Takes the sender's next handover, which is whole.
 fn take_whole<S: EntryStore>(
     held: &mut Vec<Segment>,
     store: &mut S,
@@ -49,7 +49,7 @@ fn take_whole<S: EntryStore>(
     Ok(Given::Got)
 }
 
-/// Notes a part of the next handover of a sender, or takes the handover where it is whole with it.
+/// Buffers a part of the sender's next handover, or takes the handover if the part makes it whole.
 pub(crate) fn take_next<S: EntryStore>(
     held: &mut Vec<Segment>,
     store: &mut S,

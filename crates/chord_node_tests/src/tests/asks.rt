@@ -21,7 +21,7 @@ const OTHER: Peer = Peer {
     id: Id { number: A },
 };
 
-/// Whether this call is told this reply, where there was memory to answer it.
+/// Whether the answer is this reply to this call, with memory for it.
 fn is_told(answered: Option<Answered>, number: u64, reply: &Reply) -> Option<bool> {
     let answered = answered?;
     let is_told = match &answered {
@@ -46,17 +46,17 @@ fn is_dropped(answered: Option<Answered>) -> Option<bool> {
     Some(is_dropped)
 }
 
-/// Whether the insert of x under `abc`, as call 1, is told Added.
+/// Whether the insert of x under `abc`, as call 1, is answered Added.
 fn adds_x(alloc: Global, node: &mut Node<CappedStore>) -> Option<bool> {
     is_told(inserted(alloc, node, 1, b"abc", b"x"), 1, &Reply::Added)
 }
 
-/// Whether that call is dropped.
+/// Whether the insert of x under `abc`, as call 1, is dropped.
 fn drops_x(alloc: Global, node: &mut Node<CappedStore>) -> Option<bool> {
     is_dropped(inserted(alloc, node, 1, b"abc", b"x"))
 }
 
-/// Whether the first call is told Added, and when it comes again.
+/// Whether the first call is answered Added, also when it comes again.
 fn acts_once(alloc: Global) -> Option<(Option<bool>, Option<bool>)> {
     let mut node = found(alloc, CappedStore::new(alloc, 1))?;
     let first = adds_x(alloc, &mut node);
@@ -65,13 +65,13 @@ fn acts_once(alloc: Global) -> Option<(Option<bool>, Option<bool>)> {
     Some((first, again))
 }
 
-/// A call acts once however often it comes.
+/// A call is executed once however often it comes.
 #[test]
 fn a_call_acts_once(rt: HostRuntime) {
     assert!(rt; acts_once(rt.alloc()) == Some((Some(true), Some(true))));
 }
 
-/// Whether it is the third call, which was told Present.
+/// Whether the executed call is the third one, answered Present.
 fn is_third(done: Option<Done>) -> Option<bool> {
     let done = done?;
     let is_third = done.number == 3 && done.reply == Reply::Present;
@@ -79,7 +79,7 @@ fn is_third(done: Option<Done>) -> Option<bool> {
     Some(is_third)
 }
 
-/// Whether a call, the third, is told Present, and whether it is noted so.
+/// Whether the third call is answered Present, and whether it is recorded so.
 type Present = (Option<bool>, Option<bool>);
 
 fn is_present(node: &mut Node<CappedStore>, call: &Ask) -> Option<Present> {
@@ -88,7 +88,7 @@ fn is_present(node: &mut Node<CappedStore>, call: &Ask) -> Option<Present> {
     Some((told, is_third(done)))
 }
 
-/// The same of the insert of x under `abc`.
+/// Whether the insert of x under `abc`, as call 3, is answered Present and recorded so.
 fn has_x(alloc: Global, node: &mut Node<CappedStore>) -> Option<Present> {
     let call = ask(3, 0, Request::insert(alloc, b"abc", b"x").ok()?);
     let present = is_present(node, &call);
@@ -96,8 +96,8 @@ fn has_x(alloc: Global, node: &mut Node<CappedStore>) -> Option<Present> {
     present
 }
 
-/// At a node with room for one pair: whether it is added, whether another pair is refused, and whether the same one is
-/// told Present and noted so.
+/// A node with room for one pair: whether it adds one, whether it refuses another, and whether it
+/// answers Present to the first again and records it so.
 fn fills_up(alloc: Global) -> Option<(Option<bool>, Option<bool>, Option<Present>)> {
     let mut node = found(alloc, CappedStore::new(alloc, 1))?;
     let added = adds_x(alloc, &mut node);
@@ -107,7 +107,7 @@ fn fills_up(alloc: Global) -> Option<(Option<bool>, Option<bool>, Option<Present
     Some((added, full, present))
 }
 
-/// A full store refuses what it would add.
+/// A full store refuses to add a pair.
 #[test]
 fn a_full_store_adds_nothing(rt: HostRuntime) {
     let present = (Some(true), Some(true));
@@ -115,7 +115,7 @@ fn a_full_store_adds_nothing(rt: HostRuntime) {
     assert!(rt; fills_up(rt.alloc()) == Some(full));
 }
 
-/// What a node answers to the retrieve of `abc` as call 2, at a floor of 1.
+/// What a node answers to the retrieve of `abc` as call 2, with floor 1.
 fn retrieved(alloc: Global, node: &mut Node<CappedStore>) -> Option<Answered> {
     let key = Bytes::from_slice(alloc, b"abc").ok()?;
     let call = ask(2, 1, Request::Retrieve { key });
@@ -124,7 +124,7 @@ fn retrieved(alloc: Global, node: &mut Node<CappedStore>) -> Option<Answered> {
     told
 }
 
-/// The set of x alone.
+/// The set with only x.
 fn only_x(alloc: Global) -> Option<Reply> {
     let value = Bytes::from_slice(alloc, b"x").ok()?;
     let mut values = Values::new(alloc);
@@ -132,7 +132,7 @@ fn only_x(alloc: Global) -> Option<Reply> {
     is_there.then_some(Reply::Values(values))
 }
 
-/// Whether that retrieve is told x alone.
+/// Whether that retrieve is answered with only x.
 fn tells_x(alloc: Global, node: &mut Node<CappedStore>) -> Option<bool> {
     let values = only_x(alloc)?;
     let told = is_told(retrieved(alloc, node), 2, &values);
@@ -140,7 +140,8 @@ fn tells_x(alloc: Global, node: &mut Node<CappedStore>) -> Option<bool> {
     told
 }
 
-/// Whether an insert is told Added, a retrieve the value, and the first call, which is seen then, nothing.
+/// Whether an insert is answered Added, a retrieve with the
+/// value, and the first call, then below the floor, dropped.
 fn tells_values(alloc: Global) -> Option<(Option<bool>, Option<bool>, Option<bool>)> {
     let mut node = found(alloc, CappedStore::new(alloc, 1))?;
     let first = adds_x(alloc, &mut node);
@@ -150,7 +151,7 @@ fn tells_values(alloc: Global) -> Option<(Option<bool>, Option<bool>, Option<boo
     Some((first, told, dropped))
 }
 
-/// A retrieve is told the values, and a call at or below its caller's floor is dropped.
+/// A retrieve is answered with the values; a call at or below its caller's floor is dropped.
 #[test]
 fn values_are_told_and_seen_calls_dropped(rt: HostRuntime) {
     let told = (Some(true), Some(true), Some(true));
@@ -182,7 +183,7 @@ fn neighbour(alloc: Global) -> Node<CappedStore> {
     node
 }
 
-/// Whether it is a call that goes on to node 0 with one hop less than there can be.
+/// Whether the answer sends the call on to node 0 with one hop less than the most.
 fn is_passed(answered: Option<Answered>) -> Option<bool> {
     let answered = answered?;
     let is_passed = matches!(&answered, Answered::Forward(0, passed) if passed.hops == 254);
@@ -190,7 +191,7 @@ fn is_passed(answered: Option<Answered>) -> Option<bool> {
     Some(is_passed)
 }
 
-/// Whether the insert of x under `abc` is dropped where its hops are spent.
+/// Whether the insert of x under `abc` is dropped if no hops are left.
 fn drops_spent(alloc: Global, node: &mut Node<CappedStore>) -> Option<bool> {
     let mut spent = ask(1, 0, Request::insert(alloc, b"abc", b"x").ok()?);
     spent.hops = 0;
@@ -199,7 +200,8 @@ fn drops_spent(alloc: Global, node: &mut Node<CappedStore>) -> Option<bool> {
     is_dropped(dropped)
 }
 
-/// The first of the list, whether a call goes on to it, and whether one with no hop is dropped.
+/// The first entry of the list, whether a call is sent on
+/// to it, and whether one with no hops left is dropped.
 fn passes_on(alloc: Global) -> (Peer, Option<bool>, Option<bool>) {
     let mut node = neighbour(alloc);
     let first = node.links().first();
@@ -209,13 +211,15 @@ fn passes_on(alloc: Global) -> (Peer, Option<bool>, Option<bool>) {
     (first, passed, dropped)
 }
 
-/// With another node in its list it passes a call on to it with one hop less, and drops it where its hops are spent.
+/// With another node in its list it passes a call on to that
+/// with one hop less, and drops it if no hops are left.
 #[test]
 fn a_call_is_passed_on(rt: HostRuntime) {
     assert!(rt; passes_on(rt.alloc()) == (OTHER, Some(true), Some(true)));
 }
 
-/// What the node answers to the insert of this value under `abc`, as this call of caller 0, which is handed over.
+/// What the node answers to an insert of this value under
+/// `abc`, as call `number` of caller 0, which it takes over.
 fn taken(alloc: Global, node: &mut Node<CappedStore>, number: u64, value: &[u8]) -> Option<Answered>
     requires some { 0 < number }
     requires near { number ≤ 16 }
@@ -225,13 +229,13 @@ fn taken(alloc: Global, node: &mut Node<CappedStore>, number: u64, value: &[u8])
     node.take_ask(id, call).ok()
 }
 
-/// Whether x, as call 1 that is handed over, is told Added.
+/// Whether call 1 with x, which the node takes over, is answered Added.
 fn takes_x(alloc: Global, node: &mut Node<CappedStore>) -> Option<bool> {
     is_told(taken(alloc, node, 1, b"x"), 1, &Reply::Added)
 }
 
-/// At a node with room for one pair: whether a call that is handed over is told Added, and when it comes again, and
-/// whether one that would add a second pair is refused.
+/// A node with room for one pair: whether a call that it takes over is answered Added, also when it
+/// comes again, and whether one that would add a second pair is refused.
 fn takes_calls(alloc: Global) -> Option<(Option<bool>, Option<bool>, Option<bool>)> {
     let mut node = found(alloc, CappedStore::new(alloc, 1))?;
     let first = takes_x(alloc, &mut node);
@@ -241,27 +245,29 @@ fn takes_calls(alloc: Global) -> Option<(Option<bool>, Option<bool>, Option<bool
     Some((first, again, full))
 }
 
-/// A call that is handed over is answered as any other.
+/// A call that a node takes over is answered as any other.
 #[test]
 fn a_call_is_taken(rt: HostRuntime) {
     let taken = (Some(true), Some(true), Some(true));
     assert!(rt; takes_calls(rt.alloc()) == Some(taken));
 }
 
-/// What the node answers to the insert of x under `abc` that is handed over. The node is let go then.
+/// What the node answers to an insert of x under `abc`
+/// that it takes over. The node is dropped then.
 fn taken_astray(alloc: Global, mut node: Node<CappedStore>) -> Option<Answered> {
     let answered = taken(alloc, &mut node, 1, b"x");
     drop(node);
     answered
 }
 
-/// Whether a call that is handed over goes on with one hop less, and is dropped where no other node is known.
+/// Whether a call that a node takes over is sent on with
+/// one hop less, and dropped if the node knows no other.
 fn takes_calls_astray(alloc: Global) -> (Option<bool>, Option<bool>) {
     let passed = is_passed(taken_astray(alloc, neighbour(alloc)));
     (passed, is_dropped(taken_astray(alloc, newborn(alloc, 1))))
 }
 
-/// A call that is handed over goes on where the node does not hold its key.
+/// A call that a node takes over is sent on if the node does not hold its key.
 #[test]
 fn a_taken_call_goes_on(rt: HostRuntime) {
     assert!(rt; takes_calls_astray(rt.alloc()) == (Some(true), Some(true)));

@@ -1,5 +1,5 @@
-//! A refused growth leaves the node as it was, and a second try succeeds. With ample memory nothing is refused; the tests
-//! are run with each growth refused in turn too.
+//! A refused growth leaves the node unchanged, and a second try succeeds. With ample memory nothing
+//! is refused; the tests are also run with each growth refused in turn.
 
 use super::{
     A, B, C, answered, ask, back, first_part, found, given, given_away, handed, newborn, span,
@@ -13,7 +13,7 @@ use chord_node::{Answered, Back, CutAtFault, GiveFault, Given, MergeFault, Node,
 use chord_store::CappedStore;
 use std::alloc::{AllocError, Global};
 
-/// Node 0, which holds the whole circle, made again where there was no memory.
+/// Node 0, which holds the whole circle, made again if memory was refused.
 fn founder(alloc: Global) -> Option<Node<CappedStore>> {
     match found(alloc, CappedStore::new(alloc, 1)) {
         Some(node) => Some(node),
@@ -21,7 +21,7 @@ fn founder(alloc: Global) -> Option<Node<CappedStore>> {
     }
 }
 
-/// Node 0 after it gave (A, C] to node 1, made again where there was no memory.
+/// Node 0 after it gave (A, C] to node 1, made again if memory was refused.
 fn giver(alloc: Global) -> Option<(Node<CappedStore>, Part)> {
     match given_away(alloc, 1) {
         Some(given) => Some(given),
@@ -29,7 +29,7 @@ fn giver(alloc: Global) -> Option<(Node<CappedStore>, Part)> {
     }
 }
 
-/// The insert of x under `abc`, made again where there was no memory.
+/// The insert of x under `abc`, made again if memory was refused.
 fn insert_x(alloc: Global) -> Result<Request, AllocError> {
     match Request::insert(alloc, b"abc", b"x") {
         Ok(request) => Ok(request),
@@ -37,7 +37,7 @@ fn insert_x(alloc: Global) -> Result<Request, AllocError> {
     }
 }
 
-/// What the node answers to the call, which comes again where there was no memory.
+/// What the node answers to the call, which comes again if memory was refused.
 fn told(node: &mut Node<CappedStore>, call: &Ask) -> Option<Answered> {
     match answered(node, call) {
         Some(answered) => Some(answered),
@@ -52,7 +52,7 @@ fn is_added(answered: Option<Answered>) -> Option<bool> {
     Some(is_added)
 }
 
-/// Whether the node tells Added to the call that puts x under `abc`.
+/// Whether the node answers Added to the insert of x under `abc`.
 fn adds_x(alloc: Global, node: &mut Node<CappedStore>) -> Option<bool> {
     let call = ask(1, 0, insert_x(alloc).ok()?);
     let told = told(node, &call);
@@ -60,7 +60,7 @@ fn adds_x(alloc: Global, node: &mut Node<CappedStore>) -> Option<bool> {
     is_added(told)
 }
 
-/// Whether a call is told Added.
+/// Whether the answer to a call is Added.
 fn executes(alloc: Global) -> Option<bool> {
     let mut node = founder(alloc)?;
     let is_added = adds_x(alloc, &mut node);
@@ -73,7 +73,7 @@ fn a_refused_call_is_not_executed(rt: HostRuntime) {
     assert!(rt; executes(rt.alloc()) == Some(true));
 }
 
-/// Cuts at B, again where there was no memory: the node holds the circle in one piece then.
+/// Cuts at B, again if memory was refused: the node must still hold the circle in one segment then.
 fn cut(node: &mut Node<CappedStore>) -> Result<(), CutAtFault> {
     match node.cut_at(0, Id::new(B)) {
         Err(CutAtFault::Memory) if node.span(0) == Some(span(A, A)) => node.cut_at(0, Id::new(B)),
@@ -81,7 +81,8 @@ fn cut(node: &mut Node<CappedStore>) -> Result<(), CutAtFault> {
     }
 }
 
-/// Merges what was cut at B, again where there was no memory: the node holds it in two pieces then.
+/// Merges the two segments of a cut at B, again if memory
+/// was refused: the node must still hold both then.
 fn merge(node: &mut Node<CappedStore>) -> Result<(), MergeFault> {
     let pieces = (Some(span(A, B)), Some(span(B, A)));
     match node.merge(0, 1) {
@@ -90,7 +91,7 @@ fn merge(node: &mut Node<CappedStore>) -> Result<(), MergeFault> {
     }
 }
 
-/// How a cut and a merge end.
+/// The results of a cut and a merge.
 fn cuts_and_merges(alloc: Global) -> Option<(Result<(), CutAtFault>, Result<(), MergeFault>)> {
     let mut node = founder(alloc)?;
     let cut = cut(&mut node);
@@ -104,12 +105,13 @@ fn a_refused_cut_and_a_refused_merge(rt: HostRuntime) {
     assert!(rt; cuts_and_merges(rt.alloc()) == Some((Ok(()), Ok(()))));
 }
 
-/// Whether the node holds the whole circle and keeps nothing that it gave.
+/// Whether the node holds the whole circle and its outbox is empty.
 fn holds_all(node: &Node<CappedStore>) -> bool {
     node.span(0) == Some(span(A, A)) && node.kept_count() == 0
 }
 
-/// Gives to node 1 what it holds, again where there was no memory: it holds the circle then.
+/// Gives the node's segment to node 1, again if memory
+/// was refused: the node must still hold the circle then.
 fn give(node: &mut Node<CappedStore>) -> Result<Part, GiveFault> {
     match node.give(0, 1) {
         Err(GiveFault::Memory) if holds_all(node) => node.give(0, 1),
@@ -117,7 +119,7 @@ fn give(node: &mut Node<CappedStore>) -> Result<Part, GiveFault> {
     }
 }
 
-/// The number of a part that was given.
+/// The handover's number in a part that was given.
 fn given_number(node: &mut Node<CappedStore>) -> Option<u64> {
     let part = give(node).ok()?;
     let number = part.number;
@@ -125,7 +127,7 @@ fn given_number(node: &mut Node<CappedStore>) -> Option<u64> {
     Some(number)
 }
 
-/// The number of a part that was given, and the item that is kept.
+/// The handover's number in a part that was given, and the item in the outbox.
 fn gives(alloc: Global) -> Option<(Option<u64>, Option<(u64, u64, Span)>)> {
     let mut node = founder(alloc)?;
     let number = given_number(&mut node);
@@ -139,7 +141,7 @@ fn a_refused_give_keeps_the_segment(rt: HostRuntime) {
     assert!(rt; gives(rt.alloc()) == Some((Some(1), Some((1, 1, span(A, A))))));
 }
 
-/// The part that was given to node 1, asked for again where there was no memory.
+/// The part that was given to node 1, sent again; tried again if memory was refused.
 fn resent(node: &Node<CappedStore>) -> Result<Part, ResendFault> {
     match node.resend_part(1, 1, 1) {
         Err(ResendFault::Memory) => node.resend_part(1, 1, 1),
@@ -147,7 +149,7 @@ fn resent(node: &Node<CappedStore>) -> Result<Part, ResendFault> {
     }
 }
 
-/// Whether the part goes again with the same pairs.
+/// Whether the part is sent again with the same pairs.
 fn goes_again(node: &Node<CappedStore>, first: &Part) -> Option<bool> {
     let again = resent(node).ok()?;
     let has_the_same = again.pairs == first.pairs;
@@ -155,7 +157,7 @@ fn goes_again(node: &Node<CappedStore>, first: &Part) -> Option<bool> {
     Some(has_the_same)
 }
 
-/// Whether a part that goes again has the same pairs.
+/// Whether a part that is sent again has the same pairs.
 fn resends(alloc: Global) -> Option<bool> {
     let (node, first) = giver(alloc)?;
     let has_the_same = goes_again(&node, &first);
@@ -169,7 +171,8 @@ fn a_refused_resend(rt: HostRuntime) {
     assert!(rt; resends(rt.alloc()) == Some(true));
 }
 
-/// What node 1 answers to a part, which comes again where there was no memory: it took and holds nothing then.
+/// What node 1 answers to a part, which comes again if memory
+/// was refused: it must hold and have taken nothing then.
 fn taken(node: &mut Node<CappedStore>, part: &Part) -> Option<Given> {
     match handed(node, part) {
         Ok(given) => given,
@@ -178,7 +181,7 @@ fn taken(node: &mut Node<CappedStore>, part: &Part) -> Option<Given> {
     }
 }
 
-/// What node 1 answers to a handover, and what it holds.
+/// What node 1 answers to a handover, and what it then holds.
 fn holds(alloc: Global) -> Option<(Option<Given>, Option<Span>)> {
     let (node, part) = giver(alloc)?;
     drop(node);
@@ -196,7 +199,7 @@ fn a_refused_handover_is_not_held(rt: HostRuntime) {
     assert!(rt; holds(rt.alloc()) == Some(got));
 }
 
-/// What node 1 answers to a part of two, and how many segments it holds.
+/// What node 1 answers to a part of two, and how many segments it then holds.
 fn notes(alloc: Global) -> (Option<Given>, usize) {
     let part = first_part(alloc, ticket(0, 1, 1), span(A, C), 2);
     let mut node = newborn(alloc, 1);
@@ -212,12 +215,13 @@ fn a_refused_part_is_not_noted(rt: HostRuntime) {
     assert!(rt; notes(rt.alloc()) == (Some(Given::Part), 0));
 }
 
-/// Whether the node keeps what it gave to node 1, and holds the rest.
+/// Whether the item for node 1 is in the node's outbox, and the node holds the rest.
 fn keeps(node: &Node<CappedStore>) -> bool {
     node.kept(0) == Some((1, 1, span(A, C))) && node.held_count() == 1
 }
 
-/// What comes of an item that node 1 declines, again where there was no memory: the node keeps it then.
+/// What the node answers to node 1's Declined, again if memory
+/// was refused: the outbox must still have the item then.
 fn returned(node: &mut Node<CappedStore>) -> Option<Back> {
     match taken_back(node, ticket(0, 1, 1)) {
         Ok(back) => back,
@@ -226,7 +230,7 @@ fn returned(node: &mut Node<CappedStore>) -> Option<Back> {
     }
 }
 
-/// What comes of it, and how many items are kept.
+/// What the node answers to the Declined, and how many items the outbox has.
 fn takes_back(alloc: Global) -> Option<(Option<Back>, usize)> {
     let (mut node, part) = giver(alloc)?;
     drop(part);

@@ -13,7 +13,7 @@ fn founder(alloc: Global) -> Option<Node<CappedStore>> {
     found(alloc, CappedStore::new(alloc, 1))
 }
 
-/// The same node after it gave (A, C], with x under `abc`, to node 1.
+/// Node 0 after it gave (A, C], with x under `abc`, to node 1.
 fn giver(alloc: Global) -> Option<Node<CappedStore>> {
     let (node, part) = given_away(alloc, 1)?;
     drop(part);
@@ -27,7 +27,7 @@ fn spans(node: &Node<CappedStore>) -> Spans {
     (node.span(0), node.span(1))
 }
 
-/// What a node holds after a cut at B, and after a merge of the two.
+/// What a node holds after a cut at B, and after a merge of the two parts.
 fn cut_and_merge(node: &mut Node<CappedStore>) -> Option<(Spans, Spans)> {
     node.cut_at(0, Id::new(B)).ok()?;
     let cut = spans(node);
@@ -35,7 +35,7 @@ fn cut_and_merge(node: &mut Node<CappedStore>) -> Option<(Spans, Spans)> {
     Some((cut, spans(node)))
 }
 
-/// What node 0 holds after both.
+/// What node 0 holds after the cut, and after the merge.
 fn cut_and_merged(alloc: Global) -> Option<(Spans, Spans)> {
     let mut node = founder(alloc)?;
     let spans = cut_and_merge(&mut node);
@@ -50,7 +50,8 @@ fn cuts_and_merges(rt: HostRuntime) {
     assert!(rt; cut_and_merged(rt.alloc()) == Some((cut, merged)));
 }
 
-/// How a cut of nothing and one at an end go, and how many segments are held then.
+/// The results of cutting at a missing index and at an end
+/// of the segment, and how many segments are held then.
 fn refused_cuts(alloc: Global) -> Option<(Result<(), CutAtFault>, Result<(), CutAtFault>, usize)> {
     let mut node = founder(alloc)?;
     let nothing = node.cut_at(1, Id::new(B));
@@ -73,7 +74,8 @@ fn cut_twice(node: &mut Node<CappedStore>, other: usize) -> Option<Result<(), Me
     Some(node.merge(0, other))
 }
 
-/// How the merge of the first segment with this one is refused, and how many are held then.
+/// Why the merge of the first segment with this one
+/// is refused, and how many segments are held then.
 fn refused_merge(alloc: Global, other: usize) -> Option<(Option<Result<(), MergeFault>>, usize)> {
     let mut node = founder(alloc)?;
     let merged = cut_twice(&mut node, other);
@@ -102,7 +104,7 @@ fn keep_twice(alloc: Global, node: &mut Node<CappedStore>) -> Option<Result<(), 
     Some(node.merge(0, 1))
 }
 
-/// How the merge of two segments with the same call is refused, and what the second one is then.
+/// Why the merge of two segments with the same call is refused, and what the second one then is.
 fn kept_twice(alloc: Global) -> Option<(Option<Result<(), MergeFault>>, Option<Span>)> {
     let mut node = found(alloc, CappedStore::new(alloc, 2))?;
     let merged = keep_twice(alloc, &mut node);
@@ -111,14 +113,14 @@ fn kept_twice(alloc: Global) -> Option<(Option<Result<(), MergeFault>>, Option<S
     Some((merged, second))
 }
 
-/// The same call under two keys, each in a segment of its own.
+/// The same call under two keys, each kept in its own segment.
 #[test]
 fn no_call_is_kept_twice(rt: HostRuntime) {
     let twice = (Some(Err(MergeFault::Twice)), Some(span(C, A)));
     assert!(rt; kept_twice(rt.alloc()) == Some(twice));
 }
 
-/// How the giving of a segment that is not held is refused.
+/// Why the giving of a segment that is not held is refused.
 fn gives_nothing(alloc: Global) -> Option<(Result<(), GiveFault>, Option<GiveFault>)> {
     let mut node = founder(alloc)?;
     let faults = (node.may_give(1, 1), node.give(1, 1).err());
@@ -132,21 +134,22 @@ fn gives_no_segment_that_it_does_not_hold(rt: HostRuntime) {
     assert!(rt; gives_nothing(rt.alloc()) == Some((Err(fault), Some(fault))));
 }
 
-/// Whether a node may give all to node 1, and whether it holds identifier 0.
+/// Whether a node may give its whole circle to node 1, and whether it holds identifier 0.
 type Before = (Result<(), GiveFault>, bool);
 
 fn may_give(node: &Node<CappedStore>) -> Before {
     (node.may_give(0, 1), node.holds(Id::new(0)))
 }
 
-/// From whom a part goes to whom, the number of its handover, and which part it is of how many.
+/// The sender, the receiver and the handover's number of
+/// a part; its own number; and how many parts there are.
 type Names = (u64, u64, u64, u64, u64);
 
 fn names(part: &Part) -> Names {
     (part.from, part.to, part.number, part.place, part.of)
 }
 
-/// The names of the part that is given.
+/// The names of the part that the node gives.
 fn given_names(node: &mut Node<CappedStore>) -> Option<Names> {
     let part = node.give(0, 1).ok()?;
     let names = names(&part);
@@ -154,7 +157,8 @@ fn given_names(node: &mut Node<CappedStore>) -> Option<Names> {
     Some(names)
 }
 
-/// What node 0 says before it gives all, the names of the part, and whether it holds identifier 0 then.
+/// Whether node 0 may give its whole circle, the names
+/// of the part, and whether it holds identifier 0 then.
 fn gives(alloc: Global) -> Option<(Before, Option<Names>, bool)> {
     let mut node = founder(alloc)?;
     let before = may_give(&node);
@@ -170,7 +174,7 @@ fn gives_what_it_holds(rt: HostRuntime) {
     assert!(rt; gives(rt.alloc()) == Some((before, names, false)));
 }
 
-/// The first item that is kept of what was given, and a second one.
+/// The first item in the outbox, and the second.
 fn kept(alloc: Global) -> Option<(Option<(u64, u64, Span)>, Option<(u64, u64, Span)>)> {
     let node = giver(alloc)?;
     let kept = (node.kept(0), node.kept(1));
@@ -184,7 +188,7 @@ fn what_is_given_is_kept(rt: HostRuntime) {
     assert!(rt; kept(rt.alloc()) == Some((Some(item), None)));
 }
 
-/// Whether the parts have the same segment and the same pairs, of which there is one.
+/// Whether the parts have equal segments, how many pairs there are, and whether those are equal.
 fn have_the_same(part: &Part, other: &Part) -> Option<(bool, usize, bool)> {
     let (first, second) = part.segment.as_ref().zip(other.segment.as_ref())?;
     let segment = first.equals(second);
@@ -192,7 +196,7 @@ fn have_the_same(part: &Part, other: &Part) -> Option<(bool, usize, bool)> {
     Some((segment, part.pairs.len(), pairs))
 }
 
-/// What the part that goes again is named, and what it has of the first.
+/// The names of the part sent again, and what it has in common with the first.
 type Again = (Names, Option<(bool, usize, bool)>);
 
 fn sent_again(node: &Node<CappedStore>, first: &Part) -> Option<Again> {
@@ -216,7 +220,7 @@ fn a_part_goes_again(rt: HostRuntime) {
     assert!(rt; resent(rt.alloc()) == Some(((0, 1, 1, 1, 1), same)));
 }
 
-/// How a part that was not given is refused.
+/// Why sending again a part that was not given is refused.
 fn unsent(alloc: Global, to: u64, number: u64, part: u64) -> Option<ResendFault> {
     let node = giver(alloc)?;
     let fault = node.resend_part(to, number, part).err();
@@ -232,15 +236,16 @@ fn no_other_part_goes_again(rt: HostRuntime) {
     }
 }
 
-/// How many segments a node holds, and how many items it keeps of what it gave.
+/// How many segments a node holds, and how many items its outbox has.
 fn counts(node: &Node<CappedStore>) -> (usize, usize) {
     (node.held_count(), node.kept_count())
 }
 
-/// What comes of an item that was not given and is declined, and the counts before.
+/// The counts, and what the node answers to a Declined for an item that was not given.
 type Unknown = ((usize, usize), Option<Back>);
 
-/// The same, what comes of the item that was given then, where it stands, and how many items are kept.
+/// These, what the node answers to a Declined for the item it
+/// gave, the span at index 1, and how many items are left.
 fn held_again(alloc: Global) -> Option<(Unknown, Option<Back>, Option<Span>, usize)> {
     let mut node = giver(alloc)?;
     let before = counts(&node);
@@ -258,13 +263,14 @@ fn what_is_declined_is_held_again(rt: HostRuntime) {
     assert!(rt; held_again(rt.alloc()) == Some(held));
 }
 
-/// What comes of an item that is declined once x came under `b`.
+/// What the node answers to a Declined after x was added under `b`.
 fn back_after_b(alloc: Global, node: &mut Node<CappedStore>) -> Option<Back> {
     put(alloc, node, 2, b"b")?;
     back(node, ticket(0, 1, 1))
 }
 
-/// What comes of an item that is declined to a full store, and what is kept and held then.
+/// What the node answers to a Declined if its store is full, and then the first item of its outbox
+/// and how many segments it holds.
 fn back_to_a_full_store(alloc: Global) -> Option<(Option<Back>, Option<(u64, u64, Span)>, usize)> {
     let mut node = giver(alloc)?;
     let full = back_after_b(alloc, &mut node);
@@ -273,14 +279,15 @@ fn back_to_a_full_store(alloc: Global) -> Option<(Option<Back>, Option<(u64, u64
     Some((full, kept, held))
 }
 
-/// What is declined comes to a full store: the item stays.
+/// If the store is full, a declined item stays in the outbox.
 #[test]
 fn a_full_store_takes_nothing_back(rt: HostRuntime) {
     let full = (Some(Back::Full), Some((1, 1, span(A, C))), 1);
     assert!(rt; back_to_a_full_store(rt.alloc()) == Some(full));
 }
 
-/// What a node answers to a handover of a part of what it gave, what comes of the item that is declined, and what is kept.
+/// What a node answers to a handover of a part of what it gave,
+/// what it answers to the Declined, and its outbox's item.
 fn back_to_another(
     alloc: Global,
 ) -> Option<(Option<Given>, Option<Back>, Option<(u64, u64, Span)>)> {
@@ -292,7 +299,7 @@ fn back_to_another(
     Some((got, clash, kept))
 }
 
-/// A handover made by hand meets what was given away.
+/// A handover made by hand overlaps what was given away.
 #[test]
 fn what_is_held_again_meets_nothing(rt: HostRuntime) {
     let (got, clash) = (Some(Given::Got), Some(Back::Clash));
@@ -300,10 +307,10 @@ fn what_is_held_again_meets_nothing(rt: HostRuntime) {
     assert!(rt; back_to_another(rt.alloc()) == Some((got, clash, kept)));
 }
 
-/// How the insert into a store ends.
+/// The result of an insert into a store.
 type Put = Result<Inserted, StoreFault>;
 
-/// How many pairs a store has, and how the insert of a pair and of another one end.
+/// How many pairs a store has, and the results of two inserts.
 fn stores(mut store: CappedStore, key: Bytes) -> (u64, Put, Put) {
     let count = store.count();
     let first = store.insert(&key, b"x");
@@ -313,7 +320,8 @@ fn stores(mut store: CappedStore, key: Bytes) -> (u64, Put, Put) {
     (count, first, second)
 }
 
-/// The same of the store that a newborn node with room for one pair gives back.
+/// How many pairs the store has that a newborn node with room
+/// for one pair gives back, and the results of two inserts.
 fn given_back(alloc: Global) -> Option<(u64, Put, Put)> {
     let key = Bytes::from_slice(alloc, b"a").ok()?;
     let node = newborn(alloc, 1);

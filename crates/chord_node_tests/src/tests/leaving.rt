@@ -6,7 +6,7 @@ use chord_store::{CappedStore, NotedStore};
 use std::alloc::{AllocError, Global};
 use std::sync::{Arc, OnceLock};
 
-/// How a node that stays retires, how it begins to leave, twice, and its phase then.
+/// Whether a staying node can retire, whether it begins to leave, twice, and then its phase.
 fn leaves(
     alloc: Global,
 ) -> Option<
@@ -33,7 +33,7 @@ fn leaves_once(rt: HostRuntime) {
     assert!(rt; leaves(rt.alloc()) == Some(once));
 }
 
-/// How a node begins to leave, and how it retires while it holds the circle.
+/// Whether a node begins to leave, and whether it can retire while it holds the circle.
 fn retires_early(alloc: Global) -> Option<(Result<(), NotStaying>, Result<(), RetireFault>)> {
     let mut node = found(alloc, CappedStore::new(alloc, 1))?;
     let leaving = node.begin_leave();
@@ -55,7 +55,7 @@ fn says_that_it_does_not_stay(rt: HostRuntime) -> Result<(), AllocError> {
     Ok(())
 }
 
-/// Puts x under `abc`, begins to leave and gives all to node 1.
+/// Puts x under `abc`, begins to leave and gives the whole circle to node 1.
 fn leave(alloc: Global, node: &mut Node<NotedStore>) -> Option<()> {
     put(alloc, node, 1, b"abc")?;
     node.begin_leave().ok()?;
@@ -63,14 +63,16 @@ fn leave(alloc: Global, node: &mut Node<NotedStore>) -> Option<()> {
     Some(())
 }
 
-/// Node 0 with a store that notes here, after x came under `abc`, all was given to node 1, and it began to leave.
+/// Node 0 after it gave the whole circle, with x under `abc`,
+/// to node 1 and began to leave. Its store reports to `note`.
 fn left(alloc: Global, note: &Arc<OnceLock<u64>>) -> Option<Node<NotedStore>> {
     let mut node = found(alloc, NotedStore::new(alloc, note.clone().ok()?))?;
     let is_left = leave(alloc, &mut node).is_some();
     is_left.then_some(node)
 }
 
-/// How a node retires before node 1 has what it gave, and whether that leaves the outbox, once and twice.
+/// Whether a node can retire before node 1 took its segment,
+/// and whether a Got finds the item, once and twice.
 type Handover = (Result<(), RetireFault>, Option<bool>, Option<bool>);
 
 fn hands_over(node: &mut Node<NotedStore>) -> Handover {
@@ -79,7 +81,7 @@ fn hands_over(node: &mut Node<NotedStore>) -> Handover {
     (early, got, freed(node, ticket(0, 1, 1)))
 }
 
-/// How a node retires, and what its store noted of its pairs before and after.
+/// Whether a node retires, and its store's count of pairs in the cell before and after.
 type Retirement = (Option<u64>, Result<(), RetireFault>, Option<u64>);
 
 fn retires(alloc: Global) -> Option<(Handover, Retirement)> {
@@ -92,7 +94,7 @@ fn retires(alloc: Global) -> Option<(Handover, Retirement)> {
     Some((handover, (before, retired, note.get().copied())))
 }
 
-/// A node retires once what it gave was taken, and drops its store, which is empty.
+/// A node retires once its handover was taken, and drops its empty store.
 #[test]
 fn a_store_is_dropped_at_retirement(rt: HostRuntime) {
     let handover = (Err(RetireFault::NotEmpty), Some(true), Some(false));
@@ -100,14 +102,14 @@ fn a_store_is_dropped_at_retirement(rt: HostRuntime) {
     assert!(rt; retires(rt.alloc()) == Some((handover, retirement)));
 }
 
-/// Takes a handover of node 0 and gives it on to node 2, which has it then: whether that leaves the outbox.
+/// Takes a handover of node 0 and gives it to node 2; whether the Got then finds the item.
 fn give_on(alloc: Global, node: &mut Node<CappedStore>) -> Option<bool> {
     given_empty(alloc, node, ticket(0, 1, 1), span(A, B))?;
     drop(node.give(0, 2).ok()?);
     freed(node, ticket(1, 2, 1))
 }
 
-/// The phase of a node that begins to leave and retires.
+/// The phase of a node after it begins to leave and retires.
 fn phase_when_left(node: &mut Node<CappedStore>) -> Option<Phase> {
     node.begin_leave().ok()?;
     node.retire().ok()?;
@@ -117,7 +119,8 @@ fn phase_when_left(node: &mut Node<CappedStore>) -> Option<Phase> {
 /// What a node answers to three handovers.
 type Answers = (Option<Given>, Option<Given>, Option<Given>);
 
-/// Whether node 1 gave on what it took, its phase when it left, and what it answers to three handovers then.
+/// Whether node 1 gave on its segment, its phase after
+/// it left, and then what it answers to three handovers.
 fn answers(alloc: Global) -> (Option<bool>, Option<Phase>, Answers) {
     let mut node = newborn(alloc, 1);
     let given = give_on(alloc, &mut node);
@@ -129,7 +132,7 @@ fn answers(alloc: Global) -> (Option<bool>, Option<Phase>, Answers) {
     (given, phase, (taken, next, later))
 }
 
-/// A gone node has what it took, and declines the rest.
+/// A gone node answers Got to what it took, and Declined to the rest.
 #[test]
 fn a_gone_node_answers_parts(rt: HostRuntime) {
     let declined = Some(Given::Declined);

@@ -1,4 +1,4 @@
-//! Parts that come.
+//! Arriving parts.
 
 ghost use Rattle.std.specs.Prelude.{◌<◌, ◌≤◌};
 
@@ -24,20 +24,20 @@ fn one_pair(alloc: Global) -> Option<Part> {
     part
 }
 
-/// What a node answers to two parts, each where there is memory for it.
+/// What a node answers to two parts, with memory for each.
 type Answers = (Option<Given>, Option<Given>);
 
-/// What a node answers to two parts, what it took, and what it holds then.
+/// What a node answers to two parts, what it took, and then the span that it holds.
 type Taking = (Answers, (u64, usize), Option<Span>);
 
-/// The same of a part that comes twice.
+/// What a node answers to a part that comes twice, what it took, and then the span that it holds.
 fn take_twice(node: &mut Node<CappedStore>, part: &Part) -> Taking {
     let first = given(node, part);
     let again = given(node, part);
     ((first, again), taken(node), node.span(0))
 }
 
-/// The same of node 1, with room for so many pairs, and a part with one pair.
+/// `take_twice` of node 1, with room for `limit` pairs, and a part with one pair.
 fn twice(alloc: Global, limit: u64) -> Option<Taking> {
     let part = one_pair(alloc)?;
     let mut node = newborn(alloc, limit);
@@ -61,7 +61,8 @@ fn a_full_store_takes_no_handover(rt: HostRuntime) {
     assert!(rt; twice(rt.alloc(), 0) == Some((full, (0, 0), None)));
 }
 
-/// What a node answers to a second handover, to the first, and to the second again, and which was the last.
+/// What a node answers to a second handover, to the first,
+/// and to the second again, and the last number taken.
 fn in_order(alloc: Global) -> (Option<Given>, Answers, u64) {
     let mut node = newborn(alloc, 1);
     let early = given_empty(alloc, &mut node, ticket(0, 1, 2), span(B, C));
@@ -78,7 +79,8 @@ fn handovers_come_in_order(rt: HostRuntime) {
     assert!(rt; in_order(rt.alloc()) == (Some(Given::Early), got, 2));
 }
 
-/// What node 0 answers to a handover of what it holds, which it took last, and how many segments it holds then.
+/// What node 0 answers to a handover that it already holds,
+/// the last number taken, and how many segments it holds.
 fn meets(alloc: Global) -> Option<(Option<Given>, u64, usize)> {
     let mut node = found(alloc, CappedStore::new(alloc, 1))?;
     let given = given_empty(alloc, &mut node, ticket(1, 0, 1), span(A, B));
@@ -92,7 +94,7 @@ fn a_handover_meets_nothing_held(rt: HostRuntime) {
     assert!(rt; meets(rt.alloc()) == Some((Some(Given::Clash), 0, 1)));
 }
 
-/// A later part of so many, which has no pairs.
+/// A later one of `of` parts, with no pairs.
 fn later_part(alloc: Global, ticket: Ticket, part: u64, of: u64) -> Part
     requires later { 1 < part }
     requires within { part ≤ of }
@@ -113,15 +115,15 @@ fn given_first(alloc: Global, node: &mut Node<CappedStore>) -> Option<Given> {
     given_once(node, first_part(alloc, ticket(0, 1, 1), span(A, B), 2))
 }
 
-/// What a node answers to the second part of so many.
+/// What a node answers to the second of `of` parts.
 fn given_second(alloc: Global, node: &mut Node<CappedStore>, of: u64) -> Option<Given>
     requires { 2 ≤ of }
 {
     given_once(node, later_part(alloc, ticket(0, 1, 1), 2, of))
 }
 
-/// What node 1 answers to the first part of two and to three others, the last of which is alone, and what it took and
-/// holds then.
+/// What node 1 answers to the first part of two and to three others, the last of them with nothing
+/// buffered; and what it took and holds then.
 fn unfit(alloc: Global) -> (Answers, Answers, (u64, usize)) {
     let mut node = newborn(alloc, 1);
     let first = given_first(alloc, &mut node);
@@ -133,7 +135,7 @@ fn unfit(alloc: Global) -> (Answers, Answers, (u64, usize)) {
     ((first, other_count), (no_pairs, alone), taken)
 }
 
-/// Parts that make no handover together are not taken, and what was noted stays.
+/// Parts that make no handover together are not taken, and the buffered parts stay.
 #[test]
 fn parts_that_do_not_fit(rt: HostRuntime) {
     let clash = Some(Given::Clash);

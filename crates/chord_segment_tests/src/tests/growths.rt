@@ -1,5 +1,5 @@
-//! A refused growth leaves all as it was, and a second try succeeds. With ample memory nothing is refused; the tests are
-//! run with each growth refused in turn too.
+//! A refused growth leaves everything unchanged, and a second try succeeds. With ample memory
+//! nothing is refused; the tests are also run with each growth refused in turn.
 
 use super::{A, B, added, equals, keep, keeps, kept, one, span};
 use chord_ident::Id;
@@ -22,7 +22,8 @@ fn copied(segment: &Segment) -> Result<Segment, AllocError> {
     }
 }
 
-/// Readies a caller in a copy, at the second try where the first was refused. Answers whether that stays the same.
+/// Whether reserving room for a caller leaves a copy
+/// equal. It is tried again if memory was refused.
 fn stays_the_same(before: &Segment) -> Option<bool> {
     let mut segment = copied(before).ok()?;
     let is_ready = segment.reserve(7).is_ok();
@@ -50,13 +51,13 @@ fn first_call(alloc: Global) -> Result<Done, AllocError> {
     }
 }
 
-/// Whether what came back is that call, is not kept yet, and is kept at the second try.
+/// Whether the call given back is that one, is not kept yet, and is kept at the second try.
 fn keeps_what_came_back(segment: &mut Segment, back: Done) -> bool {
     let is_new = (back.caller, back.number) == (0, 1) && !keeps(segment, 0, 1);
     keep(segment, back, 0) && is_new
 }
 
-/// Keeps the call, at the second try where the first was refused and handed it back. Answers whether it is kept then.
+/// Whether the call is kept, at the second try if the first was refused and gave it back.
 fn keeps_in_the_end(segment: &mut Segment, done: Done) -> bool {
     let is_kept = match kept(segment, done, 0) {
         Ok(is_kept) => is_kept,
@@ -78,7 +79,7 @@ fn a_refused_append_hands_the_call_back(rt: HostRuntime) -> Result<(), Fail> {
 /// A segment cut at B.
 type Parts = (Segment, Segment);
 
-/// Cuts again at B what a refused cut handed back as it was before.
+/// Cuts at B again, if a refused cut gave the segment back unchanged.
 fn cut_again(uncut: Uncut, before: &Segment) -> Option<Parts> {
     if (uncut.fault != CutFault::Memory) | !uncut.segment.equals(before) {
         drop(uncut);
@@ -87,7 +88,7 @@ fn cut_again(uncut: Uncut, before: &Segment) -> Option<Parts> {
     uncut.segment.cut(Id::new(B)).ok()
 }
 
-/// Cuts a copy at B, at the second try where the first was refused for memory and handed the copy back.
+/// Cuts a copy at B, at the second try if memory was refused and the copy given back.
 fn cut(segment: &Segment) -> Option<Parts> {
     match copied(segment).ok()?.cut(Id::new(B)) {
         Ok(parts) => Some(parts),
@@ -95,12 +96,12 @@ fn cut(segment: &Segment) -> Option<Parts> {
     }
 }
 
-/// Copies of both.
+/// Copies of both parts.
 fn copies(parts: &Parts) -> Option<Parts> {
     copied(&parts.0).ok().zip(copied(&parts.1).ok())
 }
 
-/// Joins again what a refused join handed back as it was before.
+/// Joins again, if a refused join gave both parts back unchanged.
 fn join_again(unjoined: Unjoined, parts: &Parts) -> Option<Segment> {
     let are_same = unjoined.first.equals(&parts.0) & unjoined.second.equals(&parts.1);
     if (unjoined.fault != JoinFault::Memory) | !are_same {
@@ -110,7 +111,7 @@ fn join_again(unjoined: Unjoined, parts: &Parts) -> Option<Segment> {
     unjoined.first.join(unjoined.second).ok()
 }
 
-/// Joins copies, at the second try where the first was refused for memory and handed both back.
+/// Joins copies, at the second try if memory was refused and both were given back.
 fn joined(parts: &Parts) -> Option<Segment> {
     let (first, second) = copies(parts)?;
     match first.join(second) {
@@ -119,7 +120,7 @@ fn joined(parts: &Parts) -> Option<Segment> {
     }
 }
 
-/// Whether it equals what it is cut into and joined again.
+/// Whether the segment equals its two parts joined again.
 fn is_the_same_when_joined(segment: &Segment) -> Option<bool> {
     let parts = cut(segment)?;
     let whole = joined(&parts);

@@ -1,4 +1,4 @@
-//! Three askers: one over a plain map, one that is full at first, and one that is out of memory once.
+//! Three askers: one over a plain map, one that is full at first, one that runs out of memory once.
 ghost use Rattle.std.specs.Prelude.{◌≡◌, ◌++◌, ◌∷◌, [], true};
 ghost use Rattle.chord_serve.specs.Question.{IsHeard};
 
@@ -7,7 +7,7 @@ use chord_serve::{Asked, Asker};
 use chord_wire::is_writable;
 use std::alloc::{AllocError, Global};
 
-/// Answers from one plain map, and notes what it was asked.
+/// Answers from one plain map, and lists the requests asked.
 #[derive(Drop)]
 pub struct MapAsker {
     map: PlainMap,
@@ -22,7 +22,7 @@ impl MapAsker {
         }
     }
 
-    /// Whether the request is done.
+    /// Whether the request is executed.
     fn does(&mut self, request: &Request) -> bool {
         if request.check().is_err() {
             return false;
@@ -33,7 +33,7 @@ impl MapAsker {
         is_done
     }
 
-    /// With this request done.
+    /// The asker after it executed this request.
     pub fn having(mut self, request: Result<Request, AllocError>) -> Option<MapAsker> {
         let is_done = request.as_ref().is_ok_and(|request| self.does(request));
         drop(request);
@@ -92,7 +92,7 @@ impl Asker for MapAsker {
     ghost kind = { λ a b question answer heard. heard.kind };
 }
 
-/// Is full for each new request, and adds its value when it is asked again.
+/// Answers Full to each new request, and adds its value when it is asked again.
 #[derive(Drop)]
 pub struct FullAtFirst {
     pub requests: Vec<Request>,
@@ -143,7 +143,7 @@ impl Asker for FullAtFirst {
     ghost kind = { λ a b question answer heard. heard.kind };
 }
 
-/// Adds each value, and is out of memory for the request with this number.
+/// Adds each value, but runs out of memory at the request with this number.
 #[derive(Drop)]
 pub struct OutOfMemoryAt {
     pub requests: Vec<Request>,

@@ -1,4 +1,4 @@
-//! A reader and writer that takes some bytes at a call and fails after some calls.
+//! A reader and writer that moves at most `step` bytes in a call and fails after `calls` calls.
 use std::io::{self, Read, Write};
 
 #[derive(Drop)]

@@ -1,4 +1,5 @@
-//! Each growth refused in turn: what was written is whole frames, and a call made again is answered.
+//! Each growth is refused in turn: only whole frames
+//! are written, and a call tried again is answered.
 // With ample memory nothing is refused.
 
 use super::askers::MapAsker;
@@ -9,7 +10,7 @@ use chord_serve::{CallFault, Client, SendFault, Served, serve};
 use chord_wire::Answers;
 use std::alloc::{AllocError, Global};
 
-/// A writer with room, so that it is not the one that is refused.
+/// A writer with room reserved, so that its own growth is not the one refused.
 fn roomy(alloc: Global) -> Result<Vec<u8>, AllocError> {
     match Vec::with_capacity(alloc, 64) {
         Ok(room) => Ok(room),
@@ -24,7 +25,7 @@ fn request(alloc: Global) -> Result<Request, AllocError> {
     }
 }
 
-/// The three frames and their answers, made again where there was no memory.
+/// The three frames and their answers, made again if memory was refused.
 fn three_frames(alloc: Global) -> Result<Frames, AllocError> {
     match three(alloc) {
         Ok(frames) => Ok(frames),
@@ -56,7 +57,8 @@ fn a_session_writes_whole_frames(rt: HostRuntime) {
     );
 }
 
-/// Whether a call with ample turns is answered Added, and why it has no answer. The answer is there.
+/// Whether a call with ample reads is answered Added, or
+/// why it has no answer. The answer is ready to be read.
 fn answered(
     alloc: Global,
     version: u8,
@@ -70,7 +72,8 @@ fn answered(
     (is_added(answer), fault)
 }
 
-/// The same made again where it wants memory and wrote its whole frame or nothing.
+/// `answered`, with a second try if memory was refused
+/// and the call wrote its whole frame or nothing.
 fn answered_again(
     alloc: Global,
     (version, frame): (u8, &[u8]),
@@ -88,7 +91,7 @@ fn answered_again(
     told
 }
 
-/// Whether a call, made again where it wants memory, is answered and writes exactly this frame.
+/// Whether a call, tried again if memory was refused, is answered and writes exactly this frame.
 fn is_answered(alloc: Global, version: u8, frame: &[u8]) -> Option<bool> {
     let mut written = roomy(alloc).ok()?;
     let request = request(alloc).ok()?;
@@ -105,7 +108,7 @@ fn a_call_made_again_is_answered(rt: HostRuntime) {
     assert!(rt; (first, second) == (Some(true), Some(true)));
 }
 
-/// Sends a request, or wants memory for it.
+/// Sends a request; Memory if there is no memory to make it.
 fn sent(alloc: Global, client: &mut Client, written: &mut Vec<u8>) -> Result<u64, SendFault> {
     match insert(alloc) {
         Ok(request) => send(client, written, request),
@@ -113,7 +116,8 @@ fn sent(alloc: Global, client: &mut Client, written: &mut Vec<u8>) -> Result<u64
     }
 }
 
-/// What a send is answered, made again where it wants memory and wrote nothing, and whether the request is written.
+/// The answer to a send, tried again if memory was refused and
+/// nothing was written; and whether the request is written.
 fn sent_again(alloc: Global) -> Option<(Result<u64, SendFault>, bool)> {
     let mut written = roomy(alloc).ok()?;
     let mut client = Client::new(alloc, 2, 16)?;
@@ -125,7 +129,7 @@ fn sent_again(alloc: Global) -> Option<(Result<u64, SendFault>, bool)> {
     Some((number, written.as_slice() == INSERT_2.as_slice()))
 }
 
-/// A client whose send wanted memory wrote nothing, and sends under the same number then.
+/// If memory is refused to a send it writes nothing, and a second try sends under the same number.
 #[test]
 fn a_send_made_again_has_the_same_number(rt: HostRuntime) {
     assert!(rt; sent_again(rt.alloc()) == Some((Ok(1), true)));

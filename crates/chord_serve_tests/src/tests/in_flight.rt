@@ -9,7 +9,7 @@ use chord_wire::{Answer, FaultCode};
 use std::alloc::{AllocError, Global};
 use std::io::Write;
 
-// The same in version 2, number 17, floor 16.
+// Insert x under a in version 2, number 17, floor 16.
 const INSERT_17: [u8; 27] = [
     0, 0, 0, 0x17, 2, 1, 0, 0, 0, 0, 0, 0, 0, 17, 0, 0, 0, 0, 0, 0, 0, 16, 1, 0x61, 0, 1, 0x78,
 ];
@@ -52,7 +52,7 @@ impl Flight {
         self.client.again(&mut self.written, number)
     }
 
-    /// How many answers it awaits, its floor, and whether it is full.
+    /// How many answers the client waits for, its floor, and whether it is full.
     fn standing(&self) -> (usize, u64, bool) {
         let client = &self.client;
         (client.in_flight(), client.floor(), client.is_full())
@@ -85,7 +85,7 @@ pub fn send<W: Write>(
     client.send(writer, request)
 }
 
-/// A client of version 2 that sent so many inserts, with the numbers from 1.
+/// A client of version 2 that sent `count` inserts, with the numbers from 1.
 fn after_inserts(alloc: Global, window: u64, count: u64) -> Option<Flight> {
     let mut flight = Flight::new(alloc, 2, window)?;
     for number in 1..=count {
@@ -125,7 +125,7 @@ fn is_fault(received: Received, wanted: u64, fault: FaultCode) -> bool {
     is_one
 }
 
-/// The same over a plain map.
+/// What a server over a plain map writes for these bytes.
 fn mapped(alloc: Global, input: &[u8]) -> (Served, Vec<u8>) {
     let mut asker = MapAsker::new(alloc);
     let told = served(alloc, input, &mut asker);
@@ -133,7 +133,7 @@ fn mapped(alloc: Global, input: &[u8]) -> (Served, Vec<u8>) {
     told
 }
 
-/// The frames over a store that is full at first.
+/// What a server over a store that is full at first writes for these bytes.
 fn full_at_first(alloc: Global, input: &[u8]) -> Vec<u8> {
     let mut asker = FullAtFirst::new(alloc);
     let (_, written) = served(alloc, input, &mut asker);
@@ -166,7 +166,8 @@ fn which_windows(rt: HostRuntime) {
     }
 }
 
-/// How a client stands that sent sixteen inserts, how many bytes it wrote, and whether the first is written first.
+/// How many answers a client with sixteen inserts waits for (and its floor, and whether it is
+/// full), how many bytes it wrote, and whether the first insert is written first.
 fn sixteen_sent(alloc: Global) -> Option<((usize, u64, bool), usize, bool)> {
     let flight = after_inserts(alloc, 16, 16)?;
     let is_first = flight.written.starts_with(&INSERT_2);
@@ -181,7 +182,7 @@ fn sixteen_in_flight(rt: HostRuntime) {
     assert!(rt; sixteen_sent(rt.alloc()) == Some(wanted));
 }
 
-/// What the seventeenth insert is answered, and how many bytes were written then.
+/// The answer to the seventeenth insert, and how many bytes were written then.
 fn seventeenth(alloc: Global) -> Option<(Result<u64, SendFault>, usize)> {
     let mut flight = after_inserts(alloc, 16, 16)?;
     let refused = flight.send(insert(alloc));
@@ -196,7 +197,7 @@ fn a_full_window_sends_nothing(rt: HostRuntime) {
     assert!(rt; seventeenth(rt.alloc()) == Some(refused));
 }
 
-/// Whether replies to sixteen requests come in turn, each of which raises the floor to its number.
+/// Whether the replies to sixteen requests come in order, and each raises the floor to its number.
 fn is_raised(client: &mut Client, mut answers: &[u8]) -> bool {
     for number in 1..=16u64 {
         let is_told = is_reply(client.receive(&mut answers, 10), number);
@@ -207,7 +208,8 @@ fn is_raised(client: &mut Client, mut answers: &[u8]) -> bool {
     true
 }
 
-/// The same of a session over sixteen inserts, how it ends, and whether the next insert is written.
+/// How a session over sixteen inserts ends, whether its replies raise the floor in turn, and
+/// whether the next insert is sent and written.
 fn sixteen_answered(alloc: Global) -> Option<(Served, bool, Result<u64, SendFault>, bool)> {
     let mut flight = after_inserts(alloc, 16, 16)?;
     let (ended, answers) = mapped(alloc, &flight.written);
@@ -226,7 +228,7 @@ fn sixteen_answers_raise_the_floor(rt: HostRuntime) {
     assert!(rt; sixteen_answered(rt.alloc()) == Some(wanted));
 }
 
-/// A client whose two requests a full store refused.
+/// A client with two requests that a full store refused.
 fn refused_twice(alloc: Global) -> Option<Flight> {
     let mut flight = after_inserts(alloc, 2, 2)?;
     let faults = full_at_first(alloc, &flight.written);
@@ -241,7 +243,7 @@ fn refused_twice(alloc: Global) -> Option<Flight> {
     Some(flight)
 }
 
-/// A client that sent both again, the second one first.
+/// A client that sent both refused requests again, the second one first.
 fn sent_again(alloc: Global) -> Option<Flight> {
     let mut flight = refused_twice(alloc)?;
     let is_sent = flight.again(2).is_ok() && flight.again(1).is_ok();
@@ -252,7 +254,7 @@ fn sent_again(alloc: Global) -> Option<Flight> {
     Some(flight)
 }
 
-/// How a client stands whose two requests were refused.
+/// The state of a client with two refused requests.
 fn standing_refused(alloc: Global) -> Option<(usize, u64, bool)> {
     let flight = refused_twice(alloc)?;
     let standing = flight.standing();
@@ -265,7 +267,7 @@ fn a_full_store_keeps_the_window(rt: HostRuntime) {
     assert!(rt; standing_refused(rt.alloc()) == Some((0, 0, true)));
 }
 
-/// What a client is answered that sends a request again which was not refused.
+/// What a client is answered if it sends again a request that was not refused.
 fn unrefused_again(alloc: Global) -> Option<Result<(), AgainFault>> {
     let mut flight = after_inserts(alloc, 2, 2)?;
     let again = flight.again(1);
@@ -273,7 +275,7 @@ fn unrefused_again(alloc: Global) -> Option<Result<(), AgainFault>> {
     Some(again)
 }
 
-/// What one is answered whose two requests were refused, and that sends these numbers again in turn.
+/// What a client with two refused requests is answered if it sends these numbers again in turn.
 fn refused_again(alloc: Global, numbers: [u64; 4]) -> Option<[Result<(), AgainFault>; 4]> {
     let mut flight = refused_twice(alloc)?;
     let [first, second, third, fourth] = numbers;
@@ -293,7 +295,7 @@ fn only_what_was_refused_is_sent_again(rt: HostRuntime) {
     assert!(rt; refused_again(rt.alloc(), [3, 2, 2, 1]) == Some(wanted));
 }
 
-/// Whether these are two frames, which come again, the second one first.
+/// Whether these are two frames and then both again, the second one first.
 fn come_again(frames: &[u8]) -> bool {
     let is_second = frames.get(54..81) == frames.get(27..54);
     let is_first = frames.get(81..) == frames.get(..27);
@@ -308,19 +310,20 @@ fn is_written_again(alloc: Global) -> Option<bool> {
     Some(is_written)
 }
 
-/// What a full store refused is sent again as it was, in any order.
+/// Requests that a full store refused are sent again unchanged, in any order.
 #[test]
 fn a_full_store_is_asked_again(rt: HostRuntime) {
     assert!(rt; is_written_again(rt.alloc()) == Some(true));
 }
 
-/// Whether the reply to this number comes, and the floor then.
+/// Whether the reply to this number comes, and the floor after it.
 fn floor_after(client: &mut Client, reader: &mut &[u8], number: u64) -> (bool, u64) {
     let is_told = is_reply(client.receive(reader, 10), number);
     (is_told, client.floor())
 }
 
-/// The same of what is sent again: of number 2, and then of number 1.
+/// Whether the replies to the requests sent again come,
+/// and the floor after each: number 2, and then number 1.
 fn answered_again(alloc: Global) -> Option<((bool, u64), (bool, u64))> {
     let mut flight = sent_again(alloc)?;
     let answers = full_at_first(alloc, &flight.written);
@@ -332,14 +335,15 @@ fn answered_again(alloc: Global) -> Option<((bool, u64), (bool, u64))> {
     Some((second, first))
 }
 
-/// What was sent again is answered, and the floor waits for the least number.
+/// Requests sent again are answered, and the floor waits for the least number.
 #[test]
 fn what_is_sent_again_is_answered(rt: HostRuntime) {
     let wanted = ((true, 0), (true, 2));
     assert!(rt; answered_again(rt.alloc()) == Some(wanted));
 }
 
-/// The number of a client's one request, whether it is written, and whether the client is full then.
+/// The number of a client's one request, whether it
+/// is written, and whether the client is then full.
 fn one_sent(alloc: Global) -> Option<(Result<u64, SendFault>, bool, bool)> {
     let mut flight = Flight::new(alloc, 1, 1)?;
     let sent = flight.send(insert(alloc));
@@ -366,7 +370,8 @@ fn unanswered(alloc: Global) -> Option<Flight> {
     None
 }
 
-/// What its next request is answered, and its first one again, and whether the first one is written twice.
+/// What its next request is answered, what sending the first
+/// one again is answered, and whether that is written twice.
 fn held_back(alloc: Global) -> Option<(Result<u64, SendFault>, Result<(), AgainFault>, bool)> {
     let mut flight = unanswered(alloc)?;
     let sent = flight.send(retrieve(alloc));
@@ -383,7 +388,8 @@ fn an_unanswered_request_holds_back_the_next(rt: HostRuntime) {
     assert!(rt; held_back(rt.alloc()) == Some(wanted));
 }
 
-/// What its first request is answered again, whether the reply comes, and whether it is full then.
+/// What sending its request again is answered, whether
+/// the reply comes, and whether it is full then.
 fn answered_then(alloc: Global) -> Option<(Result<(), AgainFault>, bool, bool)> {
     let mut flight = unanswered(alloc)?;
     let again = flight.again(1);
@@ -399,8 +405,8 @@ fn an_unanswered_request_is_answered_then(rt: HostRuntime) {
     assert!(rt; answered_then(rt.alloc()) == Some(wanted));
 }
 
-/// Why a client receives nothing of this input before and after it sent a request, the number of that request, and how
-/// many answers it awaits.
+/// Why a client receives no answer from this input before it sends a request, and after it; the
+/// number of that request; and how many answers it waits for.
 fn nothing_of(
     alloc: Global,
     mut input: &[u8],
@@ -414,7 +420,7 @@ fn nothing_of(
     Some(([idle, fault], sent, awaited))
 }
 
-/// Each way in which no answer comes, and that the request is still awaited.
+/// Each way in which no answer comes; the request still waits for its answer.
 #[test]
 fn answers_that_are_none(rt: HostRuntime) {
     let mut other = ADDED;
@@ -437,7 +443,8 @@ fn answers_that_are_none(rt: HostRuntime) {
     }
 }
 
-/// Why a client receives no reply, or that it does, from a reader that gives a byte a call and then fails.
+/// Why a client receives no reply, or `None` if it does,
+/// from a reader that gives one byte a call and then fails.
 fn read_slowly(alloc: Global, calls: u64, turns: u64) -> Option<Option<ReceiveFault>> {
     let mut flight = after_inserts(alloc, 4, 1)?;
     let mut reader = Limited::new(ADDED.as_slice(), (1, calls));
@@ -446,7 +453,7 @@ fn read_slowly(alloc: Global, calls: u64, turns: u64) -> Option<Option<ReceiveFa
     Some(why)
 }
 
-/// A reader that gives a byte a call is read so often, and one that fails ends it.
+/// A reader that gives one byte a call is read up to the limit; one that fails ends the wait.
 #[test]
 fn slow_and_failing_readers(rt: HostRuntime) {
     for (calls, turns, wanted) in [
@@ -458,7 +465,7 @@ fn slow_and_failing_readers(rt: HostRuntime) {
     }
 }
 
-/// A client whose writer failed behind 7 bytes of its request, and the writer.
+/// A client whose writer failed after 7 bytes of its request, and the writer.
 fn half_written(alloc: Global) -> Option<(Client, Limited<Vec<u8>>)> {
     let mut client = Client::new(alloc, 2, 16)?;
     let mut writer = Limited::new(Vec::new(alloc), (7, 1));
@@ -473,7 +480,7 @@ fn half_written(alloc: Global) -> Option<(Client, Limited<Vec<u8>>)> {
     Some((client, writer))
 }
 
-/// Whether 7 bytes of the request are written, and how many answers are awaited.
+/// Whether 7 bytes of the request are written, and how many answers the client waits for.
 fn awaited_half_written(alloc: Global) -> Option<(bool, usize)> {
     let (client, writer) = half_written(alloc)?;
     let begins = writer.inner.as_slice() == &INSERT_2[..7];
@@ -483,13 +490,14 @@ fn awaited_half_written(alloc: Global) -> Option<(bool, usize)> {
     Some((begins, awaited))
 }
 
-/// A request whose frame was not wholly written counts as sent.
+/// A request whose frame was written only in part counts as sent.
 #[test]
 fn a_writer_that_fails(rt: HostRuntime) {
     assert!(rt; awaited_half_written(rt.alloc()) == Some((true, 1)));
 }
 
-/// Whether the fault of a full store comes, what sending again is answered, and how many answers are awaited.
+/// Whether the Full of a store comes, what sending again
+/// is answered, and how many answers the client waits for.
 fn again_half_written(alloc: Global) -> Option<(bool, Result<(), AgainFault>, usize)> {
     let (mut client, mut writer) = half_written(alloc)?;
     let received = client.receive(&mut fault(1, 10).as_slice(), 1);
@@ -520,7 +528,7 @@ fn three_sent(alloc: Global) -> Option<Flight> {
     None
 }
 
-/// Whether number 2 is answered the one value x.
+/// Whether the answer to number 2 is the one value x.
 fn is_x(received: Received) -> bool {
     let is_x = match &received {
         Ok(

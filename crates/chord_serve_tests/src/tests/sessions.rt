@@ -11,7 +11,7 @@ pub const INSERT: [u8; 19] = [
     0, 0, 0, 0x0f, 1, 1, 0, 0, 0, 0, 0, 0, 0, 1, 1, 0x61, 0, 1, 0x78,
 ];
 
-// The same in version 2, with floor 0.
+// Insert x under a, number 1, in version 2 with floor 0.
 pub const INSERT_2: [u8; 27] = [
     0, 0, 0, 0x17, 2, 1, 0, 0, 0, 0, 0, 0, 0, 1, 0, 0, 0, 0, 0, 0, 0, 0, 1, 0x61, 0, 1, 0x78,
 ];
@@ -45,7 +45,7 @@ pub fn joined(alloc: Global, parts: &[&[u8]]) -> Result<Vec<u8>, AllocError> {
     Ok(whole)
 }
 
-/// What a session reads, and what it is to write.
+/// The input of a session, and its expected output.
 #[derive(Drop)]
 pub struct Frames {
     pub input: Vec<u8>,
@@ -73,7 +73,7 @@ pub fn three(alloc: Global) -> Result<Frames, AllocError> {
     )
 }
 
-/// How many bytes were written, where they are the first of this output.
+/// How many bytes were written, if they are a prefix of this output.
 pub fn begun(output: &[u8], written: &[u8]) -> Option<usize> {
     if output.starts_with(written) {
         Some(written.len())
@@ -82,7 +82,7 @@ pub fn begun(output: &[u8], written: &[u8]) -> Option<usize> {
     }
 }
 
-/// How a session over these frames ends, and whether it writes exactly these.
+/// How a session over these frames ends, and whether it writes exactly the expected frames.
 fn session<A: Asker>(
     alloc: Global,
     asker: &mut A,
@@ -96,7 +96,7 @@ fn session<A: Asker>(
     Some((told.end, is_output))
 }
 
-/// The same over a plain map, and how many requests it was asked.
+/// `session` over a plain map, and how many requests that was asked.
 fn mapped(alloc: Global, input: &[&[u8]], output: &[&[u8]]) -> (Option<(Served, bool)>, usize) {
     let mut asker = MapAsker::new(alloc);
     let told = session(alloc, &mut asker, input, output);
@@ -105,7 +105,8 @@ fn mapped(alloc: Global, input: &[&[u8]], output: &[&[u8]]) -> (Option<(Served, 
     (told, asked)
 }
 
-/// The same over a store that is full at first, and how often it was asked again.
+/// `session` over a store that is full at first, how many
+/// requests that was asked, and how often it was asked again.
 fn full(alloc: Global, input: &[&[u8]], output: &[&[u8]]) -> (Option<(Served, bool)>, usize, u64) {
     let mut asker = FullAtFirst::new(alloc);
     let told = session(alloc, &mut asker, input, output);
@@ -149,7 +150,7 @@ fn refused_numbers_and_floors(rt: HostRuntime) {
     third[21] = 2;
     let mut added = ADDED;
     added[13] = 2;
-    // 1 and 2 stay unanswered, so floor 1 is refused until 1 was answered.
+    // Requests 1 and 2 have no reply, so floor 1 is refused until 1 has one.
     let told = full(
         rt.alloc(),
         &[
@@ -181,7 +182,7 @@ fn short_sessions(rt: HostRuntime) {
     }
 }
 
-/// The same of the frame with another byte at a place.
+/// `mapped` for the frame with `byte` at the index `place`.
 fn changed(
     alloc: Global,
     frame: &[u8],
@@ -193,7 +194,7 @@ fn changed(
     mapped(alloc, &[head, &[byte], tail], &[output])
 }
 
-/// A frame with another byte at a place ends the session with its fault.
+/// A frame with one byte changed ends the session with its fault.
 #[test]
 fn faulty_sessions(rt: HostRuntime) {
     for (frame, change, code, (number, told)) in [
@@ -229,8 +230,8 @@ pub type Limits = (usize, u64);
 /// Limits of a device that no test reaches.
 pub const FREE: Limits = (usize::MAX, 100);
 
-/// How a session ended, how many bytes it wrote, the same where they begin its output, and how many reads and
-/// writes it made.
+/// How a session ended, how many bytes it wrote (`begun`: if they are a prefix of the expected
+/// output), and how many reads and writes it made.
 #[derive(Clone, Copy)]
 pub struct Told {
     pub end: Served,
@@ -241,7 +242,8 @@ pub struct Told {
 }
 
 impl Told {
-    /// How it ended, how many bytes it wrote, where they are the first of its output, and in how many writes.
+    /// How it ended, how many bytes it wrote if they are a
+    /// prefix of the expected output, and in how many writes.
     pub fn written(self) -> (Served, Option<usize>, u64) {
         (self.end, self.begun, self.writes)
     }
@@ -285,7 +287,8 @@ pub fn three_frames(
     Some(told)
 }
 
-/// How a session over the first bytes of the three frames ends, and how many bytes of their answers it writes.
+/// How a session over the first `cut` bytes of the three
+/// frames ends, and how much of their answers it writes.
 fn cut_at(alloc: Global, cut: usize) -> Option<(Served, Option<usize>)> {
     let told = three_frames(alloc, cut, (FREE, FREE), 10)?;
     Some((told.end, told.begun))
@@ -308,7 +311,8 @@ fn three_frames_cut_anywhere(rt: HostRuntime) {
     }
 }
 
-/// How a session over the three frames ends, how many bytes of their answers it writes, and how often it reads.
+/// How a session over the three frames ends, how many
+/// bytes of the answers it writes, and how often it reads.
 fn read_in_pieces(
     alloc: Global,
     reads: Limits,
@@ -346,7 +350,7 @@ fn written_in_pieces(alloc: Global, writes: Limits) -> Option<(Served, Option<us
 
 #[test]
 fn a_writer_fails_at_each_call(rt: HostRuntime) {
-    // Each call takes 7 bytes of the 51, which are due at once.
+    // Each call takes 7 of the 51 bytes, which are written together.
     for (calls, end, written) in [
         (0, Served::Write, 0),
         (1, Served::Write, 7),
@@ -431,7 +435,7 @@ fn is_called(alloc: Global, answers: &mut Answers, version: u8, frame: &[u8]) ->
     Some(is_added(answer) & is_frame)
 }
 
-/// The same of two calls with one stream of answers, in version 1 and then in version 2.
+/// Whether two calls with one stream of answers are answered, in version 1 and then in version 2.
 fn both_are_called(alloc: Global) -> (Option<bool>, Option<bool>) {
     let mut answers = Answers::new(alloc);
     let first = is_called(alloc, &mut answers, 1, &INSERT);
@@ -445,7 +449,8 @@ fn one_call_over_memory(rt: HostRuntime) {
     assert!(rt; both_are_called(rt.alloc()) == (Some(true), Some(true)));
 }
 
-/// Why a call gives no answer, and how many reads it made. Each read and each write takes 7 bytes at most.
+/// Why a call gives no answer, and how many reads it
+/// made. Each read and each write moves at most 7 bytes.
 fn fault_of(
     alloc: Global,
     version: u8,

@@ -1,4 +1,4 @@
-//! The frames of one turn are written together.
+//! The frames for one read are written together.
 
 use super::askers::{MapAsker, OutOfMemoryAt};
 use super::sessions::{
@@ -9,8 +9,8 @@ use chord_serve::Served;
 use chord_wire::FaultCode;
 use std::alloc::{AllocError, Global};
 
-/// How a session over the three frames ends, how many bytes of their answers it writes, and in how many writes, where a
-/// read has so many bytes at most and the writes after so many fail.
+/// How a session over the three frames ends, how many bytes of their answers it writes, and in how
+/// many writes. A read gives at most `step` bytes; the writer fails after `writes` writes.
 fn in_turns(alloc: Global, step: usize, writes: u64) -> Option<(Served, Option<usize>, u64)> {
     let calls = ((step, 100), (usize::MAX, writes));
     let told = three_frames(alloc, 54, calls, 100)?;
@@ -19,7 +19,7 @@ fn in_turns(alloc: Global, step: usize, writes: u64) -> Option<(Served, Option<u
 
 #[test]
 fn one_write_a_turn(rt: HostRuntime) {
-    // Three frames in one read; two reads that have a frame or two; one byte a read.
+    // Three frames in one read; two reads of one or two frames; one byte a read.
     for (step, writes) in [(4096, 1), (54, 1), (35, 2), (19, 3), (1, 3)] {
         let told = in_turns(rt.alloc(), step, 100);
         let wanted = (Served::Ended, Some(51), writes);
@@ -38,7 +38,7 @@ fn half_a_frame_writes_nothing(rt: HostRuntime) {
 
 #[test]
 fn each_write_of_a_turn_fails(rt: HostRuntime) {
-    // A read has one frame, then one, then one.
+    // Each of three reads has one frame.
     for (writes, end, answered) in [
         (0, Served::Write, 0),
         (1, Served::Write, 15),
@@ -50,7 +50,8 @@ fn each_write_of_a_turn_fails(rt: HostRuntime) {
     }
 }
 
-/// The same of two equal inserts, a frame of no operation and an insert.
+/// How a session over two equal inserts, a frame with no operation and an insert ends, how many
+/// bytes it writes, and in how many writes.
 fn with_a_bad_frame(alloc: Global, writes: u64) -> Option<(Served, Option<usize>, u64)> {
     let mut bad = RETRIEVE;
     bad[5] = 4;
@@ -85,7 +86,8 @@ fn three_inserts(alloc: Global) -> Result<Frames, AllocError> {
     Frames::new(alloc, &[&INSERT, &second, &third], &[&ADDED, &added])
 }
 
-/// The same of the three inserts, where memory ends at the one with this number, and how many the asker was asked.
+/// How a session over the three inserts ends, what it writes, and in how many writes, if memory
+/// runs out at the insert with this number; and how many requests the asker was asked.
 fn out_of_memory_at(
     alloc: Global,
     number: usize,
@@ -123,7 +125,7 @@ fn insert_long(alloc: Global, first: u8) -> Result<Request, AllocError> {
     Request::insert(alloc, b"a", &value)
 }
 
-/// A map with so many such values.
+/// A map with `count` such values.
 fn map_of(alloc: Global, count: u8) -> Option<MapAsker> {
     let mut asker = MapAsker::new(alloc);
     for first in 0..count {
@@ -140,8 +142,8 @@ fn retrieves(alloc: Global) -> Result<Vec<u8>, AllocError> {
     joined(alloc, &[&first, &RETRIEVE, &third])
 }
 
-/// How a session over the three retrieves of so many values ends, how many bytes it writes and in how many writes, and
-/// how many requests it asks.
+/// How a session over the three retrieves of `count` values ends, how many bytes it writes and in
+/// how many writes, and how many requests it asks.
 fn retrieved(alloc: Global, count: u8, writes: u64) -> Option<((Served, usize, u64), usize)> {
     let input = retrieves(alloc).ok()?;
     let mut asker = map_of(alloc, count)?;
@@ -154,7 +156,7 @@ fn retrieved(alloc: Global, count: u8, writes: u64) -> Option<((Served, usize, u
 
 #[test]
 fn more_than_64_kib_are_written_at_once(rt: HostRuntime) {
-    // A reply of 15 values has 61,488 bytes, and one of 16 values 65,586.
+    // The frame of 15 values has 61,488 bytes, that of 16 values 65,586.
     for (count, reply, writes) in [(1, 4116, 1), (15, 61_488, 2), (16, 65_586, 3)] {
         let told = retrieved(rt.alloc(), count, 100);
         let wanted = ((Served::Ended, 3 * reply, writes), 3);

@@ -1,5 +1,5 @@
-//! Each growth refused in turn: a call that wants memory says so, and the store has what it had.
-// With ample memory nothing is refused. A call that was refused is made again, with room for it.
+//! Each growth is refused in turn: the call answers Memory, and the store stays unchanged.
+// With ample memory nothing is refused. A refused call is tried again, with memory for it.
 ghost use Rattle.std.specs.Prelude.{◌≡◌, []};
 
 use super::{noted, put_list};
@@ -10,13 +10,14 @@ use std::alloc::{AllocError, Global};
 use std::process::Abort;
 use std::test::Fail;
 
-// The n-th pair is a value of n alone under a key of n / 3 alone, so pairs are in the order of their numbers.
+// Pair n has a value of the byte n under a key of
+// the byte n / 3, so the pairs are sorted by number.
 const COUNT: u8 = 36;
 
-// So many bytes take memory.
+// A length that needs memory.
 const LONG: usize = 17;
 
-// The pairs with even numbers below the one and with odd numbers below the other.
+// The pairs with even numbers below `even` and with odd numbers below `odd`.
 #[derive(Clone, Copy)]
 struct There {
     even: u8,
@@ -28,7 +29,7 @@ const ALL: There = There {
     odd: COUNT,
 };
 
-// Copies of all pairs, asked for again where there was no memory.
+// Copies of all pairs, tried again if memory was refused.
 fn all_pairs<S: EntryStore>(alloc: Global, store: &S) -> Result<Vec<Pair>, AllocError> {
     let id = Id::new(7);
     let circle = Span::new(id, id);
@@ -38,7 +39,7 @@ fn all_pairs<S: EntryStore>(alloc: Global, store: &S) -> Result<Vec<Pair>, Alloc
     }
 }
 
-// The key or value of this byte alone, asked for again where there was no memory.
+// The key or value of this byte repeated, tried again if memory was refused.
 fn long(alloc: Global, n: u8) -> Result<Bytes, AllocError> {
     match Bytes::from_slice(alloc, &[n; LONG]) {
         Ok(bytes) => Ok(bytes),
@@ -54,7 +55,7 @@ fn is_pair(pair: &Pair, n: u8) -> bool {
     is_byte(pair.key.as_slice(), n / 3) && is_byte(pair.value.as_slice(), n)
 }
 
-// Whether these pairs are there and no others.
+// Whether these are exactly the pairs expected.
 fn are_these(pairs: &[Pair], there: There) -> bool {
     let mut rest = pairs.iter();
     for n in 0..COUNT {
@@ -66,7 +67,7 @@ fn are_these(pairs: &[Pair], there: There) -> bool {
     rest.next().is_none()
 }
 
-// Whether the store has these pairs and no others.
+// Whether the store has exactly the pairs expected.
 fn has_these<S: EntryStore>(alloc: Global, store: &S, there: There) -> bool {
     let Ok(pairs) = all_pairs(alloc, store) else {
         return false;
@@ -76,7 +77,8 @@ fn has_these<S: EntryStore>(alloc: Global, store: &S, there: There) -> bool {
     are_these
 }
 
-// Whether the pair is put in: where there was no memory, the store has to have what it had, and it is put in then.
+// Whether the pair is added. If memory was refused, the
+// store must be unchanged, and a second try adds it.
 fn is_put<S: EntryStore>(alloc: Global, store: &mut S, key: &Bytes, n: u8, there: There) -> bool {
     match store.insert(key, &[n; LONG]) {
         Ok(_) => true,
@@ -87,7 +89,7 @@ fn is_put<S: EntryStore>(alloc: Global, store: &mut S, key: &Bytes, n: u8, there
     }
 }
 
-// Puts in a pair.
+// Adds a pair.
 fn put<S: EntryStore>(
     rt: &impl Abort,
     alloc: Global,
@@ -102,7 +104,7 @@ fn put<S: EntryStore>(
     Ok(())
 }
 
-// Puts in the pairs with even numbers, and then those with odd ones.
+// Adds the pairs with even numbers, and then those with odd ones.
 fn put_all_in_turn<S: EntryStore>(
     rt: &impl Abort,
     alloc: Global,
@@ -120,7 +122,7 @@ fn put_all_in_turn<S: EntryStore>(
     Ok(())
 }
 
-// The values under the fifth key, asked for again where there was no memory.
+// The values under the fifth key, tried again if memory was refused.
 fn values<S: EntryStore>(alloc: Global, store: &S) -> Result<Values, AllocError> {
     let key = long(alloc, 5)?;
     let values = match store.values(alloc, &key) {
@@ -131,7 +133,7 @@ fn values<S: EntryStore>(alloc: Global, store: &S) -> Result<Values, AllocError>
     values
 }
 
-// Whether the three values of the fifth key are there, and no others.
+// Whether the fifth key has its three values and no others.
 fn has_values<S: EntryStore>(alloc: Global, store: &S) -> bool {
     let Ok(values) = values(alloc, store) else {
         return false;
@@ -148,7 +150,7 @@ fn has_values<S: EntryStore>(alloc: Global, store: &S) -> bool {
     are_there
 }
 
-// A list of all pairs, each put in again where there was no memory.
+// A list of all pairs, each tried again if memory was refused.
 fn pair_list(alloc: Global) -> Result<PairList, AllocError> {
     let mut list = PairList::new(alloc);
     for n in 0..COUNT {
@@ -159,7 +161,8 @@ fn pair_list(alloc: Global) -> Result<PairList, AllocError> {
     Ok(list)
 }
 
-// Puts in all pairs or none, and once more where there was no memory. Answers whether a refused call left the store empty.
+// Puts in all pairs or none, again if memory was refused.
+// Answers whether a refused call left the store empty.
 fn put_all_or_none<S: EntryStore>(alloc: Global, store: &mut S, list: &PairList) -> bool
     requires { S.content store.old ≡ [] }
 {
@@ -174,7 +177,7 @@ fn put_all_or_none<S: EntryStore>(alloc: Global, store: &mut S, list: &PairList)
     }
 }
 
-// Whether all pairs of a list come into the store at once.
+// Whether all pairs of a list are put into the store at once.
 fn takes_list<S: EntryStore>(alloc: Global, store: &mut S) -> bool
     requires { S.content store.old ≡ [] }
 {
@@ -186,7 +189,7 @@ fn takes_list<S: EntryStore>(alloc: Global, store: &mut S) -> bool
     is_put
 }
 
-// What any store does where a growth is refused.
+// What any store does if a growth is refused.
 fn refuses_growths<S: EntryStore>(rt: &impl Abort, alloc: Global, store: S)
     requires { S.content store ≡ [] }
 {

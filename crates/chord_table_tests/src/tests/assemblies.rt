@@ -1,4 +1,4 @@
-//! One look for all.
+//! One look over the seats of all actors.
 ghost use Rattle.std.specs.Prelude.{◌≡◌, [], ◌∷◌};
 ghost use Rattle.chord_table.specs.Seen.{OfNode, OfCaller};
 ghost use Rattle.chord_table.specs.Shown.{WholeShown};
@@ -10,7 +10,7 @@ use std::alloc::Global;
 use std::marker::Brand;
 use std::test::Fail;
 
-/// A node and a caller, with no others admitted, are a world that some steps lead to.
+/// Proves that a node and a caller, the only ones admitted, are a reachable world.
 fn are_a_world<J: Naming>(
     table: &Shared<J>,
     registrar: Registrar<J>,
@@ -29,7 +29,7 @@ fn are_a_world<J: Naming>(
     all
 }
 
-/// The same of two that enter for it.
+/// Admits a node and a caller, and proves that they are a reachable world.
 fn two_are_a_world<J: Naming>(alloc: Global, blank: BlankTable) -> Result<(), Fail>
     requires name { blank ≡ J.name }
     requires slots { blank.slots ≡ 1 }

@@ -1,4 +1,4 @@
-//! A seat beside a core that keeps less than it shows.
+//! A seat with a core that holds less than the seat shows.
 ghost use Rattle.std.specs.Prelude.{◌≡◌, IfOk, OnOk};
 ghost use Rattle.chord_caller.specs.Client.{IsCoreOf};
 
@@ -12,7 +12,7 @@ use std::alloc::Global;
 use std::marker::Brand;
 use std::test::Fail;
 
-/// The client submits the request, and its call goes out.
+/// The client submits the request, and the seat sends its call.
 fn submits<J: Naming>(
     table: &Shared<J>,
     core: &mut ClientCore,
@@ -26,7 +26,7 @@ fn submits<J: Naming>(
     Ok(seat.submit(table, ask))
 }
 
-/// The first call goes out again.
+/// The seat sends the first call again.
 fn sends_again<J: Naming>(
     table: &Shared<J>,
     core: &ClientCore,
@@ -39,7 +39,7 @@ fn sends_again<J: Naming>(
     Ok(seat.resend(table, ask))
 }
 
-/// The client takes the reply that comes.
+/// The client takes the reply in an envelope.
 fn hears<J: Naming>(
     table: &Shared<J>,
     core: &mut ClientCore,
@@ -56,7 +56,7 @@ fn hears<J: Naming>(
     Ok(core.take(told))
 }
 
-/// Whether the call that goes out again is the first one.
+/// Checks that the call sent again is the first one.
 fn goes_out_again<J: Naming>(
     table: &Shared<J>,
     core: &ClientCore,
@@ -71,7 +71,8 @@ fn goes_out_again<J: Naming>(
     Ok(is_first)
 }
 
-/// Whether a client's call goes out twice, and the reply to it is handed out.
+/// A client's call is sent twice and answered once. Checks that both are the first call, and that
+/// the reply is handed out.
 fn hears_once<J: Naming>(
     alloc: Global,
     table: &Shared<J>,
@@ -100,7 +101,7 @@ fn hears_once<J: Naming>(
     Ok(is_first && is_again && is_fresh && core.floor() == 1)
 }
 
-/// The same at a node and with a client that enter for it.
+/// Admits a node and a client for that check, and gives its result.
 fn hands_out<J: Naming>(alloc: Global, blank: BlankTable) -> Result<bool, Fail>
     requires name { blank ≡ J.name }
     requires slots { blank.slots ≡ 2 }

@@ -10,7 +10,7 @@ use std::alloc::Global;
 use std::marker::Brand;
 use std::test::Fail;
 
-/// What two callers took stands in one history of one world, each call once.
+/// Proves that what two callers took is in one history of one world, each call once.
 fn share_a_world<J: Naming>(
     table: &Shared<J>,
     first: &mut CallerSeat<J>,
@@ -26,7 +26,8 @@ fn share_a_world<J: Naming>(
     all
 }
 
-/// A node answers the first of two callers, and then both stand in one world.
+/// A node answers the first of two callers, and then one look proves something of both. Gives what
+/// `hears` gives.
 fn two_share_a_world<J: Naming>(
     alloc: Global,
     blank: BlankTable,

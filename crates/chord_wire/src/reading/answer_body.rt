@@ -78,7 +78,7 @@ fn values_answer(alloc: Global, number: u64, bytes: &[u8]) -> Result<Answer, Wir
     if count as usize > SET_VALUES {
         return Err(fault);
     }
-    // All faults come before any value is copied.
+    // Every other fault comes before any value is copied.
     let behind = past_values(number, count, rest)?;
     if !behind.is_empty() {
         return Err(WireFault {

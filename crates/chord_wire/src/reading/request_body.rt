@@ -1,4 +1,4 @@
-//! The body of a request, which lends its key and value.
+//! The body of a request; its key and value are borrowed.
 ghost use Rattle.std.specs.Prelude.{◌≡◌};
 ghost use Rattle.std.specs.Int.{w64};
 ghost use Rattle.chord_wire.specs.Fault.{fault};
@@ -10,7 +10,7 @@ use crate::fault::{FaultCode, WireFault};
 use crate::reading::fields::{key_at, u64_at, value_at};
 use crate::request::RequestView;
 
-/// A whole body before its key and value are copied.
+/// A whole body, with key and value not copied yet.
 #[derive(Clone, Copy)]
 pub struct BodyView<'a> {
     pub version: u8,
@@ -19,7 +19,7 @@ pub struct BodyView<'a> {
     pub request: RequestView<'a>,
 }
 
-// The floor field, which only version 2 has.
+// The floor field, or in version 1, which has none, the floor from the number.
 #[tactic(auto, unfolding(crate::specs::Reading::floor_at))]
 fn floor_at(version: u8, number: u64, bytes: &[u8]) -> Result<(u64, &[u8]), WireFault>
     ensures { Reads (λ x. (x.0, x.1.now)) result (floor_at version number bytes.now) }
@@ -82,7 +82,7 @@ fn fields_at(version: u8, operation: u8, bytes: &[u8]) -> Result<BodyView<'_>, W
     })
 }
 
-/// What a whole body asks, or its first fault.
+/// The request of a whole body, or its first fault.
 #[tactic(auto, unfolding(crate::specs::Reading::request_in))]
 pub fn request_in(body: &[u8]) -> Result<BodyView<'_>, WireFault>
     ensures { Reads wire_request result (request_in body.now) }

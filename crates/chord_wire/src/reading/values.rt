@@ -1,4 +1,4 @@
-//! Values that rise strictly.
+//! Strictly rising values.
 ghost use Rattle.std.specs.Prelude.{◌≡◌, None};
 ghost use Rattle.std.specs.Option.{option_copied};
 ghost use Rattle.chord_wire.specs.ReadingReplies.{is_above};
@@ -18,7 +18,7 @@ pub fn is_above(before: Option<&[u8]>, value: &[u8]) -> bool
     }
 }
 
-/// What stands behind the values.
+/// The bytes after the values.
 pub fn past_values(number: u64, count: u32, bytes: &[u8]) -> Result<&[u8], WireFault>
     ensures { ReadsPast (λ rest. rest.now) result (rising_at number None count bytes.now) }
 {

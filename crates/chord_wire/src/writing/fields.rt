@@ -1,4 +1,4 @@
-//! The fields of bodies, each put behind what is there.
+//! The fields of bodies, each added at the end of a buffer.
 ghost use Rattle.std.specs.Prelude.{◌≡◌, ◌≤◌, ◌++◌, ◌∷◌, OnOk, length};
 ghost use Rattle.std.specs.Int.{w32, w64, to_be_bytes};
 ghost use Rattle.chord_map.specs.Checked.{IsRequest, IsKey, IsValue};
@@ -52,7 +52,7 @@ pub fn operation(request: &Request) -> u8
     }
 }
 
-/// How many bytes key and value take, with their lengths.
+/// The length of the key and value fields.
 pub fn operands_len(request: &Request) -> usize
     requires { IsRequest request.now }
     ensures count { result ≡ length (operands request.now) }
@@ -104,7 +104,7 @@ fn values_len(values: &[Bytes]) -> usize
     len
 }
 
-/// How many bytes the status or the values take.
+/// The length of the status or the values.
 pub fn reply_len(reply: &Reply) -> usize
     requires { IsReply reply.now }
     ensures count { result ≡ length (reply_fields reply.now) }

@@ -24,7 +24,7 @@ fn are_values(values: &[Bytes]) -> bool
     true
 }
 
-/// Whether the reply has a frame: values are at most 1,000, strictly rising, of at most 4,096 bytes.
+/// Whether the reply has a frame: at most 1,000 values, strictly rising, of at most 4,096 bytes.
 pub fn is_writable(reply: &Reply) -> bool
     ensures { IsTrue result ↔ IsReply reply.now }
 {

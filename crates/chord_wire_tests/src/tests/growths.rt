@@ -1,5 +1,5 @@
-//! Each growth refused in turn: a call that wants memory says so, and the stream has what it had.
-// With ample memory nothing is refused. A call that was refused is made again, with room for it.
+//! Each growth is refused in turn: the call answers Memory, and the stream stays unchanged.
+// With ample memory nothing is refused. A refused call is tried again, with memory for it.
 
 use super::{
     ADDED, INSERT, INSERT_2, ONE_VALUE, TWO_VALUES, is_frame, is_nothing, is_reply, reply_frame,
@@ -23,12 +23,12 @@ fn reply(alloc: Global, all: &[&[u8]]) -> Result<Reply, AllocError> {
     }
 }
 
-/// Whether memory was refused and the stream has as many bytes as before.
+/// Whether memory was refused and the stream has as many bytes left as before.
 fn is_refused(code: FaultCode, left: usize, before: usize) -> bool {
     code == FaultCode::Memory && left == before
 }
 
-/// Feeds a piece, and again where memory was refused.
+/// Feeds a piece, again if memory was refused.
 fn feeds_frames(frames: &mut Frames, piece: &[u8]) -> Option<()> {
     let before = frames.left();
     if let Err(fault) = frames.feed(piece) {
@@ -51,7 +51,7 @@ fn feeds_answers(answers: &mut Answers, piece: &[u8]) -> Option<()> {
     Some(())
 }
 
-/// The next request, asked for again where memory was refused.
+/// The next request, read again if memory was refused.
 fn next_request(frames: &mut Frames) -> Option<WireRequest> {
     let before = frames.left();
     match frames.next() {
@@ -78,7 +78,8 @@ fn next_answer(answers: &mut Answers) -> Option<Answer> {
     }
 }
 
-/// Whether these bytes, fed one at a time, are this request in this version, and how many are left then.
+/// Whether these bytes, fed one at a time, are this request
+/// in this version; and how many bytes are left then.
 fn reads_pieces(
     frames: &mut Frames,
     bytes: &[u8],
@@ -86,7 +87,7 @@ fn reads_pieces(
     version: u8,
 ) -> Option<(bool, usize)> {
     for byte in bytes {
-        // Memory is never told of where nothing is decided.
+        // Memory is never answered before the frame is whole.
         if !is_nothing(frames.next()) {
             return None;
         }
@@ -98,7 +99,7 @@ fn reads_pieces(
     Some((is_wanted, frames.left()))
 }
 
-/// The same of the insert in version 1 and then in version 2.
+/// `reads_pieces` of the insert in version 1, and then in version 2.
 fn inserts_in_pieces(alloc: Global) -> Option<[Option<(bool, usize)>; 2]> {
     let wanted = request(alloc).ok()?;
     let mut frames = Frames::new(alloc);

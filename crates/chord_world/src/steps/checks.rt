@@ -1,4 +1,4 @@
-//! Nodes and callers that are there, and nodes that may act.
+//! Checks that nodes and callers exist, and that nodes can act.
 ghost use Rattle.chord_world.specs.Calling.{AreThere};
 ghost use Rattle.chord_world.specs.Handing.{ThereIs, ActIs};
 
@@ -21,7 +21,7 @@ impl<S: EntryStore> World<S> {
         Ok(())
     }
 
-    /// Whether the node is there, and has not crashed.
+    /// Whether the node exists and has not crashed.
     pub(crate) fn can_act(&self, node: u64) -> Result<(), Refusal>
         ensures { ActIs node self.now result }
     {
@@ -32,7 +32,7 @@ impl<S: EntryStore> World<S> {
         Ok(())
     }
 
-    /// Whether the node and the caller are there.
+    /// Whether the node and the caller exist.
     pub(crate) fn are_there(&self, caller: u64, via: u64) -> Result<(), Refusal>
         ensures { AreThere caller via self.now result }
     {

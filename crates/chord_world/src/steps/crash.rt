@@ -10,7 +10,7 @@ use chord_ring::{MemberReader, can_depart_in};
 use chord_store::EntryStore;
 
 impl<S: EntryStore> World<S> {
-    /// The member does nothing more, and is dead for the others. It stays the holder of what it holds.
+    /// The member does nothing more, and is dead for the others. It still holds its segments.
     pub(crate) fn crash(&mut self, node: u64) -> Result<Outcome, Refusal>
         ensures answer { CrashIs node self.old result self.new }
         ensures known { self.new.world ≡ self.old.world }

@@ -14,7 +14,7 @@ use chord_node::Node;
 use chord_store::EntryStore;
 use std::alloc::AllocError;
 
-/// Puts a store back where one was taken.
+/// Puts a store back as the first one.
 fn put_back<S: EntryStore>(stores: &mut Vec<S>, store: S)
     requires { vec_len stores.old < vec_capacity stores.old }
     ensures { stores.new.items ≡ store ∷ stores.old.items }
@@ -25,7 +25,7 @@ fn put_back<S: EntryStore>(stores: &mut Vec<S>, store: S)
     }
 }
 
-/// Makes room for one more node.
+/// Reserves room for one more node.
 pub(crate) fn room_for_node<S: EntryStore>(
     nodes: &mut Vec<Node<S>>,
     crashed: &mut Vec<bool>,
@@ -40,7 +40,7 @@ pub(crate) fn room_for_node<S: EntryStore>(
     Ok(())
 }
 
-/// One more node, which has not crashed.
+/// Adds a node, which has not crashed.
 pub(crate) fn add_node<S: EntryStore>(
     nodes: &mut Vec<Node<S>>,
     crashed: &mut Vec<bool>,

@@ -1,4 +1,4 @@
-//! Messages that are delivered.
+//! Delivering messages.
 ghost use Rattle.std.specs.Prelude.{◌≡◌, ◌≢◌, ◌<◌, Some, [], length, slice_get};
 ghost use Rattle.std.specs.Vec.{vec_len, vec_capacity};
 ghost use Rattle.chord_caller.specs.declared.told.Told.{Told as ToldOf};
@@ -22,7 +22,7 @@ use chord_segment::Done;
 use chord_store::EntryStore;
 use std::alloc::AllocError;
 
-/// Answers the call at the node of this place.
+/// The node at this index answers the call.
 fn answer_at<S: EntryStore>(
     nodes: &mut Vec<Node<S>>,
     place: usize,
@@ -35,7 +35,7 @@ fn answer_at<S: EntryStore>(
     node.on_ask(ask)
 }
 
-/// The caller at the place hears a copy of the reply.
+/// The caller at this index hears a copy of the reply.
 fn hear_at(callers: &mut Vec<CallerCore>, place: usize, told: &Told) -> Result<Heard, AllocError>
     requires place { place < length callers.old.items }
     requires owed { IsOwed place told.now callers.old.items }
@@ -55,7 +55,7 @@ fn hear_at(callers: &mut Vec<CallerCore>, place: usize, told: &Told) -> Result<H
     }
 }
 
-/// What hearing a reply is as an outcome.
+/// The outcome of hearing a reply.
 fn outcome_of_heard(heard: Heard, caller: u64) -> Outcome
     ensures { result ≡ outcome_heard heard caller }
 {
@@ -65,7 +65,7 @@ fn outcome_of_heard(heard: Heard, caller: u64) -> Outcome
     }
 }
 
-/// Sends what the answer to a call of this caller sends.
+/// Sends the message of an answer to this caller's call, and gives the outcome.
 fn post(sent: &mut Vec<Sent>, caller: u64, number: u64, answered: Answered) -> Outcome
     requires { vec_len sent.old < vec_capacity sent.old }
     ensures sent { messages_of sent.new.items ≡ with_one (messages_of sent.old.items) (message_by caller number answered) }
@@ -84,7 +84,7 @@ fn post(sent: &mut Vec<Sent>, caller: u64, number: u64, answered: Answered) -> O
     }
 }
 
-/// Adds the call that was executed, if one was.
+/// Adds the executed call to the history, if there is one.
 fn add_done(history: &mut Vec<Done>, done: Option<Done>)
     requires { vec_len history.old < vec_capacity history.old }
     ensures { history.new.items ≡ with_one history.old.items done }
@@ -94,8 +94,8 @@ fn add_done(history: &mut Vec<Done>, done: Option<Done>)
     }
 }
 
-/// The call at the place is answered by the node of this number. What it executes is noted, and what the answer sends
-/// goes out.
+/// The node of this number answers the call at `place`. An executed call goes into the history, and
+/// the message of the answer is sent.
 fn answer_call<S: EntryStore>(
     nodes: &mut Vec<Node<S>>,
     sent: &mut Vec<Sent>,
@@ -120,7 +120,7 @@ fn answer_call<S: EntryStore>(
 }
 
 impl<S: EntryStore> World<S> {
-    /// The node that the call at the place is for, where it is there and has not crashed.
+    /// The node that the call at `place` is for, if it exists and has not crashed.
     fn receiver(&self, place: usize) -> Result<u64, Refusal>
         requires { (ask : AskOf) × (slice_get self.now.world.sent place ≡ Some (AskMessage ask)) }
         ensures { ReceiverIs place self.now result }
@@ -172,7 +172,7 @@ impl<S: EntryStore> World<S> {
         Ok(outcome_of_heard(heard, caller))
     }
 
-    /// The message comes to the node or the caller that it is for.
+    /// The message is delivered to the node or the caller that it is for.
     pub(crate) fn deliver(&mut self, message: u64) -> Result<Outcome, Refusal>
         ensures answer { DeliverIs message self.old result self.new }
         ensures step { Advances self.old result self.new }

@@ -1,4 +1,4 @@
-//! Fingers that are set.
+//! Setting fingers.
 ghost use Rattle.std.specs.Prelude.{◌<◌, ◌≤◌, length};
 ghost use Rattle.chord_world.specs.State.{KeepsRing};
 ghost use Rattle.chord_world.specs.Steps.{Advances};
@@ -12,7 +12,7 @@ use chord_links::Peer;
 use chord_node::Node;
 use chord_store::EntryStore;
 
-/// The finger of the node at the place goes to the peer.
+/// Sets the finger of the node at this index to the peer.
 fn point_at<S: EntryStore>(nodes: &mut Vec<Node<S>>, place: usize, finger: usize, peer: Peer)
     requires place { place < length nodes.old.items }
     requires finger { (1 ≤ finger) × (finger ≤ 128) }
@@ -25,7 +25,7 @@ fn point_at<S: EntryStore>(nodes: &mut Vec<Node<S>>, place: usize, finger: usize
 }
 
 impl<S: EntryStore> World<S> {
-    /// The finger of the node goes to the node `to`.
+    /// Sets the finger of the node to the node `to`.
     pub(crate) fn finger(&mut self, node: u64, finger: u64, to: u64) -> Result<Outcome, Refusal>
         ensures answer { FingerIs node finger to self.old result self.new }
         ensures step { Advances self.old result self.new }

@@ -1,4 +1,4 @@
-//! Segments that are given, and parts that go out again.
+//! Giving segments, and sending parts again.
 ghost use Rattle.std.specs.Prelude.{◌<◌, length};
 ghost use Rattle.chord_node.specs.Moves.{SendSteps, GiveIs};
 ghost use Rattle.chord_world.specs.State.{KeepsRing};
@@ -13,7 +13,7 @@ use chord_handover::Part;
 use chord_node::{GiveFault, Message, Node};
 use chord_store::EntryStore;
 
-/// The node of this number gives the segment at the place.
+/// The node of this number gives its segment at the index `place`.
 fn give_in<S: EntryStore>(
     nodes: &mut Vec<Node<S>>,
     number: usize,
@@ -28,7 +28,7 @@ fn give_in<S: EntryStore>(
 }
 
 impl<S: EntryStore> World<S> {
-    /// The node gives the held segment at the place to another, and sends the first part.
+    /// The node gives the held segment at the index `place` to another, and sends the first part.
     pub(crate) fn give(&mut self, node: u64, place: u64, to: u64) -> Result<Outcome, Refusal>
         ensures answer { GiveStepIs node place to self.old result self.new }
         ensures step { Advances self.old result self.new }

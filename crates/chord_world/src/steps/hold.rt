@@ -1,4 +1,4 @@
-//! Nodes that cut and merge what they hold, and begin to leave.
+//! Cutting and merging held segments, and beginning to leave.
 ghost use Rattle.std.specs.Prelude.{◌<◌, length};
 ghost use Rattle.chord_node.specs.Moves.{MoveSteps, CutAtIs, MergeIs, LeaveIs};
 ghost use Rattle.chord_world.specs.State.{KeepsRing};
@@ -12,7 +12,7 @@ use chord_ident::Id;
 use chord_node::{CutAtFault, MergeFault, Node, NotStaying};
 use chord_store::EntryStore;
 
-/// The node of this number cuts the segment at the place.
+/// The node of this number cuts its segment at the index `place`.
 fn cut_in<S: EntryStore>(
     nodes: &mut Vec<Node<S>>,
     number: usize,
@@ -26,7 +26,7 @@ fn cut_in<S: EntryStore>(
     node.cut_at(place, at)
 }
 
-/// The node of this number merges the segments at the two places.
+/// The node of this number merges its segments at the two indices.
 fn merge_in<S: EntryStore>(
     nodes: &mut Vec<Node<S>>,
     number: usize,
@@ -50,7 +50,7 @@ fn leave_in<S: EntryStore>(nodes: &mut Vec<Node<S>>, number: usize) -> Result<()
 }
 
 impl<S: EntryStore> World<S> {
-    /// The node cuts the held segment at the place, counted from 0.
+    /// The node cuts the held segment at the index `place`.
     pub(crate) fn cut(&mut self, node: u64, place: u64, at: Id) -> Result<Outcome, Refusal>
         ensures answer { MoveIs (CutAtIs place at) refusal_of_cut node self.old result self.new }
         ensures step { Advances self.old result self.new }
@@ -61,7 +61,7 @@ impl<S: EntryStore> World<S> {
         Ok(Outcome::Done)
     }
 
-    /// The node joins the held segment at the place `behind` behind the one at `place`.
+    /// The node joins the held segment at the index `behind` behind the one at `place`.
     pub(crate) fn merge(&mut self, node: u64, place: u64, behind: u64) -> Result<Outcome, Refusal>
         ensures answer { MoveIs (MergeIs place behind) refusal_of_merge node self.old result self.new }
         ensures step { Advances self.old result self.new }

@@ -17,7 +17,7 @@ use chord_ring::join_behind;
 use chord_store::EntryStore;
 
 impl<S: EntryStore> World<S> {
-    /// The links of the next node behind a member, where it may join and there is a store for it.
+    /// The links of the next node behind a member, if it may join and there is a store for it.
     fn links_to_join(&self, stores: &Vec<S>, id: Id, behind: u64) -> Result<Links, Refusal>
         ensures { LinksToJoin id behind (map S.limit stores.now.items) self.now result }
     {

@@ -1,4 +1,4 @@
-//! Notes that are shown and met.
+//! Sending and meeting notes.
 ghost use Rattle.std.specs.Prelude.{◌<◌, length};
 ghost use Rattle.chord_world.specs.State.{KeepsRing};
 ghost use Rattle.chord_world.specs.Steps.{Advances};
@@ -13,7 +13,7 @@ use chord_node::Message;
 use chord_store::EntryStore;
 use std::alloc::AllocError;
 
-/// The caller at the place meets the note.
+/// The caller at this index meets the note.
 fn meet_at(callers: &mut Vec<CallerCore>, place: usize, note: &Note) -> Result<(), AllocError>
     requires { place < length callers.old.items }
     ensures { MeetsAt place note.now callers.old.items result callers.new.items }
@@ -23,7 +23,7 @@ fn meet_at(callers: &mut Vec<CallerCore>, place: usize, note: &Note) -> Result<(
 }
 
 impl<S: EntryStore> World<S> {
-    /// Whether the caller is there, after a Create.
+    /// Whether a node was created and the caller exists.
     fn is_caller(&self, caller: u64) -> Result<(), Refusal>
         ensures { CallerIs caller self.now result }
     {
@@ -36,7 +36,7 @@ impl<S: EntryStore> World<S> {
         Ok(())
     }
 
-    /// The caller shows what it knows.
+    /// The caller sends a note of what it knows.
     pub(crate) fn show(&mut self, caller: u64) -> Result<Outcome, Refusal>
         ensures answer { ShowIs caller self.old result self.new }
         ensures step { Advances self.old result self.new }
@@ -48,7 +48,7 @@ impl<S: EntryStore> World<S> {
         Ok(Outcome::Message(message))
     }
 
-    /// The caller learns what the note has and it did not know.
+    /// The caller learns the calls of the note that it did not know.
     pub(crate) fn meet(&mut self, caller: u64, message: u64) -> Result<Outcome, Refusal>
         ensures answer { MeetIs caller message self.old result self.new }
         ensures step { Advances self.old result self.new }

@@ -1,4 +1,4 @@
-//! Callers.
+//! Opening callers.
 ghost use Rattle.chord_world.specs.State.{KeepsRing};
 ghost use Rattle.chord_world.specs.Steps.{OpenIs, Advances};
 

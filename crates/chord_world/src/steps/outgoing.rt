@@ -1,4 +1,4 @@
-//! Messages that go out.
+//! Sending messages.
 ghost use Rattle.std.specs.Prelude.{◌≡◌, ◌<◌, [], ◌∷◌, ◌++◌, length};
 ghost use Rattle.std.specs.Vec.{vec_len, vec_capacity};
 ghost use Rattle.chord_world.specs.State.{messages_of, targets_of};
@@ -8,7 +8,7 @@ use crate::sent::Sent;
 use chord_node::Message;
 use std::alloc::AllocError;
 
-/// Sends one more message, for which there is room, to this node where it is a call.
+/// Sends a message, for which there is room, to this node if it is an Ask.
 pub(crate) fn push_message(sent: &mut Vec<Sent>, message: Message, to: Option<u64>) -> u64
     requires { vec_len sent.old < vec_capacity sent.old }
     ensures number { result ≡ length (messages_of sent.old.items) }
@@ -20,7 +20,7 @@ pub(crate) fn push_message(sent: &mut Vec<Sent>, message: Message, to: Option<u6
     number
 }
 
-/// Sends one more message, to this node where it is a call.
+/// Sends a message, to this node if it is an Ask.
 pub(crate) fn send(
     sent: &mut Vec<Sent>,
     message: Message,

@@ -1,4 +1,4 @@
-//! Requests that go out again.
+//! Sending requests again.
 ghost use Rattle.chord_world.specs.State.{KeepsRing};
 ghost use Rattle.chord_world.specs.Steps.{Advances};
 ghost use Rattle.chord_world.specs.Calling.{WantedIs, AgainIs, ResendStepIs};
@@ -11,7 +11,7 @@ use chord_caller::{Ask, CallerCore, ResendFault};
 use chord_node::Message;
 use chord_store::EntryStore;
 
-/// The number to send again: the one that is named, else the least that is pending.
+/// The number to send again: the one given, else the least pending one.
 fn wanted(core: &CallerCore, named: Option<u64>) -> Option<u64>
     ensures { WantedIs named core.now result }
 {
@@ -21,7 +21,7 @@ fn wanted(core: &CallerCore, named: Option<u64>) -> Option<u64>
     }
 }
 
-/// The request of that number, as it goes out again.
+/// The request of that number, as it is sent again.
 fn ask_again(core: &CallerCore, named: Option<u64>) -> Result<Ask, Refusal>
     ensures { AgainIs named core.now result }
 {

@@ -1,4 +1,4 @@
-//! Nodes that are gone.
+//! Retiring nodes.
 ghost use Rattle.std.specs.Prelude.{◌<◌, length};
 ghost use Rattle.chord_node.specs.Moves.{MoveSteps, RetireIs};
 ghost use Rattle.chord_world.specs.State.{KeepsRing};
@@ -22,7 +22,7 @@ fn retire_in<S: EntryStore>(nodes: &mut Vec<Node<S>>, number: usize) -> Result<(
 }
 
 impl<S: EntryStore> World<S> {
-    /// Whether it is a member without which the ring would not stand.
+    /// Whether the node is a member whose departure would make the ring unsafe.
     fn is_needed(&self, node: u64) -> bool
         ensures { NeededIs node self.now result }
     {
@@ -35,7 +35,7 @@ impl<S: EntryStore> World<S> {
         true
     }
 
-    /// A leaving node, which holds nothing and hands nothing over, is gone.
+    /// A leaving node, which holds nothing and has an empty outbox, is gone.
     pub(crate) fn retire(&mut self, node: u64) -> Result<Outcome, Refusal>
         ensures answer { RetireStepIs node self.old result self.new }
         ensures step { Advances self.old result self.new }

@@ -1,4 +1,4 @@
-//! Calls that are submitted.
+//! Submitting calls.
 ghost use Rattle.std.specs.Prelude.{◌<◌, length};
 ghost use Rattle.chord_world.specs.State.{KeepsRing};
 ghost use Rattle.chord_world.specs.Steps.{SubmitStepIs, Advances};
@@ -14,7 +14,7 @@ use chord_node::Message;
 use chord_store::EntryStore;
 use std::alloc::AllocError;
 
-/// Submits a copy of the request by the caller at the place, which may submit it, memory apart.
+/// The caller at this index submits a copy of the request; it can fail for memory only.
 fn submit_at(
     callers: &mut Vec<CallerCore>,
     place: usize,
@@ -33,7 +33,7 @@ fn submit_at(
 }
 
 impl<S: EntryStore> World<S> {
-    /// Whether the caller may submit the request at the node, memory apart.
+    /// Whether the caller may submit the request at the node, apart from memory.
     fn may_submit(&self, caller: u64, via: u64, request: &Request) -> Result<(), Refusal>
         ensures { MaySubmit caller via request.now self.now result }
     {
@@ -44,7 +44,7 @@ impl<S: EntryStore> World<S> {
         }
     }
 
-    /// Submits a copy of the request by the caller, and sends it to the node.
+    /// The caller submits a copy of the request, which is sent to the node.
     pub(crate) fn submit(
         &mut self,
         caller: u64,

@@ -1,4 +1,4 @@
-//! Parts, and what comes of them, that are delivered.
+//! Delivering parts, and Got and Declined.
 ghost use Rattle.std.specs.Prelude.{◌≡◌, ◌≢◌, ◌<◌, Some, [], length, slice_get};
 ghost use Rattle.std.specs.Vec.{vec_len, vec_capacity};
 ghost use Rattle.chord_handover.specs.Handover.{Part as PartOf};
@@ -39,7 +39,7 @@ fn take_in<S: EntryStore>(
     node.on_give(part)
 }
 
-/// The node of this number hears that its receiver has a handover.
+/// The node of this number takes in a Got.
 fn free_in<S: EntryStore>(nodes: &mut Vec<Node<S>>, number: usize, got: &Got) -> bool
     requires place { number < length nodes.old.items }
     requires numbered { IsNumbered number nodes.old.items }
@@ -50,7 +50,7 @@ fn free_in<S: EntryStore>(nodes: &mut Vec<Node<S>>, number: usize, got: &Got) ->
     node.on_got(got)
 }
 
-/// The node of this number hears that its receiver declined a handover.
+/// The node of this number takes in a Declined.
 fn take_back_in<S: EntryStore>(
     nodes: &mut Vec<Node<S>>,
     number: usize,
@@ -65,7 +65,7 @@ fn take_back_in<S: EntryStore>(
     node.on_declined(declined)
 }
 
-/// Sends what the answer to a part of this handover sends.
+/// Sends the message of an answer to a part of this handover, and gives the outcome.
 fn confirm(sent: &mut Vec<Sent>, ticket: Ticket, given: Given) -> Outcome
     requires fits { given ≢ Clash }
     requires room { vec_len sent.old < vec_capacity sent.old }
@@ -83,7 +83,7 @@ fn confirm(sent: &mut Vec<Sent>, ticket: Ticket, given: Given) -> Outcome
     }
 }
 
-/// What came of a Got, as an outcome.
+/// The outcome of a Got.
 fn outcome_of_got(freed: bool) -> Outcome
     ensures { result ≡ outcome_of_freed freed }
 {
@@ -94,7 +94,7 @@ fn outcome_of_got(freed: bool) -> Outcome
     }
 }
 
-/// What came of a Declined, as an outcome.
+/// The outcome of a Declined.
 fn outcome_of_declined(back: Back) -> Outcome
     requires { back ≢ BackClash }
     ensures { outcome_of_back back ≡ Some result }
@@ -133,7 +133,7 @@ impl<S: EntryStore> World<S> {
         Ok(confirm(&mut self.sent, ticket, given))
     }
 
-    /// That a handover was taken is heard by its sender.
+    /// A Got is taken in by the giver.
     pub(crate) fn deliver_got(&mut self, place: usize, got: Got) -> Result<Outcome, Refusal>
         requires got { slice_get self.old.world.sent place ≡ Some (GotMessage got) }
         requires created { self.old.world.nodes ≢ [] }
@@ -148,7 +148,7 @@ impl<S: EntryStore> World<S> {
         Ok(outcome_of_got(freed))
     }
 
-    /// That a handover was declined is heard by its sender.
+    /// A Declined is taken in by the giver.
     pub(crate) fn deliver_declined(
         &mut self,
         place: usize,

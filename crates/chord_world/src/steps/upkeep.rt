@@ -14,7 +14,7 @@ use chord_node::Node;
 use chord_ring::{drop_dead_in, rectify_in, stabilise_in, take_candidate_in};
 use chord_store::EntryStore;
 
-/// The node at the place has other links.
+/// Sets the links of the node at this index.
 fn relink_at<S: EntryStore>(nodes: &mut Vec<Node<S>>, place: usize, links: Links)
     requires place { place < length nodes.old.items }
     requires fit { FitAt place links nodes.old.items }
@@ -24,7 +24,7 @@ fn relink_at<S: EntryStore>(nodes: &mut Vec<Node<S>>, place: usize, links: Links
     node.set_links(links);
 }
 
-/// What a member learned of its first entry, as an outcome.
+/// The outcome of a member's learning of this candidate.
 fn outcome_of_candidate(candidate: Option<Peer>) -> Outcome
     ensures { result ≡ outcome_of_ring (ring.Candidate candidate) }
 {

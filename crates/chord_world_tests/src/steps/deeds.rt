@@ -1,4 +1,4 @@
-//! Steps as they stand in the scripts of tests.
+//! The steps of the tests' scripts.
 
 use chord_ident::Id;
 use chord_map::Request;
@@ -12,7 +12,7 @@ pub const B: u128 = 0x80000000000000000000000000000000;
 
 pub const C: u128 = 0xc0000000000000000000000000000000;
 
-/// A step of a script. Nodes, callers and messages stand by their numbers.
+/// A step of a script. Nodes, callers and messages are named by their numbers.
 #[derive(Clone, Copy)]
 pub enum Deed {
     Create(u128),
@@ -20,9 +20,9 @@ pub enum Deed {
     Join(u128, u64),
     /// A caller opens with this window.
     Open(u64),
-    /// A caller asks node 0 to insert under a key a value.
+    /// A caller asks node 0 to insert a value under a key.
     Insert(u64, &'static [u8], &'static [u8]),
-    /// A caller asks node 0 to remove from a key a value.
+    /// A caller asks node 0 to remove a value from under a key.
     Remove(u64, &'static [u8], &'static [u8]),
     /// A caller asks a node for a key.
     Retrieve(u64, u64, &'static [u8]),
@@ -48,7 +48,7 @@ pub enum Deed {
     /// A node hears of another.
     Rectify(u64, u64),
     Crash(u64),
-    /// A node's finger goes to another.
+    /// A node's finger is set to another node.
     Finger(u64, u64, u64),
 }
 

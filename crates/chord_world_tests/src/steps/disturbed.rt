@@ -1,4 +1,5 @@
-//! Messages that are left out, doubled or swapped: each identifier has one holder, and the history is that of one map.
+//! Messages are left out, doubled or swapped: each identifier
+//! has one holder, and the history is that of one map.
 ghost use Rattle.std.specs.Prelude.{◌≡◌, [], List, IfOk};
 ghost use Rattle.std.specs.List.{All};
 ghost use Rattle.chord_map.specs.declared.pair.Pair.{Pair};
@@ -13,10 +14,10 @@ use chord_world::{Step, World};
 use std::alloc::{AllocError, Global};
 use std::test::Fail;
 
-/// The places of a script, in the order in which they are done.
+/// The indices of a script's steps, in the order in which they are done.
 type Order = Vec<usize>;
 
-/// Two stores with room for so many pairs.
+/// Two stores with room for `room` pairs each.
 pub fn two_stores(alloc: Global, room: u64) -> Result<Vec<CappedStore>, AllocError>
     ensures { IfOk result (λ stores. All (λ s. s.pairs ≡ []) stores.items) }
 {
@@ -26,7 +27,7 @@ pub fn two_stores(alloc: Global, room: u64) -> Result<Vec<CappedStore>, AllocErr
     Ok(stores)
 }
 
-/// All places but this one.
+/// All indices but this one.
 fn without(alloc: Global, count: usize, place: usize) -> Result<Order, AllocError> {
     let mut order = Vec::new(alloc);
     for at in 0..count {
@@ -37,7 +38,7 @@ fn without(alloc: Global, count: usize, place: usize) -> Result<Order, AllocErro
     Ok(order)
 }
 
-/// All places, this one twice.
+/// All indices, this one twice.
 fn doubled(alloc: Global, count: usize, place: usize) -> Result<Order, AllocError> {
     let mut order = Vec::new(alloc);
     for at in 0..count {
@@ -49,7 +50,7 @@ fn doubled(alloc: Global, count: usize, place: usize) -> Result<Order, AllocErro
     Ok(order)
 }
 
-/// All places, with these two in each other's place.
+/// All indices, with these two swapped.
 fn swapped(alloc: Global, count: usize, one: usize, other: usize) -> Result<Order, AllocError> {
     let mut order = Vec::new(alloc);
     for at in 0..count {
@@ -65,7 +66,7 @@ fn swapped(alloc: Global, count: usize, one: usize, other: usize) -> Result<Orde
     Ok(order)
 }
 
-/// Does the steps in this order, whatever comes of them.
+/// Does the steps in this order, whatever they answer.
 fn play<S: EntryStore>(world: &mut World<S>, stores: &mut Vec<S>, steps: &[Step], order: &[usize])
     requires { All (λ s. S.content s ≡ []) stores.old.items }
 {
@@ -76,7 +77,7 @@ fn play<S: EntryStore>(world: &mut World<S>, stores: &mut Vec<S>, steps: &[Step]
     }
 }
 
-/// Whether the map replies to the call as it was replied to.
+/// Whether the map gives the call the same reply.
 fn replies(map: &mut PlainMap, done: &Done) -> Result<bool, AllocError> {
     if done.request.check().is_err() {
         return Ok(false);
@@ -98,7 +99,8 @@ fn replays(alloc: Global, history: &[Done]) -> Result<bool, AllocError> {
     Ok(true)
 }
 
-/// Whether the world still stands after the steps are done in this order.
+/// Whether, after the steps in this order, four identifiers
+/// have holders and the history is that of one map.
 fn stands(alloc: Global, room: u64, steps: &[Step], order: &[usize]) -> Result<bool, AllocError> {
     let mut stores = two_stores(alloc, room)?;
     let mut world = new_world(alloc)?;
@@ -111,7 +113,7 @@ fn stands(alloc: Global, room: u64, steps: &[Step], order: &[usize]) -> Result<b
     replays(alloc, world.history())
 }
 
-/// The next delivery after a place, if there is one.
+/// The next delivery after an index, if there is one.
 fn next_delivery(steps: &[Step], place: usize) -> Option<usize> {
     for (at, step) in steps.iter().enumerate() {
         if at > place && matches!(step, Step::Deliver { .. }) {
@@ -121,7 +123,7 @@ fn next_delivery(steps: &[Step], place: usize) -> Option<usize> {
     None
 }
 
-/// Whether the world stands with the delivery at the place left out, doubled, and swapped with the next one.
+/// Whether `stands` is true with this delivery left out, doubled, and swapped with the next one.
 fn stands_without(
     alloc: Global,
     room: u64,
@@ -141,7 +143,7 @@ fn stands_without(
     }
 }
 
-/// How many deliveries of the script were disturbed, if the world stood each time.
+/// How many deliveries of the script were disturbed, if `stands` was true each time.
 fn disturbs(alloc: Global, room: u64, steps: &[Step]) -> Result<Option<u64>, AllocError> {
     let mut count: u64 = 0;
     for (place, step) in steps.iter().enumerate() {

@@ -1,5 +1,6 @@
-//! Each growth refused in turn: a step that wants memory says so, and the rest goes on as if it were not in the list.
-// With ample memory nothing is refused. A step that was refused is done again, with room for it.
+//! Each growth is refused in turn: the step answers Memory,
+//! and the rest goes on as if it were not in the list.
+// With ample memory nothing is refused. A refused step is tried again, with memory for it.
 ghost use Rattle.std.specs.Prelude.{◌≡◌, [], IfOk};
 ghost use Rattle.std.specs.List.{All};
 
@@ -14,7 +15,7 @@ use chord_world::{Outcome, Refusal, Step, StepFault, World};
 use std::alloc::{AllocError, Global};
 use std::test::Fail;
 
-/// A step, and what is to come of it.
+/// A step, and its expected answer.
 type Row = (Deed, Result<Outcome, Refusal>);
 
 /// One store alone.
@@ -28,7 +29,7 @@ fn alone<S: EntryStore>(alloc: Global, store: S) -> Result<Vec<S>, AllocError>
     Ok(stores)
 }
 
-/// Two stores with room for so many pairs, at the second try where the first was out of memory.
+/// Two stores with room for `room` pairs each, made again if memory was refused.
 fn stores_at_last(alloc: Global, room: u64) -> Result<Vec<CappedStore>, AllocError>
     ensures { IfOk result (λ stores. All (λ s. s.pairs ≡ []) stores.items) }
 {
@@ -38,7 +39,7 @@ fn stores_at_last(alloc: Global, room: u64) -> Result<Vec<CappedStore>, AllocErr
     }
 }
 
-/// Does the step, and again where it was out of memory.
+/// Does the step, again if memory was refused.
 fn at_last<S: EntryStore>(
     world: &mut World<S>,
     stores: &mut Vec<S>,
@@ -53,7 +54,7 @@ fn at_last<S: EntryStore>(
     }
 }
 
-/// The step of a script, at the second try where the first was out of memory.
+/// The step of a script, made again if memory was refused.
 fn step_at_last(alloc: Global, deed: Deed) -> Result<Step, AllocError> {
     match deed.step(alloc) {
         Ok(step) => Ok(step),
@@ -63,7 +64,7 @@ fn step_at_last(alloc: Global, deed: Deed) -> Result<Step, AllocError> {
 
 const NO_PART: Refusal = Refusal::Step(StepFault::NoPart);
 
-/// A call that a full store refuses goes out again after there is room, and its caller shows what it knows.
+/// A call that a full store refuses is sent again after there is room, and its caller sends a note.
 const FULL_STORE: &[Row] = &[
     (Deed::Create(A), Ok(Outcome::Node(0))),
     (Deed::Open(1), Ok(Outcome::Caller(0))),
@@ -88,7 +89,7 @@ const FULL_STORE: &[Row] = &[
     (Deed::Meet(0, 8), Ok(Outcome::Met)),
 ];
 
-/// Whether each step does what it is to do.
+/// Whether each step has its expected answer.
 fn does_all<S: EntryStore>(
     alloc: Global,
     world: &mut World<S>,
@@ -109,13 +110,14 @@ fn does_all<S: EntryStore>(
     Ok(true)
 }
 
-/// Whether the call that the caller took last was answered Added.
+/// Whether the last reply that the caller took is Added.
 fn took_added_last<S: EntryStore>(world: &World<S>, caller: u64) -> bool {
     let last = world.mine(caller).and_then(|mine| mine.last());
     last.is_some_and(|done| matches!(done.reply, Reply::Added))
 }
 
-/// Whether a call that a full store refuses is done in the end, and its caller tells the other one of it.
+/// Whether a call that a full store refuses is executed in the
+/// end, and its caller's note tells the other caller of it.
 fn is_done_again<S: EntryStore>(
     alloc: Global,
     world: &mut World<S>,
@@ -143,7 +145,7 @@ fn a_refused_step_is_done_again(rt: HostRuntime) -> Result<(), Fail> {
     Ok(())
 }
 
-/// Does all steps, each again where it was out of memory.
+/// Does all steps, each again if memory was refused.
 fn does_each<S: EntryStore>(world: &mut World<S>, stores: &mut Vec<S>, steps: &[Step])
     requires { All (λ s. S.content s ≡ []) stores.old.items }
 {
@@ -191,10 +193,10 @@ const BEGINNING: &[Row] = &[
     (Deed::Open(1), Ok(Outcome::Caller(0))),
 ];
 
-/// 65 values of one byte: one more than a part of a handover has.
+/// 65 values of one byte: one more than fits into a part of a handover.
 const VALUES: &[u8] = b"ABCDEFGHIJKLMNOPQRSTUVWXYZabcdefghijklmnopqrstuvwxyz0123456789+-*";
 
-/// Caller 0 inserts a value, after so many others.
+/// Caller 0 inserts a value, after `others` values before it.
 fn takes<S: EntryStore>(
     alloc: Global,
     world: &mut World<S>,
@@ -249,7 +251,7 @@ const SECOND_PART: &[Row] = &[
     (Deed::Deliver(130), Ok(Outcome::Got(133))),
 ];
 
-/// The sender hears that the handover was taken, and has no part of it any more.
+/// The giver hears that the handover was taken, and its outbox has no part of it any more.
 const CONFIRMATION: &[Row] = &[
     (Deed::Deliver(132), Ok(Outcome::Freed)),
     (Deed::SendPart(1), Err(NO_PART)),
@@ -261,7 +263,7 @@ const UNDER_WAY: Holder = Holder::UnderWay {
     number: 1,
 };
 
-/// Whether a node that holds all hands half of it over, and B with it, in two parts.
+/// Whether a node that holds the whole circle hands half of it, and B with it, over in two parts.
 fn hands_over<S: EntryStore>(
     alloc: Global,
     world: &mut World<S>,
@@ -286,7 +288,7 @@ fn hands_over<S: EntryStore>(
     Ok(world.history().len() == 65)
 }
 
-/// A handover goes in two parts, whichever growth is refused.
+/// A handover takes two parts, whichever growth is refused.
 #[test]
 fn a_handover_in_two_parts(rt: HostRuntime) -> Result<(), Fail> {
     let alloc = rt.alloc();

@@ -2,7 +2,8 @@
 
 use crate::steps::deeds::{A, C, Deed};
 
-/// A key moves to a node that joins, while its caller waits for a reply; both nodes leave then, if they may.
+/// A key moves to a joining node while its caller waits
+/// for a reply; then both nodes leave, if they may.
 pub const MOVING_KEY: &[Deed] = &[
     Deed::Create(A),
     Deed::Open(1),
@@ -29,7 +30,7 @@ pub const MOVING_KEY: &[Deed] = &[
     Deed::Deliver(3),
     Deed::Deliver(7),
     Deed::Deliver(9),
-    // Node 1 gives back what it holds and is gone; node 0 can't go.
+    // Node 1 gives back what it holds and is gone; node 0 can't leave.
     Deed::Leave(1),
     Deed::Retire(1),
     Deed::Give(1, 0),
@@ -45,7 +46,7 @@ pub const MOVING_KEY: &[Deed] = &[
     Deed::Deliver(16),
 ];
 
-/// A call that a full store refuses goes out again after there is room.
+/// A call that a full store refuses is sent again after there is room.
 pub const FULL_STORE_AND_A_RETRY: &[Deed] = &[
     Deed::Create(A),
     Deed::Open(1),
@@ -57,7 +58,7 @@ pub const FULL_STORE_AND_A_RETRY: &[Deed] = &[
     Deed::Insert(1, b"a", b"y"),
     Deed::Deliver(2),
     Deed::Deliver(3),
-    // Caller 1 asks on while its request is pending, and caller 0 removes its value.
+    // Caller 1 goes on asking while its request is pending, and caller 0 removes its value.
     Deed::Retrieve(1, 0, b"a"),
     Deed::Remove(0, b"a", b"x"),
     Deed::Deliver(4),

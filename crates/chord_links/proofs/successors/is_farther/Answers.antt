@@ -1,4 +1,4 @@
--- What lies between is nearer than the end, and the other way round.
+-- A point between is nearer than the end, and the reverse.
 use Rattle.std.proofs.Common.{arith}
 use Rattle.chord_links.proofs.Clockwise.{between_nearer, nearer_between}
 use Rattle.chord_links.proofs.successors.is_farther.Goals as goal

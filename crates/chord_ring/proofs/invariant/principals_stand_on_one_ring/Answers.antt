@@ -1,4 +1,4 @@
--- Each reached ring is sound, and a sound ring is safe, keeps its principals and is one ring.
+-- Each reachable ring is sound, and a sound ring is safe, keeps its principals and is one ring.
 use Rattle.chord_ring.proofs.Stepping.{Kept-step}
 use Rattle.chord_ring.proofs.Reached.{IsSound-reached}
 use Rattle.chord_ring.proofs.Walking.{IsOneRing-sound}

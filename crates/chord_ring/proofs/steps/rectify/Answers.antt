@@ -1,4 +1,4 @@
--- The predecessor gives way where it is dead or the notifier lies behind it.
+-- The predecessor gives way if it is dead or the notifier is behind it.
 use Rattle.std.proofs.Common.{◌∙◌, sym, rules}
 use Rattle.chord_ring.proofs.Betweens.{cuts_by_between}
 use Rattle.chord_ring.proofs.steps.rectify.Goals as goal

@@ -1,4 +1,4 @@
--- The candidate is the entry's predecessor where it lies between.
+-- The candidate is the entry's predecessor if it is between the two.
 use Rattle.std.proofs.Common.{◌∙◌, sym, rules}
 use Rattle.chord_ring.proofs.Betweens.{cuts_by_between}
 use Rattle.chord_ring.proofs.steps.stabilise.Goals as goal

@@ -1,4 +1,4 @@
--- Whatever the rule answers brings a lookup nearer.
+-- Each next hop brings a lookup nearer.
 use Rattle.std.proofs.Common.{rules}
 use Rattle.chord_route.specs.declared.hop.Hop.TheVariants.{Last, Near}
 use Rattle.chord_route.proofs.NextHop.{rule_nearer}

@@ -1,4 +1,5 @@
--- On a settled ring each node that is asked is there, and the lookup ends well before it has asked each.
+-- On a settled ring each node that is asked exists,
+-- and the lookup ends well before it has asked all.
 use Rattle.std.proofs.Common.{rules, arith, ◌^◌, ◌<◌}
 use Rattle.chord_route.proofs.Settled.{start_is_there, next_is_there, ends_well, ends_soon}
 use Rattle.chord_route.proofs.lookup.look_up.Goals as goal

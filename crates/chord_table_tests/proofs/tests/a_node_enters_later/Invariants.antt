@@ -1,5 +1,5 @@
 use Rattle.chord_table_tests.proofs.tests.a_node_enters_later.Given as goal
 
--- the table that was just opened
+-- picks the name of the table that was just opened
 abbrev pub ghosts-enters_later : goal.ghosts-enters_later
 ghosts-enters_later a = record { name = a.blank }

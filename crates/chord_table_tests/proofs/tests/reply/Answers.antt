@@ -9,7 +9,7 @@ use Rattle.chord_map.specs.declared.done.Done.{Done}
 use Rattle.chord_table.specs.Views.{NodeSight, MayAct}
 use Rattle.chord_table_tests.proofs.tests.reply.Goals as goal
 
--- a node may do the call that just came to its seat
+-- a node may do a call that its seat just took in
 does_what_came : (seat came : NodeSight) (parcel told : Message) (old new : Node) (call : Ask) (done : Option Done)
     → came ≡ record seat { messages = seat.messages ++ parcel ∷ [] } → seat.node ≡ old → parcel ≡ AskMessage call
     → NodeStep old (Some (AskMessage call)) new (Some told) done → MayAct came.node came.messages new (Some told)

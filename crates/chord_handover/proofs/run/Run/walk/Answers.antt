@@ -6,7 +6,7 @@ use Rattle.chord_handover.specs.Passed.{HasPassed}
 use Rattle.chord_handover.proofs.PassRules.{front}
 use Rattle.chord_handover.proofs.run.Run.walk.Goals as goal
 
--- one pair further
+-- one more pair
 further : (passed pairs : List Pair) (i : ℕ) (pair : Pair) → i < length pairs → pair ≡ get_or pairs i pair → (passed ++ take i pairs) ++ pair ∷ [] ≡ passed ++ take (i + 1) pairs
 further passed pairs i pair within is =
     append_assoc passed (take i pairs) (pair ∷ []) ∙ ap (λ ps. passed ++ ps) (ap (λ p. take i pairs ++ p ∷ []) is ∙ sym (take_more pairs i pair within))

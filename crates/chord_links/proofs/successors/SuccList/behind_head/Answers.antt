@@ -1,4 +1,4 @@
--- What was pushed is the list behind the first entry, and that rises.
+-- The pushed peers are the list behind the first entry, and that rises.
 use Rattle.std.proofs.Common.{refl}
 use Rattle.chord_links.proofs.Skipping.{filled_behind_successor}
 use Rattle.chord_links.proofs.successors.SuccList.behind_head.Goals as goal

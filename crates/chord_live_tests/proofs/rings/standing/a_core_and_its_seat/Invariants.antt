@@ -1,5 +1,5 @@
 use Rattle.chord_live_tests.proofs.rings.standing.a_core_and_its_seat.Given as goal
 
--- the ring that was just made
+-- picks the name of the ring that was just made
 abbrev pub ghosts-stands : goal.ghosts-stands
 ghosts-stands g a = record { name = a.blank }

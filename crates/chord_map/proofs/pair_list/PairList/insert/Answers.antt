@@ -7,7 +7,7 @@ use Rattle.chord_map.specs.Places.{IsAt, IsGapFor}
 use Rattle.chord_map.proofs.Placed.{insert_present, insert_in_gap, rising-insert}
 use Rattle.chord_map.proofs.pair_list.PairList.insert.Goals as goal
 
--- the edit at the gap is the pair put in
+-- inserting at the gap is inserting the pair into the map
 put : (ps ps' seen : List Pair) (e pair : Pair) (place : ℕ) → seen ≡ ps → IsGapFor pair_cmp seen e place → pair ≡ e → ps' ≡ insert_at ps place pair → ps' ≡ insert_pair e ps
 put ps ps' seen e pair place same gap is made =
     made ∙ ap (λ (p : Pair). insert_at ps place p) is ∙ insert_in_gap ps e place (subst (λ (xs : List Pair). IsGapFor pair_cmp xs e place) same gap)

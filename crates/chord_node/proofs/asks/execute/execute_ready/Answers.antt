@@ -7,7 +7,7 @@ use Rattle.chord_node.specs.Asked.{TakesMemory, is_full_for, past_answer}
 use Rattle.chord_node.proofs.Applying.{values_stay}
 use Rattle.chord_node.proofs.asks.execute.execute_ready.Goals as goal
 
--- a new call that the store has room for is told something
+-- a new call that the store has room for gets a reply
 told_new : (past : Past) (ask : Ask) (pairs : List Pair) (limit : ℕ) → past ≡ New → is_full_for ask.request pairs limit ≡ false → TakesMemory (past_answer past ask pairs limit)
 told_new past ask pairs limit e f = rw (e, f) tt
 

@@ -1,4 +1,4 @@
--- The new node stands last, with the links of the step, which keeps the ring sound and its principals.
+-- The new node is last, with the links of the step, which keeps the ring sound and its principals.
 use Rattle.std.proofs.Common.{List, [], ◌∷◌, ◌++◌, Some, sym, ap, map, refl, subst, arith, length, ◌∙◌}
 use Rattle.std.specs.List.{Contains}
 use Rattle.std.proofs.lemmas.Bool.{true≢false}

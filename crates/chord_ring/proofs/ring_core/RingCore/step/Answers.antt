@@ -1,4 +1,4 @@
--- What each step of the upkeep stores is what that step makes.
+-- Each step of the upkeep stores the links that the step gives.
 use Rattle.chord_ring.specs.declared.ring_step.RingStep.TheVariants.{Stabilise, Candidate, DropDead, Rectify}
 use Rattle.chord_ring.proofs.ring_core.RingCore.step.Goals as goal
 

@@ -8,7 +8,7 @@ use Rattle.chord_store.proofs.Added.{refused_set}
 use Rattle.chord_store.proofs.ValueOrder.{has_at_place, has_not_in_gap, one_more, rising_at_gap, gains_at_gap}
 use Rattle.chord_store.proofs.value_set.ValueSet.insert.Goals as goal
 
--- the list rises whether the value came or memory was out
+-- the list is sorted whether the value was added or memory ran out
 either : {T E : Type 0} (r : Result T E) (xs ys zs : List (List ℕ)) → OnOk r (ys ≡ zs) → OnErr r (ys ≡ xs) → IsStrictlySortedBy (slice_cmp nat_cmp) zs → IsStrictlySortedBy (slice_cmp nat_cmp) xs → IsStrictlySortedBy (slice_cmp nat_cmp) ys
 either (Ok v) xs ys zs made same new old = subst (λ (vs : List (List ℕ)). IsStrictlySortedBy (slice_cmp nat_cmp) vs) (sym made) new
 either (Err e) xs ys zs made same new old = subst (λ (vs : List (List ℕ)). IsStrictlySortedBy (slice_cmp nat_cmp) vs) (sym same) old

@@ -2,6 +2,6 @@ use Rattle.chord_table.specs.Seen.{OfCaller}
 use Rattle.chord_table.specs.Views.{no_message}
 use Rattle.chord_table.proofs.caller_seat.CallerSeat.local.Given as goal
 
--- the caller after the event
+-- picks the caller after the event
 abbrev pub ghosts-local : goal.ghosts-local
 ghosts-local g a = record { actor = OfCaller a.after.now; message = no_message }

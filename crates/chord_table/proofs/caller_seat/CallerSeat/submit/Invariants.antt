@@ -2,6 +2,6 @@ use Rattle.chord_table.specs.Seen.{OfCaller}
 use Rattle.chord_table.specs.Views.{caller_in, submitting}
 use Rattle.chord_table.proofs.caller_seat.CallerSeat.submit.Given as goal
 
--- the caller with the call among those that it submitted
+-- picks the caller after it submitted the call
 abbrev pub ghosts-send : goal.ghosts-send
 ghosts-send g a = record { actor = OfCaller (submitting a.message (caller_in a.self.now.actor)); message = a.message }

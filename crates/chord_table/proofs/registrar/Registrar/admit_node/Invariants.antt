@@ -2,6 +2,6 @@ use Rattle.chord_table.specs.Seen.{OfNode}
 use Rattle.chord_table.specs.Views.{no_message}
 use Rattle.chord_table.proofs.registrar.Registrar.admit_node.Given as goal
 
--- the node that enters
+-- picks the node to admit
 abbrev pub ghosts-admit : goal.ghosts-admit
 ghosts-admit g a = record { actor = OfNode a.actor.now; message = no_message }
