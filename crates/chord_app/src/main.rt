@@ -3,18 +3,18 @@
 //! `world` is the console, which does one step of a world a line ([`world`]); `run` starts a ring
 //! that does what a plan says ([`run`]); `serve` starts a ring that answers clients ([`serve`],
 //! [`stay`]); `ask` and `load` are such clients ([`start_ask`], [`start_load`]).
-//! `chord_command_line` says what a command line has, and [`Finish`] how the program ends.
+//! `chord_app_options` says what a command line has, and [`Finish`] how the program ends.
 #![tactic(auto)]
 
-use chord_client::{start_ask, start_load, told};
-use chord_command::Finish;
-use chord_command_line::{
+use chord_app_ask::{print_fault, start_ask, start_load};
+use chord_app_options::{
     DEFAULT_STORES, commands, names_stores, no_number, no_stores, small_number,
 };
-use chord_console::{empty_ones, world};
-use chord_front::{Front, listen};
-use chord_host::{run, serve, stay};
-use chord_plan::{Plan, PlanFault, StoreKind, read_plan};
+use chord_app_plan::{Plan, PlanFault, StoreKind, read_plan};
+use chord_app_serve::{run, serve, stay};
+use chord_app_sockets::{ServerSetup, listen};
+use chord_app_text::Finish;
+use chord_app_world::{empty_ones, world};
 use chord_store::{CappedStore, EntryStore, ListStore, NotedStore, TreeStore};
 use clap::ArgMatches;
 use std::alloc::Global;
@@ -28,7 +28,7 @@ use std::{env, io};
 /// Does the command `world`.
 fn start_world(rt: &HostRuntime, alloc: Global, word: &str) -> Result<Finish, Finish> {
     if !names_stores(word) {
-        return told(rt, no_stores(alloc, word)?);
+        return print_fault(rt, no_stores(alloc, word)?);
     }
     let mut stores: Vec<Box<dyn EntryStore + Send>> = Vec::new(alloc);
     for letter in word.bytes() {
@@ -61,7 +61,7 @@ fn plan_of(rt: &HostRuntime, path: &str) -> Result<Plan, Finish> {
 
 /// Where a server listens, for how long it serves, and where it logs how connections end.
 #[derive(Drop)]
-struct Served<'a> {
+struct ServeOptions<'a> {
     listener: TcpListener,
     /// How many connections it serves; with none it serves until standard input ends.
     connections: Option<usize>,
@@ -83,7 +83,7 @@ fn start_ring<
     rt: &HostRuntime,
     threads: &T,
     plan: &Plan,
-    served: Option<Served<'_>>,
+    options: Option<ServeOptions<'_>>,
 ) -> Result<Finish, Finish> {
     let alloc = rt.alloc();
     let mut stores: Vec<Box<dyn EntryStore + Send>> = Vec::new(alloc);
@@ -99,18 +99,18 @@ fn start_ring<
         };
         stores.push(store)?;
     }
-    let Some(served) = served else {
+    let Some(options) = options else {
         return Ok(run(threads, alloc, plan, stores, rt.stdout()));
     };
-    let front = Front {
+    let setup = ServerSetup {
         alloc,
         plan,
-        listener: &served.listener,
-        notes: &served.notes,
+        listener: &options.listener,
+        notes: &options.notes,
     };
-    match served.connections {
-        Some(count) => serve(threads, &front, stores, count, &mut rt.stdout())?,
-        None => stay(threads, &front, stores, rt.stdin(), rt.stdout())?,
+    match options.connections {
+        Some(count) => serve(threads, &setup, stores, count, &mut rt.stdout())?,
+        None => stay(threads, &setup, stores, rt.stdin(), rt.stdout())?,
     }
     Ok(Finish::Done)
 }
@@ -129,13 +129,13 @@ fn start_serve<
     let alloc = rt.alloc();
     let port = found.get_str("port").unwrap_or("");
     let Some(port) = small_number(port) else {
-        return told(rt, no_number(alloc, "port <N>", port)?);
+        return print_fault(rt, no_number(alloc, "port <N>", port)?);
     };
     let connections = match found.get_str("connections") {
         None => None,
         Some(word) => match small_number(word) {
             Some(count) => Some(count as usize),
-            None => return told(rt, no_number(alloc, "connections <K>", word)?),
+            None => return print_fault(rt, no_number(alloc, "connections <K>", word)?),
         },
     };
     let notes = if found.get_flag("notes") {
@@ -145,12 +145,12 @@ fn start_serve<
     };
     let plan = plan_of(rt, found.get_str("plan").unwrap_or(""))?;
     let listener = listen(threads, port)?;
-    let served = Served {
+    let options = ServeOptions {
         listener,
         connections,
         notes,
     };
-    start_ring(rt, threads, &plan, Some(served))
+    start_ring(rt, threads, &plan, Some(options))
 }
 
 /// Does the command `run`.
@@ -193,7 +193,7 @@ fn words_of(rt: &HostRuntime) -> Result<Vec<String>, Finish> {
 fn matched<'a>(rt: &HostRuntime, words: &'a [String]) -> Result<ArgMatches<'a>, Finish> {
     match commands(rt.alloc())?.try_get_matches_from(words) {
         Ok(matches) => Ok(matches),
-        Err(error) => Err(ended(told(rt, error))),
+        Err(error) => Err(ended(print_fault(rt, error))),
     }
 }
 

@@ -8,17 +8,17 @@ use Rattle.chord_map.specs.Map.{fits}
 use Rattle.chord_map.proofs.Lists.{by_option}
 use Rattle.chord_caller.specs.declared.ask.Ask.{Ask}
 use Rattle.chord_caller.specs.declared.told.Told.{Told}
-use Rattle.chord_caller.specs.declared.slot.Slot.TheVariants.{Waiting, Over}
-use Rattle.chord_caller.specs.declared.outcome.Outcome.TheVariants.{Fresh, Known, Foreign}
+use Rattle.chord_caller.specs.declared.request_state.RequestState.TheVariants.{Waiting, Over}
+use Rattle.chord_caller.specs.declared.outcome.TakeOutcome.TheVariants.{Fresh, Known, Foreign}
 use Rattle.chord_caller.specs.declared.fault.SubmitFault.{SubmitFault}
 use Rattle.chord_caller.specs.declared.fault.SubmitFault.TheVariants.{Bad, WindowFull, NumbersSpent, Memory as SubmitMemory}
 use Rattle.chord_caller.specs.declared.fault.ResendFault.{ResendFault}
 use Rattle.chord_caller.specs.declared.fault.ResendFault.TheVariants.{Idle, Memory as ResendMemory}
 use Rattle.chord_caller.specs.Answers.{SubmitIs, ResendIs, IsForeign}
-use Rattle.chord_caller.specs.Caller.{Submission, Caller, AskLetter, ToldLetter, CallerStep, submission_at, is_taken, next_number, IsSentNow, fitting, fresh_for, with_request, with_reply}
+use Rattle.chord_caller.specs.Caller.{Submission, Caller, AskLetter, ToldLetter, CallerStep, submission_at, is_taken, next_number, IsSentNow, request_for_reply, fresh_for, with_request, with_reply}
 use Rattle.chord_caller.specs.Caller.CallerStep.{Takes, Ignores}
 use Rattle.chord_caller.specs.Slots.{is_over}
-use Rattle.chord_caller.specs.Client.{Client, slot_at, count_of, IsCoreOf, Simulates, taking, hearing}
+use Rattle.chord_caller.specs.Client.{Client, state_at, count_of, IsCoreOf, Simulates, caller_after_taking, caller_after_hearing}
 use Rattle.chord_caller.specs.ClientAnswers.{IsAsked, IsStrange, ClientSubmitIs, ClientResendIs, ClientTakeIs, SubmitsAlike, TakesAlike}
 use Rattle.chord_caller.proofs.Views.{fresh_is, known_stale}
 use Rattle.chord_caller.proofs.Steps.{submit_steps, resend_steps}
@@ -66,7 +66,7 @@ same_after request WindowFull old new h = h.2
 same_after request NumbersSpent old new h = h.3
 same_after request SubmitMemory old new h = h.3
 
-pub submit_alike : (request : Request) (old : Client) (result : Result Ask SubmitFault) (new : Client) → is_over (slice_get old.slots 0) ≡ false → ClientSubmitIs request old result new
+pub submit_alike : (request : Request) (old : Client) (result : Result Ask SubmitFault) (new : Client) → is_over (slice_get old.states 0) ≡ false → ClientSubmitIs request old result new
     → SubmitsAlike request old result new
 submit_alike request old (Ok ask) new next h caller core =
     let room = h.1 in
@@ -97,7 +97,7 @@ waits_by false (Some s) request e =
     let same : s.request ≡ request = cc in
     (refl, s, refl, same)
 
-waits_at : (client : Client) (caller : Caller) → IsCoreOf client caller → (number : ℕ) (request : Request) → slot_at number client ≡ Some (Waiting request)
+waits_at : (client : Client) (caller : Caller) → IsCoreOf client caller → (number : ℕ) (request : Request) → state_at number client ≡ Some (Waiting request)
     → (is_taken caller number ≡ false) × (s : Submission) × (submission_at number caller.submitted ≡ Some s) × (s.request ≡ request)
 waits_at client caller core number request e = waits_by (is_taken caller number) (submission_at number caller.submitted) request (sym (core.slots_are number) ∙ e)
 
@@ -114,14 +114,14 @@ resend_simulates number client ask h caller core = (caller, core, resend_steps n
 -- ---- taking
 
 -- a caller that hears a reply does a step
-pub hearing_steps : (told : Told) (caller : Caller) → CallerStep caller (Some (ToldLetter told)) (hearing told caller) None
+pub hearing_steps : (told : Told) (caller : Caller) → CallerStep caller (Some (ToldLetter told)) (caller_after_hearing told caller) None
 hearing_steps told caller =
     by_option (fresh_for told caller)
-    (λ none. subst (λ (o : Option Request). CallerStep caller (Some (ToldLetter told)) (taking told o caller) None) (sym none) (Ignores told none))
-    (λ request fresh. subst (λ (o : Option Request). CallerStep caller (Some (ToldLetter told)) (taking told o caller) None) (sym fresh) (Takes told request fresh))
+    (λ none. subst (λ (o : Option Request). CallerStep caller (Some (ToldLetter told)) (caller_after_taking told o caller) None) (sym none) (Ignores told none))
+    (λ request fresh. subst (λ (o : Option Request). CallerStep caller (Some (ToldLetter told)) (caller_after_taking told o caller) None) (sym fresh) (Takes told request fresh))
 
-pub take_simulates : (told : Told) (old new : Client) → ((caller : Caller) → IsCoreOf old caller → IsCoreOf new (hearing told caller)) → Simulates old (Some (ToldLetter told)) new None
-take_simulates told old new goes caller core = (hearing told caller, goes caller core, hearing_steps told caller)
+pub take_simulates : (told : Told) (old new : Client) → ((caller : Caller) → IsCoreOf old caller → IsCoreOf new (caller_after_hearing told caller)) → Simulates old (Some (ToldLetter told)) new None
+take_simulates told old new goes caller core = (caller_after_hearing told caller, goes caller core, hearing_steps told caller)
 
 pub fresh_alike : (told : Told) (reply : Reply) (old new : Client) → ClientTakeIs told old (Fresh reply) new → TakesAlike told old (Fresh reply) new
 fresh_alike told reply old new h caller core =
@@ -130,18 +130,18 @@ fresh_alike told reply old new h caller core =
     let at = waits_at old caller core told.number request settled.waits in
     let fit : fits told.reply (at.1).request ≡ true = ap (fits told.reply) at.3 ∙ ap (λ r. fits r request) (sym h.3) ∙ h.2 in
     let fresh : fresh_for told caller ≡ Some request = fresh_is told caller at.1 (h.1 ∙ core.number_is) at.0 at.2 fit ∙ ap Some at.3 in
-    let after : hearing told caller ≡ with_reply told request caller = ap (λ (o : Option Request). taking told o caller) fresh in (
+    let after : caller_after_hearing told caller ≡ with_reply told request caller = ap (λ (o : Option Request). caller_after_taking told o caller) fresh in (
       subst (λ (c : Caller). IsCoreOf new c) (sym after) (settle_core told request old new caller h.1 settled core),
       (request, fresh, after),
     )
 
 -- a reply that is not fresh changes nothing
-stays : (told : Told) (caller : Caller) → fresh_for told caller ≡ None → hearing told caller ≡ caller
-stays told caller none = ap (λ (o : Option Request). taking told o caller) none
+stays : (told : Told) (caller : Caller) → fresh_for told caller ≡ None → caller_after_hearing told caller ≡ caller
+stays told caller none = ap (λ (o : Option Request). caller_after_taking told o caller) none
 
-core_stays : (told : Told) (old new : Client) (caller : Caller) → new ≡ old → fresh_for told caller ≡ None → IsCoreOf old caller → IsCoreOf new (hearing told caller)
+core_stays : (told : Told) (old new : Client) (caller : Caller) → new ≡ old → fresh_for told caller ≡ None → IsCoreOf old caller → IsCoreOf new (caller_after_hearing told caller)
 core_stays told old new caller same none core =
-    subst (λ (client : Client). IsCoreOf client (hearing told caller)) (sym same) (subst (λ (c : Caller). IsCoreOf old c) (sym (stays told caller none)) core)
+    subst (λ (client : Client). IsCoreOf client (caller_after_hearing told caller)) (sym same) (subst (λ (c : Caller). IsCoreOf old c) (sym (stays told caller none)) core)
 
 pub known_alike : (told : Told) (old new : Client) → ClientTakeIs told old Known new → TakesAlike told old Known new
 known_alike told old new h caller core =
@@ -154,14 +154,14 @@ cond_same true o e = e
 cond_same false o e = refl
 
 -- a reply that fits no submitted request is not fresh
-unfit_stale : (told : Told) (caller : Caller) → fitting told.reply (submission_at told.number caller.submitted) ≡ None → fresh_for told caller ≡ None
+unfit_stale : (told : Told) (caller : Caller) → request_for_reply told.reply (submission_at told.number caller.submitted) ≡ None → fresh_for told caller ≡ None
 unfolding fresh_for
-unfit_stale told caller e = cond_same (eqb told.caller caller.number && not (is_taken caller told.number)) (fitting told.reply (submission_at told.number caller.submitted)) e
+unfit_stale told caller e = cond_same (eqb told.caller caller.number && not (is_taken caller told.number)) (request_for_reply told.reply (submission_at told.number caller.submitted)) e
 
 another_stale : (told : Told) (caller : Caller) → told.caller ≢ caller.number → fresh_for told caller ≡ None
 unfolding fresh_for
 another_stale told caller apart =
-    cond-false (eqb told.caller caller.number && not (is_taken caller told.number)) (fitting told.reply (submission_at told.number caller.submitted)) None
+    cond-false (eqb told.caller caller.number && not (is_taken caller told.number)) (request_for_reply told.reply (submission_at told.number caller.submitted)) None
     (ap (λ b. b && not (is_taken caller told.number)) (ne_eqb told.caller caller.number apart))
 
 foreign_stale : (told : Told) (caller : Caller) → IsForeign told caller → fresh_for told caller ≡ None
@@ -170,9 +170,9 @@ foreign_stale told caller foreign =
     (λ (other : told.caller ≢ caller.number). another_stale told caller other)
     (λ rest.
     ⊎_elim
-    (λ (absent : submission_at told.number caller.submitted ≡ None). unfit_stale told caller (ap (fitting told.reply) absent))
+    (λ (absent : submission_at told.number caller.submitted ≡ None). unfit_stale told caller (ap (request_for_reply told.reply) absent))
     (λ (misfit : (s : Submission) × (submission_at told.number caller.submitted ≡ Some s) × (is_taken caller told.number ≡ false) × (fits told.reply s.request ≡ false)).
-    unfit_stale told caller (ap (fitting told.reply) misfit.1 ∙ cond-false (fits told.reply (misfit.0).request) (Some (misfit.0).request) None misfit.3))
+    unfit_stale told caller (ap (request_for_reply told.reply) misfit.1 ∙ cond-false (fits told.reply (misfit.0).request) (Some (misfit.0).request) None misfit.3))
     rest)
     foreign
 
@@ -188,8 +188,8 @@ strange_foreign told client caller core strange =
     (λ (other : told.caller ≢ client.number). inl (λ e. other (e ∙ sym core.number_is)))
     (λ rest.
     ⊎_elim
-    (λ (absent : slot_at told.number client ≡ None). inr (inl (none_by (is_taken caller told.number) (submission_at told.number caller.submitted) (sym (core.slots_are told.number) ∙ absent))))
-    (λ (misfit : (request : Request) × (slot_at told.number client ≡ Some (Waiting request)) × (fits told.reply request ≡ false)).
+    (λ (absent : state_at told.number client ≡ None). inr (inl (none_by (is_taken caller told.number) (submission_at told.number caller.submitted) (sym (core.slots_are told.number) ∙ absent))))
+    (λ (misfit : (request : Request) × (state_at told.number client ≡ Some (Waiting request)) × (fits told.reply request ≡ false)).
     let at = waits_at client caller core told.number misfit.0 misfit.1 in
     inr (inr (at.1, at.2, at.0, ap (fits told.reply) at.3 ∙ misfit.2)))
     rest)

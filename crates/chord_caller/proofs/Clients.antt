@@ -7,34 +7,34 @@ use Rattle.chord_map.specs.declared.request.Request.{Request}
 use Rattle.chord_map.specs.declared.done.Done.{Done}
 use Rattle.chord_map.specs.History.{done_at}
 use Rattle.chord_map.proofs.Equal.{same_or_not, eqb_same}
-use Rattle.chord_caller.specs.declared.slot.Slot.{Slot}
-use Rattle.chord_caller.specs.declared.slot.Slot.TheVariants.{Waiting, Over}
+use Rattle.chord_caller.specs.declared.request_state.RequestState.{RequestState}
+use Rattle.chord_caller.specs.declared.request_state.RequestState.TheVariants.{Waiting, Over}
 use Rattle.chord_caller.specs.declared.told.Told.{Told}
 use Rattle.chord_caller.specs.Caller.{Submission, Caller, submission_at, is_taken, floor_of, with_request, with_reply}
-use Rattle.chord_caller.specs.Slots.{all_slots, slot_of, waiting, is_over, IsRaised}
-use Rattle.chord_caller.specs.Client.{Client, client_of, IsClient, new_client, count_of, slot_at, slot_in, waiting_at, IsCoreOf}
+use Rattle.chord_caller.specs.Slots.{all_states, state_of, request_waiting_in, is_over, IsRaised}
+use Rattle.chord_caller.specs.Client.{Client, client_of, IsClient, new_client, count_of, state_at, state_in, request_waiting_at, IsCoreOf}
 use Rattle.chord_caller.specs.Answers.{new_caller, is_pending, PendingIs}
 use Rattle.chord_caller.specs.ClientAnswers.{with_waiting, IsEnded, ClientPendingIs}
 use Rattle.chord_caller.proofs.Floors.{upto_is}
 use Rattle.chord_caller.proofs.Places.{got_last, got_set_same, got_set_other, either_is}
 
 -- the slots up to the floor are over
-pub got_over : (floor : ℕ) (slots : List Slot) (place : ℕ) → place < floor → slice_get (all_slots floor slots) place ≡ Some Over
-got_over zero slots place low = absurd (omega arith)
-got_over (suc floor) slots zero low = refl
-got_over (suc floor) slots (suc place) low = got_over floor slots place (omega arith)
+pub got_over : (floor : ℕ) (states : List RequestState) (place : ℕ) → place < floor → slice_get (all_states floor states) place ≡ Some Over
+got_over zero states place low = absurd (omega arith)
+got_over (suc floor) states zero low = refl
+got_over (suc floor) states (suc place) low = got_over floor states place (omega arith)
 
 -- the slots above the floor are the stored ones
-pub got_kept : (floor : ℕ) (slots : List Slot) (place : ℕ) → floor ≤ place → slice_get (all_slots floor slots) place ≡ slice_get slots (place - floor)
-got_kept zero slots place high = ap (slice_get slots) (omega arith)
-got_kept (suc floor) slots zero high = absurd (omega arith)
-got_kept (suc floor) slots (suc place) high = got_kept floor slots place (omega arith) ∙ ap (slice_get slots) (omega arith)
+pub got_kept : (floor : ℕ) (states : List RequestState) (place : ℕ) → floor ≤ place → slice_get (all_states floor states) place ≡ slice_get states (place - floor)
+got_kept zero states place high = ap (slice_get states) (omega arith)
+got_kept (suc floor) states zero high = absurd (omega arith)
+got_kept (suc floor) states (suc place) high = got_kept floor states place (omega arith) ∙ ap (slice_get states) (omega arith)
 
-pub count_all : (floor : ℕ) (slots : List Slot) → length (all_slots floor slots) ≡ floor + length slots
-count_all floor slots = length-append (replicate floor Over) slots ∙ ap (λ n. n + length slots) (length-replicate floor Over)
+pub count_all : (floor : ℕ) (states : List RequestState) → length (all_states floor states) ≡ floor + length states
+count_all floor states = length-append (replicate floor Over) states ∙ ap (λ n. n + length states) (length-replicate floor Over)
 
 -- the slot of a number by whether it is taken and what was submitted
-abbrev pub slot_by : Bool → Option Submission → Option Slot
+abbrev pub slot_by : Bool → Option Submission → Option RequestState
 slot_by taken submission = cond taken (Some Over) (option_map (λ (s : Submission). Waiting s.request) submission)
 
 over_by : (taken : Bool) (submission : Option Submission) → is_over (slot_by taken submission) ≡ taken
@@ -43,38 +43,38 @@ over_by false None = refl
 over_by false (Some submission) = refl
 
 -- a number is taken exactly if its slot is over
-pub taken_is : (client : Client) (caller : Caller) → ((number : ℕ) → slot_at number client ≡ slot_in number caller) → (number : ℕ) → is_taken caller number ≡ is_over (slot_at number client)
-taken_is client caller slots number =
-    sym (over_by (is_taken caller number) (submission_at number caller.submitted)) ∙ ap is_over (sym (slots number))
+pub taken_is : (client : Client) (caller : Caller) → ((number : ℕ) → state_at number client ≡ state_in number caller) → (number : ℕ) → is_taken caller number ≡ is_over (state_at number client)
+taken_is client caller states number =
+    sym (over_by (is_taken caller number) (submission_at number caller.submitted)) ∙ ap is_over (sym (states number))
 
 -- the floor of the caller is the client's
-floor_from : (client : Client) (caller : Caller) → is_over (slice_get client.slots 0) ≡ false → count_of client ≡ length caller.submitted
-    → ((number : ℕ) → slot_at number client ≡ slot_in number caller) → client.floor ≡ floor_of caller
-floor_from client caller next count slots =
+floor_from : (client : Client) (caller : Caller) → is_over (slice_get client.states 0) ≡ false → count_of client ≡ length caller.submitted
+    → ((number : ℕ) → state_at number client ≡ state_in number caller) → client.floor ≡ floor_of caller
+floor_from client caller next count states =
     let e = upto_is caller client.floor below
-    (taken_is client caller slots (suc client.floor)
-    ∙ ap is_over (got_kept client.floor client.slots client.floor (omega arith))
-    ∙ ap (λ n. is_over (slice_get client.slots n)) (omega arith)
+    (taken_is client caller states (suc client.floor)
+    ∙ ap is_over (got_kept client.floor client.states client.floor (omega arith))
+    ∙ ap (λ n. is_over (slice_get client.states n)) (omega arith)
     ∙ next)
     (length caller.submitted) in
     sym (e ∙ omega arith)
   where
     below : (number : ℕ) → 1 ≤ number → number ≤ client.floor → is_taken caller number ≡ true
     below zero low high = absurd (omega arith)
-    below (suc place) low high = taken_is client caller slots (suc place) ∙ ap is_over (got_over client.floor client.slots place (omega arith))
+    below (suc place) low high = taken_is client caller states (suc place) ∙ ap is_over (got_over client.floor client.states place (omega arith))
 
 -- a client is the core of a caller if number, window, count and slots agree
-core_from : (client : Client) (caller : Caller) → client.number ≡ caller.number → client.window ≡ caller.window → is_over (slice_get client.slots 0) ≡ false
-    → count_of client ≡ length caller.submitted → ((number : ℕ) → slot_at number client ≡ slot_in number caller) → IsCoreOf client caller
-core_from client caller number window next count slots = record {
+core_from : (client : Client) (caller : Caller) → client.number ≡ caller.number → client.window ≡ caller.window → is_over (slice_get client.states 0) ≡ false
+    → count_of client ≡ length caller.submitted → ((number : ℕ) → state_at number client ≡ state_in number caller) → IsCoreOf client caller
+core_from client caller number window next count states = record {
   number_is = number;
   window_is = window;
-  floor_is = floor_from client caller next count slots;
+  floor_is = floor_from client caller next count states;
   count_is = count;
-  slots_are = slots;
+  slots_are = states;
 }
 
-new_slots : (number window asked : ℕ) → slot_at asked (new_client number window) ≡ slot_in asked (new_caller number window)
+new_slots : (number window asked : ℕ) → state_at asked (new_client number window) ≡ state_in asked (new_caller number window)
 unfolding is_taken done_at
 new_slots number window zero = refl
 new_slots number window (suc place) = refl
@@ -89,9 +89,9 @@ got_push_other [] last (suc place) apart = refl
 got_push_other (x ∷ xs) last zero apart = refl
 got_push_other (x ∷ xs) last (suc place) apart = got_push_other xs last place (λ e. apart (ap suc e))
 
-next_pushed : (slots : List Slot) (request : Request) → is_over (slice_get slots 0) ≡ false → is_over (slice_get (slots ++ Waiting request ∷ []) 0) ≡ false
+next_pushed : (states : List RequestState) (request : Request) → is_over (slice_get states 0) ≡ false → is_over (slice_get (states ++ Waiting request ∷ []) 0) ≡ false
 next_pushed [] request next = refl
-next_pushed (slot ∷ slots) request next = next
+next_pushed (state ∷ states) request next = next
 
 -- the submission made of a request
 abbrev pub submission_now : Request → Caller → Submission
@@ -102,13 +102,13 @@ unfolding is_taken
 same_taken request caller number = refl
 
 pushed_slots : (request : Request) (client : Client) (caller : Caller) → IsCoreOf client caller → (number : ℕ)
-    → slot_at number (with_waiting request client) ≡ slot_in number (with_request request caller)
+    → state_at number (with_waiting request client) ≡ state_in number (with_request request caller)
 pushed_slots request client caller core zero = core.slots_are zero ∙ ap (λ t. slot_by t None) (sym (same_taken request caller zero))
 pushed_slots request client caller core (suc place) =
-    let xs = all_slots client.floor client.slots in
-    let count : length xs ≡ length caller.submitted = count_all client.floor client.slots ∙ core.count_is in
-    let grown : slot_at (suc place) (with_waiting request client) ≡ slice_get (xs ++ Waiting request ∷ []) place =
-    ap (λ (all : List Slot). slice_get all place) (sym (append_assoc (replicate client.floor Over) client.slots (Waiting request ∷ []))) in
+    let xs = all_states client.floor client.states in
+    let count : length xs ≡ length caller.submitted = count_all client.floor client.states ∙ core.count_is in
+    let grown : state_at (suc place) (with_waiting request client) ≡ slice_get (xs ++ Waiting request ∷ []) place =
+    ap (λ (all : List RequestState). slice_get all place) (sym (append_assoc (replicate client.floor Over) client.states (Waiting request ∷ []))) in
     ⊎_elim
     (λ (here : place ≡ length xs).
     let none : slice_get xs place ≡ None = slice_get_past xs place (omega arith) in
@@ -124,11 +124,11 @@ pushed_slots request client caller core (suc place) =
     (same_or_not place (length xs))
 
 -- a client that submits a request is the core of the caller that does
-pub submit_core : (request : Request) (client : Client) (caller : Caller) → is_over (slice_get client.slots 0) ≡ false → IsCoreOf client caller
+pub submit_core : (request : Request) (client : Client) (caller : Caller) → is_over (slice_get client.states 0) ≡ false → IsCoreOf client caller
     → IsCoreOf (with_waiting request client) (with_request request caller)
 submit_core request client caller next core =
     core_from (with_waiting request client) (with_request request caller) core.number_is core.window_is
-    (next_pushed client.slots request next)
+    (next_pushed client.states request next)
     (let count = core.count_is in simp length-append (omega arith))
     (pushed_slots request client caller core)
 
@@ -149,13 +149,13 @@ taken_after told request caller number =
     ∙ ap (λ b. is_some (done_at caller.number number caller.mine) || b) (one_found caller.number number call)
 
 settled_slots : (told : Told) (request : Request) (client new : Client) (caller : Caller) → told.caller ≡ caller.number → IsEnded told.number request client new → IsCoreOf client caller
-    → (number : ℕ) → slot_at number new ≡ slot_in number (with_reply told request caller)
+    → (number : ℕ) → state_at number new ≡ state_in number (with_reply told request caller)
 settled_slots told request client new caller own settled core number =
     ⊎_elim
     (λ (here : number ≡ told.number).
     let taken : is_taken (with_reply told request caller) number ≡ true =
     taken_after told request caller number ∙ ap₂ (λ a b. is_taken caller number || (a && b)) (eqb_same told.caller caller.number own) (eqb_same told.number number (sym here)) ∙ or_true (is_taken caller number) in
-    let at : slot_at number client ≡ Some (Waiting request) = ap (λ n. slot_at n client) here ∙ settled.waits in
+    let at : state_at number client ≡ Some (Waiting request) = ap (λ n. state_at n client) here ∙ settled.waits in
     over_here number (here ∙ settled.number_is) at ∙ sym (ap (λ t. slot_by t (submission_at number caller.submitted)) taken))
     (λ (there : number ≢ told.number).
     let taken : is_taken (with_reply told request caller) number ≡ is_taken caller number =
@@ -173,84 +173,84 @@ settled_slots told request client new caller own settled core number =
     or_false true = refl
     or_false false = refl
 
-    over_here : (n : ℕ) → n ≡ suc settled.place → slot_at n client ≡ Some (Waiting request) → slot_at n new ≡ Some Over
+    over_here : (n : ℕ) → n ≡ suc settled.place → state_at n client ≡ Some (Waiting request) → state_at n new ≡ Some Over
     over_here zero e at = absurd (none-some (Waiting request) at)
     over_here (suc place) e at =
         let same : place ≡ settled.place = omega arith in
-        ap (λ (all : List Slot). slice_get all place) settled.slots_are
-        ∙ ap (λ p. slice_get (slice_set (all_slots client.floor client.slots) p Over) place) (sym same)
-        ∙ got_set_same (all_slots client.floor client.slots) place (Waiting request) Over at
+        ap (λ (all : List RequestState). slice_get all place) settled.slots_are
+        ∙ ap (λ p. slice_get (slice_set (all_states client.floor client.states) p Over) place) (sym same)
+        ∙ got_set_same (all_states client.floor client.states) place (Waiting request) Over at
 
-    same_there : (n : ℕ) → n ≢ suc settled.place → slot_at n new ≡ slot_at n client
+    same_there : (n : ℕ) → n ≢ suc settled.place → state_at n new ≡ state_at n client
     same_there zero apart = refl
     same_there (suc place) apart =
-        ap (λ (all : List Slot). slice_get all place) settled.slots_are
-        ∙ got_set_other (all_slots client.floor client.slots) settled.place place Over (λ e. apart (ap suc e))
+        ap (λ (all : List RequestState). slice_get all place) settled.slots_are
+        ∙ got_set_other (all_states client.floor client.states) settled.place place Over (λ e. apart (ap suc e))
 
 -- a client that takes a reply is the core of the caller that does
 pub settle_core : (told : Told) (request : Request) (client new : Client) (caller : Caller) → told.caller ≡ client.number → IsEnded told.number request client new → IsCoreOf client caller
     → IsCoreOf new (with_reply told request caller)
 settle_core told request client new caller own settled core =
     core_from new (with_reply told request caller) (settled.caller_is ∙ core.number_is) (settled.window_is ∙ core.window_is) settled.next
-    (sym (count_all new.floor new.slots) ∙ ap (λ (all : List Slot). length all) settled.slots_are ∙ length-set (all_slots client.floor client.slots) settled.place Over
-    ∙ count_all client.floor client.slots ∙ core.count_is)
+    (sym (count_all new.floor new.states) ∙ ap (λ (all : List RequestState). length all) settled.slots_are ∙ length-set (all_states client.floor client.states) settled.place Over
+    ∙ count_all client.floor client.states ∙ core.count_is)
     (settled_slots told request client new caller (own ∙ core.number_is) settled core)
 
 -- a pending number is above the floor and among those submitted
-pub waits_above : (floor : ℕ) (slots : List Slot) (number : ℕ) (request : Request) → waiting (slot_of floor slots number) ≡ Some request → (floor < number) × (number ≤ floor + length slots)
-waits_above floor slots zero request e = absurd (none-some request e)
-waits_above floor slots (suc place) request e =
+pub waits_above : (floor : ℕ) (states : List RequestState) (number : ℕ) (request : Request) → request_waiting_in (state_of floor states number) ≡ Some request → (floor < number) × (number ≤ floor + length states)
+waits_above floor states zero request e = absurd (none-some request e)
+waits_above floor states (suc place) request e =
     let low : floor < suc place =
     ⊎_elim (λ (above : floor < suc place). above)
-    (λ (below : suc place ≤ floor). absurd (none-some request (sym (ap waiting (got_over floor slots place (omega arith))) ∙ e)))
+    (λ (below : suc place ≤ floor). absurd (none-some request (sym (ap request_waiting_in (got_over floor states place (omega arith))) ∙ e)))
     (cases_lt floor (suc place)) in
     ⊎_elim
-    (λ (within : place < length (all_slots floor slots)). (low, let n = count_all floor slots in omega arith))
-    (λ (beyond : length (all_slots floor slots) ≤ place). absurd (none-some request (sym (ap waiting (slice_get_past (all_slots floor slots) place beyond)) ∙ e)))
-    (cases_lt place (length (all_slots floor slots)))
+    (λ (within : place < length (all_states floor states)). (low, let n = count_all floor states in omega arith))
+    (λ (beyond : length (all_states floor states) ≤ place). absurd (none-some request (sym (ap request_waiting_in (slice_get_past (all_states floor states) place beyond)) ∙ e)))
+    (cases_lt place (length (all_states floor states)))
 
 -- the slot of a number whose request waits
-pub waits_slot : (o : Option Slot) (request : Request) → waiting o ≡ Some request → o ≡ Some (Waiting request)
+pub waits_slot : (o : Option RequestState) (request : Request) → request_waiting_in o ≡ Some request → o ≡ Some (Waiting request)
 waits_slot None request e = absurd (none-some request e)
 waits_slot (Some (Waiting other)) request e = cc
 waits_slot (Some Over) request e = absurd (none-some request e)
 
 -- a number that neither waits nor is over was never submitted
-pub idle_slot : (o : Option Slot) → is_over o ≡ false → waiting o ≡ None → o ≡ None
+pub idle_slot : (o : Option RequestState) → is_over o ≡ false → request_waiting_in o ≡ None → o ≡ None
 idle_slot None over e = refl
 idle_slot (Some (Waiting request)) over e = absurd (none-some request (sym e))
 idle_slot (Some Over) over e = absurd (true≢false over)
 
-pub over_slot : (o : Option Slot) → is_over o ≡ true → o ≡ Some Over
+pub over_slot : (o : Option RequestState) → is_over o ≡ true → o ≡ Some Over
 over_slot None over = absurd (true≢false (sym over))
 over_slot (Some (Waiting request)) over = absurd (true≢false (sym over))
 over_slot (Some Over) over = refl
 
 -- a slot that is set above the floor
-pub set_above : (floor : ℕ) (slots : List Slot) (place : ℕ) (slot : Slot) → floor ≤ place → all_slots floor (slice_set slots (place - floor) slot) ≡ slice_set (all_slots floor slots) place slot
-set_above zero slots place slot high = ap (λ p. slice_set slots p slot) (omega arith)
-set_above (suc floor) slots zero slot high = absurd (omega arith)
-set_above (suc floor) slots (suc place) slot high =
-    ap (λ (all : List Slot). Over ∷ all) (ap (λ p. all_slots floor (slice_set slots p slot)) (omega arith) ∙ set_above floor slots place slot (omega arith))
+pub set_above : (floor : ℕ) (states : List RequestState) (place : ℕ) (state : RequestState) → floor ≤ place → all_states floor (slice_set states (place - floor) state) ≡ slice_set (all_states floor states) place state
+set_above zero states place state high = ap (λ p. slice_set states p state) (omega arith)
+set_above (suc floor) states zero state high = absurd (omega arith)
+set_above (suc floor) states (suc place) state high =
+    ap (λ (all : List RequestState). Over ∷ all) (ap (λ p. all_states floor (slice_set states p state)) (omega arith) ∙ set_above floor states place state (omega arith))
 
 -- the floor is not lowered
-raised_rises : (floor : ℕ) (slots : List Slot) (floor' : ℕ) (slots' : List Slot) → IsRaised floor slots floor' slots' → floor ≤ floor'
-raised_rises floor slots floor' slots' raised =
+raised_rises : (floor : ℕ) (states : List RequestState) (floor' : ℕ) (states' : List RequestState) → IsRaised floor states floor' states' → floor ≤ floor'
+raised_rises floor states floor' states' raised =
     ⊎_elim
     (λ (below : floor' < floor).
-    let first : slice_get slots' 0 ≡ Some Over =
-    ap (slice_get slots') (omega arith) ∙ sym (got_kept floor' slots' floor' (omega arith)) ∙ ap (λ (all : List Slot). slice_get all floor') raised.same ∙ got_over floor slots floor' below in
+    let first : slice_get states' 0 ≡ Some Over =
+    ap (slice_get states') (omega arith) ∙ sym (got_kept floor' states' floor' (omega arith)) ∙ ap (λ (all : List RequestState). slice_get all floor') raised.same ∙ got_over floor states floor' below in
     absurd (true≢false (sym (ap is_over first) ∙ raised.next)))
     (λ rises. rises)
     (cases_lt floor' floor)
 
 -- a client keeps its rules when a slot is settled
-pub settled_keeps : (window floor room : ℕ) (slots : List Slot) (place floor' room' : ℕ) (slots' : List Slot) → IsClient window floor room slots
-    → IsRaised floor (slice_set slots place Over) floor' slots' → room' ≡ room → IsClient window floor' room' slots'
-settled_keeps window floor room slots place floor' room' slots' h raised same =
-    let rises = raised_rises floor (slice_set slots place Over) floor' slots' raised in
-    let count : floor' + length slots' ≡ floor + length slots =
-    sym (count_all floor' slots') ∙ ap (λ (all : List Slot). length all) raised.same ∙ count_all floor (slice_set slots place Over) ∙ ap (λ n. floor + n) (length-set slots place Over) in
+pub settled_keeps : (window floor room : ℕ) (states : List RequestState) (place floor' room' : ℕ) (states' : List RequestState) → IsClient window floor room states
+    → IsRaised floor (slice_set states place Over) floor' states' → room' ≡ room → IsClient window floor' room' states'
+settled_keeps window floor room states place floor' room' states' h raised same =
+    let rises = raised_rises floor (slice_set states place Over) floor' states' raised in
+    let count : floor' + length states' ≡ floor + length states =
+    sym (count_all floor' states') ∙ ap (λ (all : List RequestState). length all) raised.same ∙ count_all floor (slice_set states place Over) ∙ ap (λ n. floor + n) (length-set states place Over) in
     let near = h.near in
     let numbered = h.numbered in
     record {
@@ -263,63 +263,63 @@ settled_keeps window floor room slots place floor' room' slots' h raised same =
     }
 
 -- the slot that is settled is that of the number
-pub settled_from : (number window floor : ℕ) (slots : List Slot) (asked : ℕ) (request : Request) (floor' : ℕ) (slots' : List Slot)
-    → waiting (slot_of floor slots asked) ≡ Some request → IsRaised floor (slice_set slots (asked - floor - 1) Over) floor' slots'
-    → IsEnded asked request (client_of number window floor slots) (client_of number window floor' slots')
-settled_from number window floor slots zero request floor' slots' waits raised = absurd (none-some request waits)
-settled_from number window floor slots (suc place) request floor' slots' waits raised =
-    let above = (waits_above floor slots (suc place) request waits).0 in
+pub settled_from : (number window floor : ℕ) (states : List RequestState) (asked : ℕ) (request : Request) (floor' : ℕ) (states' : List RequestState)
+    → request_waiting_in (state_of floor states asked) ≡ Some request → IsRaised floor (slice_set states (asked - floor - 1) Over) floor' states'
+    → IsEnded asked request (client_of number window floor states) (client_of number window floor' states')
+settled_from number window floor states zero request floor' states' waits raised = absurd (none-some request waits)
+settled_from number window floor states (suc place) request floor' states' waits raised =
+    let above = (waits_above floor states (suc place) request waits).0 in
     record {
       place = place;
       number_is = refl;
-      waits = waits_slot (slot_of floor slots (suc place)) request waits;
+      waits = waits_slot (state_of floor states (suc place)) request waits;
       caller_is = refl;
       window_is = refl;
-      slots_are = raised.same ∙ ap (λ p. all_slots floor (slice_set slots p Over)) (omega arith) ∙ set_above floor slots place Over (omega arith);
+      slots_are = raised.same ∙ ap (λ p. all_states floor (slice_set states p Over)) (omega arith) ∙ set_above floor states place Over (omega arith);
       next = raised.next;
     }
 
-pending_by : (taken : Bool) (submission : Option Submission) → is_some (waiting (slot_by taken submission)) ≡ (is_some submission && not taken)
+pending_by : (taken : Bool) (submission : Option Submission) → is_some (request_waiting_in (slot_by taken submission)) ≡ (is_some submission && not taken)
 pending_by true None = refl
 pending_by true (Some submission) = refl
 pending_by false None = refl
 pending_by false (Some submission) = refl
 
 -- a number is pending in a client exactly if it is in each caller that the client is the core of
-pub pending_is : (client : Client) (caller : Caller) → IsCoreOf client caller → (number : ℕ) → is_some (waiting_at number client) ≡ is_pending number caller
+pub pending_is : (client : Client) (caller : Caller) → IsCoreOf client caller → (number : ℕ) → is_some (request_waiting_at number client) ≡ is_pending number caller
 pending_is client caller core number =
-    ap (λ o. is_some (waiting o)) (core.slots_are number) ∙ pending_by (is_taken caller number) (submission_at number caller.submitted)
+    ap (λ o. is_some (request_waiting_in o)) (core.slots_are number) ∙ pending_by (is_taken caller number) (submission_at number caller.submitted)
 
 pub least_is : (client : Client) (caller : Caller) → IsCoreOf client caller → (least : Option ℕ) → ClientPendingIs client least → PendingIs caller least
 least_is client caller core None h = λ number. sym (pending_is client caller core number) ∙ ap is_some (h number)
 least_is client caller core (Some least) h =
     (sym (pending_is client caller core least) ∙ h.0, λ number below. sym (pending_is client caller core number) ∙ ap is_some (h.1 number below))
 
-low_idle : (client : Client) (number : ℕ) → number ≤ client.floor → waiting_at number client ≡ None
+low_idle : (client : Client) (number : ℕ) → number ≤ client.floor → request_waiting_at number client ≡ None
 low_idle client zero low = refl
-low_idle client (suc place) low = ap waiting (got_over client.floor client.slots place (omega arith))
+low_idle client (suc place) low = ap request_waiting_in (got_over client.floor client.states place (omega arith))
 
 -- without a slot no request is pending
-pub none_waits : (client : Client) → length client.slots ≡ 0 → ClientPendingIs client None
+pub none_waits : (client : Client) → length client.states ≡ 0 → ClientPendingIs client None
 none_waits client empty zero = refl
 none_waits client empty (suc place) =
-    let count = count_all client.floor client.slots in
+    let count = count_all client.floor client.states in
     ⊎_elim
     (λ (low : place < client.floor). low_idle client (suc place) (omega arith))
-    (λ (high : client.floor ≤ place). ap waiting (slice_get_past (all_slots client.floor client.slots) place (omega arith)))
+    (λ (high : client.floor ≤ place). ap request_waiting_in (slice_get_past (all_states client.floor client.states) place (omega arith)))
     (cases_lt place client.floor)
 
-first_waits : (slots : List Slot) → 0 < length slots → is_over (slice_get slots 0) ≡ false → is_some (waiting (slice_get slots 0)) ≡ true
+first_waits : (states : List RequestState) → 0 < length states → is_over (slice_get states 0) ≡ false → is_some (request_waiting_in (slice_get states 0)) ≡ true
 first_waits [] some next = absurd (omega arith)
-first_waits (Waiting request ∷ slots) some next = refl
-first_waits (Over ∷ slots) some next = absurd (true≢false next)
+first_waits (Waiting request ∷ states) some next = refl
+first_waits (Over ∷ states) some next = absurd (true≢false next)
 
 -- with a slot the first above the floor is the least pending
-pub one_waits : (client : Client) → 0 < length client.slots → is_over (slice_get client.slots 0) ≡ false → ClientPendingIs client (Some (client.floor + 1))
+pub one_waits : (client : Client) → 0 < length client.states → is_over (slice_get client.states 0) ≡ false → ClientPendingIs client (Some (client.floor + 1))
 one_waits client some next =
     let shift : client.floor + 1 ≡ suc client.floor = omega arith in
-    let here : is_some (waiting_at (suc client.floor) client) ≡ true =
-    ap (λ o. is_some (waiting o)) (got_kept client.floor client.slots client.floor (omega arith))
-    ∙ ap (λ n. is_some (waiting (slice_get client.slots n))) (omega arith)
-    ∙ first_waits client.slots some next in
-    (ap (λ n. is_some (waiting_at n client)) shift ∙ here, λ number below. low_idle client number (omega arith))
+    let here : is_some (request_waiting_at (suc client.floor) client) ≡ true =
+    ap (λ o. is_some (request_waiting_in o)) (got_kept client.floor client.states client.floor (omega arith))
+    ∙ ap (λ n. is_some (request_waiting_in (slice_get client.states n))) (omega arith)
+    ∙ first_waits client.states some next in
+    (ap (λ n. is_some (request_waiting_at n client)) shift ∙ here, λ number below. low_idle client number (omega arith))

@@ -8,14 +8,14 @@ use Rattle.chord_map.specs.declared.done.Done.{Done}
 use Rattle.chord_map.specs.History.{done_at}
 use Rattle.chord_map.proofs.Equal.{eqb_same}
 use Rattle.chord_map.proofs.HistoryLemmas.{done_is}
-use Rattle.chord_caller.specs.declared.submitted.Progress.{Progress}
-use Rattle.chord_caller.specs.declared.submitted.Progress.TheVariants.{Pending, Taken}
+use Rattle.chord_caller.specs.declared.submitted.RequestProgress.{RequestProgress}
+use Rattle.chord_caller.specs.declared.submitted.RequestProgress.TheVariants.{Pending, Taken}
 use Rattle.chord_caller.specs.declared.submitted.Submitted.{Submitted}
 use Rattle.chord_caller.specs.Caller.{Caller, is_taken, floor_upto, floor_of}
 use Rattle.chord_caller.specs.Submitted.{progress_at, is_over, IsFloor, IsTied, submission_of, caller_of}
 
 -- a request is over, with an index, or not over
-pub over_cases : (o : Option Progress) → ((place : ℕ) × (o ≡ Some (Taken place)) × (is_over o ≡ true)) ⊎ (is_over o ≡ false)
+pub over_cases : (o : Option RequestProgress) → ((place : ℕ) × (o ≡ Some (Taken place)) × (is_over o ≡ true)) ⊎ (is_over o ≡ false)
 over_cases None = inr refl
 over_cases (Some (Pending request)) = inr refl
 over_cases (Some (Taken place)) = inl (place, refl, refl)
@@ -43,7 +43,7 @@ not_over_absent caller submitted mine tied number e =
     let same : is_over (progress_at number submitted) ≡ true = ap (λ n. is_over (progress_at n submitted)) (sym parts.1) ∙ taken in
     absurd (true≢false (sym same ∙ e)))
 
-place_in : Option Progress → ℕ
+place_in : Option RequestProgress → ℕ
 place_in (Some (Taken place)) = place
 place_in other = 0
 

@@ -4,8 +4,8 @@ use Rattle.std.proofs.lemmas.List.{map-append}
 use Rattle.std.proofs.lemmas.Option.{none-some}
 use Rattle.chord_map.specs.declared.request.Request.{Request}
 use Rattle.chord_map.specs.declared.done.Done.{Done}
-use Rattle.chord_caller.specs.declared.submitted.Progress.{Progress}
-use Rattle.chord_caller.specs.declared.submitted.Progress.TheVariants.{Pending, Taken}
+use Rattle.chord_caller.specs.declared.submitted.RequestProgress.{RequestProgress}
+use Rattle.chord_caller.specs.declared.submitted.RequestProgress.TheVariants.{Pending, Taken}
 use Rattle.chord_caller.specs.declared.submitted.Submitted.{Submitted}
 use Rattle.chord_caller.specs.Caller.{Submission, with_request}
 use Rattle.chord_caller.specs.Submitted.{progress_of, progress_at, is_over, IsCaller, submission_of, caller_of}
@@ -35,13 +35,13 @@ taken_before : (submitted : List Submitted) (entry : Submitted) (request : Reque
 taken_before submitted entry request new zero into e = e
 taken_before submitted entry request new (suc place) into e = taken_before_at submitted entry request new place into e
 
-progress_left_at : (submitted more : List Submitted) (place : ℕ) (progress : Progress) → progress_of (slice_get submitted place) ≡ Some progress
+progress_left_at : (submitted more : List Submitted) (place : ℕ) (progress : RequestProgress) → progress_of (slice_get submitted place) ≡ Some progress
     → progress_of (slice_get (submitted ++ more) place) ≡ Some progress
 progress_left_at [] more place progress e = absurd (none-some progress e)
 progress_left_at (first ∷ rest) more zero progress e = e
 progress_left_at (first ∷ rest) more (suc place) progress e = progress_left_at rest more place progress e
 
-progress_left : (submitted more : List Submitted) (number : ℕ) (progress : Progress) → progress_at number submitted ≡ Some progress
+progress_left : (submitted more : List Submitted) (number : ℕ) (progress : RequestProgress) → progress_at number submitted ≡ Some progress
     → progress_at number (submitted ++ more) ≡ Some progress
 progress_left submitted more zero progress e = e
 progress_left submitted more (suc place) progress e = progress_left_at submitted more place progress e

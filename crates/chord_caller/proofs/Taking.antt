@@ -5,8 +5,8 @@ use Rattle.std.proofs.lemmas.Option.{none-some}
 use Rattle.chord_map.specs.declared.request.Request.{Request}
 use Rattle.chord_map.specs.declared.done.Done.{Done}
 use Rattle.chord_map.proofs.Equal.{same_or_not}
-use Rattle.chord_caller.specs.declared.submitted.Progress.{Progress}
-use Rattle.chord_caller.specs.declared.submitted.Progress.TheVariants.{Pending, Taken}
+use Rattle.chord_caller.specs.declared.submitted.RequestProgress.{RequestProgress}
+use Rattle.chord_caller.specs.declared.submitted.RequestProgress.TheVariants.{Pending, Taken}
 use Rattle.chord_caller.specs.declared.submitted.Submitted.{Submitted}
 use Rattle.chord_caller.specs.declared.told.Told.{Told}
 use Rattle.chord_caller.specs.Caller.{Submission, with_reply}
@@ -115,7 +115,7 @@ same_requests caller submitted mine more ties =
     map_agree (submission_of (mine ++ more)) (submission_of mine) submitted
     (λ place entry e. ap (λ (request : Request). record { request = request; mine_seen = entry.mine_seen; told_seen = entry.told_seen }) (by_progress place entry e entry.progress refl))
   where
-    by_progress : (place : ℕ) (entry : Submitted) → slice_get submitted place ≡ Some entry → (progress : Progress) → entry.progress ≡ progress → request_of (mine ++ more) progress ≡ request_of mine progress
+    by_progress : (place : ℕ) (entry : Submitted) → slice_get submitted place ≡ Some entry → (progress : RequestProgress) → entry.progress ≡ progress → request_of (mine ++ more) progress ≡ request_of mine progress
     by_progress place entry e (Pending request) is = refl
     by_progress place entry e (Taken into) is =
         let stands = ties.stands (suc place) into (ap progress_of e ∙ ap Some is) in

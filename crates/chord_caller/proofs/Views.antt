@@ -1,7 +1,7 @@
 -- What a caller's fields say of the caller of the definitions.
 use Rattle.std.proofs.Common.{◌≡◌, ℕ, zero, suc, ◌+◌, ◌<◌, ◌≤◌, ⊎_elim, Bool, true, false, not, ◌&&◌, eqb, Option, None, Some, is_some, List, [], ◌∷◌, ◌++◌, length, slice_get, option_map, refl, sym, ◌∙◌, ap, ap₂, add-one, arith}
 use Rattle.chord_map.specs.declared.request.Request.{Request}
-use Rattle.chord_caller.specs.declared.submitted.Progress.TheVariants.{Pending, Taken}
+use Rattle.chord_caller.specs.declared.submitted.RequestProgress.TheVariants.{Pending, Taken}
 use Rattle.std.proofs.lemmas.List.{length-map}
 use Rattle.std.proofs.lemmas.Bool.{cond-true, cond-false, and_from, true≢false, cases_lt}
 use Rattle.std.proofs.lemmas.Option.{none-some, slice_get_within}
@@ -11,7 +11,7 @@ use Rattle.chord_map.specs.History.{done_at}
 use Rattle.chord_map.proofs.Equal.{eqb_same}
 use Rattle.chord_caller.specs.declared.told.Told.{Told}
 use Rattle.chord_caller.specs.declared.submitted.Submitted.{Submitted}
-use Rattle.chord_caller.specs.Caller.{Submission, Caller, submission_at, is_taken, floor_of, next_number, with_request, fitting, fresh_for}
+use Rattle.chord_caller.specs.Caller.{Submission, Caller, submission_at, is_taken, floor_of, next_number, with_request, request_for_reply, fresh_for}
 use Rattle.chord_caller.specs.Submitted.{submitted_at, progress_of, progress_at, is_over, IsFloor, IsTied, IsCaller, submission_of, caller_of}
 use Rattle.chord_caller.specs.Answers.{is_pending}
 use Rattle.chord_caller.proofs.Floors.{found_at, absent_at, is_taken_is, floor_of_is}
@@ -82,15 +82,15 @@ pub submission_asked : (number window : ℕ) (submitted : List Submitted) (mine 
 submission_asked number window submitted mine told caller view asked o e =
     ap (λ (c : Caller). submission_at asked c.submitted) (sym view) ∙ submission_at_is mine submitted asked ∙ ap (option_map (submission_of mine)) (sym e)
 
-fitting_is : (told : Told) (o : Option Submission) (submission : Submission) → o ≡ Some submission → fits told.reply submission.request ≡ true → fitting told.reply o ≡ Some submission.request
-fitting_is told o submission e fit = ap (fitting told.reply) e ∙ cond-true (fits told.reply submission.request) (Some submission.request) None fit
+fitting_is : (told : Told) (o : Option Submission) (submission : Submission) → o ≡ Some submission → fits told.reply submission.request ≡ true → request_for_reply told.reply o ≡ Some submission.request
+fitting_is told o submission e fit = ap (request_for_reply told.reply) e ∙ cond-true (fits told.reply submission.request) (Some submission.request) None fit
 
 -- the pending request that a reply fits
 pub fresh_is : (told : Told) (caller : Caller) (submission : Submission) → told.caller ≡ caller.number → is_taken caller told.number ≡ false
     → submission_at told.number caller.submitted ≡ Some submission → fits told.reply submission.request ≡ true → fresh_for told caller ≡ Some submission.request
 unfolding fresh_for
 fresh_is told caller submission own waits at fit =
-    cond-true (eqb told.caller caller.number && not (is_taken caller told.number)) (fitting told.reply (submission_at told.number caller.submitted)) None
+    cond-true (eqb told.caller caller.number && not (is_taken caller told.number)) (request_for_reply told.reply (submission_at told.number caller.submitted)) None
     (and_from (eqb told.caller caller.number) (not (is_taken caller told.number)) (eqb_same told.caller caller.number own) (ap not waits))
     ∙ fitting_is told (submission_at told.number caller.submitted) submission at fit
 
@@ -98,7 +98,7 @@ fresh_is told caller submission own waits at fit =
 pub known_stale : (told : Told) (caller : Caller) → is_taken caller told.number ≡ true → fresh_for told caller ≡ None
 unfolding fresh_for
 known_stale told caller taken =
-    cond-false (eqb told.caller caller.number && not (is_taken caller told.number)) (fitting told.reply (submission_at told.number caller.submitted)) None
+    cond-false (eqb told.caller caller.number && not (is_taken caller told.number)) (request_for_reply told.reply (submission_at told.number caller.submitted)) None
     (off (eqb told.caller caller.number) (is_taken caller told.number) taken)
   where
     off : (own taken : Bool) → taken ≡ true → (own && not taken) ≡ false

@@ -3,8 +3,8 @@ use Rattle.std.proofs.Common.{◌≡◌, ℕ, zero, suc, ◌+◌, ◌<◌, ◌�
 use Rattle.std.proofs.lemmas.Bool.{true≢false, cases_lt}
 use Rattle.std.proofs.lemmas.Option.{slice_get-map}
 use Rattle.chord_map.specs.declared.done.Done.{Done}
-use Rattle.chord_caller.specs.declared.submitted.Progress.{Progress}
-use Rattle.chord_caller.specs.declared.submitted.Progress.TheVariants.{Pending, Taken}
+use Rattle.chord_caller.specs.declared.submitted.RequestProgress.{RequestProgress}
+use Rattle.chord_caller.specs.declared.submitted.RequestProgress.TheVariants.{Pending, Taken}
 use Rattle.chord_caller.specs.declared.submitted.Submitted.{Submitted}
 use Rattle.chord_caller.specs.Caller.{submission_at}
 use Rattle.chord_caller.specs.Submitted.{submitted_at, progress_of, progress_at, is_over, IsFloor, IsTied, submission_of, caller_of}
@@ -12,7 +12,7 @@ use Rattle.chord_caller.specs.Answers.{is_pending, PendingIs}
 use Rattle.chord_caller.proofs.Floors.{is_taken_is}
 
 -- the request waits
-abbrev pub is_waiting : Option Progress → Bool
+abbrev pub is_waiting : Option RequestProgress → Bool
 is_waiting None = false
 is_waiting (Some (Pending request)) = true
 is_waiting (Some (Taken place)) = false
@@ -26,7 +26,7 @@ waits : (mine : List Done) (o : Option Submitted) → (is_some (option_map (subm
 waits mine None = refl
 waits mine (Some entry) = by_progress entry.progress
   where
-    by_progress : (progress : Progress) → not (is_over (Some progress)) ≡ is_waiting (Some progress)
+    by_progress : (progress : RequestProgress) → not (is_over (Some progress)) ≡ is_waiting (Some progress)
     by_progress (Pending request) = refl
     by_progress (Taken place) = refl
 
@@ -37,7 +37,7 @@ is_pending_is caller window submitted mine told tied number =
     ap₂ (λ o b. is_some o && not b) (submission_at_is mine submitted number) (is_taken_is caller window submitted mine told tied number)
     ∙ waits mine (submitted_at number submitted)
 
-over_waits : (o : Option Progress) → is_over o ≡ true → is_waiting o ≡ false
+over_waits : (o : Option RequestProgress) → is_over o ≡ true → is_waiting o ≡ false
 over_waits None e = refl
 over_waits (Some (Pending request)) e = absurd (true≢false (sym e))
 over_waits (Some (Taken place)) e = refl
@@ -46,7 +46,7 @@ there_waits : (entry : Option Submitted) → is_some entry ≡ true → is_over 
 there_waits None there e = absurd (true≢false (sym there))
 there_waits (Some entry) there e = by_progress entry.progress e
   where
-    by_progress : (progress : Progress) → is_over (Some progress) ≡ false → is_waiting (Some progress) ≡ true
+    by_progress : (progress : RequestProgress) → is_over (Some progress) ≡ false → is_waiting (Some progress) ≡ true
     by_progress (Pending request) e = refl
     by_progress (Taken place) e = absurd (true≢false e)
 

@@ -2,10 +2,10 @@
 -- are theirs.
 use Rattle.std.specs.Prelude.{◌≡◌, ℕ, ◌+◌, ◌^◌, ◌<◌, ◌≤◌, false, if◌then◌else◌, Option, None, Some, option_map, List, [], length, slice_get}
 use Rattle.chord_map.specs.declared.request.Request.{Request}
-use Rattle.chord_caller.specs.declared.slot.Slot.{Slot}
-use Rattle.chord_caller.specs.declared.slot.Slot.TheVariants.{Waiting, Over}
+use Rattle.chord_caller.specs.declared.request_state.RequestState.{RequestState}
+use Rattle.chord_caller.specs.declared.request_state.RequestState.TheVariants.{Waiting, Over}
 use Rattle.chord_caller.specs.declared.told.Told.{Told}
-use Rattle.chord_caller.specs.Slots.{slot_of, waiting, is_over}
+use Rattle.chord_caller.specs.Slots.{state_of, request_waiting_in, is_over}
 use Rattle.chord_caller.specs.Caller.{Submission, Caller, Letter, CallerStep, submission_at, is_taken, floor_of, with_reply, fresh_for}
 
 -- The slots are those of the numbers above the floor, in order
@@ -13,20 +13,20 @@ pub record Client : Type 0 where
   pub number : ℕ
   pub window : ℕ
   pub floor : ℕ
-  pub slots : List Slot
+  pub states : List RequestState
 
 -- a client with these fields
-abbrev pub client_of : ℕ → ℕ → ℕ → List Slot → Client
-client_of number window floor slots = record { number = number; window = window; floor = floor; slots = slots }
+abbrev pub client_of : ℕ → ℕ → ℕ → List RequestState → Client
+client_of number window floor states = record { number = number; window = window; floor = floor; states = states }
 
 -- what holds of every client: it has room for exactly its window
-pub record IsClient (window floor room : ℕ) (slots : List Slot) : Type 0 where
+pub record IsClient (window floor room : ℕ) (states : List RequestState) : Type 0 where
   pub some_window : 1 ≤ window
   pub small_window : window ≤ 16
-  pub near : length slots ≤ window
+  pub near : length states ≤ window
   pub room_is : room ≡ window
-  pub numbered : floor + length slots < 2 ^ 64
-  pub next : is_over (slice_get slots 0) ≡ false
+  pub numbered : floor + length states < 2 ^ 64
+  pub next : is_over (slice_get states 0) ≡ false
 
 -- a client that has submitted nothing
 abbrev pub new_client : ℕ → ℕ → Client
@@ -34,19 +34,19 @@ new_client number window = client_of number window 0 []
 
 -- how many requests it submitted
 abbrev pub count_of : Client → ℕ
-count_of client = client.floor + length client.slots
+count_of client = client.floor + length client.states
 
 -- the slot of this number
-abbrev pub slot_at : ℕ → Client → Option Slot
-slot_at number client = slot_of client.floor client.slots number
+abbrev pub state_at : ℕ → Client → Option RequestState
+state_at number client = state_of client.floor client.states number
 
 -- the pending request of this number
-abbrev pub waiting_at : ℕ → Client → Option Request
-waiting_at number client = waiting (slot_at number client)
+abbrev pub request_waiting_at : ℕ → Client → Option Request
+request_waiting_at number client = request_waiting_in (state_at number client)
 
 -- the slot that a client would have for this number of the caller
-abbrev pub slot_in : ℕ → Caller → Option Slot
-slot_in number caller =
+abbrev pub state_in : ℕ → Caller → Option RequestState
+state_in number caller =
     if is_taken caller number then Some Over
     else option_map (λ (submission : Submission). Waiting submission.request) (submission_at number caller.submitted)
 
@@ -56,7 +56,7 @@ pub record IsCoreOf (client : Client) (caller : Caller) : Type 0 where
   pub window_is : client.window ≡ caller.window
   pub floor_is : client.floor ≡ floor_of caller
   pub count_is : count_of client ≡ length caller.submitted
-  pub slots_are : (number : ℕ) → slot_at number client ≡ slot_in number caller
+  pub slots_are : (number : ℕ) → state_at number client ≡ state_in number caller
 
 -- each caller with core `old` may take in and send these letters and become one with core `new`
 abbrev pub Simulates : Client → Option Letter → Client → Option Letter → Type 0
@@ -64,10 +64,10 @@ Simulates old taken new sent =
     (caller : Caller) → IsCoreOf old caller → (after : Caller) × IsCoreOf new after × CallerStep caller taken after sent
 
 -- the caller after it took the reply to this request, if there is one
-abbrev pub taking : Told → Option Request → Caller → Caller
-taking told None caller = caller
-taking told (Some request) caller = with_reply told request caller
+abbrev pub caller_after_taking : Told → Option Request → Caller → Caller
+caller_after_taking told None caller = caller
+caller_after_taking told (Some request) caller = with_reply told request caller
 
 -- the caller after it heard a reply: it takes the first reply to each pending request of its own
-abbrev pub hearing : Told → Caller → Caller
-hearing told caller = taking told (fresh_for told caller) caller
+abbrev pub caller_after_hearing : Told → Caller → Caller
+caller_after_hearing told caller = caller_after_taking told (fresh_for told caller) caller

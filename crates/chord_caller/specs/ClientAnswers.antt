@@ -5,9 +5,9 @@ use Rattle.chord_map.specs.Map.{fits}
 use Rattle.chord_map.specs.Checked.{IsRequest, HasFault}
 use Rattle.chord_caller.specs.declared.ask.Ask.{Ask}
 use Rattle.chord_caller.specs.declared.told.Told.{Told}
-use Rattle.chord_caller.specs.declared.slot.Slot.TheVariants.{Waiting, Over}
-use Rattle.chord_caller.specs.declared.outcome.Outcome.{Outcome}
-use Rattle.chord_caller.specs.declared.outcome.Outcome.TheVariants.{Fresh, Known, Foreign}
+use Rattle.chord_caller.specs.declared.request_state.RequestState.TheVariants.{Waiting, Over}
+use Rattle.chord_caller.specs.declared.outcome.TakeOutcome.{TakeOutcome}
+use Rattle.chord_caller.specs.declared.outcome.TakeOutcome.TheVariants.{Fresh, Known, Foreign}
 use Rattle.chord_caller.specs.declared.fault.SubmitFault.{SubmitFault}
 use Rattle.chord_caller.specs.declared.fault.SubmitFault.TheVariants.{Bad, WindowFull, NumbersSpent, Memory as SubmitMemory}
 use Rattle.chord_caller.specs.declared.fault.ResendFault.{ResendFault}
@@ -18,8 +18,8 @@ use Rattle.chord_caller.specs.declared.heard.Heard.{Heard}
 use Rattle.chord_caller.specs.declared.heard.Heard.TheVariants as heard
 use Rattle.chord_caller.specs.Answers.{SubmitIs, TakeIs}
 use Rattle.chord_caller.specs.Caller.{Caller}
-use Rattle.chord_caller.specs.Slots.{all_slots, is_over}
-use Rattle.chord_caller.specs.Client.{Client, IsCoreOf, count_of, slot_at, waiting_at, hearing}
+use Rattle.chord_caller.specs.Slots.{all_states, is_over}
+use Rattle.chord_caller.specs.Client.{Client, IsCoreOf, count_of, state_at, request_waiting_at, caller_after_hearing}
 
 -- the ask is the call of this number with the client's present floor and 255 hops
 pub record IsAsked (sender : Client) (place : ℕ) (what : Request) (ask : Ask) : Type 0 where
@@ -39,23 +39,23 @@ HasRoom client = next_of client ≤ client.floor + client.window
 
 -- the client after it submitted a request
 abbrev pub with_waiting : Request → Client → Client
-with_waiting request client = record client { slots = client.slots ++ Waiting request ∷ [] }
+with_waiting request client = record client { states = client.states ++ Waiting request ∷ [] }
 
 -- the pending request of this number is over, no other
 -- changed, and the floor is as high as it can be
 pub record IsEnded (number : ℕ) (request : Request) (old new : Client) : Type 0 where
   pub place : ℕ
   pub number_is : number ≡ suc place
-  pub waits : slot_at number old ≡ Some (Waiting request)
+  pub waits : state_at number old ≡ Some (Waiting request)
   pub caller_is : new.number ≡ old.number
   pub window_is : new.window ≡ old.window
-  pub slots_are : all_slots new.floor new.slots ≡ slice_set (all_slots old.floor old.slots) place Over
-  pub next : is_over (slice_get new.slots 0) ≡ false
+  pub slots_are : all_states new.floor new.states ≡ slice_set (all_states old.floor old.states) place Over
+  pub next : is_over (slice_get new.states 0) ≡ false
 
 -- the least pending number, or None if no request is pending
 abbrev pub ClientPendingIs : Client → Option ℕ → Type 0
-ClientPendingIs client None = (number : ℕ) → waiting_at number client ≡ None
-ClientPendingIs client (Some least) = (is_some (waiting_at least client) ≡ true) × ((number : ℕ) → number < least → waiting_at number client ≡ None)
+ClientPendingIs client None = (number : ℕ) → request_waiting_at number client ≡ None
+ClientPendingIs client (Some least) = (is_some (request_waiting_at least client) ≡ true) × ((number : ℕ) → number < least → request_waiting_at number client ≡ None)
 
 -- The request goes out under the next number; or the first refusal that applies is answered, and
 -- nothing changes
@@ -75,24 +75,24 @@ ClientRefusalIs request client (Some fault) = ClientSubmitIs request client (Err
 
 -- The pending request of this number is sent again
 abbrev pub ClientResendIs : ℕ → Client → Result Ask ResendFault → Type 0
-ClientResendIs number client (Ok ask) = (request : Request) × (slot_at number client ≡ Some (Waiting request)) × IsAsked client number request ask
-ClientResendIs number client (Err Idle) = waiting_at number client ≡ None
-ClientResendIs number client (Err ResendMemory) = is_some (waiting_at number client) ≡ true
+ClientResendIs number client (Ok ask) = (request : Request) × (state_at number client ≡ Some (Waiting request)) × IsAsked client number request ask
+ClientResendIs number client (Err Idle) = request_waiting_at number client ≡ None
+ClientResendIs number client (Err ResendMemory) = is_some (request_waiting_at number client) ≡ true
 
 -- the reply is another caller's, is to a number never
 -- submitted, or does not fit its pending request
 abbrev pub IsStrange : Told → Client → Type 0
 IsStrange told client =
     (told.caller ≢ client.number)
-    ⊎ (slot_at told.number client ≡ None)
-    ⊎ ((request : Request) × (slot_at told.number client ≡ Some (Waiting request)) × (fits told.reply request ≡ false))
+    ⊎ (state_at told.number client ≡ None)
+    ⊎ ((request : Request) × (state_at told.number client ≡ Some (Waiting request)) × (fits told.reply request ≡ false))
 
 -- The reply to a pending request is handed out; one to a request already over changes nothing; any
 -- other is foreign
-abbrev pub ClientTakeIs : Told → Client → Outcome → Client → Type 0
+abbrev pub ClientTakeIs : Told → Client → TakeOutcome → Client → Type 0
 ClientTakeIs told old (Fresh reply) new =
     (request : Request) × (told.caller ≡ old.number) × (fits reply request ≡ true) × (reply ≡ told.reply) × IsEnded told.number request old new
-ClientTakeIs told old Known new = (told.caller ≡ old.number) × (slot_at told.number old ≡ Some Over) × (new ≡ old)
+ClientTakeIs told old Known new = (told.caller ≡ old.number) × (state_at told.number old ≡ Some Over) × (new ≡ old)
 ClientTakeIs told old Foreign new = IsStrange told old × (new ≡ old)
 
 -- each caller with core `old` answers alike, and then has core `new`
@@ -100,11 +100,11 @@ abbrev pub SubmitsAlike : Request → Client → Result Ask SubmitFault → Clie
 SubmitsAlike request old result new = (caller : Caller) → IsCoreOf old caller → (after : Caller) × IsCoreOf new after × SubmitIs request caller result after
 
 -- what a caller that records its replies answers
-abbrev pub heard_of : Outcome → Result Heard TakeFault
+abbrev pub heard_of : TakeOutcome → Result Heard TakeFault
 heard_of (Fresh reply) = Ok heard.Fresh
 heard_of Known = Ok heard.Known
 heard_of Foreign = Err refused.Foreign
 
 -- each caller with core `old` answers alike, and then has core `new`
-abbrev pub TakesAlike : Told → Client → Outcome → Client → Type 0
-TakesAlike told old outcome new = (caller : Caller) → IsCoreOf old caller → IsCoreOf new (hearing told caller) × TakeIs told caller (heard_of outcome) (hearing told caller)
+abbrev pub TakesAlike : Told → Client → TakeOutcome → Client → Type 0
+TakesAlike told old outcome new = (caller : Caller) → IsCoreOf old caller → IsCoreOf new (caller_after_hearing told caller) × TakeIs told caller (heard_of outcome) (caller_after_hearing told caller)

@@ -4,8 +4,8 @@ use Rattle.std.specs.Prelude.{◌≡◌, ℕ, zero, suc, ◌+◌, ◌≤◌, Boo
 use Rattle.chord_map.specs.declared.request.Request.{Request}
 use Rattle.chord_map.specs.declared.request.Request.TheVariants.{Retrieve}
 use Rattle.chord_map.specs.declared.done.Done.{Done}
-use Rattle.chord_caller.specs.declared.submitted.Progress.{Progress}
-use Rattle.chord_caller.specs.declared.submitted.Progress.TheVariants.{Pending, Taken}
+use Rattle.chord_caller.specs.declared.submitted.RequestProgress.{RequestProgress}
+use Rattle.chord_caller.specs.declared.submitted.RequestProgress.TheVariants.{Pending, Taken}
 use Rattle.chord_caller.specs.declared.submitted.Submitted.{Submitted}
 use Rattle.chord_caller.specs.declared.told.Told.{Told}
 use Rattle.chord_caller.specs.Caller.{Submission, Caller}
@@ -16,15 +16,15 @@ submitted_at zero submitted = None
 submitted_at (suc place) submitted = slice_get submitted place
 
 -- the progress of an entry
-abbrev pub progress_of : Option Submitted → Option Progress
+abbrev pub progress_of : Option Submitted → Option RequestProgress
 progress_of None = None
 progress_of (Some entry) = Some entry.progress
 
-abbrev pub progress_at : ℕ → List Submitted → Option Progress
+abbrev pub progress_at : ℕ → List Submitted → Option RequestProgress
 progress_at number submitted = progress_of (submitted_at number submitted)
 
 -- whether the reply was taken
-abbrev pub is_over : Option Progress → Bool
+abbrev pub is_over : Option RequestProgress → Bool
 is_over None = false
 is_over (Some (Pending request)) = false
 is_over (Some (Taken place)) = true
@@ -58,7 +58,7 @@ abbrev pub request_in : Option Done → Request
 request_in None = Retrieve []
 request_in (Some done) = done.request
 
-abbrev pub request_of : List Done → Progress → Request
+abbrev pub request_of : List Done → RequestProgress → Request
 request_of mine (Pending request) = request
 request_of mine (Taken place) = request_in (slice_get mine place)
 

@@ -2,14 +2,14 @@
 ghost use Rattle.std.specs.Prelude.{◌≡◌, ◌≤◌, ◌++◌, None, Some, is_some, true, IfOk, OnOk, OnErr};
 ghost use Rattle.std.specs.Option.{option_copied};
 ghost use Rattle.chord_map.specs.History.{done_at};
-ghost use Rattle.chord_caller.specs.Caller.{floor_of, known, unknown, submission_at, AskLetter, ToldLetter, NoteLetter, CallerStep};
+ghost use Rattle.chord_caller.specs.Caller.{floor_of, known_calls, unknown_calls, submission_at, AskLetter, ToldLetter, NoteLetter, CallerStep};
 ghost use Rattle.chord_caller.specs.Answers.{new_caller, is_pending, PendingIs, RefusalIs, SubmitIs, ResendIs, TakeIs};
 
 use crate::ask::Ask;
 use crate::fault::{ResendFault, SubmitFault, TakeFault};
 use crate::heard::Heard;
 use crate::note::{Note, copy_unknown};
-use crate::submitted::{Progress, Submitted, done_in, raise_floor, settle, submission};
+use crate::submitted::{RequestProgress, Submitted, done_in, raise_floor, settle, submission};
 use crate::told::Told;
 use chord_map::{Done, Request, copy_dones};
 use std::alloc::{AllocError, Global};
@@ -88,7 +88,7 @@ impl CallerCore {
         ensures { result ≡ is_pending number self.now }
     {
         match submission(&self.submitted, number) {
-            Some(submitted) => matches!(&submitted.progress, Progress::Pending(_)),
+            Some(submitted) => matches!(&submitted.progress, RequestProgress::Pending(_)),
             None => false,
         }
     }
@@ -106,8 +106,8 @@ impl CallerCore {
     {
         match submission(&self.submitted, number) {
             Some(submitted) => match &submitted.progress {
-                Progress::Taken(place) => done_in(&self.mine, *place),
-                Progress::Pending(_) => None,
+                RequestProgress::Taken(place) => done_in(&self.mine, *place),
+                RequestProgress::Pending(_) => None,
             },
             None => None,
         }
@@ -153,7 +153,7 @@ impl CallerCore {
         let copy = request.try_copy()?;
         self.submitted.reserve(1)?;
         let submitted = Submitted {
-            progress: Progress::Pending(request),
+            progress: RequestProgress::Pending(request),
             mine_seen: self.mine.len() as u64,
             told_seen: self.told.len() as u64,
         };
@@ -178,7 +178,7 @@ impl CallerCore {
         let Some(submitted) = submission(&self.submitted, told.number) else {
             return Err(TakeFault::Foreign);
         };
-        let Progress::Pending(request) = &submitted.progress else {
+        let RequestProgress::Pending(request) = &submitted.progress else {
             return Ok(Heard::Known);
         };
         if !told.reply.fits(request) {
@@ -198,7 +198,7 @@ impl CallerCore {
         let Some(submitted) = submission(&self.submitted, number) else {
             return Err(ResendFault::Idle);
         };
-        let Progress::Pending(request) = &submitted.progress else {
+        let RequestProgress::Pending(request) = &submitted.progress else {
             return Err(ResendFault::Idle);
         };
         let request = request.try_copy()?;
@@ -213,7 +213,7 @@ impl CallerCore {
 
     /// A note of what the caller knows.
     pub fn show(&self) -> Result<Note, AllocError>
-        ensures note { IfOk result (λ note. note ≡ record { caller = self.now.number; done = known self.now }) }
+        ensures note { IfOk result (λ note. note ≡ record { caller = self.now.number; done = known_calls self.now }) }
         ensures step { IfOk result (λ note. CallerStep self.now None self.now (Some (NoteLetter note))) }
     {
         let mut done = copy_dones(*self.mine.allocator(), &self.mine)?;
@@ -227,7 +227,7 @@ impl CallerCore {
 
     /// Learns the calls of a note that it did not know.
     pub fn meet(&mut self, note: &Note) -> Result<(), AllocError>
-        ensures ok { OnOk result (self.new ≡ record self.old { told = self.old.told ++ unknown self.old note.now.done }) }
+        ensures ok { OnOk result (self.new ≡ record self.old { told = self.old.told ++ unknown_calls self.old note.now.done }) }
         ensures err { OnErr result (self.new ≡ self.old) }
         ensures step { OnOk result (CallerStep self.old (Some (NoteLetter note.now)) self.new None) }
     {

@@ -2,13 +2,13 @@
 ghost use Rattle.std.specs.Prelude.{◌≡◌, ◌≤◌, None, Some, is_some, IfOk};
 ghost use Rattle.chord_caller.specs.Caller.{Caller, floor_of, AskLetter, ToldLetter};
 ghost use Rattle.chord_caller.specs.Answers.{new_caller, is_pending, PendingIs, RefusalIs, ResendIs};
-ghost use Rattle.chord_caller.specs.Client.{new_client, waiting_at, IsCoreOf, Simulates};
+ghost use Rattle.chord_caller.specs.Client.{new_client, request_waiting_at, IsCoreOf, Simulates};
 ghost use Rattle.chord_caller.specs.ClientAnswers.{ClientPendingIs, ClientRefusalIs, ClientSubmitIs, ClientResendIs, ClientTakeIs, SubmitsAlike, TakesAlike};
 
 use crate::ask::Ask;
 use crate::fault::{ResendFault, SubmitFault};
-use crate::outcome::Outcome;
-use crate::slot::{Slot, is_number_over, settle_slot, waiting_request};
+use crate::outcome::TakeOutcome;
+use crate::request_state::{RequestState, is_number_over, settle_state, waiting_request};
 use crate::told::Told;
 use chord_map::Request;
 use std::alloc::{AllocError, Global};
@@ -21,7 +21,7 @@ pub struct ClientCore {
     number: u64,
     window: u64,
     floor: u64,
-    slots: VecDeque<Slot>,
+    states: VecDeque<RequestState>,
 }
 
 impl Model for ClientCore {
@@ -30,9 +30,9 @@ impl Model for ClientCore {
 
     ghost Value = { Client };
 
-    ghost view = { λ core. client_of core.number core.window core.floor core.slots.items };
+    ghost view = { λ core. client_of core.number core.window core.floor core.states.items };
 
-    ghost invariant = { λ core. IsClient core.window core.floor (deque_capacity core.slots) core.slots.items };
+    ghost invariant = { λ core. IsClient core.window core.floor (deque_capacity core.states) core.states.items };
 }
 
 impl ClientCore {
@@ -48,7 +48,7 @@ impl ClientCore {
             number,
             window,
             floor: 0,
-            slots: VecDeque::with_capacity(alloc, window as usize)?,
+            states: VecDeque::with_capacity(alloc, window as usize)?,
         })
     }
 
@@ -70,10 +70,10 @@ impl ClientCore {
 
     /// Whether the request of this number waits for its reply.
     pub fn is_pending(&self, number: u64) -> bool
-        ensures answer { result ≡ is_some (waiting_at number self.now) }
+        ensures answer { result ≡ is_some (request_waiting_at number self.now) }
         ensures callers { (caller : Caller) → IsCoreOf self.now caller → result ≡ is_pending number caller }
     {
-        waiting_request(&self.slots, self.floor, number).is_some()
+        waiting_request(&self.states, self.floor, number).is_some()
     }
 
     /// The least pending number.
@@ -81,7 +81,7 @@ impl ClientCore {
         ensures answer { ClientPendingIs self.now result }
         ensures callers { (caller : Caller) → IsCoreOf self.now caller → PendingIs caller result }
     {
-        if self.slots.is_empty() {
+        if self.states.is_empty() {
             None
         } else {
             Some(self.floor + 1)
@@ -96,7 +96,7 @@ impl ClientCore {
         if let Err(fault) = request.check() {
             return Some(SubmitFault::Bad(fault));
         }
-        let above = self.slots.len() as u64;
+        let above = self.states.len() as u64;
         if self.window <= above {
             return Some(SubmitFault::WindowFull);
         }
@@ -109,7 +109,7 @@ impl ClientCore {
     /// Submits a request under the next number. A refused request is dropped.
     pub fn submit(&mut self, request: Request) -> Result<Ask, SubmitFault>
         ensures answer { ClientSubmitIs request self.old result self.new }
-        ensures waits { IfOk result (λ ask. waiting_at ask.number self.new ≡ Some request) }
+        ensures waits { IfOk result (λ ask. request_waiting_at ask.number self.new ≡ Some request) }
         ensures callers { SubmitsAlike request self.old result self.new }
         ensures step { IfOk result (λ ask. Simulates self.old None self.new (Some (AskLetter ask))) }
     {
@@ -117,10 +117,11 @@ impl ClientCore {
             return Err(fault);
         }
         let copy = request.try_copy()?;
-        self.slots.push_back_reserved(Slot::Waiting(request));
+        self.states
+            .push_back_reserved(RequestState::Waiting(request));
         Ok(Ask {
             caller: self.number,
-            number: self.floor + self.slots.len() as u64,
+            number: self.floor + self.states.len() as u64,
             floor: self.floor,
             request: copy,
             hops: 255,
@@ -129,25 +130,25 @@ impl ClientCore {
 
     /// Takes a reply and hands it out. One that is not
     /// the first reply to a pending request is dropped.
-    pub fn take(&mut self, told: Told) -> Outcome
+    pub fn take(&mut self, told: Told) -> TakeOutcome
         ensures answer { ClientTakeIs told self.old result self.new }
         ensures callers { TakesAlike told self.old result self.new }
         ensures step { Simulates self.old (Some (ToldLetter told)) self.new None }
     {
         if told.caller != self.number {
-            return Outcome::Foreign;
+            return TakeOutcome::Foreign;
         }
-        if is_number_over(&self.slots, self.floor, told.number) {
-            return Outcome::Known;
+        if is_number_over(&self.states, self.floor, told.number) {
+            return TakeOutcome::Known;
         }
-        let Some(request) = waiting_request(&self.slots, self.floor, told.number) else {
-            return Outcome::Foreign;
+        let Some(request) = waiting_request(&self.states, self.floor, told.number) else {
+            return TakeOutcome::Foreign;
         };
         if !told.reply.fits(request) {
-            return Outcome::Foreign;
+            return TakeOutcome::Foreign;
         }
-        self.floor = settle_slot(&mut self.slots, self.floor, told.number);
-        Outcome::Fresh(told.reply)
+        self.floor = settle_state(&mut self.states, self.floor, told.number);
+        TakeOutcome::Fresh(told.reply)
     }
 
     /// Sends a pending request again, under its number and with the present floor.
@@ -156,7 +157,7 @@ impl ClientCore {
         ensures callers { (caller : Caller) → IsCoreOf self.now caller → ResendIs number caller result }
         ensures step { IfOk result (λ ask. Simulates self.now None self.now (Some (AskLetter ask))) }
     {
-        let Some(request) = waiting_request(&self.slots, self.floor, number) else {
+        let Some(request) = waiting_request(&self.states, self.floor, number) else {
             return Err(ResendFault::Idle);
         };
         let request = request.try_copy()?;

@@ -5,7 +5,7 @@ use chord_map::Reply;
 /// The first reply to a pending request, handed out;
 /// a reply to a request already over; or any other.
 #[derive(Debug, Drop)]
-pub enum Outcome {
+pub enum TakeOutcome {
     Fresh(Reply),
     Known,
     Foreign,

@@ -10,7 +10,7 @@ use std::mem::replace;
 
 /// The progress of a submitted request.
 #[derive(Debug, Drop)]
-pub enum Progress {
+pub enum RequestProgress {
     Pending(Request),
     /// Its reply was taken. The request is in the taken call at this index.
     Taken(usize),
@@ -20,7 +20,7 @@ pub enum Progress {
 /// had taken, and had been told of by notes, before it.
 #[derive(Debug, Drop)]
 pub struct Submitted {
-    pub progress: Progress,
+    pub progress: RequestProgress,
     pub mine_seen: u64,
     pub told_seen: u64,
 }
@@ -50,7 +50,7 @@ pub fn raise_floor(submitted: &[Submitted], floor: u64) -> u64
 {
     let mut floor = floor as usize;
     while floor < submitted.len() {
-        if let Progress::Pending(_) = submitted[floor].progress {
+        if let RequestProgress::Pending(_) = submitted[floor].progress {
             break;
         }
         floor += 1;
@@ -66,7 +66,10 @@ pub fn settle(submitted: &mut Vec<Submitted>, mine: &mut Vec<Done>, told: Told)
 {
     let place = mine.len();
     let entry = &mut submitted[(told.number - 1) as usize];
-    if let Progress::Pending(request) = replace(&mut entry.progress, Progress::Taken(place)) {
+    if let RequestProgress::Pending(request) = replace(
+        &mut entry.progress,
+        RequestProgress::Taken(place),
+    ) {
         mine.push_reserved(Done {
             caller: told.caller,
             number: told.number,

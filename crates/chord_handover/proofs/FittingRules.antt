@@ -8,8 +8,8 @@ use Rattle.chord_map.specs.declared.pair.Pair.{Pair}
 use Rattle.chord_map.proofs.Equal.{eqb_same, eqb_is}
 use Rattle.chord_segment.specs.Segment.{Segment}
 use Rattle.chord_handover.specs.Gather.{AreOf, AreAllThere, IsFitting, part_in, segment_of, pairs_of, pairs_upto}
-use Rattle.chord_handover.specs.Handover.{Part, IsPart, IsFilled, parts_in, chunk, part_at, gathered, ticket_of_part}
-use Rattle.chord_handover.specs.Parcelled.{IsParcelled, handed}
+use Rattle.chord_handover.specs.Handover.{Part, IsPart, IsFilled, parts_in, chunk, part_at, gathered_parts, ticket_of_part}
+use Rattle.chord_handover.specs.Payload.{IsPayload, handover_of_payload}
 use Rattle.chord_handover.proofs.GatherRules.{is_like, at_place, all_gathered, IsPartOf}
 use Rattle.chord_handover.proofs.PassRules.{front}
 
@@ -44,13 +44,13 @@ further place (suc more) parts =
     (r.0 ++ next, ap (λ n. pairs_upto n parts) at ∙ ap (λ ps. ps ++ next) r.1 ∙ append_assoc (pairs_upto place parts) r.0 next)
 
 -- if the pairs of the first parts make no payload, neither do all pairs
-pub none_further : (segment : Segment) (place of : ℕ) (parts : List Part) → place ≤ of → ¬ IsParcelled (record { segment = segment; pairs = pairs_upto place parts })
-    → ¬ IsParcelled (record { segment = segment; pairs = pairs_upto of parts })
+pub none_further : (segment : Segment) (place of : ℕ) (parts : List Part) → place ≤ of → ¬ IsPayload (record { segment = segment; pairs = pairs_upto place parts })
+    → ¬ IsPayload (record { segment = segment; pairs = pairs_upto of parts })
 none_further segment place of parts upto none rules =
     let r = further place (of - place) parts in
     let at : of ≡ place + (of - place) = omega arith in
     let whole : pairs_upto of parts ≡ pairs_upto place parts ++ r.0 = ap (λ n. pairs_upto n parts) at ∙ r.1 in
-    none (front segment (pairs_upto place parts) r.0 (subst (λ (pairs : List Pair). IsParcelled (record { segment = segment; pairs = pairs })) whole rules))
+    none (front segment (pairs_upto place parts) r.0 (subst (λ (pairs : List Pair). IsPayload (record { segment = segment; pairs = pairs })) whole rules))
 
 last_split : (k : ℕ) (parts : List Part) → pairs_upto (suc k) parts ≡ pairs_upto k parts ++ pairs_of (part_in (suc k) parts)
 unfolding pairs_upto
@@ -103,15 +103,15 @@ count_is of k parts there filled e =
     ]
 
 -- what the parts of one handover have in common
-like_part : (part : Part) (noted : List Part) (x : Part) → Has (gathered part noted) x → (x.from ≡ part.from) × (x.number ≡ part.number)
-like_part part noted x there =
+like_part : (part : Part) (buffered : List Part) (x : Part) → Has (gathered_parts part buffered) x → (x.from ≡ part.from) × (x.number ≡ part.number)
+like_part part buffered x there =
     ⊎_elim
     (λ old.
-    let h = has_filter (is_like part) noted x old in
+    let h = has_filter (is_like part) buffered x old in
     let parts = and_parts (eqb x.from part.from) (eqb x.number part.number) h.1 in
     (eqb_is x.from part.from parts.0, eqb_is x.number part.number parts.1))
     (λ same. (ap (λ (p : Part). p.from) (sym same), ap (λ (p : Part). p.number) (sym same)))
-    (has_pushed (filter (is_like part) noted) part x there)
+    (has_pushed (filter (is_like part) buffered) part x there)
 
 part_is : (x : Part) (from to number of : ℕ) (segment : Option Segment) (pairs : List Pair) → x.from ≡ from → x.to ≡ to → x.number ≡ number → x.of ≡ of → x.segment ≡ segment → x.pairs ≡ pairs
     → x ≡ record { from = from; to = to; number = number; place = x.place; of = of; segment = segment; pairs = pairs }
@@ -122,26 +122,26 @@ not_some : (o : Option Segment) → is_some o ≡ false → o ≡ None
 not_some None h = refl
 not_some (Some segment) h = absurd (cc)
 
-segment_is : (part : Part) (noted : List Part) (segment : Segment) (x : Part) → segment_of (part_in 1 (gathered part noted)) ≡ Some segment → part_in x.place (gathered part noted) ≡ Some x
+segment_is : (part : Part) (buffered : List Part) (segment : Segment) (x : Part) → segment_of (part_in 1 (gathered_parts part buffered)) ≡ Some segment → part_in x.place (gathered_parts part buffered) ≡ Some x
     → is_some x.segment ≡ eqb x.place 1 → x.segment ≡ cond (eqb x.place 1) (Some segment) None
-segment_is part noted segment x first here rule =
+segment_is part buffered segment x first here rule =
     by_test (eqb x.place 1)
     (λ t.
-    let at : part_in 1 (gathered part noted) ≡ Some x = ap (λ n. part_in n (gathered part noted)) (sym (eqb_is x.place 1 t)) ∙ here in
+    let at : part_in 1 (gathered_parts part buffered) ≡ Some x = ap (λ n. part_in n (gathered_parts part buffered)) (sym (eqb_is x.place 1 t)) ∙ here in
     sym (ap segment_of at) ∙ first ∙ sym (cond-true (eqb x.place 1) (Some segment) None t))
     (λ f. not_some x.segment (rule ∙ f) ∙ sym (cond-false (eqb x.place 1) (Some segment) None f))
 
 -- parts that fit are those of the first one's segment with the pairs of all
-pub fitting_are : (part : Part) (noted : List Part) (segment : Segment) → AreOf part.of (gathered part noted) → AreAllThere part.of (gathered part noted)
-    → segment_of (part_in 1 (gathered part noted)) ≡ Some segment → ((x : Part) → Has (gathered part noted) x → IsPart x × IsFitting part (gathered part noted) x)
-    → All (IsPartOf (ticket_of_part part) segment (pairs_upto part.of (gathered part noted))) (gathered part noted)
-fitting_are part noted segment agree there first fitting =
-    let all = gathered part noted in
+pub fitting_are : (part : Part) (buffered : List Part) (segment : Segment) → AreOf part.of (gathered_parts part buffered) → AreAllThere part.of (gathered_parts part buffered)
+    → segment_of (part_in 1 (gathered_parts part buffered)) ≡ Some segment → ((x : Part) → Has (gathered_parts part buffered) x → IsPart x × IsFitting part (gathered_parts part buffered) x)
+    → All (IsPartOf (ticket_of_part part) segment (pairs_upto part.of (gathered_parts part buffered))) (gathered_parts part buffered)
+fitting_are part buffered segment agree there first fitting =
+    let all = gathered_parts part buffered in
     let filled : AreFilled part.of all = λ x h. (each_all (λ (p : Part). p.of ≡ part.of) all agree x h, ((fitting x h).1).filled) in
     all_each (IsPartOf (ticket_of_part part) segment (pairs_upto part.of all)) all (λ x h.
     let rules = (fitting x h).0 in
     let fits = (fitting x h).1 in
-    let like = like_part part noted x h in
+    let like = like_part part buffered x h in
     let of : x.of ≡ part.of = (filled x h).0 in
     let some = rules.some in
     let within = rules.within in
@@ -150,7 +150,7 @@ fitting_are part noted segment agree there first fitting =
     let pairs : x.pairs ≡ chunk x.place (pairs_upto part.of all) =
     sym (ap pairs_of fits.found) ∙ sym (chunk_is part.of (x.place - 1) all there filled (omega arith) ∙ ap (λ n. pairs_of (part_in n all)) k) in
     part_is x part.from part.to part.number (parts_in (pairs_upto part.of all)) (cond (eqb x.place 1) (Some segment) None) (chunk x.place (pairs_upto part.of all))
-    like.0 fits.receiver like.1 (of ∙ count_is part.of (part.of - 1) all there filled last) (segment_is part noted segment x first fits.found rules.first) pairs)
+    like.0 fits.receiver like.1 (of ∙ count_is part.of (part.of - 1) all there filled last) (segment_is part buffered segment x first fits.found rules.first) pairs)
 
 -- a part of a handover is filled as its number asks
 part_filled : (x : Part) (pairs : List Pair) → IsPart x → x.of ≡ parts_in pairs → x.pairs ≡ chunk x.place pairs → IsFilled x
@@ -163,16 +163,16 @@ part_filled x pairs rules of is =
     record { full = λ low. omega arith; most = λ high. omega arith; some = λ high more. omega arith }
 
 -- if each part is one of a segment with some pairs, each fits
-pub are_fitting : (part : Part) (noted : List Part) (segment : Segment) (pairs : List Pair) → All (IsPartOf (ticket_of_part part) segment pairs) (gathered part noted)
-    → (x : Part) → Has (gathered part noted) x → IsPart x → IsFitting part (gathered part noted) x
-are_fitting part noted segment pairs each x h rules =
-    let all = gathered part noted in
+pub are_fitting : (part : Part) (buffered : List Part) (segment : Segment) (pairs : List Pair) → All (IsPartOf (ticket_of_part part) segment pairs) (gathered_parts part buffered)
+    → (x : Part) → Has (gathered_parts part buffered) x → IsPart x → IsFitting part (gathered_parts part buffered) x
+are_fitting part buffered segment pairs each x h rules =
+    let all = gathered_parts part buffered in
     let P = IsPartOf (ticket_of_part part) segment pairs in
     let own : P x = each_all P all each x h in
     let r = finds (λ (p : Part). eqb p.place x.place) all x h (eqb_same x.place x.place refl) in
     let f = found (λ (p : Part). eqb p.place x.place) all r.0 r.1 in
     let other : P r.0 = each_all P all each r.0 f.1 in
-    let handover = handed (ticket_of_part part) (record { segment = segment; pairs = pairs }) in
+    let handover = handover_of_payload (ticket_of_part part) (record { segment = segment; pairs = pairs }) in
     let same : r.0 ≡ x = other ∙ ap (part_at handover) (eqb_is (r.0).place x.place f.0) ∙ sym own in
     record {
       receiver = ap (λ (p : Part). p.to) own;
@@ -181,5 +181,5 @@ are_fitting part noted segment pairs each x h rules =
     }
 
 -- a property of the part and of each buffered part of its handover holds of all gathered parts
-pub each_gathered : (P : Part → Type 0) (part : Part) (noted : List Part) → ((other : Part) → Has noted other → is_like part other ≡ true → P other) → P part → (x : Part) → Has (gathered part noted) x → P x
-each_gathered P part noted each here x there = each_all P (gathered part noted) (all_gathered P part noted each here) x there
+pub each_gathered : (P : Part → Type 0) (part : Part) (buffered : List Part) → ((other : Part) → Has buffered other → is_like part other ≡ true → P other) → P part → (x : Part) → Has (gathered_parts part buffered) x → P x
+each_gathered P part buffered each here x there = each_all P (gathered_parts part buffered) (all_gathered P part buffered each here) x there

@@ -16,26 +16,26 @@ use Rattle.chord_map.proofs.Equal.{eqb_same, eqb_is}
 use Rattle.chord_segment.specs.Segment.{Segment}
 use Rattle.chord_handover.specs.Gather.{AreOf, AreAllThere, AreWhole, MakeNone, part_in, segment_of, pairs_of, pairs_upto}
 use Rattle.chord_handover.specs.declared.ticket.Ticket.{Ticket}
-use Rattle.chord_handover.specs.Handover.{Handover, Part, parts_in, part_at, IsWhole, gathered, ticket_of_part}
-use Rattle.chord_handover.specs.Parcelled.{Parcelled, IsParcelled, handed}
+use Rattle.chord_handover.specs.Handover.{Handover, Part, parts_in, part_at, IsWhole, gathered_parts, ticket_of_part}
+use Rattle.chord_handover.specs.Payload.{Payload, IsPayload, handover_of_payload}
 use Rattle.chord_handover.proofs.Counting.{count}
 
 -- whether another part is of the same handover
 abbrev pub is_like : Part → Part → Bool
 is_like part other = eqb other.from part.from && eqb other.number part.number
 
-pub has_itself : (part : Part) (noted : List Part) → Has (gathered part noted) part
-has_itself part noted = has_last (filter (is_like part) noted) part
+pub has_itself : (part : Part) (buffered : List Part) → Has (gathered_parts part buffered) part
+has_itself part buffered = has_last (filter (is_like part) buffered) part
 
-pub has_noted : (part : Part) (noted : List Part) (other : Part) → Has noted other → is_like part other ≡ true → Has (gathered part noted) other
-has_noted part noted other there like = has_left (filter (is_like part) noted) (part ∷ []) other (has_filter_back (is_like part) noted other there like)
+pub has_buffered : (part : Part) (buffered : List Part) (other : Part) → Has buffered other → is_like part other ≡ true → Has (gathered_parts part buffered) other
+has_buffered part buffered other there like = has_left (filter (is_like part) buffered) (part ∷ []) other (has_filter_back (is_like part) buffered other there like)
 
 -- a property of the part and of each buffered part of its handover holds of all gathered parts
-pub all_gathered : (P : Part → Type 0) (part : Part) (noted : List Part) → ((other : Part) → Has noted other → is_like part other ≡ true → P other) → P part → All P (gathered part noted)
-all_gathered P part noted each here =
-    all_each P (gathered part noted) (λ other there.
-    ⊎_elim (λ old. let h = has_filter (is_like part) noted other old in each other h.0 h.1) (λ same. subst P same here)
-    (has_pushed (filter (is_like part) noted) part other there))
+pub all_gathered : (P : Part → Type 0) (part : Part) (buffered : List Part) → ((other : Part) → Has buffered other → is_like part other ≡ true → P other) → P part → All P (gathered_parts part buffered)
+all_gathered P part buffered each here =
+    all_each P (gathered_parts part buffered) (λ other there.
+    ⊎_elim (λ old. let h = has_filter (is_like part) buffered other old in each other h.0 h.1) (λ same. subst P same here)
+    (has_pushed (filter (is_like part) buffered) part other there))
 
 -- tests of a list
 
@@ -61,22 +61,22 @@ from_false false h = refl
 abbrev pub tells_other : Part → Part → Bool
 tells_other part other = is_like part other && not (eqb other.of part.of)
 
-pub they_differ : (part : Part) (noted : List Part) → list_any (tells_other part) noted ≡ true → ¬ AreOf part.of (gathered part noted)
-they_differ part noted h all =
-    let r = any_has (tells_other part) noted h in
+pub they_differ : (part : Part) (buffered : List Part) → list_any (tells_other part) buffered ≡ true → ¬ AreOf part.of (gathered_parts part buffered)
+they_differ part buffered h all =
+    let r = any_has (tells_other part) buffered h in
     let other = r.0 in
     let tells = and_parts (is_like part other) (not (eqb other.of part.of)) r.2 in
-    let there = has_noted part noted other r.1 tells.0 in
-    let same = eqb_same other.of part.of (each_all (λ (p : Part). p.of ≡ part.of) (gathered part noted) all other there) in
+    let there = has_buffered part buffered other r.1 tells.0 in
+    let same = eqb_same other.of part.of (each_all (λ (p : Part). p.of ≡ part.of) (gathered_parts part buffered) all other there) in
     true≢false (sym same ∙ not_false (eqb other.of part.of) tells.1)
 
-pub they_agree : (part : Part) (noted : List Part) → list_any (tells_other part) noted ≡ false → AreOf part.of (gathered part noted)
-they_agree part noted h =
-    all_gathered (λ (p : Part). p.of ≡ part.of) part noted (λ other there like.
+pub they_agree : (part : Part) (buffered : List Part) → list_any (tells_other part) buffered ≡ false → AreOf part.of (gathered_parts part buffered)
+they_agree part buffered h =
+    all_gathered (λ (p : Part). p.of ≡ part.of) part buffered (λ other there like.
     by_test (eqb other.of part.of) (λ t. eqb_is other.of part.of t)
     (λ f.
     let tells = and_from (is_like part other) (not (eqb other.of part.of)) like (from_false (eqb other.of part.of) f) in
-    absurd (true≢false (sym (has_any (tells_other part) noted other there tells) ∙ h))))
+    absurd (true≢false (sym (has_any (tells_other part) buffered other there tells) ∙ h))))
     refl
 
 -- ---- the part of a number
@@ -94,15 +94,15 @@ find_filter p q [] = refl
 find_filter p q (x ∷ xs) = filter_step p (q x) x (filter q xs) ∙ find_step (q x) (p x) x (find p (filter q xs)) (find (λ x. q x && p x) xs) (find_filter p q xs)
 
 -- whether a buffered part of the handover has this number
-abbrev pub is_noted_at : Part → ℕ → Part → Bool
-is_noted_at part place other = is_like part other && eqb other.place place
+abbrev pub is_buffered_at : Part → ℕ → Part → Bool
+is_buffered_at part place other = is_like part other && eqb other.place place
 
 -- the part of a number is a buffered one, or this one
-pub part_in_is : (part : Part) (noted : List Part) (place : ℕ) → part_in place (gathered part noted) ≡ option_or (find (is_noted_at part place) noted) (cond (eqb part.place place) (Some part) None)
-part_in_is part noted place =
-    find-append (λ (p : Part). eqb p.place place) (filter (is_like part) noted) (part ∷ [])
+pub part_in_is : (part : Part) (buffered : List Part) (place : ℕ) → part_in place (gathered_parts part buffered) ≡ option_or (find (is_buffered_at part place) buffered) (cond (eqb part.place place) (Some part) None)
+part_in_is part buffered place =
+    find-append (λ (p : Part). eqb p.place place) (filter (is_like part) buffered) (part ∷ [])
     ∙ ap (λ o. option_or o (cond (eqb part.place place) (Some part) None))
-    (find_filter (λ (p : Part). eqb p.place place) (is_like part) noted)
+    (find_filter (λ (p : Part). eqb p.place place) (is_like part) buffered)
 
 -- ---- part numbers
 
@@ -151,11 +151,11 @@ enough_places (suc n) of parts there low =
     let here = has_count (λ (p : Part). eqb p.place (suc n)) parts a.0 a.3 (eqb_same (a.0).place (suc n) a.2) in
     omega (arith, count_places n parts, enough_places n of parts there (omega arith))
 
-pub enough_parts : (part : Part) (noted : List Part) → AreAllThere part.of (gathered part noted) → part.of ≤ length (filter (is_like part) noted) + 1
-enough_parts part noted there =
-    let all = gathered part noted in
+pub enough_parts : (part : Part) (buffered : List Part) → AreAllThere part.of (gathered_parts part buffered) → part.of ≤ length (filter (is_like part) buffered) + 1
+enough_parts part buffered there =
+    let all = gathered_parts part buffered in
     let low = enough_places part.of part.of all there (omega arith) in
-    omega (arith, count_upto (λ (p : Part). leb 1 p.place && leb p.place part.of) all, length-append (filter (is_like part) noted) (part ∷ []))
+    omega (arith, count_upto (λ (p : Part). leb 1 p.place && leb p.place part.of) all, length-append (filter (is_like part) buffered) (part ∷ []))
 
 -- ---- the parts of a handover are those of one payload only
 
@@ -177,25 +177,25 @@ pairs_are of parts handover (suc place) there whole upto =
     (ap pairs_of (found_part of parts handover (suc place) there whole (omega arith) upto) ∙ ap (λ k. take 64 (drop k handover.pairs)) start)
     ∙ sym (take-add (64 * place) 64 handover.pairs) ∙ ap (λ k. take k handover.pairs) size
 
-pub whole_is : (part : Part) (noted : List Part) (parcelled : Parcelled) → AreAllThere part.of (gathered part noted) → IsWhole (gathered part noted) (handed (ticket_of_part part) parcelled)
-    → (segment_of (part_in 1 (gathered part noted)) ≡ Some parcelled.segment) × (pairs_upto part.of (gathered part noted) ≡ parcelled.pairs)
-whole_is part noted parcelled there whole =
-    let all = gathered part noted in
-    let handover = handed (ticket_of_part part) parcelled in
-    let own : part ≡ part_at handover part.place = each_all (λ (p : Part). p ≡ part_at handover p.place) all whole.each part (has_itself part noted) in
-    let count : part.of ≡ parts_in parcelled.pairs = ap (λ (p : Part). p.of) own in (
+pub whole_is : (part : Part) (buffered : List Part) (payload : Payload) → AreAllThere part.of (gathered_parts part buffered) → IsWhole (gathered_parts part buffered) (handover_of_payload (ticket_of_part part) payload)
+    → (segment_of (part_in 1 (gathered_parts part buffered)) ≡ Some payload.segment) × (pairs_upto part.of (gathered_parts part buffered) ≡ payload.pairs)
+whole_is part buffered payload there whole =
+    let all = gathered_parts part buffered in
+    let handover = handover_of_payload (ticket_of_part part) payload in
+    let own : part ≡ part_at handover part.place = each_all (λ (p : Part). p ≡ part_at handover p.place) all whole.each part (has_itself part buffered) in
+    let count : part.of ≡ parts_in payload.pairs = ap (λ (p : Part). p.of) own in (
       ap segment_of (found_part part.of all handover 1 there whole (omega arith) (omega arith)),
-      pairs_are part.of all handover part.of there whole (omega arith) ∙ take_all (64 * part.of) parcelled.pairs (omega arith),
+      pairs_are part.of all handover part.of there whole (omega arith) ∙ take_all (64 * part.of) payload.pairs (omega arith),
     )
 
 -- if each part is of this segment with these pairs, they are the parts of that payload
-pub whole_from : (part : Part) (noted : List Part) (parcelled : Parcelled) → AreAllThere part.of (gathered part noted)
-    → All (λ (other : Part). other ≡ part_at (handed (ticket_of_part part) parcelled) other.place) (gathered part noted) → IsWhole (gathered part noted) (handed (ticket_of_part part) parcelled)
-whole_from part noted parcelled there each =
-    let all = gathered part noted in
-    let handover = handed (ticket_of_part part) parcelled in
-    let own : part ≡ part_at handover part.place = each_all (λ (p : Part). p ≡ part_at handover p.place) all each part (has_itself part noted) in
-    let count : part.of ≡ parts_in parcelled.pairs = ap (λ (p : Part). p.of) own in
+pub whole_from : (part : Part) (buffered : List Part) (payload : Payload) → AreAllThere part.of (gathered_parts part buffered)
+    → All (λ (other : Part). other ≡ part_at (handover_of_payload (ticket_of_part part) payload) other.place) (gathered_parts part buffered) → IsWhole (gathered_parts part buffered) (handover_of_payload (ticket_of_part part) payload)
+whole_from part buffered payload there each =
+    let all = gathered_parts part buffered in
+    let handover = handover_of_payload (ticket_of_part part) payload in
+    let own : part ≡ part_at handover part.place = each_all (λ (p : Part). p ≡ part_at handover p.place) all each part (has_itself part buffered) in
+    let count : part.of ≡ parts_in payload.pairs = ap (λ (p : Part). p.of) own in
     record {
       each = each;
       all = λ place from upto.
@@ -205,49 +205,49 @@ whole_from part noted parcelled there each =
     }
 
 -- they make a payload if the segment with the pairs is one
-pub are_whole : (part : Part) (noted : List Part) (segment : Segment) → AreAllThere part.of (gathered part noted)
-    → IsParcelled (record { segment = segment; pairs = pairs_upto part.of (gathered part noted) })
-    → All (λ (other : Part). other ≡ part_at (handed (ticket_of_part part) (record { segment = segment; pairs = pairs_upto part.of (gathered part noted) })) other.place) (gathered part noted) → AreWhole part noted
-are_whole part noted segment there rules each =
-    let parcelled : Parcelled = record { segment = segment; pairs = pairs_upto part.of (gathered part noted) } in
-    (parcelled, rules, whole_from part noted parcelled there each)
+pub are_whole : (part : Part) (buffered : List Part) (segment : Segment) → AreAllThere part.of (gathered_parts part buffered)
+    → IsPayload (record { segment = segment; pairs = pairs_upto part.of (gathered_parts part buffered) })
+    → All (λ (other : Part). other ≡ part_at (handover_of_payload (ticket_of_part part) (record { segment = segment; pairs = pairs_upto part.of (gathered_parts part buffered) })) other.place) (gathered_parts part buffered) → AreWhole part buffered
+are_whole part buffered segment there rules each =
+    let payload : Payload = record { segment = segment; pairs = pairs_upto part.of (gathered_parts part buffered) } in
+    (payload, rules, whole_from part buffered payload there each)
 
 -- no other payload is sent in these parts
-pub makes_none : (part : Part) (noted : List Part) (segment : Segment) (pairs : List Pair) → AreAllThere part.of (gathered part noted)
-    → segment_of (part_in 1 (gathered part noted)) ≡ Some segment → pairs_upto part.of (gathered part noted) ≡ pairs
-    → ¬ (IsParcelled (record { segment = segment; pairs = pairs }) × All (λ (other : Part). other ≡ part_at (handed (ticket_of_part part) (record { segment = segment; pairs = pairs })) other.place) (gathered part noted))
-    → MakeNone (ticket_of_part part) (gathered part noted)
-makes_none part noted segment pairs there first all unfit parcelled rules whole =
-    let is = whole_is part noted parcelled there whole in
-    let same_segment : parcelled.segment ≡ segment = same_Some parcelled.segment segment (sym is.0 ∙ first) in
-    let same_pairs : parcelled.pairs ≡ pairs = sym is.1 ∙ all in
-    let same : parcelled ≡ record { segment = segment; pairs = pairs } = λ i. record { segment = same_segment i; pairs = same_pairs i } in
+pub makes_none : (part : Part) (buffered : List Part) (segment : Segment) (pairs : List Pair) → AreAllThere part.of (gathered_parts part buffered)
+    → segment_of (part_in 1 (gathered_parts part buffered)) ≡ Some segment → pairs_upto part.of (gathered_parts part buffered) ≡ pairs
+    → ¬ (IsPayload (record { segment = segment; pairs = pairs }) × All (λ (other : Part). other ≡ part_at (handover_of_payload (ticket_of_part part) (record { segment = segment; pairs = pairs })) other.place) (gathered_parts part buffered))
+    → MakeNone (ticket_of_part part) (gathered_parts part buffered)
+makes_none part buffered segment pairs there first all unfit payload rules whole =
+    let is = whole_is part buffered payload there whole in
+    let same_segment : payload.segment ≡ segment = same_Some payload.segment segment (sym is.0 ∙ first) in
+    let same_pairs : payload.pairs ≡ pairs = sym is.1 ∙ all in
+    let same : payload ≡ record { segment = segment; pairs = pairs } = λ i. record { segment = same_segment i; pairs = same_pairs i } in
     unfit (
-      subst IsParcelled same rules,
-      subst (λ (p : Parcelled). All (λ (other : Part). other ≡ part_at (handed (ticket_of_part part) p) other.place) (gathered part noted)) same whole.each,
+      subst IsPayload same rules,
+      subst (λ (p : Payload). All (λ (other : Part). other ≡ part_at (handover_of_payload (ticket_of_part part) p) other.place) (gathered_parts part buffered)) same whole.each,
     )
 
 -- no payload is, if the first part has no segment
-pub makes_none_without : (part : Part) (noted : List Part) → AreAllThere part.of (gathered part noted) → segment_of (part_in 1 (gathered part noted)) ≡ None
-    → MakeNone (ticket_of_part part) (gathered part noted)
-makes_none_without part noted there none parcelled rules whole =
-    let is = whole_is part noted parcelled there whole in
-    absurd (none-some parcelled.segment (sym none ∙ is.0))
+pub makes_none_without : (part : Part) (buffered : List Part) → AreAllThere part.of (gathered_parts part buffered) → segment_of (part_in 1 (gathered_parts part buffered)) ≡ None
+    → MakeNone (ticket_of_part part) (gathered_parts part buffered)
+makes_none_without part buffered there none payload rules whole =
+    let is = whole_is part buffered payload there whole in
+    absurd (none-some payload.segment (sym none ∙ is.0))
 
 -- ---- what a search for the buffered part of a number finds
 
-pub noted_at : (part : Part) (noted : List Part) (place : ℕ) (found : Part) → Some found ≡ find (is_noted_at part place) noted → Some found ≡ part_in place (gathered part noted)
-noted_at part noted place found e =
-    sym (part_in_is part noted place ∙ ap (λ o. option_or o (cond (eqb part.place place) (Some part) None)) (sym e))
+pub buffered_at : (part : Part) (buffered : List Part) (place : ℕ) (found : Part) → Some found ≡ find (is_buffered_at part place) buffered → Some found ≡ part_in place (gathered_parts part buffered)
+buffered_at part buffered place found e =
+    sym (part_in_is part buffered place ∙ ap (λ o. option_or o (cond (eqb part.place place) (Some part) None)) (sym e))
 
-pub itself_at : (part : Part) (noted : List Part) (place : ℕ) → None ≡ find (is_noted_at part place) noted → part.place ≡ place → Some part ≡ part_in place (gathered part noted)
-itself_at part noted place e here =
-    sym (part_in_is part noted place ∙ ap (λ o. option_or o (cond (eqb part.place place) (Some part) None)) (sym e)
+pub itself_at : (part : Part) (buffered : List Part) (place : ℕ) → None ≡ find (is_buffered_at part place) buffered → part.place ≡ place → Some part ≡ part_in place (gathered_parts part buffered)
+itself_at part buffered place e here =
+    sym (part_in_is part buffered place ∙ ap (λ o. option_or o (cond (eqb part.place place) (Some part) None)) (sym e)
     ∙ cond-true (eqb part.place place) (Some part) None (eqb_same part.place place here))
 
-pub none_at : (part : Part) (noted : List Part) (place : ℕ) → None ≡ find (is_noted_at part place) noted → (part.place ≡ place → ⊥) → None ≡ part_in place (gathered part noted)
-none_at part noted place e apart =
-    sym (part_in_is part noted place ∙ ap (λ o. option_or o (cond (eqb part.place place) (Some part) None)) (sym e)
+pub none_at : (part : Part) (buffered : List Part) (place : ℕ) → None ≡ find (is_buffered_at part place) buffered → (part.place ≡ place → ⊥) → None ≡ part_in place (gathered_parts part buffered)
+none_at part buffered place e apart =
+    sym (part_in_is part buffered place ∙ ap (λ o. option_or o (cond (eqb part.place place) (Some part) None)) (sym e)
     ∙ cond-false (eqb part.place place) (Some part) None (by_test (eqb part.place place) (λ t. absurd (apart (eqb_is part.place place t))) (λ f. f)))
 
 -- the value behind an optional reference
@@ -275,7 +275,7 @@ no_pairs_yet parts = refl
 
 -- the part is one of those of this segment with these pairs
 abbrev pub IsPartOf : Ticket → Segment → List Pair → Part → Type 0
-IsPartOf ticket segment pairs other = other ≡ part_at (handed ticket (record { segment = segment; pairs = pairs })) other.place
+IsPartOf ticket segment pairs other = other ≡ part_at (handover_of_payload ticket (record { segment = segment; pairs = pairs })) other.place
 
 -- a property of each element passed, and of one more
 pub one_further : {A : Type 0} (P : A → Type 0) (xs : List A) (i : ℕ) (x : A) → i < length xs → x ≡ get_or xs i x → ((y : A) → Has (take i xs) y → P y) → P x → (y : A) → Has (take (i + 1) xs) y → P y

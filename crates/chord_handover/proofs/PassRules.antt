@@ -15,10 +15,10 @@ use Rattle.chord_map.proofs.Lists.{by_test, has_left, has_last, has_pushed, all_
 use Rattle.chord_map.proofs.MapLemmas.{bytes_same, bytes_itself}
 use Rattle.chord_map.proofs.Walked.{values_at-push}
 use Rattle.chord_segment.specs.Segment.{Segment}
-use Rattle.chord_handover.specs.declared.run.Run.{Run}
-use Rattle.chord_handover.specs.Parcelled.{IsParcelled}
+use Rattle.chord_handover.specs.declared.pair_scan.PairScan.{PairScan}
+use Rattle.chord_handover.specs.Payload.{IsPayload}
 use Rattle.chord_handover.specs.Passed.{HasPassed, last_of, count_like}
-use Rattle.chord_handover.proofs.ParcelRules.{rising_from_next, new_key, none_before, has_upto, length_step}
+use Rattle.chord_handover.proofs.PayloadRules.{rising_from_next, new_key, none_before, has_upto, length_step}
 
 -- the last pair
 
@@ -91,7 +91,7 @@ none_yet passed pair last rises e apart =
     ∙ new_key all (length passed) pair rises at.0 (omega (arith, length-append passed (pair ∷ []))) differ j below)
 
 -- a prefix of a payload's pairs makes a payload too
-pub front : (segment : Segment) (xs ys : List Pair) → IsParcelled (record { segment = segment; pairs = xs ++ ys }) → IsParcelled (record { segment = segment; pairs = xs })
+pub front : (segment : Segment) (xs ys : List Pair) → IsPayload (record { segment = segment; pairs = xs ++ ys }) → IsPayload (record { segment = segment; pairs = xs })
 front segment xs ys rules = record {
   rising = rising_front xs ys rules.rising;
   inside = all_each (λ (pair : Pair). in_span segment.span (key_id pair.key) ≡ true) xs (λ pair there.
@@ -105,7 +105,7 @@ front segment xs ys rules = record {
 
 -- one more pair
 
-pushed : (segment : Segment) (passed : List Pair) (pair : Pair) (run : Run) → IsParcelled (record { segment = segment; pairs = passed })
+pushed : (segment : Segment) (passed : List Pair) (pair : Pair) (run : PairScan) → IsPayload (record { segment = segment; pairs = passed })
     → in_span segment.span (key_id pair.key) ≡ true → ((last : Pair) → last_of passed ≡ Some last → pair_cmp last pair ≡ Less)
     → option_copied run.last ≡ Some pair → run.count ≡ length (values_at pair.key passed) + 1 → run.count ≤ 1000
     → HasPassed segment (passed ++ pair ∷ []) run
@@ -129,7 +129,7 @@ pushed segment passed pair run rules inside above last count most =
     }
 
 -- the first pair
-pub first_goes : (segment : Segment) (passed : List Pair) (pair : Pair) (old run : Run) → HasPassed segment passed old → in_span segment.span (key_id pair.key) ≡ true
+pub first_goes : (segment : Segment) (passed : List Pair) (pair : Pair) (old run : PairScan) → HasPassed segment passed old → in_span segment.span (key_id pair.key) ≡ true
     → option_copied old.last ≡ None → option_copied run.last ≡ Some pair → run.count ≡ 1
     → HasPassed segment (passed ++ pair ∷ []) run
 first_goes segment passed pair old run has inside none last one =
@@ -138,7 +138,7 @@ first_goes segment passed pair old run has inside none last one =
     pushed segment passed pair run has.rules inside (λ other e. absurd (none-some other (sym none ∙ has.last ∙ e))) last (omega arith) (omega arith)
 
 -- one more pair with another key than the last one's
-pub apart_goes : (segment : Segment) (passed : List Pair) (pair before : Pair) (old run : Run) → HasPassed segment passed old → in_span segment.span (key_id pair.key) ≡ true
+pub apart_goes : (segment : Segment) (passed : List Pair) (pair before : Pair) (old run : PairScan) → HasPassed segment passed old → in_span segment.span (key_id pair.key) ≡ true
     → option_copied old.last ≡ Some before → pair_cmp before pair ≡ Less → bytes_eq before.key pair.key ≡ false → option_copied run.last ≡ Some pair → run.count ≡ 1
     → HasPassed segment (passed ++ pair ∷ []) run
 apart_goes segment passed pair before old run has inside some less apart last one =
@@ -147,12 +147,12 @@ apart_goes segment passed pair before old run has inside some less apart last on
     let none = ap length (none_yet passed pair before (rising_pushed passed pair has.rules.rising above) at apart) in
     pushed segment passed pair run has.rules inside above last (omega arith) (omega arith)
 
-same_count : (segment : Segment) (passed : List Pair) (pair before : Pair) (old : Run) → HasPassed segment passed old → last_of passed ≡ Some before → before.key ≡ pair.key
+same_count : (segment : Segment) (passed : List Pair) (pair before : Pair) (old : PairScan) → HasPassed segment passed old → last_of passed ≡ Some before → before.key ≡ pair.key
     → old.count ≡ length (values_at pair.key passed)
 same_count segment passed pair before old has at same = has.count ∙ ap (λ o. count_like o passed) at ∙ ap (λ k. length (values_at k passed)) same
 
 -- one more pair with the same key
-pub along_goes : (segment : Segment) (passed : List Pair) (pair before : Pair) (old run : Run) → HasPassed segment passed old → in_span segment.span (key_id pair.key) ≡ true
+pub along_goes : (segment : Segment) (passed : List Pair) (pair before : Pair) (old run : PairScan) → HasPassed segment passed old → in_span segment.span (key_id pair.key) ≡ true
     → option_copied old.last ≡ Some before → pair_cmp before pair ≡ Less → before.key ≡ pair.key → old.count < 1000 → option_copied run.last ≡ Some pair → run.count ≡ old.count + 1
     → HasPassed segment (passed ++ pair ∷ []) run
 along_goes segment passed pair before old run has inside some less same low last one =
@@ -162,16 +162,16 @@ along_goes segment passed pair before old run has inside some less same low last
 
 -- ---- pairs that make no payload
 
-pub outside : (segment : Segment) (passed : List Pair) (pair : Pair) → in_span segment.span (key_id pair.key) ≡ false → ¬ IsParcelled (record { segment = segment; pairs = passed ++ pair ∷ [] })
+pub outside : (segment : Segment) (passed : List Pair) (pair : Pair) → in_span segment.span (key_id pair.key) ≡ false → ¬ IsPayload (record { segment = segment; pairs = passed ++ pair ∷ [] })
 outside segment passed pair out rules =
     true≢false (sym (each_all (λ (other : Pair). in_span segment.span (key_id other.key) ≡ true) (passed ++ pair ∷ []) rules.inside pair (has_last passed pair)) ∙ out)
 
-pub not_above : (segment : Segment) (passed : List Pair) (pair before : Pair) (old : Run) → HasPassed segment passed old → option_copied old.last ≡ Some before
-    → (pair_cmp before pair ≡ Less → ⊥) → ¬ IsParcelled (record { segment = segment; pairs = passed ++ pair ∷ [] })
+pub not_above : (segment : Segment) (passed : List Pair) (pair before : Pair) (old : PairScan) → HasPassed segment passed old → option_copied old.last ≡ Some before
+    → (pair_cmp before pair ≡ Less → ⊥) → ¬ IsPayload (record { segment = segment; pairs = passed ++ pair ∷ [] })
 not_above segment passed pair before old has some low rules = low (rises_on passed pair before rules.rising (sym has.last ∙ some))
 
-pub too_many : (segment : Segment) (passed : List Pair) (pair before : Pair) (old : Run) → HasPassed segment passed old → option_copied old.last ≡ Some before
-    → before.key ≡ pair.key → 1000 ≤ old.count → ¬ IsParcelled (record { segment = segment; pairs = passed ++ pair ∷ [] })
+pub too_many : (segment : Segment) (passed : List Pair) (pair before : Pair) (old : PairScan) → HasPassed segment passed old → option_copied old.last ≡ Some before
+    → before.key ≡ pair.key → 1000 ≤ old.count → ¬ IsPayload (record { segment = segment; pairs = passed ++ pair ∷ [] })
 too_many segment passed pair before old has some same full rules =
     let most = rules.few pair.key in
     absurd (omega (arith, own_count passed pair, same_count segment passed pair before old has (sym has.last ∙ some) same))

@@ -11,7 +11,7 @@ use Rattle.chord_segment.specs.declared.mark.Mark.{Mark}
 use Rattle.chord_segment.specs.Marks.{mark_of, raise}
 use Rattle.chord_segment.proofs.MarkLemmas.{mark_of-raise_same}
 use Rattle.chord_segment.proofs.SegmentLemmas.{mark_grows}
-use Rattle.chord_handover.specs.Handover.{Item, is_item, item_at, without}
+use Rattle.chord_handover.specs.Handover.{Item, is_item, item_at, outbox_without}
 use Rattle.chord_handover.specs.Outbox.{AreApart, IsOutbox}
 use Rattle.chord_handover.proofs.OutboxLemmas.{is_item_parts, item_at_is, without_none, DistinctItems_push, DistinctItems-without}
 
@@ -24,11 +24,11 @@ remove_step false x rest left n here further low =
 
 -- removing the first such item leaves the outbox without it
 remove_first : (to number : ℕ) (items : List Item) → AreApart items → position_or_len (is_item to number) items < length items
-    → remove items (position_or_len (is_item to number) items) ≡ without to number items
-unfolding without
+    → remove items (position_or_len (is_item to number) items) ≡ outbox_without to number items
+unfolding outbox_without
 remove_first to number [] apart low = absurd (omega arith)
 remove_first to number (item ∷ rest) apart low =
-    remove_step (is_item to number item) item rest (without to number rest) (position_or_len (is_item to number) rest)
+    remove_step (is_item to number item) item rest (outbox_without to number rest) (position_or_len (is_item to number) rest)
     (λ yes.
     let same = is_item_parts to number item yes in
     without_none to number rest (rw (same.0, same.1) at apart.0))
@@ -48,7 +48,7 @@ past_end m n h = grind (arith, nat_tests)
 
 -- the item at an index has its receiver and number; removing it leaves the outbox without that item
 pub removed_is : (to number : ℕ) (items : List Item) (place : ℕ) → Some place ≡ position (is_item to number) items → AreApart items
-    → (place < length items) × (item_at to number items ≡ slice_get items place) × (remove items place ≡ without to number items)
+    → (place < length items) × (item_at to number items ≡ slice_get items place) × (remove items place ≡ outbox_without to number items)
 unfolding item_at
 removed_is to number items place e apart =
     let at = some_place (nat_lt (position_or_len (is_item to number) items) (length items)) (position_or_len (is_item to number) items) place (sym e) in
@@ -63,7 +63,7 @@ unfolding item_at
 not_at to number items high = find_at (is_item to number) items ∙ slice_get_past items (position_or_len (is_item to number) items) high
 
 -- an item without an index is not in the outbox
-pub absent_is : (to number : ℕ) (items : List Item) → None ≡ position (is_item to number) items → (item_at to number items ≡ None) × (without to number items ≡ items)
+pub absent_is : (to number : ℕ) (items : List Item) → None ≡ position (is_item to number) items → (item_at to number items ≡ None) × (outbox_without to number items ≡ items)
 absent_is to number items e =
     let high : length items ≤ position_or_len (is_item to number) items =
     past_end (position_or_len (is_item to number) items) (length items) (no_place (nat_lt (position_or_len (is_item to number) items) (length items)) (position_or_len (is_item to number) items) (sym e)) in
@@ -102,13 +102,13 @@ gave_keeps given items item h e = record {
   apart = DistinctItems_push items item (next_free given items item.to item.number h e) h.apart;
 }
 
-left_has : (to number : ℕ) (items : List Item) (other : Item) → Has (without to number items) other → Has items other
-unfolding without
+left_has : (to number : ℕ) (items : List Item) (other : Item) → Has (outbox_without to number items) other → Has items other
+unfolding outbox_without
 left_has to number items other there = (has_filter (λ (i : Item). not (is_item to number i)) items other there).0
 
 -- an outbox keeps its rules when an item leaves
-pub left_keeps : (given : List Mark) (items : List Item) (to number : ℕ) → IsOutbox given items → IsOutbox given (without to number items)
+pub left_keeps : (given : List Mark) (items : List Item) (to number : ℕ) → IsOutbox given items → IsOutbox given (outbox_without to number items)
 left_keeps given items to number h = record {
-  numbered = all_each (λ (i : Item). i.number ≤ mark_of i.to given) (without to number items) (λ other there. each_all (λ (i : Item). i.number ≤ mark_of i.to given) items h.numbered other (left_has to number items other there));
+  numbered = all_each (λ (i : Item). i.number ≤ mark_of i.to given) (outbox_without to number items) (λ other there. each_all (λ (i : Item). i.number ≤ mark_of i.to given) items h.numbered other (left_has to number items other there));
   apart = DistinctItems-without to number items h.apart;
 }

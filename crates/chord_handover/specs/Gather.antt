@@ -5,8 +5,8 @@ use Rattle.chord_segment.specs.Segment.{Segment}
 use Rattle.chord_handover.specs.declared.gather.Gather.{Gather}
 use Rattle.chord_handover.specs.declared.gather.Gather.TheVariants.{More, Unfit, Whole}
 use Rattle.chord_handover.specs.declared.ticket.Ticket.{Ticket}
-use Rattle.chord_handover.specs.Handover.{Part, IsFilled, IsWhole, gathered, ticket_of_part}
-use Rattle.chord_handover.specs.Parcelled.{Parcelled, IsParcelled, handed}
+use Rattle.chord_handover.specs.Handover.{Part, IsFilled, IsWhole, gathered_parts, ticket_of_part}
+use Rattle.chord_handover.specs.Payload.{Payload, IsPayload, handover_of_payload}
 
 -- all the parts say that the handover has `of` parts
 abbrev pub AreOf : ℕ → List Part → Type 0
@@ -18,27 +18,27 @@ AreAllThere of parts = (place : ℕ) → 1 ≤ place → place ≤ of → Any (�
 
 -- no payload is sent in exactly these parts
 abbrev pub MakeNone : Ticket → List Part → Type 0
-MakeNone ticket parts = (parcelled : Parcelled) → IsParcelled parcelled → ¬ IsWhole parts (handed ticket parcelled)
+MakeNone ticket parts = (payload : Payload) → IsPayload payload → ¬ IsWhole parts (handover_of_payload ticket payload)
 
 -- More: a part is missing. Unfit: the parts say different counts, or are all there and make no
 -- payload. Whole: the payload that they are the parts of
 abbrev pub Make : Ticket → ℕ → List Part → Gather → Type 0
 Make ticket of parts More = AreOf of parts × ¬ AreAllThere of parts
 Make ticket of parts Unfit = (¬ AreOf of parts) ⊎ (AreAllThere of parts × MakeNone ticket parts)
-Make ticket of parts (Whole parcelled) = IsWhole parts (handed ticket parcelled)
+Make ticket of parts (Whole payload) = IsWhole parts (handover_of_payload ticket payload)
 
 -- gathers the buffered parts of a part's handover, with that part
 abbrev pub GatherIs : Part → List Part → Gather → Type 0
-GatherIs part noted gather = Make (ticket_of_part part) part.of (gathered part noted) gather
+GatherIs part buffered gather = Make (ticket_of_part part) part.of (gathered_parts part buffered) gather
 
 -- a payload that is answered keeps the rules of one
-abbrev pub TellsParcel : Gather → Type 0
-TellsParcel (Whole parcelled) = IsParcelled parcelled
-TellsParcel gather = Unit {0}
+abbrev pub TellsPayload : Gather → Type 0
+TellsPayload (Whole payload) = IsPayload payload
+TellsPayload gather = Unit {0}
 
 -- the parts make a payload
 abbrev pub AreWhole : Part → List Part → Type 0
-AreWhole part noted = (parcelled : Parcelled) × IsParcelled parcelled × GatherIs part noted (Whole parcelled)
+AreWhole part buffered = (payload : Payload) × IsPayload payload × GatherIs part buffered (Whole payload)
 
 -- the part of this number
 abbrev pub part_in : ℕ → List Part → Option Part

@@ -2,11 +2,11 @@
 use Rattle.std.specs.Prelude.{◌≡◌, ℕ, ◌+◌, ◌^◌, ◌<◌, ◌≤◌, Bool, nat_le, ◌&&◌, if◌then◌else◌, Option, None, Some, List, [], ◌∷◌, ◌++◌, All, Result, Ok, Err}
 use Rattle.chord_segment.specs.declared.mark.Mark.{Mark}
 use Rattle.chord_segment.specs.Marks.{mark_of, raise}
-use Rattle.chord_handover.specs.declared.fault.GiveFault.{GiveFault}
-use Rattle.chord_handover.specs.declared.fault.GiveFault.TheVariants.{NumbersSpent, Memory}
+use Rattle.chord_handover.specs.declared.fault.OutboxGiveFault.{OutboxGiveFault}
+use Rattle.chord_handover.specs.declared.fault.OutboxGiveFault.TheVariants.{NumbersSpent, Memory}
 use Rattle.chord_handover.specs.declared.fault.Ungiven.{Ungiven}
-use Rattle.chord_handover.specs.Handover.{Part, parts_in, part_at, Item, item_at, without}
-use Rattle.chord_handover.specs.Parcelled.{Parcelled, handed}
+use Rattle.chord_handover.specs.Handover.{Part, parts_in, part_at, Item, item_at, outbox_without}
+use Rattle.chord_handover.specs.Payload.{Payload, handover_of_payload}
 
 -- the items in the order given, and the last number given to each receiver
 pub record Outbox : Type 0 where
@@ -33,43 +33,43 @@ abbrev pub empty_outbox : ℕ → Outbox
 empty_outbox owner = record { owner = owner; given = []; items = [] }
 
 -- the payload of an item
-abbrev pub parcel_of : Option Item → Option Parcelled
-parcel_of None = None
-parcel_of (Some item) = Some (record { segment = item.segment; pairs = item.pairs })
+abbrev pub payload_of : Option Item → Option Payload
+payload_of None = None
+payload_of (Some item) = Some (record { segment = item.segment; pairs = item.pairs })
 
 -- the number of the next handover to this receiver
-abbrev pub next_to : ℕ → Outbox → ℕ
-next_to to outbox = mark_of to outbox.given + 1
+abbrev pub next_number_to : ℕ → Outbox → ℕ
+next_number_to to outbox = mark_of to outbox.given + 1
 
 -- the outbox with one more item
-abbrev pub with_item : ℕ → Parcelled → Outbox → Outbox
-with_item to parcelled outbox = record outbox {
-  given = raise to (next_to to outbox) outbox.given;
-  items = outbox.items ++ record { to = to; number = next_to to outbox; segment = parcelled.segment; pairs = parcelled.pairs } ∷ [];
+abbrev pub with_item : ℕ → Payload → Outbox → Outbox
+with_item to payload outbox = record outbox {
+  given = raise to (next_number_to to outbox) outbox.given;
+  items = outbox.items ++ record { to = to; number = next_number_to to outbox; segment = payload.segment; pairs = payload.pairs } ∷ [];
 }
 
 -- the outbox without the item of this receiver and number
 abbrev pub with_none : ℕ → ℕ → Outbox → Outbox
-with_none to number outbox = record outbox { items = without to number outbox.items }
+with_none to number outbox = record outbox { items = outbox_without to number outbox.items }
 
 -- the first refusal that fits
-abbrev pub GiveRefused : ℕ → Outbox → GiveFault → Type 0
-GiveRefused to old NumbersSpent = 2 ^ 64 ≤ next_to to old
-GiveRefused to old Memory = next_to to old < 2 ^ 64
+abbrev pub GiveRefused : ℕ → Outbox → OutboxGiveFault → Type 0
+GiveRefused to old NumbersSpent = 2 ^ 64 ≤ next_number_to to old
+GiveRefused to old Memory = next_number_to to old < 2 ^ 64
 
 -- the payload goes into the outbox under the receiver's next number; or it is given back and
 -- nothing changes
-abbrev pub GiveIs : ℕ → Parcelled → Outbox → Result ℕ Ungiven → Outbox → Type 0
-GiveIs to parcelled old (Ok number) new = (next_to to old < 2 ^ 64) × (number ≡ next_to to old) × (new ≡ with_item to parcelled old)
-GiveIs to parcelled old (Err ungiven) new = GiveRefused to old ungiven.fault × (ungiven.parcelled ≡ parcelled) × (new ≡ old)
+abbrev pub GiveIs : ℕ → Payload → Outbox → Result ℕ Ungiven → Outbox → Type 0
+GiveIs to payload old (Ok number) new = (next_number_to to old < 2 ^ 64) × (number ≡ next_number_to to old) × (new ≡ with_item to payload old)
+GiveIs to payload old (Err ungiven) new = GiveRefused to old ungiven.fault × (ungiven.payload ≡ payload) × (new ≡ old)
 
 -- part number `part` of a payload, if there is such a part
-abbrev pub part_of_item : ℕ → ℕ → ℕ → ℕ → Option Parcelled → Option Part
+abbrev pub part_of_item : ℕ → ℕ → ℕ → ℕ → Option Payload → Option Part
 part_of_item from to number part None = None
-part_of_item from to number part (Some parcelled) =
-    if nat_le 1 part && nat_le part (parts_in parcelled.pairs) then Some (part_at (handed (record { from = from; to = to; number = number }) parcelled) part) else None
+part_of_item from to number part (Some payload) =
+    if nat_le 1 part && nat_le part (parts_in payload.pairs) then Some (part_at (handover_of_payload (record { from = from; to = to; number = number }) payload) part) else None
 
 -- the receiver and the number of an item, if there is one
-abbrev pub named : Option Item → Option (ℕ × ℕ)
-named None = None
-named (Some item) = Some (item.to, item.number)
+abbrev pub name_of_item : Option Item → Option (ℕ × ℕ)
+name_of_item None = None
+name_of_item (Some item) = Some (item.to, item.number)

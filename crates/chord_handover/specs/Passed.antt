@@ -4,8 +4,8 @@ use Rattle.std.specs.Option.{option_copied}
 use Rattle.chord_map.specs.declared.pair.Pair.{Pair}
 use Rattle.chord_map.specs.Map.{values_at}
 use Rattle.chord_segment.specs.Segment.{Segment}
-use Rattle.chord_handover.specs.declared.run.Run.{Run}
-use Rattle.chord_handover.specs.Parcelled.{IsParcelled}
+use Rattle.chord_handover.specs.declared.pair_scan.PairScan.{PairScan}
+use Rattle.chord_handover.specs.Payload.{IsPayload}
 
 abbrev pub last_of : List Pair → Option Pair
 last_of pairs = slice_get pairs (length pairs - 1)
@@ -17,12 +17,12 @@ count_like (Some pair) pairs = length (values_at pair.key pairs)
 
 -- the pairs passed make a payload with the segment;
 -- the scan knows the last and how many share its key
-pub record HasPassed (segment : Segment) (passed : List Pair) (run : Run) : Type 0 where
-  pub rules : IsParcelled (record { segment = segment; pairs = passed })
+pub record HasPassed (segment : Segment) (passed : List Pair) (run : PairScan) : Type 0 where
+  pub rules : IsPayload (record { segment = segment; pairs = passed })
   pub last : option_copied run.last ≡ last_of passed
   pub count : run.count ≡ count_like (last_of passed) passed
 
 -- the scan has passed the pairs, or they make no payload
-abbrev pub Goes : Segment → List Pair → Option Run → Type 0
-Goes segment pairs None = ¬ IsParcelled (record { segment = segment; pairs = pairs })
+abbrev pub Goes : Segment → List Pair → Option PairScan → Type 0
+Goes segment pairs None = ¬ IsPayload (record { segment = segment; pairs = pairs })
 Goes segment pairs (Some run) = HasPassed segment pairs run

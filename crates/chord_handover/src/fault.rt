@@ -1,11 +1,11 @@
 //! Why a handover is not given.
 
-use crate::parcelled::Parcelled;
+use crate::payload::Payload;
 use thiserror::Error;
 
 /// Why a payload is not put into the outbox.
 #[derive(Clone, Copy, Debug, PartialEq, Eq, Error)]
-pub enum GiveFault {
+pub enum OutboxGiveFault {
     #[error("the numbers of this receiver are spent")]
     NumbersSpent,
     #[error("out of memory")]
@@ -15,6 +15,6 @@ pub enum GiveFault {
 /// A payload that was not given, given back.
 #[derive(Debug, Drop)]
 pub struct Ungiven {
-    pub fault: GiveFault,
-    pub parcelled: Parcelled,
+    pub fault: OutboxGiveFault,
+    pub payload: Payload,
 }

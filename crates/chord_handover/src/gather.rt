@@ -1,6 +1,6 @@
 //! What the parts that arrived make together.
 
-use crate::parcelled::Parcelled;
+use crate::payload::Payload;
 
 /// What a part makes with the buffered parts of its handover: an incomplete handover, parts that do
 /// not fit together, or the whole payload.
@@ -8,5 +8,5 @@ use crate::parcelled::Parcelled;
 pub enum Gather {
     More,
     Unfit,
-    Whole(Parcelled),
+    Whole(Payload),
 }

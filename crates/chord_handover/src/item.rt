@@ -1,6 +1,6 @@
 //! Items of the outbox.
 
-use crate::parcelled::Parcelled;
+use crate::payload::Payload;
 use std::marker::Model;
 
 /// A payload on its way to a node, under its number there.
@@ -8,7 +8,7 @@ use std::marker::Model;
 pub struct Item {
     pub to: u64,
     pub number: u64,
-    pub parcelled: Parcelled,
+    pub payload: Payload,
 }
 
 impl Model for Item {
@@ -16,5 +16,5 @@ impl Model for Item {
 
     ghost Value = { ItemOf };
 
-    ghost view = { λ item. record { to = item.to; number = item.number; segment = item.parcelled.segment; pairs = item.parcelled.pairs } };
+    ghost view = { λ item. record { to = item.to; number = item.number; segment = item.payload.segment; pairs = item.payload.pairs } };
 }

@@ -2,12 +2,12 @@
 ghost use Rattle.std.specs.Prelude.{◌≡◌, ◌↔◌, true, [], IsTrue, IfOk, OnOk, OnErr, IfSome, IfNone, ◌<◌, ◌≤◌, ◌^◌, IsOk, is_some, length, slice_get, position};
 ghost use Rattle.std.specs.Option.{option_copied};
 ghost use Rattle.chord_handover.specs.Handover.{is_item, item_at};
-ghost use Rattle.chord_handover.specs.Outbox.{IsOutbox, empty_outbox, next_to, with_none, parcel_of, part_of_item, named, GiveIs};
+ghost use Rattle.chord_handover.specs.Outbox.{IsOutbox, empty_outbox, next_number_to, with_none, payload_of, part_of_item, name_of_item, GiveIs};
 
-use crate::fault::{GiveFault, Ungiven};
+use crate::fault::{OutboxGiveFault, Ungiven};
 use crate::item::Item;
-use crate::parcelled::Parcelled;
 use crate::part::{Part, count_parts};
+use crate::payload::Payload;
 use crate::ticket::Ticket;
 use chord_segment::{Mark, number_of, raise_mark};
 use std::alloc::{AllocError, Global};
@@ -61,7 +61,7 @@ impl Outbox {
 
     /// The receiver and the number of item `i`, counted from 0 in the order given.
     pub fn nth(&self, i: u64) -> Option<(u64, u64)>
-        ensures value { result ≡ named (slice_get self.now.outbox.items i) }
+        ensures value { result ≡ name_of_item (slice_get self.now.outbox.items i) }
         ensures rules { IsOutbox self.now.outbox.given self.now.outbox.items }
     {
         let item = self.items.get(i as usize)?;
@@ -70,26 +70,26 @@ impl Outbox {
 
     /// The payload of the item of this receiver and number.
     #[tactic(auto, unfolding(crate::specs::Handover::item_at))]
-    pub fn item(&self, to: u64, number: u64) -> Option<&Parcelled>
-        ensures { option_copied result ≡ parcel_of (item_at to number self.now.outbox.items) }
+    pub fn item(&self, to: u64, number: u64) -> Option<&Payload>
+        ensures { option_copied result ≡ payload_of (item_at to number self.now.outbox.items) }
     {
         let item = self
             .items
             .iter()
             .find(|item| item.to == to && item.number == number)?;
-        Some(&item.parcelled)
+        Some(&item.payload)
     }
 
     /// Part number `part`, from 1, of the item of this receiver
     /// and number; `None` if there is no such item or part.
     pub fn part(&self, to: u64, number: u64, part: u64) -> Result<Option<Part>, AllocError>
-        ensures found { IfOk result (λ found. found ≡ part_of_item self.now.outbox.owner to number part (parcel_of (item_at to number self.now.outbox.items))) }
-        ensures there { OnErr result (is_some (part_of_item self.now.outbox.owner to number part (parcel_of (item_at to number self.now.outbox.items))) ≡ true) }
+        ensures found { IfOk result (λ found. found ≡ part_of_item self.now.outbox.owner to number part (payload_of (item_at to number self.now.outbox.items))) }
+        ensures there { OnErr result (is_some (part_of_item self.now.outbox.owner to number part (payload_of (item_at to number self.now.outbox.items))) ≡ true) }
     {
-        let Some(parcelled) = self.item(to, number) else {
+        let Some(payload) = self.item(to, number) else {
             return Ok(None);
         };
-        if part == 0 || part > count_parts(parcelled.pairs()) {
+        if part == 0 || part > count_parts(payload.pairs()) {
             return Ok(None);
         }
         let ticket = Ticket {
@@ -97,14 +97,14 @@ impl Outbox {
             to,
             number,
         };
-        let found = parcelled.part(ticket, part)?;
+        let found = payload.part(ticket, part)?;
         Ok(Some(found))
     }
 
     /// The number of the next item for this receiver; `None` once all are used up.
     pub fn next_number(&self, to: u64) -> Option<u64>
-        ensures some { IfSome result (λ number. (number ≡ next_to to self.now.outbox) × (number < 2 ^ 64)) }
-        ensures none { IfNone result (2 ^ 64 ≤ next_to to self.now.outbox) }
+        ensures some { IfSome result (λ number. (number ≡ next_number_to to self.now.outbox) × (number < 2 ^ 64)) }
+        ensures none { IfNone result (2 ^ 64 ≤ next_number_to to self.now.outbox) }
     {
         number_of(&self.given, to).checked_add(1)
     }
@@ -120,21 +120,21 @@ impl Outbox {
     }
 
     /// Puts a payload into the outbox and answers its number, from 1 for each receiver.
-    pub fn give(&mut self, to: u64, parcelled: Parcelled) -> Result<u64, Ungiven>
-        ensures answer { GiveIs to parcelled self.old.outbox result self.new.outbox }
-        ensures succeeds { self.old.has_room ≡ true → next_to to self.old.outbox < 2 ^ 64 → IsOk result }
+    pub fn give(&mut self, to: u64, payload: Payload) -> Result<u64, Ungiven>
+        ensures answer { GiveIs to payload self.old.outbox result self.new.outbox }
+        ensures succeeds { self.old.has_room ≡ true → next_number_to to self.old.outbox < 2 ^ 64 → IsOk result }
     {
         let last = number_of(&self.given, to);
         if last == u64::MAX {
             return Err(Ungiven {
-                fault: GiveFault::NumbersSpent,
-                parcelled,
+                fault: OutboxGiveFault::NumbersSpent,
+                payload,
             });
         }
         if self.given.reserve(1).is_err() || self.items.reserve(1).is_err() {
             return Err(Ungiven {
-                fault: GiveFault::Memory,
-                parcelled,
+                fault: OutboxGiveFault::Memory,
+                payload,
             });
         }
         let number = last + 1;
@@ -142,24 +142,24 @@ impl Outbox {
         self.items.push_reserved(Item {
             to,
             number,
-            parcelled,
+            payload,
         });
         Ok(number)
     }
 
     /// The receiver took the handover: its item leaves the outbox, if it is there.
-    pub fn got(&mut self, to: u64, number: u64) -> Option<Parcelled>
-        ensures item { result ≡ parcel_of (item_at to number self.old.outbox.items) }
+    pub fn got(&mut self, to: u64, number: u64) -> Option<Payload>
+        ensures item { result ≡ payload_of (item_at to number self.old.outbox.items) }
         ensures left { self.new.outbox ≡ with_none to number self.old.outbox }
     {
         let place = place_of(&self.items, to, number)?;
         let item = self.items.remove(place);
-        Some(item.parcelled)
+        Some(item.payload)
     }
 
     /// The receiver declined the handover: its item leaves the outbox, if it is there.
-    pub fn declined(&mut self, to: u64, number: u64) -> Option<Parcelled>
-        ensures item { result ≡ parcel_of (item_at to number self.old.outbox.items) }
+    pub fn declined(&mut self, to: u64, number: u64) -> Option<Payload>
+        ensures item { result ≡ payload_of (item_at to number self.old.outbox.items) }
         ensures left { self.new.outbox ≡ with_none to number self.old.outbox }
     {
         self.got(to, number)

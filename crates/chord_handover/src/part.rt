@@ -3,7 +3,7 @@ ghost use Rattle.std.specs.Prelude.{◌≡◌, ◌↔◌, IsTrue, IfOk};
 ghost use Rattle.chord_handover.specs.Handover.{IsFilled, parts_in, chunk};
 ghost use Rattle.chord_handover.specs.Known.{segment_in};
 
-use crate::parcelled::copy_pairs;
+use crate::payload::copy_pairs;
 use crate::ticket::Ticket;
 use chord_map::Pair;
 use chord_segment::Segment;

@@ -1,8 +1,8 @@
 //! The handovers that a node took, and the buffered parts of the next ones.
 ghost use Rattle.std.specs.Prelude.{◌≡◌, ◌+◌, ◌<◌, ◌^◌, [], true, false, IfOk, OnOk, OnErr};
 ghost use Rattle.chord_segment.specs.Marks.{mark_of};
-ghost use Rattle.chord_handover.specs.Gather.{GatherIs, AreWhole, TellsParcel};
-ghost use Rattle.chord_handover.specs.Taken.{nothing_taken, JudgeIs, marked, is_noted, with_noted};
+ghost use Rattle.chord_handover.specs.Gather.{GatherIs, AreWhole, TellsPayload};
+ghost use Rattle.chord_handover.specs.Taken.{nothing_taken, JudgeIs, with_mark, is_buffered, with_buffered};
 
 use crate::gather::Gather;
 use crate::gathering::gather;
@@ -16,7 +16,7 @@ use std::marker::Model;
 #[derive(Debug, Drop)]
 pub struct Taken {
     last: Vec<Mark>,
-    noted: Vec<Part>,
+    buffered: Vec<Part>,
 }
 
 impl Model for Taken {
@@ -26,7 +26,7 @@ impl Model for Taken {
 
     ghost Value = { RoomyTaken };
 
-    ghost view = { λ taken. record { taken = record { last = taken.last.items; noted = taken.noted.items }; has_room = nat_lt (vec_len taken.last) (vec_capacity taken.last) } };
+    ghost view = { λ taken. record { taken = record { last = taken.last.items; buffered = taken.buffered.items }; has_room = nat_lt (vec_len taken.last) (vec_capacity taken.last) } };
 }
 
 impl Taken {
@@ -36,7 +36,7 @@ impl Taken {
     {
         Taken {
             last: Vec::new(alloc),
-            noted: Vec::new(alloc),
+            buffered: Vec::new(alloc),
         }
     }
 
@@ -75,53 +75,53 @@ impl Taken {
     pub fn mark(&mut self, from: u64)
         requires room { self.old.has_room ≡ true }
         requires more { mark_of from self.old.taken.last + 1 < 2 ^ 64 }
-        ensures { self.new.taken ≡ marked from self.old.taken }
+        ensures { self.new.taken ≡ with_mark from self.old.taken }
     {
         let next = number_of(&self.last, from) + 1;
         raise_mark(&mut self.last, from, next);
-        self.noted.retain(|part| part.from != from);
+        self.buffered.retain(|part| part.from != from);
     }
 
     /// Drops the buffered parts of all senders.
-    pub fn forget_noted(&mut self)
-        ensures { self.new.taken ≡ record self.old.taken { noted = [] } }
+    pub fn forget_buffered(&mut self)
+        ensures { self.new.taken ≡ record self.old.taken { buffered = [] } }
     {
-        self.noted.clear();
+        self.buffered.clear();
     }
 
     /// What this part makes together with the buffered parts of its sender's next handover. It
     /// buffers nothing, and only a whole payload needs memory.
     pub fn whole_with(&self, part: &Part) -> Result<Gather, AllocError>
         requires { part.now.number ≡ mark_of part.now.from self.now.taken.last + 1 }
-        ensures made { IfOk result (λ gather. GatherIs part.now self.now.taken.noted gather) }
-        ensures parcel { IfOk result (λ gather. TellsParcel gather) }
-        ensures whole { OnErr result (AreWhole part.now self.now.taken.noted) }
+        ensures made { IfOk result (λ gather. GatherIs part.now self.now.taken.buffered gather) }
+        ensures payload { IfOk result (λ gather. TellsPayload gather) }
+        ensures whole { OnErr result (AreWhole part.now self.now.taken.buffered) }
     {
-        let made = gather(*self.noted.allocator(), &self.noted, part)?;
+        let made = gather(*self.buffered.allocator(), &self.buffered, part)?;
         Ok(made)
     }
 
     /// Buffers a part of a sender's next handover. A part that is buffered already changes nothing.
-    pub fn note(&mut self, part: &Part) -> Result<(), AllocError>
+    pub fn buffer(&mut self, part: &Part) -> Result<(), AllocError>
         requires { part.now.number ≡ mark_of part.now.from self.old.taken.last + 1 }
-        ensures ok { OnOk result (self.new.taken ≡ with_noted part.now self.old.taken) }
+        ensures ok { OnOk result (self.new.taken ≡ with_buffered part.now self.old.taken) }
         ensures err { OnErr result (self.new.taken ≡ self.old.taken) }
-        ensures fresh { OnErr result (is_noted part.now self.old.taken.noted ≡ false) }
+        ensures fresh { OnErr result (is_buffered part.now self.old.taken.buffered ≡ false) }
     {
-        if has_part(&self.noted, part) {
+        if has_part(&self.buffered, part) {
             return Ok(());
         }
         let copy = part.try_copy()?;
-        self.noted.push(copy)?;
+        self.buffered.push(copy)?;
         Ok(())
     }
 }
 
 /// Whether the list has a part of this sender, handover number and part number.
-pub fn has_part(noted: &[Part], part: &Part) -> bool
-    ensures { result ≡ is_noted part.now noted.now }
+pub fn has_part(buffered: &[Part], part: &Part) -> bool
+    ensures { result ≡ is_buffered part.now buffered.now }
 {
-    noted.iter().any(|other| other.from == part.from
+    buffered.iter().any(|other| other.from == part.from
         && other.number == part.number
         && other.place == part.place)
 }

@@ -3,7 +3,7 @@ ghost use Rattle.std.specs.Prelude.{◌+◌, ◌≤◌};
 
 mod growths;
 
-use chord_handover::{Gather, Outbox, Parcelled, Part, Taken, Ticket, Verdict};
+use chord_handover::{Gather, Outbox, Part, Payload, Taken, Ticket, Verdict};
 use chord_ident::{Id, Span};
 use chord_map::{Bytes, Pair};
 use chord_segment::Segment;
@@ -12,14 +12,14 @@ use std::alloc::{AllocError, Global};
 pub const A: u128 = 0x40000000000000000000000000000000;
 
 /// The whole circle with no pairs, as a payload.
-pub fn empty_parcel(alloc: Global) -> Parcelled {
+pub fn empty_payload(alloc: Global) -> Payload {
     let span = Span::new(Id::new(A), Id::new(A));
-    Parcelled::new(Segment::empty(alloc, span), Vec::new(alloc))
+    Payload::new(Segment::empty(alloc, span), Vec::new(alloc))
 }
 
 /// Gives an empty payload to node 1 and answers its number.
 fn give_one(alloc: Global, outbox: &mut Outbox) -> Option<u64> {
-    outbox.give(1, empty_parcel(alloc)).ok()
+    outbox.give(1, empty_payload(alloc)).ok()
 }
 
 /// The outbox of this node with one empty payload for node 1.
@@ -231,7 +231,7 @@ pub fn said(word: Result<&'static str, AllocError>) -> &'static str {
 /// Buffers a part of the next handover.
 pub fn note(taken: &mut Taken, part: &Part) -> Result<(), AllocError> {
     if taken.judge(part.from, part.number) == Verdict::Next {
-        taken.note(part)?;
+        taken.buffer(part)?;
     }
     Ok(())
 }
@@ -239,8 +239,8 @@ pub fn note(taken: &mut Taken, part: &Part) -> Result<(), AllocError> {
 /// The word for what the part makes with the buffered parts; then it is buffered.
 fn take_in(taken: &mut Taken, part: &Part) -> &'static str {
     let made = makes(taken, part);
-    let noted = note(taken, part);
-    said(noted.and(made))
+    let buffered = note(taken, part);
+    said(buffered.and(made))
 }
 
 /// The two parts of a handover of 65 pairs.
@@ -388,9 +388,9 @@ fn all_but_the_last(alloc: Global) -> Result<Taken, AllocError> {
     for i in 1..16 {
         let pairs = pairs_from(alloc, 64 * (i - 1), 64)?;
         let part = part_of(alloc, i, 16, pairs);
-        let noted = note(&mut taken, &part);
+        let buffered = note(&mut taken, &part);
         drop(part);
-        noted?;
+        buffered?;
     }
     Ok(taken)
 }
@@ -422,7 +422,7 @@ fn made_of_a_thousand(alloc: Global) -> Option<(Option<bool>, &'static str)> {
 }
 
 #[test]
-fn a_set_of_a_parcel_has_at_most_a_thousand_values(rt: HostRuntime) {
+fn a_set_of_a_payload_has_at_most_a_thousand_values(rt: HostRuntime) {
     assert!(rt; made_of_a_thousand(rt.alloc()) == Some((Some(true), "unfit")));
 }
 
@@ -471,25 +471,25 @@ fn only_part(alloc: Global) -> Result<Part, AllocError> {
         to: 1,
         number: 1,
     };
-    let parcel = empty_parcel(alloc);
-    let part = parcel.part(ticket, 1);
-    drop(parcel);
+    let payload = empty_payload(alloc);
+    let part = payload.part(ticket, 1);
+    drop(payload);
     part
 }
 
 /// What the part makes after it was buffered and the buffered parts were dropped.
 fn made_when_forgotten(alloc: Global, part: Part) -> &'static str {
     let mut taken = Taken::new(alloc);
-    let noted = note(&mut taken, &part);
-    taken.forget_noted();
+    let buffered = note(&mut taken, &part);
+    taken.forget_buffered();
     let made = makes(&taken, &part);
     drop(taken);
     drop(part);
-    said(noted.and(made))
+    said(buffered.and(made))
 }
 
 #[test]
-fn parts_are_noted(rt: HostRuntime) -> Result<(), AllocError> {
+fn parts_are_buffered(rt: HostRuntime) -> Result<(), AllocError> {
     let part = only_part(rt.alloc())?;
     assert!(rt; made_when_forgotten(rt.alloc(), part) == "whole");
     Ok(())

@@ -3,9 +3,9 @@ use Rattle.std.specs.Prelude.{◌-◌, List, ◌++◌, length, replicate}
 use Rattle.chord_links.specs.declared.peer.Peer.{Peer}
 
 -- the peer in each free element of the array
-abbrev pub blank : Peer
-blank = record { no = 0; id = record { number = 0 } }
+abbrev pub free_peer : Peer
+free_peer = record { number = 0; id = record { number = 0 } }
 
 -- these peers as an array of 16
-abbrev pub padded : List Peer → List Peer
-padded peers = peers ++ replicate (16 - length peers) blank
+abbrev pub padded_array : List Peer → List Peer
+padded_array peers = peers ++ replicate (16 - length peers) free_peer

@@ -15,7 +15,7 @@ pub struct PeerList {
 impl Model for PeerList {
     ghost use Rattle.std.specs.Prelude.{◌≡◌, ◌≤◌, List, length, take};
     ghost use Rattle.chord_links.specs.declared.peer.Peer.{Peer};
-    ghost use Rattle.chord_links.specs.PeerList.{padded};
+    ghost use Rattle.chord_links.specs.PeerList.{padded_array};
 
     ghost Value = { List Peer };
 
@@ -23,9 +23,9 @@ impl Model for PeerList {
 
     // Free elements are blank, so equal peers have equal arrays.
     ghost invariant = { λ peers. (peers.len ≤ 16) × (length peers.slots ≡ 16)
-        × (peers.slots ≡ padded (take peers.len peers.slots)) };
+        × (peers.slots ≡ padded_array (take peers.len peers.slots)) };
 
-    ghost inverse = { λ peers. record { slots = padded peers; len = length peers } };
+    ghost inverse = { λ peers. record { slots = padded_array peers; len = length peers } };
 
     ghost use Rattle.std.proofs.Common.{arith, sym, length-take-le};
 
@@ -37,7 +37,7 @@ impl Model for PeerList {
 
 /// The peer in each free element.
 const BLANK: Peer = Peer {
-    no: 0,
+    number: 0,
     id: Id { number: 0 },
 };
 

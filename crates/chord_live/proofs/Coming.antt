@@ -7,10 +7,10 @@ use Rattle.chord_model.specs.declared.message.Message.{Message}
 use Rattle.chord_table.specs.Views.{CallerSight, MayCall}
 
 -- a caller's step with a message that its seat just took in is one that the seat allows
-pub took : (old new : CallerSight) (parcel : Message) (letter : Letter) (core after : Caller) → new ≡ record old { messages = old.messages ++ parcel ∷ [] }
-    → message_of letter ≡ parcel → core ≡ new.caller → CallerStep core (Some letter) after None → MayCall new.caller new.messages after None
-took old new parcel letter core after is same mine step = (
+pub took : (old new : CallerSight) (envelope : Message) (letter : Letter) (core after : Caller) → new ≡ record old { messages = old.messages ++ envelope ∷ [] }
+    → message_of letter ≡ envelope → core ≡ new.caller → CallerStep core (Some letter) after None → MayCall new.caller new.messages after None
+took old new envelope letter core after is same mine step = (
   Some letter,
-  subst (λ (m : Message). Contains new.messages m) (sym same) (subst (λ (s : CallerSight). Contains s.messages parcel) (sym is) (Contains-push old.messages parcel)),
+  subst (λ (m : Message). Contains new.messages m) (sym same) (subst (λ (s : CallerSight). Contains s.messages envelope) (sym is) (Contains-push old.messages envelope)),
   subst (λ (c : Caller). CallerStep c (Some letter) after None) mine step,
 )

@@ -5,7 +5,7 @@ use Rattle.std.proofs.lemmas.Bool.{cond-false, and_parts, eqb-true, not-true, tr
 use Rattle.std.proofs.lemmas.List.{append_assoc}
 use Rattle.std.proofs.lemmas.Option.{none-some}
 use Rattle.chord_caller.specs.Answers.{TakeIs, is_pending}
-use Rattle.chord_caller.specs.Caller.{Caller, fitting, fresh_for, is_taken, next_number, submission_at, with_reply}
+use Rattle.chord_caller.specs.Caller.{Caller, request_for_reply, fresh_for, is_taken, next_number, submission_at, with_reply}
 use Rattle.chord_caller.specs.declared.fault.TakeFault.{TakeFault}
 use Rattle.chord_caller.specs.declared.fault.TakeFault.TheVariants.{Foreign, Memory}
 use Rattle.chord_caller.specs.declared.heard.Heard.{Heard as TakenAs}
@@ -13,11 +13,11 @@ use Rattle.chord_caller.specs.declared.heard.Heard.TheVariants.{Fresh, Known}
 use Rattle.chord_caller.specs.declared.told.Told.{Told}
 use Rattle.chord_caller.proofs.Places.{either_is}
 use Rattle.chord_live.specs.Asking.{AskIs, IsTaken, TookReplies, WaitIs, WaitsStill, WasSubmitted}
-use Rattle.chord_running.specs.Begun.{BeginIs}
-use Rattle.chord_faults.specs.Refused.{waited_ask}
-use Rattle.chord_faults.specs.declared.caller.AskFault.{AskFault}
-use Rattle.chord_faults.specs.declared.caller.WaitFault.{WaitFault}
-use Rattle.chord_faults.specs.declared.caller.WaitFault.TheVariants as wait
+use Rattle.chord_live_ring.specs.Begun.{BeginIs}
+use Rattle.chord_live_types.specs.Refused.{waited_ask}
+use Rattle.chord_live_types.specs.declared.caller.AskFault.{AskFault}
+use Rattle.chord_live_types.specs.declared.caller.WaitFault.{WaitFault}
+use Rattle.chord_live_types.specs.declared.caller.WaitFault.TheVariants as wait
 use Rattle.chord_map.specs.declared.reply.Reply.{Reply}
 use Rattle.chord_map.specs.declared.request.Request.{Request}
 use Rattle.chord_map.proofs.Lists.{by_option, by_test}
@@ -49,7 +49,7 @@ fresh_own told caller request e =
     (λ t.
     let tests = and_parts (eqb told.caller caller.number) (not (is_taken caller told.number)) t in
     (eqb-true told.caller caller.number tests.0, not-true (is_taken caller told.number) tests.1))
-    (λ f. absurd (none-some request (sym (cond-false test (fitting told.reply (submission_at told.number caller.submitted)) None f) ∙ e)))
+    (λ f. absurd (none-some request (sym (cond-false test (request_for_reply told.reply (submission_at told.number caller.submitted)) None f) ∙ e)))
 
 -- taking the reply that the caller waits for
 pub took_fresh : (number : ℕ) (told : Told) (copy : Reply) (old new : Caller) → told.number ≡ number → copy ≡ told.reply → TakeIs told old (Ok Fresh) new

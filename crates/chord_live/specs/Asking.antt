@@ -2,22 +2,22 @@
 use Rattle.std.specs.Prelude.{◌≡◌, ◌⊎◌, ℕ, ◌^◌, ◌<◌, true, false, None, Some, is_some, List, ◌++◌, Result, Ok, Err}
 use Rattle.std.specs.declared.alloc.AllocError.{AllocError}
 use Rattle.chord_caller.specs.Answers.{SubmitIs, HasWindow, is_pending}
-use Rattle.chord_caller.specs.Caller.{Caller, Note, next_number, submission_at, unknown, with_request}
+use Rattle.chord_caller.specs.Caller.{Caller, Note, next_number, submission_at, unknown_calls, with_request}
 use Rattle.chord_caller.specs.declared.fault.SubmitFault.TheVariants as submit
-use Rattle.chord_faults.specs.declared.caller.CollectFault.{CollectFault}
-use Rattle.chord_faults.specs.declared.caller.CollectFault.TheVariants as collect
-use Rattle.chord_live.specs.declared.heard.Heard.{Heard}
-use Rattle.chord_live.specs.declared.heard.Heard.TheVariants as heard
+use Rattle.chord_live_types.specs.declared.caller.CollectFault.{CollectFault}
+use Rattle.chord_live_types.specs.declared.caller.CollectFault.TheVariants as collect
+use Rattle.chord_live.specs.declared.wait_event.WaitEvent.{WaitEvent}
+use Rattle.chord_live.specs.declared.wait_event.WaitEvent.TheVariants as heard
 use Rattle.chord_map.specs.Checked.{IsRequest}
 use Rattle.chord_map.specs.History.{done_at}
 use Rattle.chord_map.specs.declared.done.Done.{Done}
 use Rattle.chord_map.specs.declared.request.Request.{Request}
 use Rattle.chord_map.specs.declared.reply.Reply.{Reply}
-use Rattle.chord_faults.specs.declared.caller.AskFault.{AskFault}
-use Rattle.chord_faults.specs.declared.caller.AskFault.TheVariants as ask
-use Rattle.chord_faults.specs.declared.caller.RetryFault.{RetryFault}
-use Rattle.chord_faults.specs.declared.caller.RetryFault.TheVariants as retry
-use Rattle.chord_faults.specs.declared.caller.WaitFault.{WaitFault}
+use Rattle.chord_live_types.specs.declared.caller.AskFault.{AskFault}
+use Rattle.chord_live_types.specs.declared.caller.AskFault.TheVariants as ask
+use Rattle.chord_live_types.specs.declared.caller.RetryFault.{RetryFault}
+use Rattle.chord_live_types.specs.declared.caller.RetryFault.TheVariants as retry
+use Rattle.chord_live_types.specs.declared.caller.WaitFault.{WaitFault}
 
 -- the caller took replies, none or more, and nothing else of it changed
 abbrev pub TookReplies : Caller → Caller → Type 0
@@ -32,7 +32,7 @@ abbrev pub WaitsStill : ℕ → Caller → Caller → Type 0
 WaitsStill number old new = TookReplies old new × (is_pending number new ≡ is_pending number old)
 
 -- what came to a caller that waits for the reply to the request of the number
-abbrev pub HeardIs : ℕ → Caller → Heard → Caller → Type 0
+abbrev pub HeardIs : ℕ → Caller → WaitEvent → Caller → Type 0
 HeardIs number old (heard.Reply reply) new = TookReplies old new × IsTaken new number reply
 HeardIs number old _ new = WaitsStill number old new
 
@@ -74,5 +74,5 @@ RetryIs number old (Err fault) new = (is_pending number old ≡ true) × WaitsSt
 
 -- the calls of the note that the caller did not know come after those that it learned before
 abbrev pub MeetIs : Note → Caller → Result (Unit {0}) AllocError → Caller → Type 0
-MeetIs note old (Ok done) new = new ≡ record old { told = old.told ++ unknown old note.done }
+MeetIs note old (Ok done) new = new ≡ record old { told = old.told ++ unknown_calls old note.done }
 MeetIs note old (Err fault) new = new ≡ old

@@ -1,27 +1,26 @@
 //! A caller that asks nodes.
 ghost use Rattle.std.specs.Prelude.{◌≡◌, ◌≢◌, ◌≤◌, ◌++◌, [], ◌∷◌, Ok, Err, None, Some, true, IfOk, IfErr, IfSome, OnErr};
 ghost use Rattle.chord_caller.specs.Answers.{PendingIs, is_pending, new_caller};
-ghost use Rattle.chord_caller.specs.Caller.{floor_of, known, next_number};
+ghost use Rattle.chord_caller.specs.Caller.{floor_of, known_calls, next_number};
 ghost use Rattle.chord_live.specs.Asking.{AskIs, CollectIs, HeardIs, MeetIs, RetryIs, WaitIs};
-ghost use Rattle.chord_faults.specs.declared.caller.AskFault.TheVariants as AskFault;
-ghost use Rattle.chord_faults.specs.declared.caller.BeginFault.TheVariants as BeginFault;
-ghost use Rattle.chord_faults.specs.declared.caller.CollectFault.TheVariants as CollectFault;
-ghost use Rattle.chord_faults.specs.declared.caller.RetryFault.TheVariants as RetryFault;
-ghost use Rattle.chord_faults.specs.declared.caller.WaitFault.TheVariants as WaitFault;
-ghost use Rattle.chord_live.specs.declared.heard.Heard.TheVariants as Heard;
+ghost use Rattle.chord_live_types.specs.declared.caller.AskFault.TheVariants as AskFault;
+ghost use Rattle.chord_live_types.specs.declared.caller.BeginFault.TheVariants as BeginFault;
+ghost use Rattle.chord_live_types.specs.declared.caller.CollectFault.TheVariants as CollectFault;
+ghost use Rattle.chord_live_types.specs.declared.caller.RetryFault.TheVariants as RetryFault;
+ghost use Rattle.chord_live_types.specs.declared.caller.WaitFault.TheVariants as WaitFault;
+ghost use Rattle.chord_live.specs.declared.wait_event.WaitEvent.TheVariants as WaitEvent;
 ghost use Rattle.chord_model.specs.declared.message.Message.TheVariants.{Note as NoteMessage};
-ghost use Rattle.chord_running.specs.Begun.{BeginIs, MaySubmit, TookMessages, WasNotToldFull, WasToldFull};
+ghost use Rattle.chord_live_ring.specs.Begun.{BeginIs, MaySubmit, TookMessages, WasNotToldFull, WasToldFull};
 ghost use Rattle.chord_table.specs.Shown.{CallerShown};
 
-use crate::heard::Heard;
-use crate::note_parcel::NoteParcel;
-use crate::owned::Owned;
-use chord_faults::{AskFault, BeginFault, CollectFault, OpenFault, RetryFault, WaitFault};
-use chord_map::{Reply, Request};
-use chord_running::{Ring, Target};
-use chord_segment::Done;
+use crate::note_envelope::NoteEnvelope;
+use crate::seated_caller::SeatedCaller;
+use crate::wait_event::WaitEvent;
+use chord_live_ring::{Ring, Target};
+use chord_live_types::{AskFault, BeginFault, CollectFault, OpenFault, RetryFault, WaitFault};
+use chord_map::{Done, Reply, Request};
 use chord_store::EntryStore;
-use chord_table::{Naming, Parcel, Witness};
+use chord_table::{Envelope, Naming, Witness};
 use std::alloc::AllocError;
 use std::marker::Model;
 use std::sync::Wait;
@@ -31,8 +30,8 @@ use std::time::{Clock, Duration, Instant};
 #[derive(Drop)]
 pub struct Caller<'a, J: Naming, S: EntryStore> {
     ring: &'a Ring<J, S>,
-    own: Owned<J>,
-    no: u64,
+    own: SeatedCaller<J>,
+    number: u64,
 }
 
 impl<'a, J: Naming, S: EntryStore> Model for Caller<'a, J, S> {
@@ -43,7 +42,7 @@ impl<'a, J: Naming, S: EntryStore> Model for Caller<'a, J, S> {
 
     ghost view = { λ a. a.own };
 
-    ghost invariant = { λ a. a.no < J.name.callers };
+    ghost invariant = { λ a. a.number < J.name.callers };
 }
 
 impl<'a, J: Naming, S: EntryStore> Caller<'a, J, S> {
@@ -58,9 +57,9 @@ impl<'a, J: Naming, S: EntryStore> Caller<'a, J, S> {
         ensures ok { IfOk result (λ caller. (caller.caller ≡ new_caller caller.caller.number window) × CallerShown caller) }
     {
         let (core, seat) = ring.admit_caller(rt, window)?;
-        let no = core.number();
-        let own = Owned::new(core, seat);
-        let mut caller = Caller { ring, own, no };
+        let number = core.number();
+        let own = SeatedCaller::new(core, seat);
+        let mut caller = Caller { ring, own, number };
         caller.look();
         Ok(caller)
     }
@@ -118,16 +117,16 @@ impl<'a, J: Naming, S: EntryStore> Caller<'a, J, S> {
     }
 
     /// A note of all that the caller knows, for another caller of the same ring to meet.
-    pub fn show(&mut self) -> Result<NoteParcel<J>, AllocError>
+    pub fn show(&mut self) -> Result<NoteEnvelope<J>, AllocError>
         ensures same { self.new ≡ self.old }
-        ensures note { IfOk result (λ shown. shown ≡ record { caller = self.old.caller.number; done = known self.old.caller }) }
+        ensures note { IfOk result (λ shown. shown ≡ record { caller = self.old.caller.number; done = known_calls self.old.caller }) }
     {
         self.own.show(self.ring.table())
     }
 
     /// Learns the calls of another caller's note that it did not know. A note that it refuses is
     /// lost.
-    pub fn meet(&mut self, shown: NoteParcel<J>) -> Result<(), AllocError>
+    pub fn meet(&mut self, shown: NoteEnvelope<J>) -> Result<(), AllocError>
         ensures messages { self.new.messages ≡ self.old.messages ++ NoteMessage shown ∷ [] }
         ensures answer { MeetIs shown self.old.caller result self.new.caller }
         ensures shown { CallerShown self.new }
@@ -139,7 +138,7 @@ impl<'a, J: Naming, S: EntryStore> Caller<'a, J, S> {
 
     /// Submits a request, if the caller takes it and there is such a node. Gives its number and its
     /// envelope.
-    fn submit(&mut self, via: u64, request: Request) -> Result<(u64, Parcel<J>), BeginFault>
+    fn submit(&mut self, via: u64, request: Request) -> Result<(u64, Envelope<J>), BeginFault>
         ensures ok { IfOk result (λ sent. BeginIs request self.old.caller (Ok sent.0) self.new.caller) }
         ensures waits { IfOk result (λ sent. is_pending sent.0 self.new.caller ≡ true) }
         ensures messages { self.new.messages ≡ self.old.messages }
@@ -152,7 +151,7 @@ impl<'a, J: Naming, S: EntryStore> Caller<'a, J, S> {
             drop(request);
             return Err(BeginFault::from(fault));
         }
-        if !self.ring.was(via) {
+        if !self.ring.was_admitted(via) {
             drop(request);
             return Err(BeginFault::NoSuchNode);
         }
@@ -170,8 +169,8 @@ impl<'a, J: Naming, S: EntryStore> Caller<'a, J, S> {
         ensures shown { CallerShown self.new }
     {
         let begun = match self.submit(via, request) {
-            Ok((number, parcel)) => {
-                self.ring.post(rt, Target::Node(via), parcel);
+            Ok((number, envelope)) => {
+                self.ring.post(rt, Target::Node(via), envelope);
                 Ok(number)
             }
             Err(fault) => Err(fault),
@@ -181,16 +180,16 @@ impl<'a, J: Naming, S: EntryStore> Caller<'a, J, S> {
     }
 
     /// Waits for one message, no longer than `limit`.
-    fn hear<R: Wait + Clock>(&mut self, rt: &R, limit: Duration, number: u64) -> Option<Heard>
+    fn hear<R: Wait + Clock>(&mut self, rt: &R, limit: Duration, number: u64) -> Option<WaitEvent>
         ensures some { IfSome result (λ heard. HeardIs number self.old.caller heard self.new.caller) }
         ensures none { result ≡ None → self.new ≡ self.old }
         ensures came { TookMessages self.old self.new }
-        ensures full { result ≡ Some Heard.Full → WasToldFull number self.old self.new }
-        ensures not_full { result ≢ Some Heard.Full → WasNotToldFull number self.old self.new }
+        ensures full { result ≡ Some WaitEvent.Full → WasToldFull number self.old self.new }
+        ensures not_full { result ≢ Some WaitEvent.Full → WasNotToldFull number self.old self.new }
     {
         let ring = self.ring;
-        match ring.hear(rt, self.no, limit) {
-            Some(parcel) => Some(self.own.take(ring.table(), parcel, number)),
+        match ring.hear(rt, self.number, limit) {
+            Some(envelope) => Some(self.own.take(ring.table(), envelope, number)),
             None => None,
         }
     }
@@ -206,10 +205,10 @@ impl<'a, J: Naming, S: EntryStore> Caller<'a, J, S> {
         for _ in 0..u64::MAX {
             let left = self.ring.time_left(rt, &start);
             match self.hear(rt, left, number) {
-                Some(Heard::Reply(reply)) => return Ok(reply),
-                Some(Heard::Full) => return Err(WaitFault::Full),
-                Some(Heard::Memory) => return Err(WaitFault::Memory),
-                Some(Heard::Other) => {}
+                Some(WaitEvent::Reply(reply)) => return Ok(reply),
+                Some(WaitEvent::Full) => return Err(WaitFault::Full),
+                Some(WaitEvent::Memory) => return Err(WaitFault::Memory),
+                Some(WaitEvent::Other) => {}
                 None => return Err(WaitFault::NoAnswer),
             }
         }
@@ -225,14 +224,14 @@ impl<'a, J: Naming, S: EntryStore> Caller<'a, J, S> {
         ensures not_full { result ≢ Err WaitFault.Full → WasNotToldFull number self.old self.new }
     {
         match self.own.resend(self.ring.table(), number) {
-            Ok(parcel) => self.ring.post(rt, Target::Node(via), parcel),
+            Ok(envelope) => self.ring.post(rt, Target::Node(via), envelope),
             Err(_) => return Err(WaitFault::Memory),
         }
         self.wait(rt, number)
     }
 
     /// Sends a pending request again, at most `times` times.
-    fn insist<R: Wait + Clock>(
+    fn resend_until_answered<R: Wait + Clock>(
         &mut self,
         rt: &R,
         via: u64,
@@ -256,7 +255,12 @@ impl<'a, J: Naming, S: EntryStore> Caller<'a, J, S> {
 
     /// Waits for the reply to a pending request that was sent once, and sends it again while none
     /// comes.
-    fn fetch<R: Wait + Clock>(&mut self, rt: &R, via: u64, number: u64) -> Result<Reply, WaitFault>
+    fn wait_then_resend<R: Wait + Clock>(
+        &mut self,
+        rt: &R,
+        via: u64,
+        number: u64,
+    ) -> Result<Reply, WaitFault>
         requires { is_pending number self.old.caller ≡ true }
         ensures answer { WaitIs number self.old.caller result self.new.caller }
         ensures came { TookMessages self.old self.new }
@@ -268,11 +272,11 @@ impl<'a, J: Naming, S: EntryStore> Caller<'a, J, S> {
             Err(WaitFault::NoAnswer) => {}
             ended => return ended,
         }
-        self.insist(rt, via, number, more)
+        self.resend_until_answered(rt, via, number, more)
     }
 
     /// Submits a request and waits for its reply, as `ask` does.
-    fn submit_and_fetch<R: Wait + Clock>(
+    fn submit_and_wait<R: Wait + Clock>(
         &mut self,
         rt: &R,
         via: u64,
@@ -284,12 +288,12 @@ impl<'a, J: Naming, S: EntryStore> Caller<'a, J, S> {
         ensures full { result ≡ Err AskFault.Full → WasToldFull (next_number self.old.caller) self.old self.new }
         ensures not_full { result ≢ Err AskFault.Full → WasNotToldFull (next_number self.old.caller) self.old self.new }
     {
-        let (number, parcel) = match self.submit(via, request) {
+        let (number, envelope) = match self.submit(via, request) {
             Ok(sent) => sent,
             Err(fault) => return Err(AskFault::from(fault)),
         };
-        self.ring.post(rt, Target::Node(via), parcel);
-        match self.fetch(rt, via, number) {
+        self.ring.post(rt, Target::Node(via), envelope);
+        match self.wait_then_resend(rt, via, number) {
             Ok(reply) => Ok(reply),
             Err(fault) => Err(AskFault::from(fault)),
         }
@@ -310,13 +314,13 @@ impl<'a, J: Naming, S: EntryStore> Caller<'a, J, S> {
         ensures not_full { result ≢ Err AskFault.Full → WasNotToldFull (next_number self.old.caller) self.old self.new }
         ensures shown { CallerShown self.new }
     {
-        let answered = self.submit_and_fetch(rt, via, request);
+        let answered = self.submit_and_wait(rt, via, request);
         self.look();
         answered
     }
 
     /// Waits for the reply to a pending request as long as `ask` does, and sends nothing.
-    fn linger<R: Wait + Clock>(&mut self, rt: &R, number: u64) -> Result<Reply, WaitFault>
+    fn wait_all_tries<R: Wait + Clock>(&mut self, rt: &R, number: u64) -> Result<Reply, WaitFault>
         ensures answer { WaitIs number self.old.caller result self.new.caller }
         ensures came { TookMessages self.old self.new }
         ensures full { result ≡ Err WaitFault.Full → WasToldFull number self.old self.new }
@@ -346,7 +350,7 @@ impl<'a, J: Naming, S: EntryStore> Caller<'a, J, S> {
             Ok(None) => {}
             Err(_) => return Err(CollectFault::Memory),
         }
-        match self.linger(rt, number) {
+        match self.wait_all_tries(rt, number) {
             Ok(reply) => Ok(reply),
             Err(fault) => Err(CollectFault::from(fault)),
         }
@@ -382,11 +386,11 @@ impl<'a, J: Naming, S: EntryStore> Caller<'a, J, S> {
         if !self.own.is_pending(number) {
             return Err(RetryFault::Idle);
         }
-        if !self.ring.was(via) {
+        if !self.ring.was_admitted(via) {
             return Err(RetryFault::NoSuchNode);
         }
         let tries = self.ring.tries();
-        match self.insist(rt, via, number, tries) {
+        match self.resend_until_answered(rt, via, number, tries) {
             Ok(reply) => Ok(reply),
             Err(fault) => Err(RetryFault::from(fault)),
         }
@@ -413,22 +417,22 @@ impl<'a, J: Naming, S: EntryStore> Caller<'a, J, S> {
 
     /// Carries an envelope from node to node, each event under that node's lock, and takes the
     /// reply.
-    fn carry(&mut self, rt: &impl Wait, via: u64, parcel: Parcel<J>, number: u64) -> Heard
+    fn carry(&mut self, rt: &impl Wait, via: u64, envelope: Envelope<J>, number: u64) -> WaitEvent
         ensures answer { HeardIs number self.old.caller result self.new.caller }
         ensures came { TookMessages self.old self.new }
-        ensures full { result ≡ Heard.Full → WasToldFull number self.old self.new }
-        ensures not_full { result ≢ Heard.Full → WasNotToldFull number self.old self.new }
+        ensures full { result ≡ WaitEvent.Full → WasToldFull number self.old self.new }
+        ensures not_full { result ≢ WaitEvent.Full → WasNotToldFull number self.old self.new }
     {
         let ring = self.ring;
-        match ring.carry(rt, via, parcel) {
-            Some(carried) if carried.caller == self.no => {
-                self.own.take(ring.table(), carried.parcel, number)
+        match ring.carry(rt, via, envelope) {
+            Some(carried) if carried.caller == self.number => {
+                self.own.take(ring.table(), carried.envelope, number)
             }
             Some(carried) => {
-                ring.post(rt, Target::Caller(carried.caller), carried.parcel);
-                Heard::Other
+                ring.post(rt, Target::Caller(carried.caller), carried.envelope);
+                WaitEvent::Other
             }
-            None => Heard::Other,
+            None => WaitEvent::Other,
         }
     }
 
@@ -437,7 +441,7 @@ impl<'a, J: Naming, S: EntryStore> Caller<'a, J, S> {
         &mut self,
         rt: &R,
         via: u64,
-        parcel: Parcel<J>,
+        envelope: Envelope<J>,
         number: u64,
     ) -> Result<Reply, WaitFault>
         ensures answer { WaitIs number self.old.caller result self.new.caller }
@@ -445,11 +449,11 @@ impl<'a, J: Naming, S: EntryStore> Caller<'a, J, S> {
         ensures full { result ≡ Err WaitFault.Full → WasToldFull number self.old self.new }
         ensures not_full { result ≢ Err WaitFault.Full → WasNotToldFull number self.old self.new }
     {
-        match self.carry(rt, via, parcel, number) {
-            Heard::Reply(reply) => return Ok(reply),
-            Heard::Full => return Err(WaitFault::Full),
-            Heard::Memory => return Err(WaitFault::Memory),
-            Heard::Other => {}
+        match self.carry(rt, via, envelope, number) {
+            WaitEvent::Reply(reply) => return Ok(reply),
+            WaitEvent::Full => return Err(WaitFault::Full),
+            WaitEvent::Memory => return Err(WaitFault::Memory),
+            WaitEvent::Other => {}
         }
         self.wait(rt, number)
     }
@@ -468,13 +472,13 @@ impl<'a, J: Naming, S: EntryStore> Caller<'a, J, S> {
         ensures not_full { result ≢ Err WaitFault.Full → WasNotToldFull number self.old self.new }
     {
         match self.own.resend(self.ring.table(), number) {
-            Ok(parcel) => self.carry_or_wait(rt, via, parcel, number),
+            Ok(envelope) => self.carry_or_wait(rt, via, envelope, number),
             Err(_) => Err(WaitFault::Memory),
         }
     }
 
     /// Carries a pending request again, at most `times` times.
-    fn carry_on<R: Wait + Clock>(
+    fn carry_repeatedly<R: Wait + Clock>(
         &mut self,
         rt: &R,
         via: u64,
@@ -497,11 +501,11 @@ impl<'a, J: Naming, S: EntryStore> Caller<'a, J, S> {
     }
 
     /// Carries a pending request as often as the ring's settings allow.
-    fn bring<R: Wait + Clock>(
+    fn carry_until_answered<R: Wait + Clock>(
         &mut self,
         rt: &R,
         via: u64,
-        parcel: Parcel<J>,
+        envelope: Envelope<J>,
         number: u64,
     ) -> Result<Reply, WaitFault>
         requires { is_pending number self.old.caller ≡ true }
@@ -511,15 +515,15 @@ impl<'a, J: Naming, S: EntryStore> Caller<'a, J, S> {
         ensures not_full { result ≢ Err WaitFault.Full → WasNotToldFull number self.old self.new }
     {
         let more = self.ring.tries() - 1;
-        match self.carry_or_wait(rt, via, parcel, number) {
+        match self.carry_or_wait(rt, via, envelope, number) {
             Err(WaitFault::NoAnswer) => {}
             ended => return ended,
         }
-        self.carry_on(rt, via, number, more)
+        self.carry_repeatedly(rt, via, number, more)
     }
 
     /// Submits a request and carries it, as `call` does.
-    fn submit_and_bring<R: Wait + Clock>(
+    fn submit_and_carry<R: Wait + Clock>(
         &mut self,
         rt: &R,
         via: u64,
@@ -531,11 +535,11 @@ impl<'a, J: Naming, S: EntryStore> Caller<'a, J, S> {
         ensures full { result ≡ Err AskFault.Full → WasToldFull (next_number self.old.caller) self.old self.new }
         ensures not_full { result ≢ Err AskFault.Full → WasNotToldFull (next_number self.old.caller) self.old self.new }
     {
-        let (number, parcel) = match self.submit(via, request) {
+        let (number, envelope) = match self.submit(via, request) {
             Ok(sent) => sent,
             Err(fault) => return Err(AskFault::from(fault)),
         };
-        match self.bring(rt, via, parcel, number) {
+        match self.carry_until_answered(rt, via, envelope, number) {
             Ok(reply) => Ok(reply),
             Err(fault) => Err(AskFault::from(fault)),
         }
@@ -557,7 +561,7 @@ impl<'a, J: Naming, S: EntryStore> Caller<'a, J, S> {
         ensures not_full { result ≢ Err AskFault.Full → WasNotToldFull (next_number self.old.caller) self.old self.new }
         ensures shown { CallerShown self.new }
     {
-        let answered = self.submit_and_bring(rt, via, request);
+        let answered = self.submit_and_carry(rt, via, request);
         self.look();
         answered
     }

@@ -4,7 +4,7 @@ ghost use Rattle.chord_caller.specs.Answers.{new_caller};
 ghost use Rattle.chord_table.specs.Shown.{CallerShown};
 
 use crate::caller::Caller;
-use chord_running::{OpenFault, Ring};
+use chord_live_ring::{OpenFault, Ring};
 use chord_store::EntryStore;
 use chord_table::Naming;
 use std::sync::Wait;

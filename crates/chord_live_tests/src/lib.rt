@@ -1,4 +1,4 @@
-//! The tests of `chord_live`, and of its ring, `chord_running`.
+//! The tests of `chord_live`, and of its ring, `chord_live_ring`.
 #![tactic(auto)]
 
 #[cfg(test)]

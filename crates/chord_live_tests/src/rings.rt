@@ -3,7 +3,9 @@
 ghost use Rattle.std.specs.Prelude.{◌≡◌, ◌≤◌, []};
 
 use chord_ident::Id;
-use chord_live::{AskFault, BeginFault, Blank, Caller, Ring, Settings};
+use chord_live::Caller;
+use chord_live_ring::{Ring, RingParts, Settings};
+use chord_live_types::{AskFault, BeginFault};
 use chord_map::{Reply, Request};
 use chord_store::EntryStore;
 use chord_table::Naming;
@@ -75,13 +77,13 @@ pub fn settings(slots: usize, callers: usize, tries: u64, wait_ms: u64) -> Setti
 /// A ring whose node A has this store.
 pub fn founded<J: Naming, S: EntryStore, R: Wait>(
     rt: &R,
-    blank: Blank,
+    parts: RingParts,
     store: S,
 ) -> Option<Ring<J, S>>
-    requires name { blank ≡ J.name }
+    requires name { parts ≡ J.name }
     requires vacant { S.content store ≡ [] }
 {
-    let ring = blank.open::<J, S>().ok()?;
+    let ring = parts.assemble::<J, S>().ok()?;
     if succeeds(ring.create(rt, Id::new(A), store)) {
         return Some(ring);
     }

@@ -3,7 +3,7 @@ use Rattle.std.proofs.Common.{◌≡◌, ℕ, zero, suc, ◌+◌, ◌<◌, ◌�
 use Rattle.std.proofs.lemmas.Bool.{and_parts, eqb-true, cond-true, cond-false, not-true, cases_lt}
 use Rattle.std.proofs.lemmas.Option.{same_Some, none-some}
 use Rattle.chord_caller.specs.declared.told.Told.{Told}
-use Rattle.chord_caller.specs.Caller.{Note, Submission, Caller, submission_at, is_taken, floor_of, IsSentNow, next_number, with_request, with_reply, fitting, fresh_for, known, unknown, CallerStep, Letter}
+use Rattle.chord_caller.specs.Caller.{Note, Submission, Caller, submission_at, is_taken, floor_of, IsSentNow, next_number, with_request, with_reply, request_for_reply, fresh_for, known_calls, unknown_calls, CallerStep, Letter}
 use Rattle.chord_caller.specs.Caller.CallerStep.{Submits, Repeats, Takes, Ignores, Hears_full, Shows, Meets}
 use Rattle.chord_map.proofs.Lists.{by_test, not_both, Has, Each, has_cases, has_pushed, has_filter, has_contained}
 use Rattle.chord_map.specs.declared.reply.Reply.{Reply}
@@ -103,7 +103,7 @@ pub record IsFresh (caller : Caller) (told : Told) (request : Request) : Type 0 
   pub is_request : submission.request ≡ request
   pub kind : fits told.reply submission.request ≡ true
 
-fitting_parts : (reply : Reply) (o : Option Submission) (request : Request) → fitting reply o ≡ Some request
+fitting_parts : (reply : Reply) (o : Option Submission) (request : Request) → request_for_reply reply o ≡ Some request
     → (submission : Submission) × (o ≡ Some submission) × (submission.request ≡ request) × (fits reply submission.request ≡ true)
 fitting_parts reply None request e = absurd (none-some request e)
 fitting_parts reply (Some submission) request e =
@@ -115,7 +115,7 @@ pub fresh_parts : (caller : Caller) (told : Told) (request : Request) → fresh_
 unfolding fresh_for
 fresh_parts caller told request e =
     let test : Bool = eqb told.caller caller.number && not (is_taken caller told.number) in
-    let found : Option Request = fitting told.reply (submission_at told.number caller.submitted) in
+    let found : Option Request = request_for_reply told.reply (submission_at told.number caller.submitted) in
     by_test test
     (λ t.
     let tests = and_parts (eqb told.caller caller.number) (not (is_taken caller told.number)) t in
@@ -245,17 +245,17 @@ module _ (old : World) (good : Good old) (number : ℕ) (caller : Caller) (here 
       })
       (λ message e. absurd (none-some message e))
 
-  shows : Good (record old { callers = put_caller caller old.callers; sent = with_one old.sent (Some (NoteMessage (record { caller = caller.number; done = known caller }))) })
+  shows : Good (record old { callers = put_caller caller old.callers; sent = with_one old.sent (Some (NoteMessage (record { caller = caller.number; done = known_calls caller }))) })
   shows =
-      let note : Note = record { caller = caller.number; done = known caller } in
+      let note : Note = record { caller = caller.number; done = known_calls caller } in
       caller_stays old good number caller (Some (NoteMessage note)) here
       (λ message e. subst (MessageGood (put_caller caller old.callers) old.history) (same_Some (NoteMessage note) message e)
       (λ done h. ⊎_elim (λ a. before_good.mine_stand done a) (λ b. before_good.told_stand done b) (has_cases caller.mine caller.told done h)))
 
   meets : (note : Note) → Has old.sent (NoteMessage note)
-      → Good (record old { callers = put_caller (record caller { told = caller.told ++ unknown caller note.done }) old.callers; sent = with_one old.sent None })
+      → Good (record old { callers = put_caller (record caller { told = caller.told ++ unknown_calls caller note.done }) old.callers; sent = with_one old.sent None })
   meets note was =
-      let more : List Done = unknown caller note.done in
+      let more : List Done = unknown_calls caller note.done in
       let after : Caller = record caller { told = caller.told ++ more } in
       let note_good : Each (StandsIn old.history) note.done = good.messages (NoteMessage note) was in
       let grown : Grown caller after = record { number = refl; window = refl; submitted = nothing_more caller.submitted; mine = nothing_more caller.mine; told = (more, refl) } in
@@ -265,7 +265,7 @@ module _ (old : World) (good : Good old) (number : ℕ) (caller : Caller) (here 
         once = before_good.once;
         mine_stand = before_good.mine_stand;
         told_stand = λ done h. ⊎_elim (λ a. before_good.told_stand done a)
-            (λ b. note_good done (has_filter (λ (d : Done). not (is_some (done_at d.caller d.number (known caller)))) note.done done b).0)
+            (λ b. note_good done (has_filter (λ (d : Done). not (is_some (done_at d.caller d.number (known_calls caller)))) note.done done b).0)
             (has_cases caller.told more done h);
         seen = λ place submission is.
             let low = before_good.seen place submission is in

@@ -3,7 +3,7 @@ use Rattle.std.proofs.Common.{◌≡◌, ◌≢◌, ℕ, suc, zero, ◌+◌, ◌
 use Rattle.std.specs.Prelude.{Contains, slice_get}
 use Rattle.chord_handover.proofs.Counting.{count, count_push}
 use Rattle.chord_handover.specs.declared.ticket.Ticket.{Ticket}
-use Rattle.chord_handover.specs.Handover.{Handover, Part, IsWhole, gathered, Item, item_at}
+use Rattle.chord_handover.specs.Handover.{Handover, Part, IsWhole, gathered_parts, Item, item_at}
 use Rattle.chord_ident.proofs.Spans.{one_if}
 use Rattle.chord_map.proofs.Finding.{not_true}
 use Rattle.chord_model.proofs.Channels.{taken_in, gone_by}
@@ -16,7 +16,7 @@ use Rattle.chord_model.proofs.Whole.{whole_ok}
 use Rattle.chord_model.specs.Headline.{MeetsNone, AllApart}
 use Rattle.chord_model.specs.declared.message.Message.{Message}
 use Rattle.chord_model.specs.declared.message.Message.TheVariants.{Part as PartMessage, Declined as DeclinedMessage}
-use Rattle.chord_model.specs.Node.{Node, with_given, with_back, founder, newborn}
+use Rattle.chord_model.specs.Node.{Node, with_taken, with_back, founder, newborn}
 use Rattle.chord_model.specs.World.{World, WorldStep, Reached, node_at, put_node, taken_by}
 use Rattle.chord_model.specs.World.Run.{Stays, Goes_on}
 use Rattle.chord_model.specs.World.WorldStep.{Creates, Joins as Arrives, Opens, Calls, Acts}
@@ -98,18 +98,18 @@ clear_by nodes node after out at event x x_in one more =
     omega arith
 
 -- a handover that a node takes next overlaps nothing that it holds
-pub taken_clear : (world : World) → Reached world → (part : Part) (handover : Handover) (node : Node) → Contains world.sent (PartMessage part) → IsWhole (gathered part node.noted) handover → node_at handover.to world.nodes ≡ Some node
+pub taken_clear : (world : World) → Reached world → (part : Part) (handover : Handover) (node : Node) → Contains world.sent (PartMessage part) → IsWhole (gathered_parts part node.buffered) handover → node_at handover.to world.nodes ≡ Some node
     → node.phase ≢ Gone → handover.number ≡ mark_of handover.from node.taken + 1 → MeetsNone handover.segment.span node.held
 taken_clear world reached part handover node was whole at stays next place segment e x x_in here =
     let sound = sound_reached world reached in
     let me : node.number ≡ handover.to = node_at_is handover.to world.nodes node at in
     let at' : node_at node.number world.nodes ≡ Some node = ap (λ n. node_at n world.nodes) me ∙ at in
     let event = take_event world.nodes world.sent node handover sound.distinct sound.channels sound.locals at' (sym me) next (gone_test node.phase stays)
-    (whole_ok world.nodes world.sent sound.channels.messages part node.noted handover was (sound.noted handover.to node at) whole
+    (whole_ok world.nodes world.sent sound.channels.messages part node.buffered handover was (sound.buffered handover.to node at) whole
     (ap gone_by at ∙ gone_test node.phase stays) (let e : taken_in world.nodes handover.to handover.from ≡ mark_of handover.from node.taken = ap (λ o. taken_by o handover.from) at in omega arith)) in
     let held = count_push (has x) node.held handover.segment in
     let one = ap one_if here in
-    let none = clear_by world.nodes node (with_given handover node) _ at' event x x_in (sound.one x x_in (some_nodes handover.to node world.nodes at)) (omega arith) in
+    let none = clear_by world.nodes node (with_taken handover node) _ at' event x x_in (sound.one x x_in (some_nodes handover.to node world.nodes at)) (omega arith) in
     has_none x place segment node.held none e
 
 -- a handover that a node takes back does not overlap what it holds either
@@ -142,7 +142,7 @@ placed_world_step : (old new : World) → Sound old.nodes old.sent → ((number 
     → (number : ℕ) (node : Node) → node_at number new.nodes ≡ Some node → Placed node
 placed_world_step old new sound placed (Creates links limit circle none) =
     subst (λ nodes. (other : ℕ) (node : Node) → node_at other (nodes ++ founder links limit ∷ []) ≡ Some node → Placed node) none
-    (all_placed_push (founder links limit) old.nodes (ap (node_at links.me.no) none ∙ none_at links.me.no) (record { entries = tt; kept = (tt, tt); outbox = tt }) placed)
+    (all_placed_push (founder links limit) old.nodes (ap (node_at links.me.number) none ∙ none_at links.me.number) (record { entries = tt; kept = (tt, tt); outbox = tt }) placed)
 placed_world_step old new sound placed (Arrives links limit circle some new_number) =
     all_placed_push (newborn links limit) old.nodes new_number (record { entries = tt; kept = tt; outbox = tt }) placed
 placed_world_step old new sound placed (Opens number window low high new_number) = placed

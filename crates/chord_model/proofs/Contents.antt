@@ -18,7 +18,7 @@ use Rattle.chord_map.specs.declared.done.Done.{Done}
 use Rattle.chord_map.specs.History.{replay, done_at, StandsIn}
 use Rattle.chord_segment.specs.declared.mark.Mark.{Mark}
 use Rattle.chord_segment.specs.Marks.{lift, lift_all, mark_of}
-use Rattle.chord_segment.specs.Segment.{id_of, Segment, placed, placed_all, append, span_before, span_behind, part_of, span_joined, joined}
+use Rattle.chord_segment.specs.Segment.{id_of, Segment, insert_call, insert_calls, append, span_before, span_behind, part_of, span_joined, joined_segment}
 use Rattle.chord_store.specs.Inside.{pairs_inside, pairs_outside}
 
 -- a span within another
@@ -79,11 +79,11 @@ part_current history span segment pairs within current = record {
 -- two as one
 
 pub joined_good : (callers : List Caller) (history : List Done) (first second : Segment) → SegmentGood callers history first → SegmentGood callers history second
-    → SegmentGood callers history (joined first second)
-unfolding joined
+    → SegmentGood callers history (joined_segment first second)
+unfolding joined_segment
 joined_good callers history first second one other =
     let floors : List Mark = lift_all second.floors first.floors in
-    let all : List Done = placed_all second.kept first.kept in
+    let all : List Done = insert_calls second.kept first.kept in
     record {
       floors = lift_all_each (TakenUpto callers) second.floors first.floors other.floors one.floors;
       kept = λ done h. ⊎_elim (λ a. one.kept done a) (λ b. other.kept done b) (placed_all_has second.kept first.kept done (above_has floors all done h));
@@ -97,17 +97,17 @@ joined_good callers history first second one other =
 
 pub joined_current : (history : List Done) (first second : Segment) (pairs : List Pair)
     → ((x : ℕ) → x < 2 ^ 128 → in_span (span_joined first.span second.span) x ≡ true → (in_span first.span x ≡ true) ⊎ (in_span second.span x ≡ true))
-    → Current history first pairs → Current history second pairs → Current history (joined first second) pairs
-unfolding joined
+    → Current history first pairs → Current history second pairs → Current history (joined_segment first second) pairs
+unfolding joined_segment
 joined_current history first second pairs parts one other = record {
   content = λ pair inside. ⊎_elim (λ a. one.content pair a) (λ b. other.content pair b) (parts (key_id pair.key) (key_id-below pair.key) inside);
   covered = λ done stands inside.
       let floors : List Mark = lift_all second.floors first.floors in
       ⊎_elim
       (λ a. ⊎_elim (λ low. inl (le_trans low (lift_all_grows done.caller second.floors first.floors)))
-      (λ kept. above_or_below floors (placed_all second.kept first.kept) done (has_placed_all second.kept first.kept done kept)) (one.covered done stands a))
+      (λ kept. above_or_below floors (insert_calls second.kept first.kept) done (has_placed_all second.kept first.kept done kept)) (one.covered done stands a))
       (λ b. ⊎_elim (λ low. inl (le_trans low (lift_all_reaches done.caller second.floors first.floors)))
-      (λ kept. above_or_below floors (placed_all second.kept first.kept) done (placed_all_itself second.kept first.kept done kept)) (other.covered done stands b))
+      (λ kept. above_or_below floors (insert_calls second.kept first.kept) done (placed_all_itself second.kept first.kept done kept)) (other.covered done stands b))
       (parts (id_of done.request) (key_id-below (key_of done.request)) inside);
 }
 
@@ -202,7 +202,7 @@ appended_current history done floor segment pairs same current = record {
   content = executed_content history done segment pairs same current;
   covered = λ past stands inside.
       let floors : List Mark = lift done.caller floor segment.floors in
-      let all : List Done = placed done segment.kept in
+      let all : List Done = insert_call done segment.kept in
       ⊎_elim
       (λ there. ⊎_elim (λ low. inl (le_trans low (lift_grows past.caller done.caller floor segment.floors)))
       (λ kept. above_or_below floors all past (has_placed done segment.kept past kept)) (current.covered past there inside))
@@ -216,7 +216,7 @@ pub appended_good : (callers : List Caller) (history : List Done) (done : Done) 
 unfolding append
 appended_good callers history done floor segment taken near fresh good =
     let floors : List Mark = lift done.caller floor segment.floors in
-    let all : List Done = placed done segment.kept in
+    let all : List Done = insert_call done segment.kept in
     let raised : mark_of done.caller floors ≡ max (mark_of done.caller segment.floors) floor = mark_lifted done.caller floor segment.floors in
     let is_near : done.number ≤ mark_of done.caller floors + 16 = omega arith in
     record {

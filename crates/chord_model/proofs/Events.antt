@@ -4,7 +4,7 @@ use Rattle.std.specs.Prelude.{slice_get}
 use Rattle.chord_handover.proofs.Counting.{count, count_push, count-set, count-insert, count-remove}
 use Rattle.chord_handover.proofs.OutboxLemmas.{DistinctItems, DistinctItems_push, DistinctItems-without, item_at_is, is_item_from, is_item_parts, item_at_push_other, item_at_push_same, item_at-without_same, item_at-without_other, without_none, count-without}
 use Rattle.chord_handover.specs.declared.ticket.Ticket.{Ticket}
-use Rattle.chord_handover.specs.Handover.{Handover, part_at, ticket_of, Item, item_at, is_item, without, handover_of}
+use Rattle.chord_handover.specs.Handover.{Handover, part_at, ticket_of, Item, item_at, is_item, outbox_without, handover_of}
 use Rattle.chord_ident.proofs.Spans.{one_if, in_parts}
 use Rattle.chord_ident.specs.declared.id.Id.{Id}
 use Rattle.chord_ident.specs.declared.span.Span.{Span}
@@ -18,12 +18,12 @@ use Rattle.chord_model.proofs.Nodes.{DistinctNodes, at_put, node_at-put_same, no
 use Rattle.chord_model.proofs.Totals.{has, awaits, weight, total, total-put, total_same, total-take, weight-take, awaits_yes, awaits_no}
 use Rattle.chord_model.specs.declared.message.Message.{Message}
 use Rattle.chord_model.specs.declared.message.Message.TheVariants.{Part as PartMessage, Got as GotMessage}
-use Rattle.chord_model.specs.Node.{Node, append_at, with_given, with_back, item_of, without_segment, cut_held, joined_held}
+use Rattle.chord_model.specs.Node.{Node, append_at, with_taken, with_back, item_of, without_segment, cut_held, joined_held}
 use Rattle.chord_model.specs.World.{node_at, put_node, taken_by}
 use Rattle.chord_map.proofs.Equal.{same_or_not}
 use Rattle.chord_segment.proofs.MarkLemmas.{mark_of-raise_same, mark_of-raise_other}
 use Rattle.chord_segment.specs.Marks.{mark_of, raise}
-use Rattle.chord_segment.specs.Segment.{Segment, append, before, behind, joined, span_joined}
+use Rattle.chord_segment.specs.Segment.{Segment, append, part_before, part_behind, joined_segment, span_joined}
 use Rattle.chord_map.specs.declared.done.Done.{Done}
 
 -- the ends of a span are identifiers
@@ -137,8 +137,8 @@ append_at_on id done floor (segment ∷ held) on =
 pub count-cut : (x place : ℕ) (segment : Segment) (at : Id) (held : List Segment) → x < 2 ^ 128 → SegmentOn segment → at.number < 2 ^ 128
     → slice_get held place ≡ Some segment → cuts segment.span at ≡ true → count (has x) (cut_held place segment at held) ≡ count (has x) held
 count-cut x place segment at held x_in on at_in found cut =
-    let both = count-insert (has x) (set held place (before at segment)) (place + 1) (behind at segment) in
-    let first = count-set (has x) held place segment (before at segment) found in
+    let both = count-insert (has x) (set held place (part_before at segment)) (place + 1) (part_behind at segment) in
+    let first = count-set (has x) held place segment (part_before at segment) found in
     let parts = in_parts segment.span.after at segment.span.upto x on.0 at_in on.1 x_in cut in
     omega arith
 
@@ -154,18 +154,18 @@ pub count-join : (x place : ℕ) (first : Segment) (place_behind : ℕ) (second 
     → slice_get held place ≡ Some first → slice_get held place_behind ≡ Some second → place ≢ place_behind
     → first.span.upto ≡ second.span.after → cuts (span_joined first.span second.span) first.span.upto ≡ true
     → count (has x) (joined_held place first place_behind second held) ≡ count (has x) held
-unfolding joined
+unfolding joined_segment
 count-join x place first place_behind second held x_in on on' found found' apart meet cut =
-    let found'' : slice_get (set held place (joined first second)) place_behind ≡ Some second = slice_get-set_other held place place_behind (joined first second) apart ∙ found' in
-    let less = count-remove (has x) (set held place (joined first second)) place_behind second found'' in
-    let more = count-set (has x) held place first (joined first second) found in
+    let found'' : slice_get (set held place (joined_segment first second)) place_behind ≡ Some second = slice_get-set_other held place place_behind (joined_segment first second) apart ∙ found' in
+    let less = count-remove (has x) (set held place (joined_segment first second)) place_behind second found'' in
+    let more = count-set (has x) held place first (joined_segment first second) found in
     let parts = in_parts first.span.after first.span.upto second.span.upto x on.0 on.1 on'.1 x_in cut in
     let second_part : one_if (in_span (record { after = first.span.upto; upto = second.span.upto }) x) ≡ one_if (has x second) =
     ap (λ a. one_if (in_span (record { after = a; upto = second.span.upto }) x)) meet in
     omega arith
 
-pub joined_on : (first second : Segment) → SegmentOn first → SegmentOn second → SegmentOn (joined first second)
-unfolding joined
+pub joined_on : (first second : Segment) → SegmentOn first → SegmentOn second → SegmentOn (joined_segment first second)
+unfolding joined_segment
 joined_on first second on on' = (on.0, on'.1)
 
 -- ---- a segment is put into the outbox
@@ -197,7 +197,7 @@ give_change nodes sent node place segment to channels at =
       gone_stays = λ h. h;
       items_stay = λ other number here above given. item_at_push_other other number node.outbox item
           (not_item other number item (λ (same : to ≡ other) (e : mark_of to node.given + 1 ≡ number). let g = ap (λ o. mark_of o node.given) same in omega arith));
-      behind = λ from. rw (ap (λ o. taken_by o from) at) at (channels.behind node.number from);
+      part_behind = λ from. rw (ap (λ o. taken_by o from) at) at (channels.behind node.number from);
       numbered = λ other number found e.
           let old : item_at other number node.outbox ≡ Some found → number ≤ mark_of other node.given =
           λ e'. rw (ap (λ o. given_by o other) at) at (channels.numbered node.number other number found (ap (λ o. item_by o other number) at ∙ e')) in
@@ -246,7 +246,7 @@ give_event nodes sent node place segment to channels at local found =
           (let t : ℕ → ℕ = λ to. taken_in nodes to node.number in
           let held = count-remove (has x) node.held place segment found in
           let way = count_push (awaits x t) node.outbox item in
-          let behind : t to ≤ mark_of to node.given = rw (ap (λ o. given_by o to) at) at (channels.behind to node.number) in
+          let part_behind : t to ≤ mark_of to node.given = rw (ap (λ o. given_by o to) at) at (channels.behind to node.number) in
           let here = ap one_if (awaits_yes x t item (omega arith)) in
           omega arith);
       says = λ message e.
@@ -259,8 +259,8 @@ give_event nodes sent node place segment to channels at local found =
 
 -- ---- an item leaves the outbox
 
-without_on : (to number : ℕ) (outbox : List Item) → Each ItemOn outbox → Each ItemOn (without to number outbox)
-unfolding without
+without_on : (to number : ℕ) (outbox : List Item) → Each ItemOn outbox → Each ItemOn (outbox_without to number outbox)
+unfolding outbox_without
 without_on to number outbox on = Each-filter ItemOn (λ (item : Item). not (is_item to number item)) outbox on
 
 found_on : (to number : ℕ) (outbox : List Item) (item : Item) → item_at to number outbox ≡ Some item → Each ItemOn outbox → ItemOn item
@@ -274,7 +274,7 @@ apart_or_same a b to number =
 
 -- an item that was taken awaits nobody, so the outbox weighs the same without it
 freed_by : (x : ℕ) (t : ℕ → ℕ) (to number : ℕ) (outbox : List Item) → DistinctItems outbox → number ≤ t to
-    → (found : Option Item) → item_at to number outbox ≡ found → count (awaits x t) (without to number outbox) ≡ count (awaits x t) outbox
+    → (found : Option Item) → item_at to number outbox ≡ found → count (awaits x t) (outbox_without to number outbox) ≡ count (awaits x t) outbox
 freed_by x t to number outbox d taken None e = ap (count (awaits x t)) (without_none to number outbox e)
 freed_by x t to number outbox d taken (Some item) e =
     let is = item_at_is to number outbox item e in
@@ -285,7 +285,7 @@ freed_by x t to number outbox d taken (Some item) e =
 
 drop_change : (nodes : List Node) (sent : List Message) (node : Node) (held : List Segment) (entries : List Pair) (to number : ℕ) → Channels nodes sent → node_at node.number nodes ≡ Some node
     → (gone_in nodes to ≡ false → taken_in nodes to node.number < number → ⊥)
-    → Change nodes node (record node { held = held; entries = entries; outbox = without to number node.outbox })
+    → Change nodes node (record node { held = held; entries = entries; outbox = outbox_without to number node.outbox })
 drop_change nodes sent node held entries to number channels at settled = record {
   same_number = refl;
   taken_grows = λ from. omega arith;
@@ -301,20 +301,20 @@ drop_change nodes sent node held entries to number channels at settled = record 
       (same_or_not other_number number))
       (λ (apart : other ≢ to). inl apart)
       (same_or_not other to));
-  behind = λ from. rw (ap (λ o. taken_by o from) at) at (channels.behind node.number from);
+  part_behind = λ from. rw (ap (λ o. taken_by o from) at) at (channels.behind node.number from);
   numbered = λ other other_number item e.
       ⊎_elim
       (λ (apart : (other ≢ to) ⊎ (other_number ≢ number)).
       kept_was_given nodes sent node channels at other other_number item (sym (item_at-without_other other other_number to number node.outbox apart) ∙ e))
       (λ (same : (other ≡ to) × (other_number ≡ number)).
-      let none : item_at other other_number (without to number node.outbox) ≡ None = rw (same.0, same.1) (item_at-without_same to number node.outbox) in
+      let none : item_at other other_number (outbox_without to number node.outbox) ≡ None = rw (same.0, same.1) (item_at-without_same to number node.outbox) in
       cc)
       (apart_or_same other other_number to number);
 }
 
 pub frees_event : (nodes : List Node) (sent : List Message) (node : Node) (ticket : Ticket) → Channels nodes sent → node_at node.number nodes ≡ Some node
     → Local node → ticket.from ≡ node.number → MessageOk nodes (GotMessage ticket)
-    → Event nodes node (record node { outbox = without ticket.to ticket.number node.outbox }) None
+    → Event nodes node (record node { outbox = outbox_without ticket.to ticket.number node.outbox }) None
 frees_event nodes sent node ticket channels at local me got =
     let taken : ticket.number ≤ taken_in nodes ticket.to node.number = rw me at got in
     let t : ℕ → ℕ = λ to. taken_in nodes to node.number in
@@ -325,7 +325,7 @@ frees_event nodes sent node ticket channels at local me got =
         held_on = local.held_on;
         outbox_on = without_on ticket.to ticket.number node.outbox local.outbox_on;
       };
-      totals = λ x x_in. untaken nodes node (record node { outbox = without ticket.to ticket.number node.outbox }) at refl refl x
+      totals = λ x x_in. untaken nodes node (record node { outbox = outbox_without ticket.to ticket.number node.outbox }) at refl refl x
           (ap (λ n. count (has x) node.held + n) (freed_by x t ticket.to ticket.number node.outbox local.items taken (item_at ticket.to ticket.number node.outbox) refl));
       says = λ message e. cc;
     }
@@ -364,7 +364,7 @@ sender_of (Some sender) to number item e = (sender, refl, e)
 
 take_change : (nodes : List Node) (sent : List Message) (node : Node) (handover : Handover) → Channels nodes sent → node_at node.number nodes ≡ Some node
     → handover.to ≡ node.number → handover.number ≡ mark_of handover.from node.taken + 1 → is_gone node.phase ≡ false → GiveOk nodes handover
-    → Change nodes node (with_given handover node)
+    → Change nodes node (with_taken handover node)
 take_change nodes sent node handover channels at here next stays ok =
     let up : mark_of handover.from (raise handover.from handover.number node.taken) ≡ handover.number = mark_of-raise_same handover.from handover.number node.taken ∙ omega arith in
     record {
@@ -377,7 +377,7 @@ take_change nodes sent node handover channels at here next stays ok =
       given_grows = λ to. omega arith;
       gone_stays = λ h. h;
       items_stay = λ to number here above given. refl;
-      behind = λ from. ⊎_elim
+      part_behind = λ from. ⊎_elim
           (λ (same : from ≡ handover.from). rw same (let g : handover.number ≤ given_in nodes handover.from node.number = rw here at ok.given in omega arith))
           (λ (apart : from ≢ handover.from).
           let e = mark_of-raise_other from handover.from handover.number node.taken apart in
@@ -390,16 +390,16 @@ take_change nodes sent node handover channels at here next stays ok =
 pub take_event : (nodes : List Node) (sent : List Message) (node : Node) (handover : Handover) → DistinctNodes nodes → Channels nodes sent
     → ((number : ℕ) (node : Node) → node_at number nodes ≡ Some node → Local node) → node_at node.number nodes ≡ Some node
     → handover.to ≡ node.number → handover.number ≡ mark_of handover.from node.taken + 1 → is_gone node.phase ≡ false → GiveOk nodes handover
-    → Event nodes node (with_given handover node) (Some (GotMessage (ticket_of handover)))
+    → Event nodes node (with_taken handover node) (Some (GotMessage (ticket_of handover)))
 take_event nodes sent node handover distinct channels locals at here next stays ok =
-    let after = with_given handover node in
+    let after = with_taken handover node in
     let nodes' = put_node after nodes in
     let taken_at : (from : ℕ) → taken_in nodes node.number from ≡ mark_of from node.taken = λ from. ap (λ o. taken_by o from) at in
     let at_after = node_at-put_same after node nodes at in
     let taken_after : (from : ℕ) → taken_in nodes' node.number from ≡ mark_of from (raise handover.from handover.number node.taken) = λ from. ap (λ o. taken_by o from) at_after in
     let up : mark_of handover.from (raise handover.from handover.number node.taken) ≡ handover.number = mark_of-raise_same handover.from handover.number node.taken ∙ omega arith in
     let now : taken_in nodes' node.number handover.from ≡ handover.number = taken_after handover.from ∙ up in
-    let before : taken_in nodes node.number handover.from + 1 ≡ handover.number = let t = taken_at handover.from in omega arith in
+    let part_before : taken_in nodes node.number handover.from + 1 ≡ handover.number = let t = taken_at handover.from in omega arith in
     let gone : gone_in nodes handover.to ≡ false = rw here (rw at stays) in
     let above : taken_in nodes handover.to handover.from < handover.number = rw here (omega arith) in
     let sender = sender_of (node_at handover.from nodes) handover.to handover.number (item_from handover) (ok.kept gone above) in

@@ -3,9 +3,9 @@ use Rattle.std.proofs.Common.{◌≡◌, ℕ, cond, ⊎_elim, Option, Some, None
 use Rattle.std.specs.Prelude.{slice_get}
 use Rattle.chord_caller.specs.declared.ask.Ask.{Ask}
 use Rattle.chord_caller.specs.declared.told.Told.{Told}
-use Rattle.chord_caller.specs.Caller.{Caller, Letter, Note, is_taken, floor_upto, with_request, with_reply, fresh_for, known, unknown, CallerStep}
+use Rattle.chord_caller.specs.Caller.{Caller, Letter, Note, is_taken, floor_upto, with_request, with_reply, fresh_for, known_calls, unknown_calls, CallerStep}
 use Rattle.chord_caller.specs.Caller.Letter.{AskLetter, ToldLetter, FullLetter, NoteLetter}
-use Rattle.chord_handover.specs.Handover.{Handover, Part, Item, part_at, IsWhole, ticket_of, item_at, without, handover_of}
+use Rattle.chord_handover.specs.Handover.{Handover, Part, Item, part_at, IsWhole, ticket_of, item_at, outbox_without, handover_of}
 use Rattle.chord_ident.specs.declared.id.Id.{Id}
 use Rattle.chord_ident.specs.Circle.{distance, walk, in_span, cuts, key_id}
 use Rattle.chord_ident.proofs.Spans.{whole_circle}
@@ -19,14 +19,14 @@ use Rattle.chord_model.specs.declared.message.Message.{Message}
 use Rattle.chord_model.specs.declared.message.Message.TheVariants.{Ask as AskMessage, Told as ToldMessage, Full as FullMessage, Part as PartMessage, Got as GotMessage, Declined as DeclinedMessage}
 use Rattle.chord_model.specs.declared.phase.Phase.TheVariants.{Leaving, Gone}
 use Rattle.chord_model.specs.Letters.{letter_sent}
-use Rattle.chord_model.specs.Node.{Node, NodeStep, founder, newborn, segment_with, append_at, told_of, done_of, executed, item_of, without_segment, with_given, with_back, cut_held, joined_held}
+use Rattle.chord_model.specs.Node.{Node, NodeStep, founder, newborn, segment_with, append_at, told_of, done_of, with_executed, item_of, without_segment, with_taken, with_back, cut_held, joined_held}
 use Rattle.chord_model.specs.Uses.{NodeRule, CallerRule, Rule, rule_of, rules_of}
 use Rattle.chord_model.specs.World.{World, WorldStep, Reached, empty_world, node_at, put_node, caller_at, put_caller, with_one}
 use Rattle.chord_model.specs.World.Run.{Stays, Goes_on}
 use Rattle.chord_map.specs.declared.done.Done.{Done}
 use Rattle.chord_map.specs.History.{done_at}
 use Rattle.chord_segment.specs.Marks.{mark_of, raise, lift}
-use Rattle.chord_segment.specs.Segment.{Segment, append, above, placed, before, behind, past_at, empty_segment}
+use Rattle.chord_segment.specs.Segment.{Segment, append, calls_above, insert_call, part_before, part_behind, past_at, empty_segment}
 use Rattle.chord_store.specs.Inside.{pairs_inside, pairs_outside}
 
 -- a step by this rule
@@ -52,10 +52,10 @@ abbrev pub whole : Segment
 whole = empty_segment (record { after = five; upto = five })
 
 abbrev pub first_links : NodeLinks
-first_links = alone (record { no = 0; id = five }) 3
+first_links = alone (record { number = 0; id = five }) 3
 
 abbrev pub second_links : NodeLinks
-second_links = alone (record { no = 1; id = nine }) 3
+second_links = alone (record { number = 1; id = nine }) 3
 
 abbrev first : Node
 first = founder first_links 10
@@ -76,19 +76,19 @@ abbrev first_gave : Node
 first_gave = without_segment 0 whole 1 first
 
 abbrev first_freed : Node
-first_freed = record first_gave { outbox = without 1 handover.number first_gave.outbox }
+first_freed = record first_gave { outbox = outbox_without 1 handover.number first_gave.outbox }
 
 abbrev first_leaving : Node
 first_leaving = record first_freed { phase = Leaving }
 
 abbrev first_gone : Node
-first_gone = record first_leaving { phase = Gone; limit = 0; noted = [] }
+first_gone = record first_leaving { phase = Gone; limit = 0; buffered = [] }
 
-abbrev noting : Node
-noting = record second { noted = second.noted ++ part ∷ [] }
+abbrev recording : Node
+recording = record second { buffered = second.buffered ++ part ∷ [] }
 
 abbrev taking : Node
-taking = with_given handover noting
+taking = with_taken handover recording
 
 -- the second gives its segment back, too late, and takes it back
 abbrev late_item : Item
@@ -136,13 +136,13 @@ abbrev told_put : Told
 told_put = told_of ask_put (reply_to put holding.entries)
 
 abbrev after_put : Node
-after_put = executed ask_put holding
+after_put = with_executed ask_put holding
 
 abbrev done_get : Done
 done_get = done_of ask_get (reply_to get after_put.entries)
 
 abbrev after_get : Node
-after_get = executed ask_get after_put
+after_get = with_executed ask_get after_put
 
 abbrev submitted : Caller
 submitted = with_request put caller
@@ -157,10 +157,10 @@ abbrev submitted_get : Caller
 submitted_get = with_request get submitted_more
 
 abbrev note : Note
-note = record { caller = 7; done = known submitted_get }
+note = record { caller = 7; done = known_calls submitted_get }
 
 abbrev met : Caller
-met = record submitted_get { told = submitted_get.told ++ unknown submitted_get note.done }
+met = record submitted_get { told = submitted_get.told ++ unknown_calls submitted_get note.done }
 
 -- ---- what the second node holds then
 
@@ -229,11 +229,11 @@ given_again = acted first_gave (Some (PartMessage part)) None given
 abbrev waited : World
 waited = acted second None None given_again
 
-abbrev noted : World
-noted = acted noting None None waited
+abbrev buffered : World
+buffered = acted recording None None waited
 
 abbrev taken : World
-taken = acted taking (Some (GotMessage (ticket_of handover))) None noted
+taken = acted taking (Some (GotMessage (ticket_of handover))) None buffered
 
 abbrev got_again : World
 got_again = acted taking (Some (GotMessage (ticket_of handover))) None taken
@@ -305,7 +305,7 @@ abbrev cut_there : World
 cut_there = acted cut None None met_note
 
 abbrev merged : Node
-merged = record cut { held = joined_held 0 (before nine with_get) 1 (behind nine with_get) cut.held }
+merged = record cut { held = joined_held 0 (part_before nine with_get) 1 (part_behind nine with_get) cut.held }
 
 abbrev last : World
 last = acted merged None None cut_there
@@ -355,9 +355,9 @@ waits : Used (Rule.ByNode NodeRule.Waits) given_again waited
 unfolding node_at put_node mark_of
 waits = (WorldStep.Acts 1 second second (Some (PartMessage part)) None None refl (2, omega arith, refl) (NodeStep.Waits part refl (omega arith) (λ e. cc)), refl)
 
-notes : Used (Rule.ByNode NodeRule.Notes) waited noted
+notes : Used (Rule.ByNode NodeRule.Buffers) waited buffered
 unfolding node_at put_node mark_of
-notes = (WorldStep.Acts 1 second noting (Some (PartMessage part)) None None refl (2, omega arith, refl) (NodeStep.Notes part refl refl (λ e. cc)), refl)
+notes = (WorldStep.Acts 1 second recording (Some (PartMessage part)) None None refl (2, omega arith, refl) (NodeStep.Buffers part refl refl (λ e. cc)), refl)
 
 is_whole : IsWhole (part ∷ part ∷ []) handover
 unfolding pairs_inside
@@ -368,9 +368,9 @@ is_whole = record {
   all = λ place from below. let one : 1 ≡ place = omega arith in (0, omega arith, ap (part_at handover) one);
 }
 
-takes : Used (Rule.ByNode NodeRule.Takes) noted taken
+takes : Used (Rule.ByNode NodeRule.Takes) buffered taken
 unfolding node_at put_node mark_of
-takes = (WorldStep.Acts 1 noting taking (Some (PartMessage part)) _ None refl (2, omega arith, refl) (NodeStep.Takes part handover refl refl (λ e. cc) is_whole), refl)
+takes = (WorldStep.Acts 1 recording taking (Some (PartMessage part)) _ None refl (2, omega arith, refl) (NodeStep.Takes part handover refl refl (λ e. cc) is_whole), refl)
 
 takes_again : Used (Rule.ByNode NodeRule.Got_again) taken got_again
 unfolding node_at put_node mark_of raise
@@ -385,7 +385,7 @@ unfolding node_at put_node
 leaves = (WorldStep.Acts 0 first_freed first_leaving None None None refl tt (NodeStep.Leaves refl), refl)
 
 retires : Used (Rule.ByNode NodeRule.Retires) leaving retired
-unfolding node_at put_node without mark_of
+unfolding node_at put_node outbox_without mark_of
 retires = (WorldStep.Acts 0 first_leaving first_gone None None None refl tt (NodeStep.Retires refl refl refl), refl)
 
 gives_late : Used (Rule.ByNode NodeRule.Gives) retired given_late
@@ -413,7 +413,7 @@ executes = (
 )
 
 tells_again : Used (Rule.ByNode NodeRule.Tells_again) did_put told_again
-unfolding node_at put_node past_at mark_of done_at append above raise lift placed
+unfolding node_at put_node past_at mark_of done_at append calls_above raise lift insert_call
 tells_again = (
   WorldStep.Acts 1 after_put after_put (Some (AskMessage ask_put)) _ None refl (0, omega arith, refl)
       (NodeStep.Tells_again ask_put with_put done_put (holds_key key with_put after_put.held held_put span_put) refl),
@@ -446,7 +446,7 @@ repeats = (
 )
 
 answers_full : Used (Rule.ByNode NodeRule.Answers_full) repeated full
-unfolding node_at put_node past_at mark_of done_at append above raise lift placed reply_to pairs_after insert_pair put_all pairs_inside pairs_outside
+unfolding node_at put_node past_at mark_of done_at append calls_above raise lift insert_call reply_to pairs_after insert_pair put_all pairs_inside pairs_outside
 answers_full = (
   WorldStep.Acts 1 after_put after_put (Some (AskMessage ask_more)) _ None refl (10, omega arith, refl)
       (NodeStep.Answers_full ask_more with_put (holds_key (3 ∷ []) with_put after_put.held held_put span_put) refl refl (omega arith)),
@@ -466,7 +466,7 @@ submits_get = (
 )
 
 executes_get : Used (Rule.ByNode NodeRule.Executes) asked_get did_get
-unfolding node_at put_node past_at mark_of done_at append above raise lift placed
+unfolding node_at put_node past_at mark_of done_at append calls_above raise lift insert_call
 executes_get = (
   WorldStep.Acts 1 after_put after_get (Some (AskMessage ask_get)) _ _ refl (13, omega arith, refl)
       (NodeStep.Executes ask_get with_put (holds_key key with_put after_put.held held_put span_put) refl),
@@ -474,7 +474,7 @@ executes_get = (
 )
 
 drops_seen : Used (Rule.ByNode NodeRule.Drops_seen) did_get seen
-unfolding node_at put_node past_at mark_of done_at append above raise lift placed
+unfolding node_at put_node past_at mark_of done_at append calls_above raise lift insert_call
 drops_seen = (
   WorldStep.Acts 1 after_get after_get (Some (AskMessage ask_put)) None None refl (0, omega arith, refl)
       (NodeStep.Drops_seen ask_put with_get (holds_key key with_get after_get.held held_get span_get) refl),
@@ -501,7 +501,7 @@ joins_two : Used (Rule.ByNode NodeRule.Joins) cut_there last
 unfolding node_at put_node cuts in_span walk distance append
 joins_two = (
   WorldStep.Acts 1 cut merged None None None refl tt
-      (NodeStep.Joins 0 (before nine with_get) 1 (behind nine with_get)
+      (NodeStep.Joins 0 (part_before nine with_get) 1 (part_behind nine with_get)
       (ap (λ held. slice_get (cut_held 0 with_get nine held) 0) held_get) (ap (λ held. slice_get (cut_held 0 with_get nine held) 1) held_get)
       (omega arith) refl refl),
   refl,
@@ -538,7 +538,7 @@ by_node NodeRule.Forwards = (30, omega arith, forwards.1)
 by_node NodeRule.Drops = (29, omega arith, drops.1)
 by_node NodeRule.Got_again = (22, omega arith, takes_again.1)
 by_node NodeRule.Declines = (17, omega arith, declines.1)
-by_node NodeRule.Notes = (24, omega arith, notes.1)
+by_node NodeRule.Buffers = (24, omega arith, notes.1)
 by_node NodeRule.Takes = (23, omega arith, takes.1)
 by_node NodeRule.Waits = (25, omega arith, waits.1)
 by_node NodeRule.Frees = (21, omega arith, frees.1)

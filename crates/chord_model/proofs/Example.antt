@@ -12,7 +12,7 @@ use Rattle.chord_map.specs.Map.{reply_to}
 use Rattle.chord_map.specs.declared.request.Request.TheVariants.{Insert}
 use Rattle.chord_model.specs.declared.message.Message.TheVariants.{Ask as AskMessage, Told as ToldMessage}
 use Rattle.chord_links.specs.NodeLinks.{alone}
-use Rattle.chord_model.specs.Node.{Node, founder, executed, segment_with, told_of, done_of, NodeStep}
+use Rattle.chord_model.specs.Node.{Node, founder, with_executed, segment_with, told_of, done_of, NodeStep}
 use Rattle.chord_model.specs.World.{World, WorldStep, Reached, empty_world, node_at, put_node, caller_at, put_caller}
 use Rattle.chord_model.specs.World.Run.{Stays, Goes_on}
 use Rattle.chord_map.specs.History.{done_at}
@@ -23,7 +23,7 @@ abbrev five : Id
 five = record { number = 5 }
 
 abbrev node : Node
-node = founder (alone (record { no = 0; id = five }) 3) 10
+node = founder (alone (record { number = 0; id = five }) 3) 10
 
 held_here : segment_with (key_id (1 ∷ [])) node.held ≡ Some (empty_segment (record { after = five; upto = five }))
 unfolding segment_with
@@ -42,7 +42,7 @@ abbrev submitted : Caller
 submitted = with_request (Insert (1 ∷ []) (2 ∷ [])) caller
 
 first : WorldStep empty_world (record { nodes = node ∷ []; callers = []; sent = []; history = [] })
-first = WorldStep.Creates (alone (record { no = 0; id = five }) 3) 10 (omega arith) refl
+first = WorldStep.Creates (alone (record { number = 0; id = five }) 3) 10 (omega arith) refl
 
 second : WorldStep (record { nodes = node ∷ []; callers = []; sent = []; history = [] }) (record { nodes = node ∷ []; callers = caller ∷ []; sent = []; history = [] })
 unfolding caller_at
@@ -55,24 +55,24 @@ third = WorldStep.Calls 7 caller submitted None (Some (AskLetter asked)) refl tt
 
 fourth : WorldStep (record { nodes = node ∷ []; callers = put_caller submitted (caller ∷ []); sent = AskMessage asked ∷ []; history = [] })
     (record {
-      nodes = put_node (executed asked node) (node ∷ []);
+      nodes = put_node (with_executed asked node) (node ∷ []);
       callers = put_caller submitted (caller ∷ []);
       sent = AskMessage asked ∷ ToldMessage told ∷ [];
       history = done_of asked (reply_to (Insert (1 ∷ []) (2 ∷ [])) []) ∷ [];
     })
 unfolding node_at past_at mark_of done_at
-fourth = WorldStep.Acts 0 node (executed asked node) (Some (AskMessage asked)) (Some (ToldMessage told)) (Some (done_of asked (reply_to (Insert (1 ∷ []) (2 ∷ [])) [])))
+fourth = WorldStep.Acts 0 node (with_executed asked node) (Some (AskMessage asked)) (Some (ToldMessage told)) (Some (done_of asked (reply_to (Insert (1 ∷ []) (2 ∷ [])) [])))
     refl (0, omega arith, refl) (NodeStep.Executes asked (empty_segment (record { after = five; upto = five })) held_here refl)
 
 fifth : WorldStep
     (record {
-      nodes = put_node (executed asked node) (node ∷ []);
+      nodes = put_node (with_executed asked node) (node ∷ []);
       callers = put_caller submitted (caller ∷ []);
       sent = AskMessage asked ∷ ToldMessage told ∷ [];
       history = done_of asked (reply_to (Insert (1 ∷ []) (2 ∷ [])) []) ∷ [];
     })
     (record {
-      nodes = put_node (executed asked node) (node ∷ []);
+      nodes = put_node (with_executed asked node) (node ∷ []);
       callers = put_caller (with_reply told (Insert (1 ∷ []) (2 ∷ [])) submitted) (put_caller submitted (caller ∷ []));
       sent = AskMessage asked ∷ ToldMessage told ∷ [];
       history = done_of asked (reply_to (Insert (1 ∷ []) (2 ∷ [])) []) ∷ [];

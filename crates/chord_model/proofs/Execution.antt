@@ -18,7 +18,7 @@ use Rattle.chord_model.proofs.Growth.{HistoryGrown, message_grown, node_grown, c
 use Rattle.chord_model.proofs.Invariant.{SegmentGood, AskGood, MessageGood, DoneGood, NodeGood, Current, Good, HolderFacts, Submitted}
 use Rattle.chord_model.proofs.NodeLemmas.{node_number, node_has, has_put_node, put_node_cases, put_not_empty, last_grows, segment_found, append_cases}
 use Rattle.chord_model.specs.declared.message.Message.TheVariants.{Ask as AskMessage, Told as ToldMessage}
-use Rattle.chord_model.specs.Node.{Node, segment_with, done_of, told_of, executed}
+use Rattle.chord_model.specs.Node.{Node, segment_with, done_of, told_of, with_executed}
 use Rattle.chord_model.specs.World.{World, node_at, put_node, with_one, last_taken, InOrder}
 use Rattle.chord_map.proofs.HistoryLemmas.{done_is, stands_found, stands_left, stands_last, stands_pushed, kept_found, legal_pushed, rises_after, rises_replay}
 use Rattle.chord_segment.proofs.SegmentLemmas.{past_new}
@@ -78,7 +78,7 @@ module _ (old : World) (good : Good old) (facts : HolderFacts old) (number : ℕ
 
   abbrev pub new_world : World
   new_world = record old {
-    nodes = put_node (executed ask node) old.nodes;
+    nodes = put_node (with_executed ask node) old.nodes;
     sent = with_one old.sent (Some (ToldMessage (told_of ask (reply_to ask.request node.entries))));
     history = old.history ++ done_of ask (reply_to ask.request node.entries) ∷ [];
   }
@@ -99,7 +99,7 @@ module _ (old : World) (good : Good old) (facts : HolderFacts old) (number : ℕ
       (λ r. good.in_order caller place submission before r.0 done is_caller is_submission r.1 c n)
       (split_pushed old.history (done_of ask (reply_to ask.request node.entries)) before done behind split)
 
-  after_good : NodeGood old.callers (old.history ++ done_of ask (reply_to ask.request node.entries) ∷ []) (executed ask node)
+  after_good : NodeGood old.callers (old.history ++ done_of ask (reply_to ask.request node.entries) ∷ []) (with_executed ask node)
   after_good =
       let last : Done = done_of ask (reply_to ask.request node.entries) in
       let grown = node_grown old.callers old.callers old.history (old.history ++ last ∷ []) (all_grown_itself old.callers) longer node before_good in
@@ -114,7 +114,7 @@ module _ (old : World) (good : Good old) (facts : HolderFacts old) (number : ℕ
         outbox_rising = grown.outbox_rising;
       }
 
-  held_current : (other : Segment) → Has (executed ask node).held other → Current (old.history ++ done_of ask (reply_to ask.request node.entries) ∷ []) other (pairs_after ask.request node.entries)
+  held_current : (other : Segment) → Has (with_executed ask node).held other → Current (old.history ++ done_of ask (reply_to ask.request node.entries) ∷ []) other (pairs_after ask.request node.entries)
   held_current other h =
       let last : Done = done_of ask (reply_to ask.request node.entries) in
       ⊎_elim
@@ -143,7 +143,7 @@ module _ (old : World) (good : Good old) (facts : HolderFacts old) (number : ℕ
   pub executes : Good new_world
   executes =
       let last : Done = done_of ask (reply_to ask.request node.entries) in
-      let after : Node = executed ask node in
+      let after : Node = with_executed ask node in
       let told : Told = told_of ask (reply_to ask.request node.entries) in
       let longer_history : List Done = old.history ++ last ∷ [] in
       let at : node_at after.number old.nodes ≡ Some node = ap (λ n. node_at n old.nodes) (node_number number old.nodes node here) ∙ here in
@@ -152,7 +152,7 @@ module _ (old : World) (good : Good old) (facts : HolderFacts old) (number : ℕ
         messages = each_with_one (MessageGood old.callers longer_history) old.sent (Some (ToldMessage told))
             (λ message h. message_grown old.callers old.callers old.history longer_history (all_grown_itself old.callers) longer message (good.messages message h))
             (λ message e. subst (MessageGood old.callers longer_history) (same_Some (ToldMessage told) message e) (record { request = ask.request; stands = stands_now }));
-        executed = λ done stands. ⊎_elim (λ there. good.executed done there)
+        with_executed = λ done stands. ⊎_elim (λ there. good.executed done there)
             (λ e. subst (DoneGood old.callers) e (record { submitted = ask_good.submitted; kind = fits_reply ask.request node.entries }))
             (stands_pushed old.history last done stands);
         legal = legal_pushed old.history last good.legal same_reply unexecuted;

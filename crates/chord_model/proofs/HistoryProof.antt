@@ -4,7 +4,7 @@ use Rattle.std.proofs.lemmas.Bool.{and_from, eq-eqb, cond-true, cases_Bool, not_
 use Rattle.std.proofs.lemmas.Option.{none-some, same_Some}
 use Rattle.chord_ident.proofs.Digest.{key_id-below}
 use Rattle.chord_caller.specs.declared.told.Told.{Told}
-use Rattle.chord_caller.specs.Caller.{Caller, Submission, submission_at, is_taken, fitting, fresh_for}
+use Rattle.chord_caller.specs.Caller.{Caller, Submission, submission_at, is_taken, request_for_reply, fresh_for}
 use Rattle.chord_ident.specs.Circle.{in_span}
 use Rattle.chord_map.proofs.Lists.{Has, all_each, has_contained, by_option, has_got}
 use Rattle.chord_map.proofs.MapLemmas.{RisingPairs, pair_of, values_same}
@@ -38,10 +38,10 @@ fresh_none caller told submission own is kind none =
     (λ f.
     let test : (eqb told.caller caller.number && not (is_taken caller told.number)) ≡ true =
     and_from (eqb told.caller caller.number) (not (is_taken caller told.number)) (eq-eqb told.caller caller.number own) (not_from_false (is_taken caller told.number) f) in
-    let fit : fitting told.reply (submission_at told.number caller.submitted) ≡ Some submission.request =
-    ap (fitting told.reply) is ∙ cond-true (fits told.reply submission.request) (Some submission.request) None kind in
+    let fit : request_for_reply told.reply (submission_at told.number caller.submitted) ≡ Some submission.request =
+    ap (request_for_reply told.reply) is ∙ cond-true (fits told.reply submission.request) (Some submission.request) None kind in
     absurd (none-some submission.request
-    (sym none ∙ cond-true (eqb told.caller caller.number && not (is_taken caller told.number)) (fitting told.reply (submission_at told.number caller.submitted)) None test ∙ fit)))
+    (sym none ∙ cond-true (eqb told.caller caller.number && not (is_taken caller told.number)) (request_for_reply told.reply (submission_at told.number caller.submitted)) None test ∙ fit)))
     (cases_Bool (is_taken caller told.number))
 
 module _ (world : World) (good : Good world) where
@@ -97,7 +97,7 @@ module _ (world : World) (good : Good world) where
         let good_one : CallerGood world.history caller = good.callers caller (caller_has number world.callers caller here) in
         all_each (λ done. (done.caller ≡ number) × StandsIn world.history done) caller.mine
         (λ done h. ((good_one.own done h).is_caller ∙ caller_number number world.callers caller here, good_one.mine_stand done h));
-    noted = λ note was. all_each (StandsIn world.history) note.done (good.messages (NoteMessage note) (has_contained world.sent (NoteMessage note) was));
+    buffered = λ note was. all_each (StandsIn world.history) note.done (good.messages (NoteMessage note) (has_contained world.sent (NoteMessage note) was));
     told = λ number caller here. all_each (StandsIn world.history) caller.told (good.callers caller (caller_has number world.callers caller here)).told_stand;
     once = λ number caller here. (good.callers caller (caller_has number world.callers caller here)).once;
     in_order = good.in_order;

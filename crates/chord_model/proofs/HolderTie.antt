@@ -151,7 +151,7 @@ module _ (world : World) (reached : Reached world) where
         let gone : gone_in world.nodes handover.to ≡ false = ap gone_by here ∙ gone_test node.phase stays in
         let is : taken_in world.nodes handover.to handover.from ≡ mark_of handover.from node.taken = ap (λ o. taken_by o handover.from) here in
         let above : taken_in world.nodes handover.to handover.from < handover.number = omega arith in
-        let ok = whole_ok world.nodes world.sent sound.channels.messages part node.noted handover (contains_has world.sent (PartMessage part) was) (sound.noted handover.to node here) whole gone above in
+        let ok = whole_ok world.nodes world.sent sound.channels.messages part node.buffered handover (contains_has world.sent (PartMessage part) was) (sound.buffered handover.to node here) whole gone above in
         let sender = sender_of (node_at handover.from world.nodes) handover.to handover.number (item_from handover) (ok.kept gone above) in
         let there : Has sender.0.outbox (item_from handover) = (item_found handover.to handover.number sender.0.outbox (item_from handover) sender.2).2 in
         (sender.0, item_from handover, sender.1, there, refl, refl, refl, refl);

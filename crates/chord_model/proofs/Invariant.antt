@@ -4,7 +4,7 @@ use Rattle.chord_caller.specs.declared.ask.Ask.{Ask}
 use Rattle.chord_caller.specs.declared.told.Told.{Told}
 use Rattle.chord_caller.specs.Caller.{Submission, Caller, submission_at, is_taken, floor_of}
 use Rattle.chord_handover.specs.declared.ticket.Ticket.{Ticket}
-use Rattle.chord_handover.specs.Handover.{Handover, Part, IsWhole, gathered, Item, item_at}
+use Rattle.chord_handover.specs.Handover.{Handover, Part, IsWhole, gathered_parts, Item, item_at}
 use Rattle.chord_ident.specs.Circle.{in_span, key_id}
 use Rattle.chord_map.proofs.Lists.{Has, Each}
 use Rattle.chord_map.proofs.MapLemmas.{RisingPairs}
@@ -142,7 +142,7 @@ pub record HolderFacts (world : World) : Type 0 where
       → has_pair pair item.pairs ≡ true → in_span item.segment.span (key_id pair.key) ≡ true
   -- a handover that is the next to be taken is in its sender's outbox
   pub next_in_outbox : (node : Node) (part : Part) (handover : Handover) → node_at handover.to world.nodes ≡ Some node → Has world.sent (PartMessage part)
-      → IsWhole (gathered part node.noted) handover
+      → IsWhole (gathered_parts part node.buffered) handover
       → handover.number ≡ mark_of handover.from node.taken + 1 → node.phase ≢ Phase.Gone
       → (sender : Node) × (item : Item) × (node_at handover.from world.nodes ≡ Some sender) × Has sender.outbox item
       × (item.to ≡ handover.to) × (item.number ≡ handover.number) × (item.segment ≡ handover.segment) × (item.pairs ≡ handover.pairs)

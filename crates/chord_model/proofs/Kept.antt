@@ -19,13 +19,13 @@ use Rattle.chord_model.specs.Letters.{letter_sent}
 use Rattle.chord_model.specs.declared.message.Message.TheVariants.{Part as PartMessage, Got as GotMessage, Declined as DeclinedMessage}
 use Rattle.chord_model.specs.declared.phase.Phase.{Phase}
 use Rattle.chord_model.specs.Node.{Node, NodeStep, founder, newborn}
-use Rattle.chord_model.specs.Node.NodeStep.{Tells_again, Drops_seen, Executes, Answers_full, Forwards, Drops, Got_again, Declines, Notes, Takes, Waits, Frees, Takes_back, Keeps, Cuts, Joins, Gives, Gives_again, Links_change, Leaves, Retires}
+use Rattle.chord_model.specs.Node.NodeStep.{Tells_again, Drops_seen, Executes, Answers_full, Forwards, Drops, Got_again, Declines, Buffers, Takes, Waits, Frees, Takes_back, Keeps, Cuts, Joins, Gives, Gives_again, Links_change, Leaves, Retires}
 use Rattle.chord_model.specs.World.{World, WorldStep, Reached, node_at, put_node, WasSent, taken_by, with_one}
 use Rattle.chord_model.specs.World.Run.{Stays, Goes_on}
 use Rattle.chord_model.specs.World.WorldStep.{Creates, Joins as Arrives, Opens, Calls, Acts}
 use Rattle.chord_model.specs.declared.phase.Phase.TheVariants.{Staying, Leaving, Gone}
 use Rattle.chord_segment.specs.Marks.{mark_of}
-use Rattle.chord_segment.specs.Segment.{id_of, before, behind}
+use Rattle.chord_segment.specs.Segment.{id_of, part_before, part_behind}
 use Rattle.chord_map.specs.declared.done.Done.{Done}
 
 -- what holds of all nodes and messages
@@ -35,21 +35,21 @@ pub record Sound (nodes : List Node) (sent : List Message) : Type 0 where
   pub locals : (number : ℕ) (node : Node) → node_at number nodes ≡ Some node → Local node
   pub one : (x : ℕ) → x < 2 ^ 128 → nodes ≢ [] → total x (taken_in nodes) nodes ≡ 1
   -- a buffered part was sent
-  pub noted : (number : ℕ) (node : Node) → node_at number nodes ≡ Some node → (part : Part) → Has node.noted part → Contains sent (PartMessage part)
+  pub buffered : (number : ℕ) (node : Node) → node_at number nodes ≡ Some node → (part : Part) → Has node.buffered part → Contains sent (PartMessage part)
 
 contained_more : (sent : List Message) (out : Option Message) (message : Message) → Contains sent message → Contains (with_one sent out) message
 contained_more sent None message c = c
 contained_more sent (Some other) message c = Contains-append_left sent (other ∷ []) message c
 
 -- a buffered part was buffered before, or is taken in now
-noted_step : (node : Node) (taken : Option Message) (after : Node) (out : Option Message) (did : Option Done) → NodeStep node taken after out did
-    → (sent : List Message) → WasSent sent taken → ((part : Part) → Has node.noted part → Contains sent (PartMessage part))
-    → (part : Part) → Has after.noted part → Contains sent (PartMessage part)
-noted_step node taken after out did (Notes new here next stays) sent was all part h =
-    ⊎_elim (λ there. all part there) (λ e. subst (λ (p : Part). Contains sent (PartMessage p)) e was) (has_pushed node.noted new part h)
-noted_step node taken after out did (Takes new handover here next stays whole) sent was all part h = all part (has_filter _ node.noted part h).0
-noted_step node taken after out did (Retires leaves held outbox) sent was all part h = absurd h
-noted_step node taken after out did step sent was all part h = all part h
+buffered_step : (node : Node) (taken : Option Message) (after : Node) (out : Option Message) (did : Option Done) → NodeStep node taken after out did
+    → (sent : List Message) → WasSent sent taken → ((part : Part) → Has node.buffered part → Contains sent (PartMessage part))
+    → (part : Part) → Has after.buffered part → Contains sent (PartMessage part)
+buffered_step node taken after out did (Buffers new here next stays) sent was all part h =
+    ⊎_elim (λ there. all part there) (λ e. subst (λ (p : Part). Contains sent (PartMessage p)) e was) (has_pushed node.buffered new part h)
+buffered_step node taken after out did (Takes new handover here next stays whole) sent was all part h = all part (has_filter _ node.buffered part h).0
+buffered_step node taken after out did (Retires leaves held outbox) sent was all part h = absurd h
+buffered_step node taken after out did step sent was all part h = all part h
 
 pub gone_test : (phase : Phase) → phase ≢ Gone → is_gone phase ≡ false
 gone_test Staying h = refl
@@ -90,13 +90,13 @@ event nodes sent node taken after out did sound at was (Declines handover here a
       gone = ap (gone_in nodes) here ∙ (ap gone_by at ∙ ap is_gone gone);
       above = let e : taken_in nodes handover.to handover.from ≡ mark_of handover.from node.taken = ap (λ n. taken_in nodes n handover.from) here ∙ ap (λ o. taken_by o handover.from) at in omega arith;
     }))
-event nodes sent node taken after out did sound at was (Notes part here next stays) =
+event nodes sent node taken after out did sound at was (Buffers part here next stays) =
     let local = sound.locals node.number node at in
     quiet_event nodes sent node _ _ sound.channels at refl refl refl refl (λ h. h)
     (record { items = local.items; held_on = local.held_on; outbox_on = local.outbox_on }) (λ x x_in. refl) (silent nodes)
 event nodes sent node taken after out did sound at was (Takes part handover here next stays whole) =
     take_event nodes sent node handover sound.distinct sound.channels sound.locals at here next (gone_test node.phase stays)
-    (whole_ok nodes sent sound.channels.messages part node.noted handover was (sound.noted node.number node at) whole
+    (whole_ok nodes sent sound.channels.messages part node.buffered handover was (sound.buffered node.number node at) whole
     (rw here (rw at (gone_test node.phase stays))) (rw here (rw at (omega arith))))
 event nodes sent node taken after out did sound at was (Waits handover here above stays) =
     same_event nodes sent node _ sound.channels at (sound.locals node.number node at) (silent nodes)
@@ -112,7 +112,7 @@ event nodes sent node taken after out did sound at was (Cuts place segment cut f
     quiet_event nodes sent node _ _ sound.channels at refl refl refl refl (λ h. h)
     (record {
       items = local.items;
-      held_on = Each-insert SegmentOn _ (place + 1) (behind cut segment) (Each-set SegmentOn node.held place (before cut segment) local.held_on (on.0, circle)) (circle, on.1);
+      held_on = Each-insert SegmentOn _ (place + 1) (part_behind cut segment) (Each-set SegmentOn node.held place (part_before cut segment) local.held_on (on.0, circle)) (circle, on.1);
       outbox_on = local.outbox_on;
     })
     (λ x x_in. count-cut x place segment cut node.held x_in on circle found inside) (silent nodes)
@@ -153,21 +153,21 @@ event nodes sent node taken after out did sound at was (Retires leaves held outb
 
 -- a step of a node keeps all
 act_sound : (nodes : List Node) (sent : List Message) (node after : Node) (out : Option Message) → Sound nodes sent → node_at node.number nodes ≡ Some node
-    → ((part : Part) → Has after.noted part → Contains sent (PartMessage part))
+    → ((part : Part) → Has after.buffered part → Contains sent (PartMessage part))
     → Event nodes node after out → Sound (put_node after nodes) (with_one sent out)
-act_sound nodes sent node after out sound at noted event =
+act_sound nodes sent node after out sound at buffered event =
     let at' : node_at after.number nodes ≡ Some node = rw event.change.same_number at in
     record {
       distinct = DistinctNodes-put after nodes sound.distinct;
       channels = Channels_with (put_node after nodes) sent out (Channels-later nodes sent node after sound.channels at event.change) event.says;
       locals = λ number other e. at_put (λ number old new. ((node : Node) → old ≡ Some node → Local node) → (node : Node) → new ≡ Some node → Local node) after node nodes at'
-          (λ before other e. let same : after ≡ other = cc in subst Local same event.local) (λ number other h. h) number (sound.locals number) other e;
+          (λ part_before other e. let same : after ≡ other = cc in subst Local same event.local) (λ number other h. h) number (sound.locals number) other e;
       one = λ x x_in some. event.totals x x_in ∙ sound.one x x_in (put_node_some after nodes some);
-      noted = λ number other e part h. contained_more sent out (PartMessage part)
-          (at_put (λ number old new. ((node : Node) → old ≡ Some node → (part : Part) → Has node.noted part → Contains sent (PartMessage part))
-          → (node : Node) → new ≡ Some node → (part : Part) → Has node.noted part → Contains sent (PartMessage part)) after node nodes at'
-          (λ before other e part h. let same : after ≡ other = cc in noted part (subst (λ (n : Node). Has n.noted part) (sym same) h)) (λ number other h. h)
-          number (sound.noted number) other e part h);
+      buffered = λ number other e part h. contained_more sent out (PartMessage part)
+          (at_put (λ number old new. ((node : Node) → old ≡ Some node → (part : Part) → Has node.buffered part → Contains sent (PartMessage part))
+          → (node : Node) → new ≡ Some node → (part : Part) → Has node.buffered part → Contains sent (PartMessage part)) after node nodes at'
+          (λ part_before other e part h. let same : after ≡ other = cc in buffered part (subst (λ (n : Node). Has n.buffered part) (sym same) h)) (λ number other h. h)
+          number (sound.buffered number) other e part h);
     }
 
 -- a node as it begins, with no handover of its own
@@ -176,7 +176,7 @@ pub record IsFresh (node : Node) : Type 0 where
   pub given : node.given ≡ []
   pub taken : node.taken ≡ []
   pub outbox : node.outbox ≡ []
-  pub noted : node.noted ≡ []
+  pub buffered : node.buffered ≡ []
 
 fresh_taken : (node : Node) → IsFresh node → (from : ℕ) → mark_of from node.taken ≡ 0
 unfolding mark_of
@@ -240,14 +240,14 @@ fresh_sound nodes sent new sound none fresh on counts = record {
   distinct = DistinctNodes_push nodes new none sound.distinct;
   channels = fresh_channels nodes sent new sound.channels none fresh;
   locals = λ number other e. at_push (λ number old new. ((node : Node) → old ≡ Some node → Local node) → (node : Node) → new ≡ Some node → Local node) new nodes none
-      (λ before other e. let same : new ≡ other = cc in subst Local same (fresh_local new fresh on)) (λ number other h. h) number (sound.locals number) other e;
+      (λ part_before other e. let same : new ≡ other = cc in subst Local same (fresh_local new fresh on)) (λ number other h. h) number (sound.locals number) other e;
   one = λ x x_in some. fresh_total nodes new x none fresh ∙ ⊎_elim
       (λ first. let t = ap (λ ns. total x (taken_in nodes) ns) first.0 in let c = first.1 in omega arith)
       (λ later. let o = sound.one x x_in later.0 in let c = later.1 in omega arith) (counts x x_in);
-  noted = λ number other e. at_push (λ number old new. ((node : Node) → old ≡ Some node → (part : Part) → Has node.noted part → Contains sent (PartMessage part))
-      → (node : Node) → new ≡ Some node → (part : Part) → Has node.noted part → Contains sent (PartMessage part)) new nodes none
-      (λ before other e part h. let same : new ≡ other = cc in absurd (subst (λ ps. Has ps part) fresh.noted (subst (λ (n : Node). Has n.noted part) (sym same) h)))
-      (λ number other h. h) number (sound.noted number) other e;
+  buffered = λ number other e. at_push (λ number old new. ((node : Node) → old ≡ Some node → (part : Part) → Has node.buffered part → Contains sent (PartMessage part))
+      → (node : Node) → new ≡ Some node → (part : Part) → Has node.buffered part → Contains sent (PartMessage part)) new nodes none
+      (λ part_before other e part h. let same : new ≡ other = cc in absurd (subst (λ ps. Has ps part) fresh.buffered (subst (λ (n : Node). Has n.buffered part) (sym same) h)))
+      (λ number other h. h) number (sound.buffered number) other e;
 }
 
 -- a caller sends only asks and notes
@@ -269,12 +269,12 @@ none_at number = refl
 pub sound_step : (old new : World) → Sound old.nodes old.sent → WorldStep old new → Sound new.nodes new.sent
 sound_step old new sound (Creates links limit circle none) =
     subst (λ nodes. Sound (nodes ++ founder links limit ∷ []) old.sent) none
-    (fresh_sound old.nodes old.sent (founder links limit) sound (ap (node_at links.me.no) none ∙ none_at links.me.no)
-    (record { stays = refl; given = refl; taken = refl; outbox = refl; noted = refl }) ((circle, circle), tt)
+    (fresh_sound old.nodes old.sent (founder links limit) sound (ap (node_at links.me.number) none ∙ none_at links.me.number)
+    (record { stays = refl; given = refl; taken = refl; outbox = refl; buffered = refl }) ((circle, circle), tt)
     (λ x x_in. inl (none, ap (λ b. one_if b + 0) (whole_circle links.me.id x circle x_in))))
 sound_step old new sound (Arrives links limit circle some new_number) =
     fresh_sound old.nodes old.sent (newborn links limit) sound new_number
-    (record { stays = refl; given = refl; taken = refl; outbox = refl; noted = refl }) tt (λ x x_in. inr (some, refl))
+    (record { stays = refl; given = refl; taken = refl; outbox = refl; buffered = refl }) tt (λ x x_in. inr (some, refl))
 sound_step old new sound (Opens number window low high new_number) = sound
 sound_step old new sound (Calls number caller after taken out at was step) =
     record {
@@ -282,12 +282,12 @@ sound_step old new sound (Calls number caller after taken out at was step) =
       channels = Channels_with old.nodes old.sent (letter_sent out) sound.channels (caller_says old.nodes caller taken after out step);
       locals = sound.locals;
       one = sound.one;
-      noted = λ number node e part h. contained_more old.sent (letter_sent out) (PartMessage part) (sound.noted number node e part h);
+      buffered = λ number node e part h. contained_more old.sent (letter_sent out) (PartMessage part) (sound.buffered number node e part h);
     }
 sound_step old new sound (Acts number node after taken out did at was step) =
     let at' : node_at node.number old.nodes ≡ Some node = ap (λ n. node_at n old.nodes) (node_at_is number old.nodes node at) ∙ at in
     act_sound old.nodes old.sent node after out sound at'
-    (noted_step node taken after out did step old.sent was (sound.noted node.number node at')) (event old.nodes old.sent node taken after out did sound at' was step)
+    (buffered_step node taken after out did step old.sent was (sound.buffered node.number node at')) (event old.nodes old.sent node taken after out did sound at' was step)
 
 sound_empty : Sound [] []
 sound_empty = record {
@@ -299,7 +299,7 @@ sound_empty = record {
   };
   locals = λ number node e. let i : None ≡ Some node = sym (none_at number) ∙ e in cc;
   one = λ x x_in some. absurd (some refl);
-  noted = λ number node e. let i : None ≡ Some node = sym (none_at number) ∙ e in cc;
+  buffered = λ number node e. let i : None ≡ Some node = sym (none_at number) ∙ e in cc;
 }
 
 pub sound_reached : (world : World) → Reached world → Sound world.nodes world.sent

@@ -4,7 +4,7 @@ use Rattle.std.proofs.Common.{◌≡◌, ℕ, zero, suc, ◌≤◌, ⊎_elim, re
 use Rattle.std.proofs.lemmas.Option.{none-some, same_Some}
 use Rattle.chord_model.proofs.NodeSteps as steps
 use Rattle.chord_caller.specs.Caller.{Caller, Submission, submission_at}
-use Rattle.chord_handover.specs.Handover.{Handover, part_at, ticket_of_part, without, handover_of}
+use Rattle.chord_handover.specs.Handover.{Handover, part_at, ticket_of_part, outbox_without, handover_of}
 use Rattle.chord_ident.specs.declared.span.Span.{Span}
 use Rattle.chord_map.proofs.Lists.{Has, has_contained, has_pushed, by_test}
 use Rattle.chord_model.proofs.CallerLemmas.{AllGrown, all_grown_itself, all_grown_pushed}
@@ -51,13 +51,13 @@ acts_keep old good facts number node after taken sent call here was (NodeStep.Fo
 acts_keep old good facts number node after taken sent call here was (NodeStep.Drops ask none) = steps.nothing_sent old good facts number node here
 acts_keep old good facts number node after taken sent call here was (NodeStep.Got_again handover to low) = steps.stays_and_sends old good facts number node here (GotMessage (ticket_of_part handover)) tt
 acts_keep old good facts number node after taken sent call here was (NodeStep.Declines handover to high phase) = steps.stays_and_sends old good facts number node here (DeclinedMessage (ticket_of_part handover)) tt
-acts_keep old good facts number node after taken sent call here was (NodeStep.Notes part to next phase) =
-    steps.same_store old good facts number node here (record node { noted = node.noted ++ part ∷ [] }) refl refl refl refl (λ item h. h)
+acts_keep old good facts number node after taken sent call here was (NodeStep.Buffers part to next phase) =
+    steps.same_store old good facts number node here (record node { buffered = node.buffered ++ part ∷ [] }) refl refl refl refl (λ item h. h)
 acts_keep old good facts number node after taken sent call here was (NodeStep.Takes part handover to next phase whole) =
     steps.takes old good facts number node here part handover (has_contained old.sent (PartMessage part) was) whole to next phase
 acts_keep old good facts number node after taken sent call here was (NodeStep.Waits handover to high phase) = steps.nothing_sent old good facts number node here
 acts_keep old good facts number node after taken sent call here was (NodeStep.Frees ticket from) =
-    steps.same_store old good facts number node here (record node { outbox = without ticket.to ticket.number node.outbox }) refl refl refl refl
+    steps.same_store old good facts number node here (record node { outbox = outbox_without ticket.to ticket.number node.outbox }) refl refl refl refl
     (λ item h. without_has ticket.to ticket.number node.outbox item h)
 acts_keep old good facts number node after taken sent call here was (NodeStep.Takes_back ticket item from found) =
     steps.takes_back old good facts number node here ticket item (has_contained old.sent (DeclinedMessage ticket) was) from found
@@ -77,7 +77,7 @@ acts_keep old good facts number node after taken sent call here was (NodeStep.Li
 acts_keep old good facts number node after taken sent call here was (NodeStep.Leaves phase) =
     steps.same_store old good facts number node here (record node { phase = Phase.Leaving }) refl refl refl refl (λ item h. h)
 acts_keep old good facts number node after taken sent call here was (NodeStep.Retires phase nothing empty) =
-    steps.same_store old good facts number node here (record node { phase = Phase.Gone; limit = 0; noted = [] }) refl refl refl refl (λ item h. h)
+    steps.same_store old good facts number node here (record node { phase = Phase.Gone; limit = 0; buffered = [] }) refl refl refl refl (λ item h. h)
 
 -- no step of an actor
 

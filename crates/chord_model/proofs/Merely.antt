@@ -14,7 +14,7 @@ use Rattle.chord_model.proofs.SeenFirst.{seen_first}
 use Rattle.chord_handover.specs.declared.gather.Gather.TheVariants.{Unfit}
 use Rattle.chord_handover.specs.declared.ticket.Ticket.{Ticket}
 use Rattle.chord_handover.specs.Gather.{GatherIs}
-use Rattle.chord_handover.specs.Handover.{Handover, Part, IsWhole, gathered, Item, item_at}
+use Rattle.chord_handover.specs.Handover.{Handover, Part, IsWhole, gathered_parts, Item, item_at}
 use Rattle.chord_model.proofs.Clash.{taken_clear, back_clear, held_apart}
 use Rattle.chord_model.proofs.Fitting.{part_fits}
 use Rattle.chord_model.proofs.Stocked.{stocks_reached}
@@ -73,7 +73,7 @@ seen_first_merely earlier later reached run =
 pub one_holder_merely : (world : World) → ∥ Reached world ∥₁ → world.nodes ≢ [] → (x : ℕ) → x < 2 ^ 128 → HasOneHolder x world.nodes
 one_holder_merely world reached some x x_in = only_one (holders x world.nodes) (∥∥₁_elim reached (hlevel props) (λ run. one_length world run some x x_in))
 
-pub taken_merely : (world : World) → ∥ Reached world ∥₁ → (part : Part) (handover : Handover) (node : Node) → Contains world.sent (PartMessage part) → IsWhole (gathered part node.noted) handover
+pub taken_merely : (world : World) → ∥ Reached world ∥₁ → (part : Part) (handover : Handover) (node : Node) → Contains world.sent (PartMessage part) → IsWhole (gathered_parts part node.buffered) handover
     → node_at handover.to world.nodes ≡ Some node → node.phase ≢ Gone → handover.number ≡ mark_of handover.from node.taken + 1 → MeetsNone handover.segment.span node.held
 taken_merely world reached part handover node was whole at stays next =
     ∥∥₁_elim reached (hlevel props) (λ run. taken_clear world run part handover node was whole at stays next)
@@ -86,7 +86,7 @@ pub apart_merely : (world : World) → ∥ Reached world ∥₁ → (number : �
 apart_merely world reached number node at = ∥∥₁_elim reached (hlevel props) (λ run. held_apart world run number node at)
 
 pub fits_merely : (world : World) → ∥ Reached world ∥₁ → (part : Part) (node : Node) → Contains world.sent (PartMessage part) → node_at part.to world.nodes ≡ Some node
-    → IsNextFor node part → ¬ GatherIs part node.noted Unfit
+    → IsNextFor node part → ¬ GatherIs part node.buffered Unfit
 fits_merely world reached part node was at next = ∥∥₁_elim reached (hlevel props) (λ run. part_fits world run part node was at next)
 
 -- ---- the whole headline

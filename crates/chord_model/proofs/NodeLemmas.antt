@@ -2,7 +2,7 @@
 use Rattle.std.proofs.Common.{◌≡◌, ◌≢◌, ℕ, zero, suc, ◌≤◌, true, cond, not, eqb, ◌⊎◌, inl, inr, ⊎_elim, refl, sym, ◌∙◌, ap, subst, arith, List, [], ◌∷◌, ◌++◌, find, Some, slice_get}
 use Rattle.std.proofs.lemmas.Bool.{and_parts, eqb-true, eq-eqb, ne_eqb, cond-true, cond-false, cases_eq}
 use Rattle.std.proofs.lemmas.Option.{same_Some, none-some}
-use Rattle.chord_handover.specs.Handover.{Item, is_item, item_at, without}
+use Rattle.chord_handover.specs.Handover.{Item, is_item, item_at, outbox_without}
 use Rattle.chord_ident.specs.Circle.{in_span}
 use Rattle.chord_map.proofs.Lists.{by_test, by_option, Has, found, find_left, find_right, place_of, has_filter}
 use Rattle.chord_model.specs.Node.{Node, segment_with, append_at}
@@ -131,8 +131,8 @@ item_found to number outbox item e =
     let tests = and_parts (eqb item.to to) (eqb item.number number) r.0 in
     (eqb-true item.to to tests.0, eqb-true item.number number tests.1, r.1)
 
-pub without_has : (to number : ℕ) (outbox : List Item) (item : Item) → Has (without to number outbox) item → Has outbox item
-unfolding without
+pub without_has : (to number : ℕ) (outbox : List Item) (item : Item) → Has (outbox_without to number outbox) item → Has outbox item
+unfolding outbox_without
 without_has to number outbox item h = (has_filter (λ (i : Item). not (is_item to number i)) outbox item h).0
 
 -- after an append a segment is the changed one, or was at another index

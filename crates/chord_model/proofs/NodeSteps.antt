@@ -5,7 +5,7 @@ use Rattle.chord_store.proofs.Inside.{rises_inside, rises_outside}
 use Rattle.chord_ident.proofs.Digest.{key_id-below}
 use Rattle.chord_caller.specs.declared.ask.Ask.{Ask}
 use Rattle.chord_handover.specs.declared.ticket.Ticket.{Ticket}
-use Rattle.chord_handover.specs.Handover.{Handover, Part, part_at, IsWhole, ticket_of, gathered, Item, item_at, handover_of}
+use Rattle.chord_handover.specs.Handover.{Handover, Part, part_at, IsWhole, ticket_of, gathered_parts, Item, item_at, handover_of}
 use Rattle.chord_ident.specs.declared.id.Id.{Id}
 use Rattle.chord_ident.specs.Circle.{cuts, key_id}
 use Rattle.chord_map.proofs.Lists.{Has, has_pushed, has_got, has_removed, removed_apart, has_set, has_inserted}
@@ -20,14 +20,14 @@ use Rattle.chord_model.proofs.NodeLemmas.{node_number, node_has, has_put_node, p
 use Rattle.chord_model.specs.declared.message.Message.{Message}
 use Rattle.chord_model.specs.declared.message.Message.TheVariants.{Told as ToldMessage, Part as PartMessage, Got as GotMessage, Declined as DeclinedMessage}
 use Rattle.chord_model.specs.declared.phase.Phase.{Phase}
-use Rattle.chord_model.specs.Node.{Node, segment_with, told_of, with_given, with_back, item_of, without_segment, cut_held, joined_held}
+use Rattle.chord_model.specs.Node.{Node, segment_with, told_of, with_taken, with_back, item_of, without_segment, cut_held, joined_held}
 use Rattle.chord_model.specs.World.{World, node_at, put_node, with_one, last_taken}
 use Rattle.chord_map.proofs.HistoryLemmas.{done_is}
 use Rattle.chord_segment.proofs.SegmentLemmas.{mark_grows, past_kept}
 use Rattle.chord_map.specs.declared.done.Done.{Done}
 use Rattle.chord_map.specs.History.{StandsIn}
 use Rattle.chord_segment.specs.Marks.{mark_of}
-use Rattle.chord_segment.specs.Segment.{id_of, Segment, past_at, span_before, span_behind, span_joined, before, behind, joined}
+use Rattle.chord_segment.specs.Segment.{id_of, Segment, past_at, span_before, span_behind, span_joined, part_before, part_behind, joined_segment}
 use Rattle.chord_segment.specs.Segment.Past.{Kept}
 
 -- one event of one node that executes nothing
@@ -132,8 +132,8 @@ module _ (old : World) (good : Good old) (facts : HolderFacts old) (number : ℕ
       (has_pushed node.held item.segment other h)
 
   -- the next handover is taken
-  pub takes : (part : Part) (handover : Handover) → Has old.sent (PartMessage part) → IsWhole (gathered part node.noted) handover → handover.to ≡ node.number → handover.number ≡ mark_of handover.from node.taken + 1 → node.phase ≢ Phase.Gone
-      → Good (record old { nodes = put_node (with_given handover node) old.nodes; sent = with_one old.sent (Some (GotMessage (ticket_of handover))) })
+  pub takes : (part : Part) (handover : Handover) → Has old.sent (PartMessage part) → IsWhole (gathered_parts part node.buffered) handover → handover.to ≡ node.number → handover.number ≡ mark_of handover.from node.taken + 1 → node.phase ≢ Phase.Gone
+      → Good (record old { nodes = put_node (with_taken handover node) old.nodes; sent = with_one old.sent (Some (GotMessage (ticket_of handover))) })
   takes part handover was whole to next phase =
       let at : node_at handover.to old.nodes ≡ Some node = ap (λ n. node_at n old.nodes) (to ∙ node_number number old.nodes node here) ∙ here in
       let r = facts.next_in_outbox node part handover at was whole next phase in
@@ -144,7 +144,7 @@ module _ (old : World) (good : Good old) (facts : HolderFacts old) (number : ℕ
       (omega (arith, last_at old.nodes handover.to handover.from node at, r.5)) in
       let given : SegmentGood old.callers old.history handover.segment =
       subst (SegmentGood old.callers old.history) r.6 ((good.nodes sender (node_has handover.from old.nodes sender r.2)).outbox item r.3) in
-      node_event old good number node (with_given handover node) (Some (GotMessage (ticket_of handover))) here refl
+      node_event old good number node (with_taken handover node) (Some (GotMessage (ticket_of handover))) here refl
       (λ from. mark_grows from handover.from handover.number node.taken)
       (record {
         rising = rises_put handover.pairs node.entries before_good.rising;
@@ -183,9 +183,9 @@ module _ (old : World) (good : Good old) (facts : HolderFacts old) (number : ℕ
       let held : Has node.held segment = has_got node.held place segment got in
       let ends = facts.spans_bounded number node segment here held in
       let after : Node = record node { held = cut_held place segment at node.held } in
-      let cases : (other : Segment) → Has after.held other → Has node.held other ⊎ ((before at segment ≡ other) ⊎ (behind at segment ≡ other)) =
-      λ other h. ⊎_elim (λ a. ⊎_elim (λ old_one. inl old_one) (λ e. inr (inl e)) (has_set node.held place (before at segment) other a)) (λ e. inr (inr e))
-      (has_inserted (slice_set node.held place (before at segment)) (place + 1) (behind at segment) other h) in
+      let cases : (other : Segment) → Has after.held other → Has node.held other ⊎ ((part_before at segment ≡ other) ⊎ (part_behind at segment ≡ other)) =
+      λ other h. ⊎_elim (λ a. ⊎_elim (λ old_one. inl old_one) (λ e. inr (inl e)) (has_set node.held place (part_before at segment) other a)) (λ e. inr (inr e))
+      (has_inserted (slice_set node.held place (part_before at segment)) (place + 1) (part_behind at segment) other h) in
       let good_one : SegmentGood old.callers old.history segment = before_good.held segment held in
       let current_one : Current old.history segment node.entries = good.held number node segment here held in
       node_event old good number node after None here refl no_less
@@ -218,8 +218,8 @@ module _ (old : World) (good : Good old) (facts : HolderFacts old) (number : ℕ
       let ends = facts.spans_bounded number node first here held_first in
       let more_ends = facts.spans_bounded number node second here held_second in
       let after : Node = record node { held = joined_held place first place_behind second node.held } in
-      let cases : (other : Segment) → Has after.held other → Has node.held other ⊎ (joined first second ≡ other) =
-      λ other h. has_set node.held place (joined first second) other (has_removed (slice_set node.held place (joined first second)) place_behind other h) in
+      let cases : (other : Segment) → Has after.held other → Has node.held other ⊎ (joined_segment first second ≡ other) =
+      λ other h. has_set node.held place (joined_segment first second) other (has_removed (slice_set node.held place (joined_segment first second)) place_behind other h) in
       node_event old good number node after None here refl no_less
       (record {
         rising = before_good.rising;

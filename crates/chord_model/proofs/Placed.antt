@@ -5,7 +5,7 @@ use Rattle.std.specs.Prelude.{slice_get, remove, find}
 use Rattle.std.specs.declared.cmp.Ordering.{Ordering}
 use Rattle.std.specs.declared.cmp.Ordering.TheVariants.{Less, Equal, Greater}
 use Rattle.chord_handover.proofs.Counting.{count, count_push, count-remove}
-use Rattle.chord_handover.specs.Handover.{Handover, Item, is_item, item_at, without}
+use Rattle.chord_handover.specs.Handover.{Handover, Item, is_item, item_at, outbox_without}
 use Rattle.chord_ident.proofs.Spans.{one_if, in_parts}
 use Rattle.chord_ident.specs.declared.span.Span.{Span}
 use Rattle.chord_ident.specs.Circle.{in_span, cuts, key_id}
@@ -24,9 +24,9 @@ use Rattle.chord_model.proofs.Whole.{whole_ok}
 use Rattle.chord_ident.proofs.Digest.{key_id-below}
 use Rattle.chord_model.specs.declared.message.Message.{Message}
 use Rattle.chord_model.specs.Node.{Node, NodeStep, item_of, segment_with, append_at, done_of, cut_held, joined_held}
-use Rattle.chord_model.specs.Node.NodeStep.{Tells_again, Drops_seen, Executes, Answers_full, Forwards, Drops, Got_again, Declines, Notes, Takes, Waits, Frees, Takes_back, Keeps, Cuts, Joins, Gives, Gives_again, Links_change, Leaves, Retires}
+use Rattle.chord_model.specs.Node.NodeStep.{Tells_again, Drops_seen, Executes, Answers_full, Forwards, Drops, Got_again, Declines, Buffers, Takes, Waits, Frees, Takes_back, Keeps, Cuts, Joins, Gives, Gives_again, Links_change, Leaves, Retires}
 use Rattle.chord_model.specs.World.{node_at, WasSent}
-use Rattle.chord_segment.specs.Segment.{id_of, Segment, placed, placed_all, append, above, before, behind, joined, span_joined, dones_inside}
+use Rattle.chord_segment.specs.Segment.{id_of, Segment, insert_call, insert_calls, append, calls_above, part_before, part_behind, joined_segment, span_joined, dones_inside}
 use Rattle.chord_segment.proofs.SegmentRules.{Each_placed}
 use Rattle.chord_segment.proofs.Joining.{Each_placed_all}
 use Rattle.chord_map.specs.declared.done.Done.{Done}
@@ -112,9 +112,9 @@ unfolding segment_with
 segment_with_counts x held segment e = count_found (has x) held segment e
 
 kept_append : (done : Done) (floor : ℕ) (segment : Segment) → has (id_of done.request) segment ≡ true → KeptInside segment → KeptInside (append done floor segment)
-unfolding append above
+unfolding append calls_above
 kept_append done floor segment here kept =
-    Each-filter (λ done. has (id_of done.request) segment ≡ true) _ (placed done segment.kept) (Each_placed (λ done. has (id_of done.request) segment ≡ true) segment.kept done kept here)
+    Each-filter (λ done. has (id_of done.request) segment ≡ true) _ (insert_call done segment.kept) (Each_placed (λ done. has (id_of done.request) segment ≡ true) segment.kept done kept here)
 
 kept_step : (b : Bool) (segment new : Segment) (rest more : List Segment) → (b ≡ true → KeptInside new) → KeptInside segment → Each KeptInside rest → Each KeptInside more
     → Each KeptInside (cond b (new ∷ rest) (segment ∷ more))
@@ -140,8 +140,8 @@ true_is_one : (b : Bool) → b ≡ true → one_if b ≡ 1
 true_is_one b e = ap one_if e
 
 kept_joined : (first second : Segment) → SegmentOn first → SegmentOn second → first.span.upto ≡ second.span.after → cuts (span_joined first.span second.span) first.span.upto ≡ true
-    → KeptInside first → KeptInside second → KeptInside (joined first second)
-unfolding joined above
+    → KeptInside first → KeptInside second → KeptInside (joined_segment first second)
+unfolding joined_segment calls_above
 kept_joined first second on on' meet cut kept kept' =
     let whole : Span = span_joined first.span second.span in
     let parts : (x : ℕ) → x < 2 ^ 128 → one_if (in_span whole x) ≡ one_if (has x first) + one_if (has x second) =
@@ -151,7 +151,7 @@ kept_joined first second on on' meet cut kept kept' =
     ap (λ a. one_if (in_span (record { after = a; upto = second.span.upto }) x)) meet in
     omega arith in
     let P : Done → Type 0 = λ done. in_span whole (id_of done.request) ≡ true in
-    Each-filter P _ (placed_all second.kept first.kept)
+    Each-filter P _ (insert_calls second.kept first.kept)
     (Each_placed_all P second.kept first.kept
     (Each-map (λ done. has (id_of done.request) first ≡ true) P
     (λ done here. let p = parts (id_of done.request) (key_id-below (key_of done.request)) in let h = true_is_one (has (id_of done.request) first) here in
@@ -162,8 +162,8 @@ kept_joined first second on on' meet cut kept kept' =
 
 -- entries stay in held spans if the held spans contain no less
 entries_kept : (held held' : List Segment) (entries : List Pair) → ((x : ℕ) → x < 2 ^ 128 → count (has x) held' ≡ count (has x) held) → Each (InHeld held) entries → Each (InHeld held') entries
-entries_kept held held' entries same placed =
-    Each-map (InHeld held) (InHeld held') (λ pair h. let e = same (key_id pair.key) (key_id-below pair.key) in omega arith) entries placed
+entries_kept held held' entries same insert_call =
+    Each-map (InHeld held) (InHeld held') (λ pair h. let e = same (key_id pair.key) (key_id-below pair.key) in omega arith) entries insert_call
 
 -- a segment that is taken brings its pairs
 pub entries_more : (held : List Segment) (segment : Segment) (pairs entries : List Pair) → Each (InSegment segment) pairs → Each (InHeld held) entries
@@ -182,13 +182,13 @@ false_is_zero false e = refl
 pub entries_less : (held : List Segment) (place : ℕ) (segment : Segment) (entries : List Pair) → slice_get held place ≡ Some segment → Each (InHeld held) entries
     → Each (InHeld (remove held place)) (pairs_outside segment.span entries)
 unfolding pairs_outside
-entries_less held place segment entries found placed =
+entries_less held place segment entries found insert_call =
     Each_filter_with (InHeld held) (InHeld (remove held place)) _
     (λ pair h out.
     let c = count-remove (has (key_id pair.key)) held place segment found in
     let none = false_is_zero (in_span segment.span (key_id pair.key)) out in
     omega arith)
-    entries placed
+    entries insert_call
 
 pairs_taken : (segment : Segment) (entries : List Pair) → Each (InSegment segment) (pairs_inside segment.span entries)
 unfolding pairs_inside
@@ -197,27 +197,27 @@ pairs_taken segment entries = Each_filter_with (λ pair. Unit {0}) (InSegment se
 -- the item found is placed
 placed_at : (to number : ℕ) (outbox : List Item) (item : Item) → item_at to number outbox ≡ Some item → Each ItemPlaced outbox → ItemPlaced item
 unfolding item_at
-placed_at to number outbox item e placed = Each-find ItemPlaced (is_item to number) outbox item e placed
+placed_at to number outbox item e insert_call = Each-find ItemPlaced (is_item to number) outbox item e insert_call
 
-placed_without : (to number : ℕ) (outbox : List Item) → Each ItemPlaced outbox → Each ItemPlaced (without to number outbox)
-unfolding without
-placed_without to number outbox placed = Each-filter ItemPlaced _ outbox placed
+placed_without : (to number : ℕ) (outbox : List Item) → Each ItemPlaced outbox → Each ItemPlaced (outbox_without to number outbox)
+unfolding outbox_without
+placed_without to number outbox insert_call = Each-filter ItemPlaced _ outbox insert_call
 
 -- the item of a handover that can be taken is placed
 give_placed : (nodes : List Node) (handover : Handover) → ((number : ℕ) (node : Node) → node_at number nodes ≡ Some node → Placed node)
     → item_in nodes handover.from handover.to handover.number ≡ Some (item_from handover) → ItemPlaced (item_from handover)
-give_placed nodes handover placed kept =
+give_placed nodes handover insert_call kept =
     let sender = sender_of (node_at handover.from nodes) handover.to handover.number (item_from handover) kept in
-    placed_at handover.to handover.number sender.0.outbox (item_from handover) sender.2 (placed handover.from sender.0 sender.1).outbox
+    placed_at handover.to handover.number sender.0.outbox (item_from handover) sender.2 (insert_call handover.from sender.0 sender.1).outbox
 
 -- every step of a node keeps it placed
 pub placed_step : (nodes : List Node) (sent : List Message) (node : Node) (taken : Option Message) (after : Node) (out : Option Message) (did : Option Done)
     → Sound nodes sent → ((number : ℕ) (node : Node) → node_at number nodes ≡ Some node → Placed node)
     → node_at node.number nodes ≡ Some node → WasSent sent taken → NodeStep node taken after out did → Placed after
-placed_step nodes sent node taken after out did sound placed at was (Tells_again ask segment done found past) = placed node.number node at
-placed_step nodes sent node taken after out did sound placed at was (Drops_seen ask segment found past) = placed node.number node at
-placed_step nodes sent node taken after out did sound placed at was (Executes ask segment found past) =
-    let p = placed node.number node at in
+placed_step nodes sent node taken after out did sound insert_call at was (Tells_again ask segment done found past) = insert_call node.number node at
+placed_step nodes sent node taken after out did sound insert_call at was (Drops_seen ask segment found past) = insert_call node.number node at
+placed_step nodes sent node taken after out did sound insert_call at was (Executes ask segment found past) =
+    let p = insert_call node.number node at in
     let done : Done = done_of ask (reply_to ask.request node.entries) in
     let held' = append_at (id_of ask.request) done ask.floor node.held in
     let same : (x : ℕ) → x < 2 ^ 128 → count (has x) held' ≡ count (has x) node.held = λ x x_in. count-append_at x (id_of ask.request) done ask.floor node.held in
@@ -228,48 +228,48 @@ placed_step nodes sent node taken after out did sound placed at was (Executes as
       kept = kept_append_at done ask.floor node.held p.kept;
       outbox = p.outbox;
     }
-placed_step nodes sent node taken after out did sound placed at was (Answers_full ask segment found past added full) = placed node.number node at
-placed_step nodes sent node taken after out did sound placed at was (Forwards ask hops found fewer) = placed node.number node at
-placed_step nodes sent node taken after out did sound placed at was (Drops ask found) = placed node.number node at
-placed_step nodes sent node taken after out did sound placed at was (Got_again handover here seen) = placed node.number node at
-placed_step nodes sent node taken after out did sound placed at was (Declines handover here above gone) = placed node.number node at
-placed_step nodes sent node taken after out did sound placed at was (Notes part here next stays) =
-    let p = placed node.number node at in record { entries = p.entries; kept = p.kept; outbox = p.outbox }
-placed_step nodes sent node taken after out did sound placed at was (Takes part handover here next stays whole) =
-    let p = placed node.number node at in
+placed_step nodes sent node taken after out did sound insert_call at was (Answers_full ask segment found past added full) = insert_call node.number node at
+placed_step nodes sent node taken after out did sound insert_call at was (Forwards ask hops found fewer) = insert_call node.number node at
+placed_step nodes sent node taken after out did sound insert_call at was (Drops ask found) = insert_call node.number node at
+placed_step nodes sent node taken after out did sound insert_call at was (Got_again handover here seen) = insert_call node.number node at
+placed_step nodes sent node taken after out did sound insert_call at was (Declines handover here calls_above gone) = insert_call node.number node at
+placed_step nodes sent node taken after out did sound insert_call at was (Buffers part here next stays) =
+    let p = insert_call node.number node at in record { entries = p.entries; kept = p.kept; outbox = p.outbox }
+placed_step nodes sent node taken after out did sound insert_call at was (Takes part handover here next stays whole) =
+    let p = insert_call node.number node at in
     let gone : gone_in nodes handover.to ≡ false = rw here (rw at (gone_test node.phase stays)) in
-    let above : taken_in nodes handover.to handover.from < handover.number = rw here (rw at (omega arith)) in
-    let ok = whole_ok nodes sent sound.channels.messages part node.noted handover was (sound.noted node.number node at) whole gone above in
-    let item = give_placed nodes handover placed (ok.kept gone above) in
+    let calls_above : taken_in nodes handover.to handover.from < handover.number = rw here (rw at (omega arith)) in
+    let ok = whole_ok nodes sent sound.channels.messages part node.buffered handover was (sound.buffered node.number node at) whole gone calls_above in
+    let item = give_placed nodes handover insert_call (ok.kept gone calls_above) in
     record {
       entries = entries_more node.held handover.segment handover.pairs node.entries item.pairs p.entries;
       kept = Each_push KeptInside node.held handover.segment p.kept item.kept;
       outbox = p.outbox;
     }
-placed_step nodes sent node taken after out did sound placed at was (Waits handover here above stays) = placed node.number node at
-placed_step nodes sent node taken after out did sound placed at was (Frees ticket here) =
-    let p = placed node.number node at in
+placed_step nodes sent node taken after out did sound insert_call at was (Waits handover here calls_above stays) = insert_call node.number node at
+placed_step nodes sent node taken after out did sound insert_call at was (Frees ticket here) =
+    let p = insert_call node.number node at in
     record { entries = p.entries; kept = p.kept; outbox = placed_without ticket.to ticket.number node.outbox p.outbox }
-placed_step nodes sent node taken after out did sound placed at was (Takes_back ticket item here found) =
-    let p = placed node.number node at in
+placed_step nodes sent node taken after out did sound insert_call at was (Takes_back ticket item here found) =
+    let p = insert_call node.number node at in
     let back = placed_at ticket.to ticket.number node.outbox item found p.outbox in
     record {
       entries = entries_more node.held item.segment item.pairs node.entries back.pairs p.entries;
       kept = Each_push KeptInside node.held item.segment p.kept back.kept;
       outbox = placed_without item.to item.number node.outbox p.outbox;
     }
-placed_step nodes sent node taken after out did sound placed at was (Keeps ticket here) = placed node.number node at
-placed_step nodes sent node taken after out did sound placed at was (Cuts place segment cut found circle inside) =
-    let p = placed node.number node at in
+placed_step nodes sent node taken after out did sound insert_call at was (Keeps ticket here) = insert_call node.number node at
+placed_step nodes sent node taken after out did sound insert_call at was (Cuts place segment cut found circle inside) =
+    let p = insert_call node.number node at in
     let on = Each-slice_get SegmentOn node.held place segment found (sound.locals node.number node at).held_on in
     record {
       entries = entries_kept node.held (cut_held place segment cut node.held) node.entries (λ x x_in. count-cut x place segment cut node.held x_in on circle found inside) p.entries;
-      kept = Each-insert KeptInside _ (place + 1) (behind cut segment)
-          (Each-set KeptInside node.held place (before cut segment) p.kept (kept_inside _ segment.floors segment.kept)) (kept_inside _ segment.floors segment.kept);
+      kept = Each-insert KeptInside _ (place + 1) (part_behind cut segment)
+          (Each-set KeptInside node.held place (part_before cut segment) p.kept (kept_inside _ segment.floors segment.kept)) (kept_inside _ segment.floors segment.kept);
       outbox = p.outbox;
     }
-placed_step nodes sent node taken after out did sound placed at was (Joins place first place_behind second found found' apart meet cut) =
-    let p = placed node.number node at in
+placed_step nodes sent node taken after out did sound insert_call at was (Joins place first place_behind second found found' apart meet cut) =
+    let p = insert_call node.number node at in
     let local = sound.locals node.number node at in
     let on = Each-slice_get SegmentOn node.held place first found local.held_on in
     let on' = Each-slice_get SegmentOn node.held place_behind second found' local.held_on in
@@ -281,18 +281,18 @@ placed_step nodes sent node taken after out did sound placed at was (Joins place
       kept = Each-remove KeptInside _ place_behind (Each-set KeptInside node.held place _ p.kept (kept_joined first second on on' meet cut kept kept'));
       outbox = p.outbox;
     }
-placed_step nodes sent node taken after out did sound placed at was (Gives place segment to found) =
-    let p = placed node.number node at in
+placed_step nodes sent node taken after out did sound insert_call at was (Gives place segment to found) =
+    let p = insert_call node.number node at in
     record {
       entries = entries_less node.held place segment node.entries found p.entries;
       kept = Each-remove KeptInside node.held place p.kept;
       outbox = Each_push ItemPlaced node.outbox (item_of segment to node) p.outbox
           (record { pairs = pairs_taken segment node.entries; kept = Each-slice_get KeptInside node.held place segment found p.kept });
     }
-placed_step nodes sent node taken after out did sound placed at was (Gives_again to number place item found from below) = placed node.number node at
-placed_step nodes sent node taken after out did sound placed at was (Links_change links same) =
-    let p = placed node.number node at in record { entries = p.entries; kept = p.kept; outbox = p.outbox }
-placed_step nodes sent node taken after out did sound placed at was (Leaves stays) =
-    let p = placed node.number node at in record { entries = p.entries; kept = p.kept; outbox = p.outbox }
-placed_step nodes sent node taken after out did sound placed at was (Retires leaves held outbox) =
-    let p = placed node.number node at in record { entries = p.entries; kept = p.kept; outbox = p.outbox }
+placed_step nodes sent node taken after out did sound insert_call at was (Gives_again to number place item found from below) = insert_call node.number node at
+placed_step nodes sent node taken after out did sound insert_call at was (Links_change links same) =
+    let p = insert_call node.number node at in record { entries = p.entries; kept = p.kept; outbox = p.outbox }
+placed_step nodes sent node taken after out did sound insert_call at was (Leaves stays) =
+    let p = insert_call node.number node at in record { entries = p.entries; kept = p.kept; outbox = p.outbox }
+placed_step nodes sent node taken after out did sound insert_call at was (Retires leaves held outbox) =
+    let p = insert_call node.number node at in record { entries = p.entries; kept = p.kept; outbox = p.outbox }

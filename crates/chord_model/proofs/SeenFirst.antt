@@ -2,7 +2,7 @@
 use Rattle.std.proofs.Common.{◌≡◌, ℕ, zero, suc, ◌<◌, ◌≤◌, ◌⊎◌, inl, inr, ⊎_elim, refl, sym, ◌∙◌, ap, subst, arith, List, [], ◌∷◌, ◌++◌, length, take, Option, Some, append_assoc, length-append}
 use Rattle.std.proofs.lemmas.Bool.{cases_eq}
 use Rattle.std.proofs.lemmas.Option.{same_Some, none-some, slice_get_within}
-use Rattle.chord_caller.specs.Caller.{Submission, Caller, submission_at, known, seen_at, CallerStep, Letter}
+use Rattle.chord_caller.specs.Caller.{Submission, Caller, submission_at, known_calls, seen_at, CallerStep, Letter}
 use Rattle.chord_map.proofs.Lists.{Has, has_cases, has_contained, has_left, has_right, each_all}
 use Rattle.chord_model.proofs.CallerLemmas.{caller_number, put_same, put_apart, Grown, nothing_more, grown_itself, caller_left}
 use Rattle.chord_model.proofs.CallerSteps.{submission_pushed}
@@ -142,7 +142,7 @@ seen_first earlier later reached run number caller seen done before behind here 
     let s = (good.executed done (once_stands later.history done good.legal.once there)).submitted in
     let is : s.caller ≡ new = same_Some s.caller new (sym s.is_caller ∙ ap (λ n. caller_at n later.callers) is_caller ∙ since.is_caller) in
     let submission : submission_at done.number new.submitted ≡ Some s.submission = ap (λ (c : Caller). submission_at done.number c.submitted) (sym is) ∙ s.is_submission in
-    let noted = since.notes done.number s.submission above submission in
+    let buffered = since.notes done.number s.submission above submission in
     let own_number : new.number ≡ number = caller_number number later.callers new since.is_caller in
     let grown : Grown caller new = since.grown in
     each_all (StandsIn before) (seen_at new s.submission)
@@ -150,7 +150,7 @@ seen_first earlier later reached run number caller seen done before behind here 
     seen
     (⊎_elim
     (λ a. has_left (take s.submission.mine_seen new.mine) (take s.submission.told_seen new.told) seen
-    (subst (λ ds. Has (take s.submission.mine_seen ds) seen) (sym (grown.mine).1) (has_front s.submission.mine_seen caller.mine (grown.mine).0 seen noted.0 a)))
+    (subst (λ ds. Has (take s.submission.mine_seen ds) seen) (sym (grown.mine).1) (has_front s.submission.mine_seen caller.mine (grown.mine).0 seen buffered.0 a)))
     (λ b. has_right (take s.submission.mine_seen new.mine) (take s.submission.told_seen new.told) seen
-    (subst (λ ds. Has (take s.submission.told_seen ds) seen) (sym (grown.told).1) (has_front s.submission.told_seen caller.told (grown.told).0 seen noted.1 b)))
-    (has_cases caller.mine caller.told seen (has_contained (known caller) seen knows)))
+    (subst (λ ds. Has (take s.submission.told_seen ds) seen) (sym (grown.told).1) (has_front s.submission.told_seen caller.told (grown.told).0 seen buffered.1 b)))
+    (has_cases caller.mine caller.told seen (has_contained (known_calls caller) seen knows)))

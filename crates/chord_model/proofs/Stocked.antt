@@ -3,8 +3,8 @@
 use Rattle.std.proofs.Common.{◌≡◌, ℕ, suc, ◌<◌, ◌||◌, Bool, true, false, inl, inr, ⊎_elim, Option, Some, None, List, [], ◌∷◌, ◌++◌, refl, sym, ◌∙◌, ap, subst, arith}
 use Rattle.std.proofs.lemmas.Bool.{true≢false}
 use Rattle.std.specs.Prelude.{slice_get}
-use Rattle.chord_handover.specs.Handover.{Part, Item, is_item, item_at, without}
-use Rattle.chord_handover.specs.Parcelled.{Parcelled, IsParcelled}
+use Rattle.chord_handover.specs.Handover.{Part, Item, is_item, item_at, outbox_without}
+use Rattle.chord_handover.specs.Payload.{Payload, IsPayload}
 use Rattle.chord_ident.specs.declared.span.Span.{Span}
 use Rattle.chord_ident.specs.Circle.{in_span}
 use Rattle.chord_map.proofs.Each.{Each, Each_push, Each-slice_get, Each-filter, Each-find}
@@ -15,12 +15,12 @@ use Rattle.chord_model.proofs.Clash.{taken_clear, back_clear}
 use Rattle.chord_model.proofs.Events.{SegmentOn, count-append_at, count-cut, count-join, sender_of}
 use Rattle.chord_model.proofs.Kept.{sound_reached, gone_test, none_at, event}
 use Rattle.chord_model.proofs.NodeLemmas.{node_number, segment_found, put_node_cases, node_pushed}
-use Rattle.chord_model.proofs.Stocking.{holds_same, stocked_none, stocked_same, stocked_after, stocked_less, stocked_more, parcel_taken}
+use Rattle.chord_model.proofs.Stocking.{holds_same, stocked_none, stocked_same, stocked_after, stocked_less, stocked_more, payload_taken}
 use Rattle.chord_model.proofs.Whole.{whole_ok}
 use Rattle.chord_model.specs.declared.message.Message.{Message}
 use Rattle.chord_model.specs.Headline.{MeetsNone}
 use Rattle.chord_model.specs.Node.{Node, NodeStep, founder, newborn, done_of, item_of, append_at, cut_held, joined_held}
-use Rattle.chord_model.specs.Node.NodeStep.{Tells_again, Drops_seen, Executes, Answers_full, Forwards, Drops, Got_again, Declines, Notes, Takes, Waits, Frees, Takes_back, Keeps, Cuts, Joins, Gives, Gives_again, Links_change, Leaves, Retires}
+use Rattle.chord_model.specs.Node.NodeStep.{Tells_again, Drops_seen, Executes, Answers_full, Forwards, Drops, Got_again, Declines, Buffers, Takes, Waits, Frees, Takes_back, Keeps, Cuts, Joins, Gives, Gives_again, Links_change, Leaves, Retires}
 use Rattle.chord_model.specs.Stock.{holds, IsClash, IsClear, IsStocked}
 use Rattle.chord_model.specs.World.{World, WorldStep, Reached, node_at, WasSent}
 use Rattle.chord_model.specs.World.Run.{Stays, Goes_on}
@@ -59,27 +59,27 @@ clear span held none x x_in inside = by_test (holds x held) (λ here. absurd (no
 -- ---- the invariant of one node
 
 -- the payload of an item
-abbrev pub parcel : Item → Parcelled
-parcel item = record { segment = item.segment; pairs = item.pairs }
+abbrev pub payload_of_item : Item → Payload
+payload_of_item item = record { segment = item.segment; pairs = item.pairs }
 
-abbrev ItemParcelled : Item → Type 0
-ItemParcelled item = IsParcelled (parcel item)
+abbrev ItemPayload : Item → Type 0
+ItemPayload item = IsPayload (payload_of_item item)
 
 pub record Stocks (node : Node) : Type 0 where
   pub stocked : IsStocked node.held node.entries
-  pub parcels : Each ItemParcelled node.outbox
-  pub noted : Each (λ (part : Part). part.to ≡ node.number) node.noted
+  pub payloads : Each ItemPayload node.outbox
+  pub buffered : Each (λ (part : Part). part.to ≡ node.number) node.buffered
 
 abbrev AllStocked : List Node → Type 0
 AllStocked nodes = (number : ℕ) (node : Node) → node_at number nodes ≡ Some node → Stocks node
 
-pub parcelled_at : (to number : ℕ) (node : Node) (item : Item) → item_at to number node.outbox ≡ Some item → Stocks node → IsParcelled (parcel item)
+pub payload_at : (to number : ℕ) (node : Node) (item : Item) → item_at to number node.outbox ≡ Some item → Stocks node → IsPayload (payload_of_item item)
 unfolding item_at
-parcelled_at to number node item e stocks = Each-find ItemParcelled (is_item to number) node.outbox item e stocks.parcels
+payload_at to number node item e stocks = Each-find ItemPayload (is_item to number) node.outbox item e stocks.payloads
 
-parcels_without : (to number : ℕ) (outbox : List Item) → Each ItemParcelled outbox → Each ItemParcelled (without to number outbox)
-unfolding without
-parcels_without to number outbox all = Each-filter ItemParcelled _ outbox all
+payloads_without : (to number : ℕ) (outbox : List Item) → Each ItemPayload outbox → Each ItemPayload (outbox_without to number outbox)
+unfolding outbox_without
+payloads_without to number outbox all = Each-filter ItemPayload _ outbox all
 
 -- every step of a node keeps it stocked
 stocks_step : (world : World) → Reached world → AllStocked world.nodes → (node : Node) (taken : Option Message) (after : Node) (out : Option Message) (did : Option Done)
@@ -94,44 +94,44 @@ stocks_step world reached all node taken after out did at was (Executes ask segm
       stocked = stocked_after node.held (append_at (id_of ask.request) done ask.floor node.held) ask.request node.entries
           (λ x x_in. holds_same x node.held _ (count-append_at x (id_of ask.request) done ask.floor node.held))
           (holds_has (id_of ask.request) node.held segment here.1 here.0) s.stocked;
-      parcels = s.parcels;
-      noted = s.noted;
+      payloads = s.payloads;
+      buffered = s.buffered;
     }
 stocks_step world reached all node taken after out did at was (Answers_full ask segment found past added full) = all node.number node at
 stocks_step world reached all node taken after out did at was (Forwards ask hops found fewer) = all node.number node at
 stocks_step world reached all node taken after out did at was (Drops ask found) = all node.number node at
 stocks_step world reached all node taken after out did at was (Got_again part here seen) = all node.number node at
 stocks_step world reached all node taken after out did at was (Declines part here above gone) = all node.number node at
-stocks_step world reached all node taken after out did at was (Notes part here next stays) =
+stocks_step world reached all node taken after out did at was (Buffers part here next stays) =
     let s = all node.number node at in
-    record { stocked = s.stocked; parcels = s.parcels; noted = Each_push _ node.noted part s.noted here }
+    record { stocked = s.stocked; payloads = s.payloads; buffered = Each_push _ node.buffered part s.buffered here }
 stocks_step world reached all node taken after out did at was (Takes part handover here next stays whole) =
     let s = all node.number node at in
     let sound = sound_reached world reached in
     let at' : node_at handover.to world.nodes ≡ Some node = ap (λ n. node_at n world.nodes) here ∙ at in
     let gone : gone_in world.nodes handover.to ≡ false = rw at' (gone_test node.phase stays) in
     let above : taken_in world.nodes handover.to handover.from < handover.number = rw at' (omega arith) in
-    let ok = whole_ok world.nodes world.sent sound.channels.messages part node.noted handover was (sound.noted node.number node at) whole gone above in
+    let ok = whole_ok world.nodes world.sent sound.channels.messages part node.buffered handover was (sound.buffered node.number node at) whole gone above in
     let sender = sender_of (node_at handover.from world.nodes) handover.to handover.number (item_from handover) (ok.kept gone above) in
-    let rules = parcelled_at handover.to handover.number sender.0 (item_from handover) sender.2 (all handover.from sender.0 sender.1) in
+    let rules = payload_at handover.to handover.number sender.0 (item_from handover) sender.2 (all handover.from sender.0 sender.1) in
     record {
-      stocked = stocked_more node.held (parcel (item_from handover)) node.entries rules
+      stocked = stocked_more node.held (payload_of_item (item_from handover)) node.entries rules
           (clear handover.segment.span node.held (taken_clear world reached part handover node was whole at' stays next)) s.stocked;
-      parcels = s.parcels;
-      noted = Each-filter _ _ node.noted s.noted;
+      payloads = s.payloads;
+      buffered = Each-filter _ _ node.buffered s.buffered;
     }
 stocks_step world reached all node taken after out did at was (Waits part here above stays) = all node.number node at
 stocks_step world reached all node taken after out did at was (Frees ticket here) =
     let s = all node.number node at in
-    record { stocked = s.stocked; parcels = parcels_without ticket.to ticket.number node.outbox s.parcels; noted = s.noted }
+    record { stocked = s.stocked; payloads = payloads_without ticket.to ticket.number node.outbox s.payloads; buffered = s.buffered }
 stocks_step world reached all node taken after out did at was (Takes_back ticket item here found) =
     let s = all node.number node at in
     let at' : node_at ticket.from world.nodes ≡ Some node = ap (λ n. node_at n world.nodes) here ∙ at in
     record {
-      stocked = stocked_more node.held (parcel item) node.entries (parcelled_at ticket.to ticket.number node item found s)
+      stocked = stocked_more node.held (payload_of_item item) node.entries (payload_at ticket.to ticket.number node item found s)
           (clear item.segment.span node.held (back_clear world reached ticket node item was at' found)) s.stocked;
-      parcels = parcels_without item.to item.number node.outbox s.parcels;
-      noted = s.noted;
+      payloads = payloads_without item.to item.number node.outbox s.payloads;
+      buffered = s.buffered;
     }
 stocks_step world reached all node taken after out did at was (Keeps ticket here) = all node.number node at
 stocks_step world reached all node taken after out did at was (Cuts place segment cut found circle inside) =
@@ -140,8 +140,8 @@ stocks_step world reached all node taken after out did at was (Cuts place segmen
     record {
       stocked = stocked_same node.held (cut_held place segment cut node.held) node.entries
           (λ x x_in. holds_same x node.held _ (count-cut x place segment cut node.held x_in on circle found inside)) s.stocked;
-      parcels = s.parcels;
-      noted = s.noted;
+      payloads = s.payloads;
+      buffered = s.buffered;
     }
 stocks_step world reached all node taken after out did at was (Joins place first place_behind second found found' apart meet cut) =
     let s = all node.number node at in
@@ -151,23 +151,23 @@ stocks_step world reached all node taken after out did at was (Joins place first
     record {
       stocked = stocked_same node.held (joined_held place first place_behind second node.held) node.entries
           (λ x x_in. holds_same x node.held _ (count-join x place first place_behind second node.held x_in on on' found found' apart meet cut)) s.stocked;
-      parcels = s.parcels;
-      noted = s.noted;
+      payloads = s.payloads;
+      buffered = s.buffered;
     }
 stocks_step world reached all node taken after out did at was (Gives place segment to found) =
     let s = all node.number node at in
     record {
       stocked = stocked_less node.held place segment node.entries found s.stocked;
-      parcels = Each_push ItemParcelled node.outbox (item_of segment to node) s.parcels (parcel_taken node.held segment node.entries s.stocked);
-      noted = s.noted;
+      payloads = Each_push ItemPayload node.outbox (item_of segment to node) s.payloads (payload_taken node.held segment node.entries s.stocked);
+      buffered = s.buffered;
     }
 stocks_step world reached all node taken after out did at was (Gives_again to number place item found from below) = all node.number node at
 stocks_step world reached all node taken after out did at was (Links_change links same) =
-    let s = all node.number node at in record { stocked = s.stocked; parcels = s.parcels; noted = s.noted }
+    let s = all node.number node at in record { stocked = s.stocked; payloads = s.payloads; buffered = s.buffered }
 stocks_step world reached all node taken after out did at was (Leaves stays) =
-    let s = all node.number node at in record { stocked = s.stocked; parcels = s.parcels; noted = s.noted }
+    let s = all node.number node at in record { stocked = s.stocked; payloads = s.payloads; buffered = s.buffered }
 stocks_step world reached all node taken after out did at was (Retires leaves held outbox) =
-    let s = all node.number node at in record { stocked = s.stocked; parcels = s.parcels; noted = tt }
+    let s = all node.number node at in record { stocked = s.stocked; payloads = s.payloads; buffered = tt }
 
 -- ---- and of all nodes
 
@@ -178,9 +178,9 @@ pushed nodes new all here number node e = ⊎_elim (λ there. all number node th
 stocks_world_step : (old new : World) → Reached old → AllStocked old.nodes → WorldStep old new → AllStocked new.nodes
 stocks_world_step old new reached all (Creates links limit circle none) =
     subst (λ nodes. AllStocked (nodes ++ founder links limit ∷ [])) none
-    (pushed old.nodes (founder links limit) all (record { stocked = stocked_none (founder links limit).held; parcels = tt; noted = tt }))
+    (pushed old.nodes (founder links limit) all (record { stocked = stocked_none (founder links limit).held; payloads = tt; buffered = tt }))
 stocks_world_step old new reached all (Arrives links limit circle some new_number) =
-    pushed old.nodes (newborn links limit) all (record { stocked = stocked_none []; parcels = tt; noted = tt })
+    pushed old.nodes (newborn links limit) all (record { stocked = stocked_none []; payloads = tt; buffered = tt })
 stocks_world_step old new reached all (Opens number window low high new_number) = all
 stocks_world_step old new reached all (Calls number caller after taken out at was step) = all
 stocks_world_step old new reached all (Acts number node after taken out did at was step) =

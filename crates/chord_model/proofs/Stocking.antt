@@ -5,7 +5,7 @@ use Rattle.std.proofs.lemmas.Bool.Decides.{nat_tests}
 use Rattle.std.specs.Prelude.{filter, slice_get, remove}
 use Rattle.std.specs.declared.cmp.Ordering.TheVariants.{Less, Equal, Greater}
 use Rattle.chord_handover.proofs.Counting.{count}
-use Rattle.chord_handover.specs.Parcelled.{Parcelled, IsParcelled}
+use Rattle.chord_handover.specs.Payload.{Payload, IsPayload}
 use Rattle.chord_ident.proofs.Digest.{key_id-below}
 use Rattle.chord_ident.proofs.Spans.{one_if}
 use Rattle.chord_ident.specs.declared.span.Span.{Span}
@@ -223,10 +223,10 @@ stocked_less held place segment pairs found stock = record {
 }
 
 -- the segment that leaves makes a payload with its pairs
-pub parcel_taken : (held : List Segment) (segment : Segment) (pairs : List Pair) → IsStocked held pairs
-    → IsParcelled (record { segment = segment; pairs = pairs_inside segment.span pairs })
+pub payload_taken : (held : List Segment) (segment : Segment) (pairs : List Pair) → IsStocked held pairs
+    → IsPayload (record { segment = segment; pairs = pairs_inside segment.span pairs })
 unfolding pairs_inside
-parcel_taken held segment pairs stock = record {
+payload_taken held segment pairs stock = record {
   rising = rising_from_rises pair_cmp _ (rises_inside segment.span pairs (rises_from_rising pair_cmp pairs stock.rising));
   inside = all_each (λ pair. in_span segment.span (key_id pair.key) ≡ true) (pairs_inside segment.span pairs) (λ pair h. (has_filter (λ (p : Pair). in_span segment.span (key_id p.key)) pairs pair h).1);
   few = λ key. omega (arith, stock.few key, few_filtered (λ (pair : Pair). in_span segment.span (key_id pair.key)) key pairs);
@@ -236,8 +236,8 @@ each_of : {A : Type 0} (P : A → Type 0) (xs : List A) → ((x : A) → Has xs 
 each_of P [] all = tt
 each_of P (x ∷ xs) all = (all x (inl refl), each_of P xs (λ y h. all y (inr h)))
 
-pub parcel_inside : (parcelled : Parcelled) → IsParcelled parcelled → Each (λ (pair : Pair). in_span parcelled.segment.span (key_id pair.key) ≡ true) parcelled.pairs
-parcel_inside parcelled rules = each_of (λ (pair : Pair). in_span parcelled.segment.span (key_id pair.key) ≡ true) parcelled.pairs (each_all (λ pair. in_span parcelled.segment.span (key_id pair.key) ≡ true) parcelled.pairs rules.inside)
+pub payload_inside : (payload : Payload) → IsPayload payload → Each (λ (pair : Pair). in_span payload.segment.span (key_id pair.key) ≡ true) payload.pairs
+payload_inside payload rules = each_of (λ (pair : Pair). in_span payload.segment.span (key_id pair.key) ≡ true) payload.pairs (each_all (λ pair. in_span payload.segment.span (key_id pair.key) ≡ true) payload.pairs rules.inside)
 
 -- all of them lie in the span
 pub all_inside : (span : Span) (pairs : List Pair) → Each (λ (pair : Pair). in_span span (key_id pair.key) ≡ true) pairs → pairs_inside span pairs ≡ pairs
@@ -258,15 +258,15 @@ pub vacant : (span : Span) (held : List Segment) (pairs : List Pair) → IsClear
 vacant span held pairs clear stock = vacant_by span held pairs clear stock.placed
 
 -- a segment comes with its pairs
-pub stocked_more : (held : List Segment) (parcelled : Parcelled) (pairs : List Pair) → IsParcelled parcelled → IsClear parcelled.segment.span held → IsStocked held pairs
-    → IsStocked (held ++ parcelled.segment ∷ []) (put_all parcelled.pairs pairs)
-stocked_more held parcelled pairs rules clear stock =
-    let inside = parcel_inside parcelled rules in
-    let none = vacant parcelled.segment.span held pairs clear stock in
+pub stocked_more : (held : List Segment) (payload : Payload) (pairs : List Pair) → IsPayload payload → IsClear payload.segment.span held → IsStocked held pairs
+    → IsStocked (held ++ payload.segment ∷ []) (put_all payload.pairs pairs)
+stocked_more held payload pairs rules clear stock =
+    let inside = payload_inside payload rules in
+    let none = vacant payload.segment.span held pairs clear stock in
     record {
-      rising = rising_from_rises pair_cmp _ (rises_put parcelled.pairs pairs (rises_from_rising pair_cmp pairs stock.rising));
-      few = few_more parcelled.segment.span parcelled.pairs pairs none inside rules.few stock.few;
-      placed = held_each (held ++ parcelled.segment ∷ []) _ (entries_more held parcelled.segment parcelled.pairs pairs inside (counted_each held pairs stock.placed));
+      rising = rising_from_rises pair_cmp _ (rises_put payload.pairs pairs (rises_from_rising pair_cmp pairs stock.rising));
+      few = few_more payload.segment.span payload.pairs pairs none inside rules.few stock.few;
+      placed = held_each (held ++ payload.segment ∷ []) _ (entries_more held payload.segment payload.pairs pairs inside (counted_each held pairs stock.placed));
     }
 
 -- ---- a call

@@ -11,7 +11,7 @@ use Rattle.chord_map.proofs.Finding.{not_true}
 use Rattle.chord_model.proofs.Nodes.{DistinctNodes}
 use Rattle.chord_model.specs.Node.{Node}
 use Rattle.chord_model.specs.declared.holder.Holder.TheVariants as holder
-use Rattle.chord_model.specs.World.{node_at, put_node, last_taken, at_node, under_way, holders}
+use Rattle.chord_model.specs.World.{node_at, put_node, last_taken, at_node, holders_under_way, holders}
 use Rattle.chord_map.proofs.Equal.{same_or_not, eqb_same, eqb_other}
 use Rattle.chord_segment.specs.Segment.{Segment}
 
@@ -31,12 +31,12 @@ abbrev pub total : ℕ → (ℕ → ℕ → ℕ) → List Node → ℕ
 total x taken [] = 0
 total x taken (node ∷ nodes) = weight x taken node + total x taken nodes
 
-holders_by : (x : ℕ) (taken : ℕ → ℕ → ℕ) (nodes : List Node) → length (flat_map (λ (node : Node). at_node x node ++ under_way x taken node) nodes) ≡ total x taken nodes
+holders_by : (x : ℕ) (taken : ℕ → ℕ → ℕ) (nodes : List Node) → length (flat_map (λ (node : Node). at_node x node ++ holders_under_way x taken node) nodes) ≡ total x taken nodes
 holders_by x taken [] = refl
 holders_by x taken (node ∷ nodes) =
     let rest = holders_by x taken nodes in
-    let both = length-append (at_node x node ++ under_way x taken node) (flat_map (λ (node : Node). at_node x node ++ under_way x taken node) nodes) in
-    let here = length-append (at_node x node) (under_way x taken node) in
+    let both = length-append (at_node x node ++ holders_under_way x taken node) (flat_map (λ (node : Node). at_node x node ++ holders_under_way x taken node) nodes) in
+    let here = length-append (at_node x node) (holders_under_way x taken node) in
     let held = length-map_filter (λ (segment : Segment). holder.Node node.number) (has x) node.held in
     let way = length-map_filter (λ (item : Item). holder.UnderWay node.number item.to item.number) (awaits x (λ to. taken to node.number)) node.outbox in
     omega arith

@@ -5,7 +5,7 @@ use Rattle.std.proofs.lemmas.Bool.{ne_eqb, eq-eqb, cond-true, cond-false, cases_
 use Rattle.chord_caller.specs.declared.ask.Ask.{Ask}
 use Rattle.chord_caller.specs.Caller.{Caller, floor_upto, with_request, CallerStep}
 use Rattle.chord_caller.specs.Caller.Letter.{AskLetter}
-use Rattle.chord_handover.specs.Handover.{Handover, Part, Item, parts_in, part_at, IsWhole, ticket_of, item_at, without, handover_of}
+use Rattle.chord_handover.specs.Handover.{Handover, Part, Item, parts_in, part_at, IsWhole, ticket_of, item_at, outbox_without, handover_of}
 use Rattle.chord_ident.specs.Circle.{in_span, key_id}
 use Rattle.chord_ident.proofs.Spans.{whole_circle}
 use Rattle.chord_ident.proofs.Digest.{key_id-below}
@@ -20,15 +20,15 @@ use Rattle.chord_model.proofs.CallerLemmas.{put_apart}
 use Rattle.chord_model.proofs.EveryRule.{five, whole, first_links, second_links, acted, called, holds_key, appends}
 use Rattle.chord_model.specs.declared.message.Message.{Message}
 use Rattle.chord_model.specs.declared.message.Message.TheVariants.{Ask as AskMessage, Told as ToldMessage, Part as PartMessage, Got as GotMessage}
-use Rattle.chord_model.specs.Node.{Node, NodeStep, founder, newborn, append_at, told_of, done_of, executed, item_of, without_segment, with_given}
-use Rattle.chord_model.specs.Uses.{takings_of}
+use Rattle.chord_model.specs.Node.{Node, NodeStep, founder, newborn, append_at, told_of, done_of, with_executed, item_of, without_segment, with_taken}
+use Rattle.chord_model.specs.Uses.{parts_taken_in_run}
 use Rattle.chord_model.specs.World.{World, WorldStep, Reached, node_at, put_node, caller_at, put_caller}
 use Rattle.chord_model.specs.World.Run.{Stays, Goes_on}
 use Rattle.chord_segment.proofs.Lifting.{lifted_other}
 use Rattle.chord_segment.proofs.SegmentRules.{find-placed_none, find-filter_none}
 use Rattle.chord_segment.specs.declared.mark.Mark.{Mark}
 use Rattle.chord_segment.specs.Marks.{mark_of, lift}
-use Rattle.chord_segment.specs.Segment.{Segment, append, above, placed, past_of, past_at}
+use Rattle.chord_segment.specs.Segment.{Segment, append, calls_above, insert_call, past_of, past_at}
 use Rattle.chord_segment.specs.Segment.Past.{New, Seen}
 use Rattle.chord_store.specs.Inside.{pairs_inside}
 
@@ -114,7 +114,7 @@ abbrev floors_after : (n : ℕ) → Filled n → List Mark
 floors_after n f = lift n 0 f.floors
 
 abbrev kept_after : (n : ℕ) → Filled n → List Done
-kept_after n f = above (floors_after n f) (placed (done n) f.kept)
+kept_after n f = calls_above (floors_after n f) (insert_call (done n) f.kept)
 
 abbrev did : (n : ℕ) → Filled n → World
 did n f = record {
@@ -135,13 +135,13 @@ executes n f =
     let node : Node = holding segment (entries_of n) in
     subst (λ (held : List Segment). WorldStep (asked n f) (record (did n f) { nodes = record first { held = held; entries = entries_of (suc n) } ∷ [] }))
     (held_after n f)
-    (WorldStep.Acts 0 node (executed (ask n) node) (Some (AskMessage (ask n))) _ _ refl (contains_has _ _ (has_last f.sent (AskMessage (ask n))))
+    (WorldStep.Acts 0 node (with_executed (ask n) node) (Some (AskMessage (ask n))) _ _ refl (contains_has _ _ (has_last f.sent (AskMessage (ask n))))
     (NodeStep.Executes (ask n) segment (holds_key key segment node.held refl refl) (is_new n segment (f.no_floor n (omega arith)) (f.no_call n (omega arith)))))
 
-no_call_after : (n : ℕ) (floors : List Mark) (kept : List Done) (number : ℕ) → n < number → done_at number 1 kept ≡ None → done_at number 1 (above floors (placed (done n) kept)) ≡ None
-unfolding done_at above
+no_call_after : (n : ℕ) (floors : List Mark) (kept : List Done) (number : ℕ) → n < number → done_at number 1 kept ≡ None → done_at number 1 (calls_above floors (insert_call (done n) kept)) ≡ None
+unfolding done_at calls_above
 no_call_after n floors kept number behind none =
-    find-filter_none _ _ (placed (done n) kept)
+    find-filter_none _ _ (insert_call (done n) kept)
     (find-placed_none _ kept (done n) none (ap (λ b. b && eqb 1 1) (ne_eqb n number (omega arith))))
 
 no_caller_after : (n : ℕ) (callers : List Caller) (number : ℕ) → n < number → caller_at number callers ≡ None
@@ -233,13 +233,13 @@ abbrev gave : Start → Node
 gave start = without_segment 0 start.segment 1 (giver start)
 
 abbrev freed : Start → Node
-freed start = record (gave start) { outbox = without 1 1 (gave start).outbox }
+freed start = record (gave start) { outbox = outbox_without 1 1 (gave start).outbox }
 
-abbrev noting : Start → Node
-noting start = record second { noted = part start 1 ∷ [] }
+abbrev recording : Start → Node
+recording start = record second { buffered = part start 1 ∷ [] }
 
 abbrev taking : Start → Node
-taking start = with_given (handover start) (noting start)
+taking start = with_taken (handover start) (recording start)
 
 -- ---- the worlds, one after another
 
@@ -252,11 +252,11 @@ given start = acted (gave start) (Some (PartMessage (part start 1))) None (joine
 abbrev given_more : Start → World
 given_more start = acted (gave start) (Some (PartMessage (part start 2))) None (given start)
 
-abbrev noted : Start → World
-noted start = acted (noting start) None None (given_more start)
+abbrev buffered : Start → World
+buffered start = acted (recording start) None None (given_more start)
 
 abbrev taken : Start → World
-taken start = acted (taking start) (Some (GotMessage (ticket_of (handover start)))) None (noted start)
+taken start = acted (taking start) (Some (GotMessage (ticket_of (handover start)))) None (buffered start)
 
 abbrev last : Start → World
 last start = acted (freed start) None None (taken start)
@@ -277,12 +277,12 @@ gives_more start two =
     WorldStep.Acts 0 (gave start) (gave start) None (Some (PartMessage (part start 2))) None refl tt
     (NodeStep.Gives_again 1 1 2 (item start) refl (omega arith) (subst (λ (most : ℕ). 2 ≤ most) (sym two) (omega arith)))
 
-notes : (start : Start) → WorldStep (given_more start) (noted start)
+notes : (start : Start) → WorldStep (given_more start) (buffered start)
 unfolding node_at put_node mark_of
 notes start =
-    WorldStep.Acts 1 second (noting start) (Some (PartMessage (part start 1))) None None refl
+    WorldStep.Acts 1 second (recording start) (Some (PartMessage (part start 1))) None None refl
     (contains_has _ _ (has_left _ _ _ (has_last start.sent (PartMessage (part start 1)))))
-    (NodeStep.Notes (part start 1) refl refl (λ e. cc))
+    (NodeStep.Buffers (part start 1) refl refl (λ e. cc))
 
 is_whole : (start : Start) → InTwo start → IsWhole (part start 1 ∷ part start 2 ∷ []) (handover start)
 is_whole start two = record {
@@ -297,10 +297,10 @@ is_whole start two = record {
       (cases_eq place 1);
 }
 
-takes : (start : Start) → InTwo start → WorldStep (noted start) (taken start)
+takes : (start : Start) → InTwo start → WorldStep (buffered start) (taken start)
 unfolding node_at put_node mark_of
 takes start two =
-    WorldStep.Acts 1 (noting start) (taking start) (Some (PartMessage (part start 2))) _ None refl
+    WorldStep.Acts 1 (recording start) (taking start) (Some (PartMessage (part start 2))) _ None refl
     (contains_has _ _ (has_last _ (PartMessage (part start 2))))
     (NodeStep.Takes (part start 2) (handover start) refl refl (λ e. cc) (is_whole start two))
 
@@ -312,7 +312,7 @@ frees start =
     (NodeStep.Frees (ticket_of (handover start)) refl)
 
 none_left : (start : Start) → All (λ (node : Node). node.outbox ≡ []) (last start).nodes
-unfolding put_node mark_of without
+unfolding put_node mark_of outbox_without
 none_left start =
     all_each _ (freed start ∷ taking start ∷ []) (λ node h.
     ⊎_elim (λ e. subst (λ (n : Node). n.outbox ≡ []) e refl)
@@ -321,7 +321,7 @@ none_left start =
 -- ---- the run
 
 from_there : (start : Start) → InTwo start → Reached (alone_in start)
-    → (world : World) × (run : Reached world) × Contains (takings_of run) 2 × All (λ (node : Node). node.outbox ≡ []) world.nodes
+    → (world : World) × (run : Reached world) × Contains (parts_taken_in_run run) 2 × All (λ (node : Node). node.outbox ≡ []) world.nodes
 unfolding takes frees
 from_there start two run = (
   last start,
@@ -330,7 +330,7 @@ from_there start two run = (
   none_left start,
 )
 
-pub ran : (world : World) × (run : Reached world) × Contains (takings_of run) 2 × All (λ (node : Node). node.outbox ≡ []) world.nodes
+pub ran : (world : World) × (run : Reached world) × Contains (parts_taken_in_run run) 2 × All (λ (node : Node). node.outbox ≡ []) world.nodes
 ran =
     let f : Filled 65 = fills 65 in
     from_there (record { segment = wide f.floors f.kept; entries = entries_of 65; callers = f.callers; sent = f.sent; history = f.history })

@@ -3,7 +3,7 @@ use Rattle.std.proofs.Common.{◌≡◌, ℕ, zero, suc, ◌+◌, ◌-◌, ◌*�
 use Rattle.std.proofs.lemmas.Option.{same_Some}
 use Rattle.std.proofs.lemmas.List.{nil_from_length}
 use Rattle.chord_handover.proofs.OutboxLemmas.{item_at_is}
-use Rattle.chord_handover.specs.Handover.{Handover, Part, parts_in, chunk, part_at, IsWhole, gathered, Item, handover_of}
+use Rattle.chord_handover.specs.Handover.{Handover, Part, parts_in, chunk, part_at, IsWhole, gathered_parts, Item, handover_of}
 use Rattle.chord_map.proofs.Lists.{Has, has_cases, has_filter, has_contained}
 use Rattle.chord_map.specs.declared.pair.Pair.{Pair}
 use Rattle.chord_model.proofs.Channels.{taken_in, gone_in, item_from, GiveOk, PartOk, MessageOk}
@@ -45,20 +45,20 @@ same_parts one other is =
     )
 
 -- the parts that were gathered were sent
-gathered_sent : (sent : List Message) (part : Part) (noted : List Part) → Contains sent (PartMessage part) → ((other : Part) → Has noted other → Contains sent (PartMessage other))
-    → (other : Part) → Has (gathered part noted) other → Contains sent (PartMessage other)
-gathered_sent sent part noted was all other h =
-    ⊎_elim (λ a. all other (has_filter _ noted other a).0)
+gathered_sent : (sent : List Message) (part : Part) (buffered : List Part) → Contains sent (PartMessage part) → ((other : Part) → Has buffered other → Contains sent (PartMessage other))
+    → (other : Part) → Has (gathered_parts part buffered) other → Contains sent (PartMessage other)
+gathered_sent sent part buffered was all other h =
+    ⊎_elim (λ a. all other (has_filter _ buffered other a).0)
     (λ b. ⊎_elim (λ e. subst (λ (p : Part). Contains sent (PartMessage p)) e was) (λ n. absurd n) b)
     (has_cases _ (part ∷ []) other h)
 
 pub whole_ok : (nodes : List Node) (sent : List Message) → ((message : Message) → Contains sent message → MessageOk nodes message)
-    → (part : Part) (noted : List Part) (handover : Handover) → Contains sent (PartMessage part) → ((other : Part) → Has noted other → Contains sent (PartMessage other))
-    → IsWhole (gathered part noted) handover → gone_in nodes handover.to ≡ false → taken_in nodes handover.to handover.from < handover.number → GiveOk nodes handover
-whole_ok nodes sent messages part noted handover was all whole here above =
+    → (part : Part) (buffered : List Part) (handover : Handover) → Contains sent (PartMessage part) → ((other : Part) → Has buffered other → Contains sent (PartMessage other))
+    → IsWhole (gathered_parts part buffered) handover → gone_in nodes handover.to ≡ false → taken_in nodes handover.to handover.from < handover.number → GiveOk nodes handover
+whole_ok nodes sent messages part buffered handover was all whole here above =
     let ok : (place : ℕ) → 1 ≤ place → place ≤ parts_in handover.pairs → PartOk nodes (part_at handover place) =
     λ place from below. messages (PartMessage (part_at handover place))
-    (gathered_sent sent part noted was all (part_at handover place) (has_contained (gathered part noted) (part_at handover place) (whole.all place from below))) in
+    (gathered_sent sent part buffered was all (part_at handover place) (has_contained (gathered_parts part buffered) (part_at handover place) (whole.all place from below))) in
     let first = (ok 1 (omega arith) (omega arith)).kept here above in
     let item : Item = first.0 in
     let sender = sender_of (node_at handover.from nodes) handover.to handover.number item first.1 in

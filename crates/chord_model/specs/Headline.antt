@@ -1,7 +1,7 @@
 -- Statement 15 of 15: the headline, that is what holds of every reachable world.
 use Rattle.std.specs.Prelude.{◌≡◌, ◌≢◌, ℕ, ◌+◌, ◌<◌, ◌≤◌, Bool, true, Option, None, Some, List, [], ◌∷◌, ◌++◌, length, slice_get, Contains, All, ◌^◌, false}
 use Rattle.chord_caller.specs.declared.told.Told.{Told}
-use Rattle.chord_caller.specs.Caller.{Caller, Note, Submission, submission_at, is_taken, fresh_for, known}
+use Rattle.chord_caller.specs.Caller.{Caller, Note, Submission, submission_at, is_taken, fresh_for, known_calls}
 use Rattle.chord_handover.specs.Handover.{Part, Item}
 use Rattle.chord_ident.specs.declared.span.Span.{Span}
 use Rattle.chord_ident.specs.Circle.{in_span, key_id}
@@ -64,7 +64,7 @@ pub record OneHistory (world : World) : Type 0 where
   pub once : (number : ℕ) (caller : Caller) → caller_at number world.callers ≡ Some caller → EachOnce caller.mine
   pub told : (number : ℕ) (caller : Caller) → caller_at number world.callers ≡ Some caller → All (StandsIn world.history) caller.told
   -- each call in a note is in the history
-  pub noted : (note : Note) → Contains world.sent (NoteMessage note) → All (StandsIn world.history) note.done
+  pub buffered : (note : Note) → Contains world.sent (NoteMessage note) → All (StandsIn world.history) note.done
   -- each request comes in the history after all that its caller had seen
   pub in_order : InOrder world
   -- No reply is foreign: it answers a submitted request; and its caller takes it, or took it before
@@ -97,7 +97,7 @@ KeepNoneTwice held =
 abbrev pub SeenFirst : World → World → Type 0
 SeenFirst earlier later =
     (number : ℕ) (caller : Caller) (seen done : Done) (before behind : List Done)
-    → caller_at number earlier.callers ≡ Some caller → Contains (known caller) seen
+    → caller_at number earlier.callers ≡ Some caller → Contains (known_calls caller) seen
     → later.history ≡ before ++ done ∷ behind → done.caller ≡ number → length caller.submitted < done.number
     → StandsIn before seen
 

@@ -12,10 +12,10 @@ use Rattle.chord_store.specs.Inside.{pairs_inside, pairs_outside}
 use Rattle.chord_map.specs.declared.done.Done.{Done}
 use Rattle.chord_segment.specs.declared.mark.Mark.{Mark}
 use Rattle.chord_segment.specs.Marks.{mark_of, raise}
-use Rattle.chord_segment.specs.Segment.{Segment, id_of, empty_segment, past_at, append, before, behind, span_joined, joined}
+use Rattle.chord_segment.specs.Segment.{Segment, id_of, empty_segment, past_at, append, part_before, part_behind, span_joined, joined_segment}
 use Rattle.chord_segment.specs.Segment.Past.{New, Kept, Seen}
 use Rattle.chord_handover.specs.declared.ticket.Ticket.{Ticket}
-use Rattle.chord_handover.specs.Handover.{Handover, Part, parts_in, part_at, IsWhole, gathered, ticket_of, ticket_of_part, Item, item_at, without, handover_of}
+use Rattle.chord_handover.specs.Handover.{Handover, Part, parts_in, part_at, IsWhole, gathered_parts, ticket_of, ticket_of_part, Item, item_at, outbox_without, handover_of}
 use Rattle.chord_caller.specs.declared.ask.Ask.{Ask}
 use Rattle.chord_caller.specs.declared.told.Told.{Told}
 use Rattle.chord_model.specs.declared.phase.Phase.{Phase}
@@ -35,12 +35,12 @@ pub record Node : Type 0 where
   pub outbox : List Item
   pub taken : List Mark
   -- the buffered parts of handovers that are not whole yet
-  pub noted : List Part
+  pub buffered : List Part
 
 -- a node with these links that holds nothing
 abbrev pub newborn : NodeLinks → ℕ → Node
 newborn links limit =
-    record { number = links.me.no; phase = phase.Staying; links = links; held = []; entries = []; limit = limit; given = []; outbox = []; taken = []; noted = [] }
+    record { number = links.me.number; phase = phase.Staying; links = links; held = []; entries = []; limit = limit; given = []; outbox = []; taken = []; buffered = [] }
 
 -- a node that holds the whole circle
 abbrev pub founder : NodeLinks → ℕ → Node
@@ -65,21 +65,21 @@ abbrev pub told_of : Ask → Reply → Told
 told_of ask reply = record { caller = ask.caller; number = ask.number; reply = reply }
 
 -- the node after it executed a call
-abbrev pub executed : Ask → Node → Node
-executed ask node =
+abbrev pub with_executed : Ask → Node → Node
+with_executed ask node =
     record node {
       held = append_at (id_of ask.request) (done_of ask (reply_to ask.request node.entries)) ask.floor node.held;
       entries = pairs_after ask.request node.entries;
     }
 
 -- the node after it took a handover
-abbrev pub with_given : Handover → Node → Node
-with_given handover node =
+abbrev pub with_taken : Handover → Node → Node
+with_taken handover node =
     record node {
       held = node.held ++ handover.segment ∷ [];
       entries = put_all handover.pairs node.entries;
       taken = raise handover.from handover.number node.taken;
-      noted = filter (λ (part : Part). not (part.from == handover.from)) node.noted;
+      buffered = filter (λ (part : Part). not (part.from == handover.from)) node.buffered;
     }
 
 -- the node after it took an item back from its outbox
@@ -88,7 +88,7 @@ with_back item node =
     record node {
       held = node.held ++ item.segment ∷ [];
       entries = put_all item.pairs node.entries;
-      outbox = without item.to item.number node.outbox;
+      outbox = outbox_without item.to item.number node.outbox;
     }
 
 -- the item that hands a segment over to the node `to`
@@ -108,11 +108,11 @@ without_segment place segment to node =
 
 -- the held segments after a cut of the one at this index
 abbrev pub cut_held : ℕ → Segment → Id → List Segment → List Segment
-cut_held place segment at held = insert (slice_set held place (before at segment)) (place + 1) (behind at segment)
+cut_held place segment at held = insert (slice_set held place (part_before at segment)) (place + 1) (part_behind at segment)
 
 -- the held segments after the second was joined behind the first, at the first one's index
 abbrev pub joined_held : ℕ → Segment → ℕ → Segment → List Segment → List Segment
-joined_held place first place_behind second held = remove (slice_set held place (joined first second)) place_behind
+joined_held place first place_behind second held = remove (slice_set held place (joined_segment first second)) place_behind
 
 -- From old, having taken in the first message, if any, the node may become new, send the second, if
 -- any, and execute this call, if any.
@@ -128,7 +128,7 @@ pub data NodeStep (old : Node) : Option Message → Node → Option Message → 
   -- a new call is executed
   Executes : (ask : Ask) (segment : Segment)
       → segment_with (id_of ask.request) old.held ≡ Some segment → past_at ask.caller ask.number segment ≡ New
-      → NodeStep old (Some (AskMessage ask)) (executed ask old)
+      → NodeStep old (Some (AskMessage ask)) (with_executed ask old)
       (Some (ToldMessage (told_of ask (reply_to ask.request old.entries))))
       (Some (done_of ask (reply_to ask.request old.entries)))
   -- a new call that would add a pair to a full store: answered Full
@@ -148,18 +148,18 @@ pub data NodeStep (old : Node) : Option Message → Node → Option Message → 
   Declines : (part : Part) → part.to ≡ old.number → mark_of part.from old.taken < part.number → old.phase ≡ phase.Gone
       → NodeStep old (Some (PartMessage part)) old (Some (DeclinedMessage (ticket_of_part part))) None
   -- a part of the next handover is buffered
-  Notes : (part : Part) → part.to ≡ old.number → part.number ≡ mark_of part.from old.taken + 1 → old.phase ≢ phase.Gone
-      → NodeStep old (Some (PartMessage part)) (record old { noted = old.noted ++ part ∷ [] }) None None
+  Buffers : (part : Part) → part.to ≡ old.number → part.number ≡ mark_of part.from old.taken + 1 → old.phase ≢ phase.Gone
+      → NodeStep old (Some (PartMessage part)) (record old { buffered = old.buffered ++ part ∷ [] }) None None
   -- the next handover is whole with this part, and is taken
   Takes : (part : Part) (handover : Handover) → handover.to ≡ old.number → handover.number ≡ mark_of handover.from old.taken + 1 → old.phase ≢ phase.Gone
-      → IsWhole (gathered part old.noted) handover
-      → NodeStep old (Some (PartMessage part)) (with_given handover old) (Some (GotMessage (ticket_of handover))) None
+      → IsWhole (gathered_parts part old.buffered) handover
+      → NodeStep old (Some (PartMessage part)) (with_taken handover old) (Some (GotMessage (ticket_of handover))) None
   -- a part of a handover that is not taken yet: ignored
   Waits : (part : Part) → part.to ≡ old.number → mark_of part.from old.taken < part.number → old.phase ≢ phase.Gone
       → NodeStep old (Some (PartMessage part)) old None None
   -- Got: the receiver took a handover; its item leaves the outbox, if it is there
   Frees : (ticket : Ticket) → ticket.from ≡ old.number
-      → NodeStep old (Some (GotMessage ticket)) (record old { outbox = without ticket.to ticket.number old.outbox }) None None
+      → NodeStep old (Some (GotMessage ticket)) (record old { outbox = outbox_without ticket.to ticket.number old.outbox }) None None
   -- Declined: the receiver declined a handover, and its segment is held again
   Takes_back : (ticket : Ticket) (item : Item) → ticket.from ≡ old.number → item_at ticket.to ticket.number old.outbox ≡ Some item
       → NodeStep old (Some (DeclinedMessage ticket)) (with_back item old) None None
@@ -185,4 +185,4 @@ pub data NodeStep (old : Node) : Option Message → Node → Option Message → 
   Leaves : old.phase ≡ phase.Staying → NodeStep old None (record old { phase = phase.Leaving }) None None
   -- a leaving node that holds nothing and has an empty outbox is gone, and its store with it
   Retires : old.phase ≡ phase.Leaving → old.held ≡ [] → old.outbox ≡ []
-      → NodeStep old None (record old { phase = phase.Gone; limit = 0; noted = [] }) None None
+      → NodeStep old None (record old { phase = phase.Gone; limit = 0; buffered = [] }) None None

@@ -17,7 +17,7 @@ pub data NodeRule : Type 0 where
   Drops : NodeRule
   Got_again : NodeRule
   Declines : NodeRule
-  Notes : NodeRule
+  Buffers : NodeRule
   Takes : NodeRule
   Waits : NodeRule
   Frees : NodeRule
@@ -58,7 +58,7 @@ node_rule (NodeStep.Forwards ask hops found fewer) = NodeRule.Forwards
 node_rule (NodeStep.Drops ask found) = NodeRule.Drops
 node_rule (NodeStep.Got_again part here seen) = NodeRule.Got_again
 node_rule (NodeStep.Declines part here above gone) = NodeRule.Declines
-node_rule (NodeStep.Notes part here next stays) = NodeRule.Notes
+node_rule (NodeStep.Buffers part here next stays) = NodeRule.Buffers
 node_rule (NodeStep.Takes part handover here next stays whole) = NodeRule.Takes
 node_rule (NodeStep.Waits part here above stays) = NodeRule.Waits
 node_rule (NodeStep.Frees ticket here) = NodeRule.Frees
@@ -94,15 +94,15 @@ rules_of Run.Stays = []
 rules_of (Run.Goes_on run step) = rule_of step ∷ rules_of run
 
 -- the number of parts of the handover that a node takes in this step, if it takes one
-abbrev pub taking_by : {old new : Node} {taken sent : Option Message} {done : Option Done} → NodeStep old taken new sent done → List ℕ
-taking_by (NodeStep.Takes part handover here next stays whole) = parts_in handover.pairs ∷ []
-taking_by step = []
+abbrev pub parts_taken_by : {old new : Node} {taken sent : Option Message} {done : Option Done} → NodeStep old taken new sent done → List ℕ
+parts_taken_by (NodeStep.Takes part handover here next stays whole) = parts_in handover.pairs ∷ []
+parts_taken_by step = []
 
-abbrev pub taking_of : {old new : World} → WorldStep old new → List ℕ
-taking_of (WorldStep.Acts number node after taken sent call here was step) = taking_by step
-taking_of step = []
+abbrev pub parts_taken_in : {old new : World} → WorldStep old new → List ℕ
+parts_taken_in (WorldStep.Acts number node after taken sent call here was step) = parts_taken_by step
+parts_taken_in step = []
 
 -- the number of parts of each handover taken in a run, the last one's first
-abbrev pub takings_of : {first last : World} → Run first last → List ℕ
-takings_of Run.Stays = []
-takings_of (Run.Goes_on run step) = taking_of step ++ takings_of run
+abbrev pub parts_taken_in_run : {first last : World} → Run first last → List ℕ
+parts_taken_in_run Run.Stays = []
+parts_taken_in_run (Run.Goes_on run step) = parts_taken_in step ++ parts_taken_in_run run

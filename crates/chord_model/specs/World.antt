@@ -62,7 +62,7 @@ pub data WorldStep (old : World) : World → Type 0 where
   Creates : (links : NodeLinks) (limit : ℕ) → links.me.id.number < 2 ^ 128 → old.nodes ≡ []
       → WorldStep old (record old { nodes = founder links limit ∷ [] })
   -- a node with a new number joins; it holds nothing
-  Joins : (links : NodeLinks) (limit : ℕ) → links.me.id.number < 2 ^ 128 → old.nodes ≢ [] → node_at links.me.no old.nodes ≡ None
+  Joins : (links : NodeLinks) (limit : ℕ) → links.me.id.number < 2 ^ 128 → old.nodes ≢ [] → node_at links.me.number old.nodes ≡ None
       → WorldStep old (record old { nodes = old.nodes ++ newborn links limit ∷ [] })
   -- a caller with a new number is opened
   Opens : (number window : ℕ) → 1 ≤ window → window ≤ 16 → caller_at number old.callers ≡ None
@@ -99,14 +99,14 @@ at_node x node =
     map (λ (segment : Segment). holder.Node node.number) (filter (λ (segment : Segment). in_span segment.span x) node.held)
 
 -- the node's handovers of x that the receiver has not taken
-abbrev pub under_way : ℕ → (ℕ → ℕ → ℕ) → Node → List Holder
-under_way x taken node =
+abbrev pub holders_under_way : ℕ → (ℕ → ℕ → ℕ) → Node → List Holder
+holders_under_way x taken node =
     map (λ (item : Item). holder.UnderWay node.number item.to item.number)
     (filter (λ (item : Item). in_span item.segment.span x && nat_lt (taken item.to node.number) item.number) node.outbox)
 
 -- all holders of x
 abbrev pub holders : ℕ → List Node → List Holder
-holders x nodes = flat_map (λ (node : Node). at_node x node ++ under_way x (last_taken nodes) node) nodes
+holders x nodes = flat_map (λ (node : Node). at_node x node ++ holders_under_way x (last_taken nodes) node) nodes
 
 -- x has exactly one holder
 abbrev pub HasOneHolder : ℕ → List Node → Type 0

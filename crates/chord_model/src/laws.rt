@@ -5,11 +5,11 @@ ghost use Rattle.chord_caller.specs.Caller.{Caller};
 ghost use Rattle.chord_handover.specs.declared.gather.Gather.TheVariants.{Unfit};
 ghost use Rattle.chord_handover.specs.declared.ticket.Ticket.{Ticket};
 ghost use Rattle.chord_handover.specs.Gather.{GatherIs};
-ghost use Rattle.chord_handover.specs.Handover.{Handover, Part, IsWhole, gathered, Item, item_at};
+ghost use Rattle.chord_handover.specs.Handover.{Handover, Part, IsWhole, gathered_parts, Item, item_at};
 ghost use Rattle.chord_model.specs.Headline.{MeetsNone, AllApart, Headline, OneHistory, IsNextFor, KeepNoneTwice, SeenFirst};
 ghost use Rattle.chord_model.specs.declared.message.Message.TheVariants.{Part as PartMessage, Declined as DeclinedMessage};
 ghost use Rattle.chord_model.specs.Node.{Node};
-ghost use Rattle.chord_model.specs.Uses.{Rule, rules_of, takings_of};
+ghost use Rattle.chord_model.specs.Uses.{Rule, rules_of, parts_taken_in_run};
 ghost use Rattle.chord_model.specs.World.{World, Run, Reached, HasOneHolder, node_at};
 ghost use Rattle.chord_model.specs.declared.phase.Phase.TheVariants.{Gone};
 ghost use Rattle.chord_segment.specs.Marks.{mark_of};
@@ -29,7 +29,7 @@ pub fn one_holder()
 /// span that the node holds, and no two of those overlap.
 pub fn no_clash()
     ensures taken { (world : World) (part : Part) (handover : Handover) (node : Node) → ∥ Reached world ∥₁ → Contains world.sent (PartMessage part)
-        → IsWhole (gathered part node.noted) handover
+        → IsWhole (gathered_parts part node.buffered) handover
         → node_at handover.to world.nodes ≡ Some node → node.phase ≢ Gone → handover.number ≡ mark_of handover.from node.taken + 1
         → MeetsNone handover.segment.span node.held }
     ensures taken_back { (world : World) (ticket : Ticket) (node : Node) (item : Item) → ∥ Reached world ∥₁
@@ -42,7 +42,7 @@ pub fn no_clash()
 /// part of one payload, or all of it.
 pub fn parts_fit()
     ensures { (world : World) (part : Part) (node : Node) → ∥ Reached world ∥₁ → Contains world.sent (PartMessage part)
-        → node_at part.to world.nodes ≡ Some node → IsNextFor node part → ¬ GatherIs part node.noted Unfit }
+        → node_at part.to world.nodes ≡ Some node → IsNextFor node part → ¬ GatherIs part node.buffered Unfit }
 {}
 
 /// In every reachable world: the executed calls form one history of one map, each call at most
@@ -70,7 +70,7 @@ pub fn every_rule()
 
 /// Some run takes a handover of two parts, and ends with every outbox empty.
 pub fn two_parts()
-    ensures { (world : World) × (run : Reached world) × Contains (takings_of run) 2 × All (λ (node : Node). node.outbox ≡ []) world.nodes }
+    ensures { (world : World) × (run : Reached world) × Contains (parts_taken_in_run run) 2 × All (λ (node : Node). node.outbox ≡ []) world.nodes }
 {}
 
 /// What a caller knew at some time comes in the history before each call that it submitted later.

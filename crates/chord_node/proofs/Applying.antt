@@ -16,10 +16,10 @@ use Rattle.chord_map.specs.Map.{insert_pair, by_order, pair_cmp}
 use Rattle.chord_map.proofs.MapLemmas.{is_same}
 use Rattle.chord_map.proofs.Replies.{after_reply}
 use Rattle.chord_map.specs.Map.{IsValues}
-use Rattle.chord_node.specs.Asked.{adds, is_full_for, Applied}
+use Rattle.chord_node.specs.Asked.{adds_pair, is_full_for, Applied}
 
 has_room : (did : Inserted) (pairs : List Pair) (limit : ℕ) → (did ≡ Added → length pairs < limit)
-    → cond (adds (reply_for did)) (leb limit (length pairs)) false ≡ false
+    → cond (adds_pair (reply_for did)) (leb limit (length pairs)) false ≡ false
 has_room Added pairs limit room = lt-leb limit (length pairs) (room refl)
 has_room Present pairs limit room = refl
 has_room SetFull pairs limit room = refl
@@ -30,7 +30,7 @@ inserted_is : (pairs new : List Pair) (limit : ℕ) (key value : List ℕ) (did 
 unfolding is_full_for
 inserted_is pairs new limit key value did told did_so is = (
   is ∙ sym did_so.0,
-  ap (λ (r : Reply). cond (adds r) (leb limit (length pairs)) false) did_so.0 ∙ has_room did pairs limit did_so.1,
+  ap (λ (r : Reply). cond (adds_pair r) (leb limit (length pairs)) false) did_so.0 ∙ has_room did pairs limit did_so.1,
   did_so.2,
 )
 
@@ -39,9 +39,9 @@ refused_is : (pairs new : List Pair) (limit : ℕ) (key value : List ℕ) (fault
     → InsertIs (record { key = key; value = value }) pairs limit (Err fault) new → Applied (request.Insert key value) pairs limit (Err fault) new
 unfolding is_full_for
 refused_is pairs new limit key value Full refused =
-    (ap (λ (r : Reply). cond (adds r) (leb limit (length pairs)) false) refused.0 ∙ le-leb limit (length pairs) refused.1, refused.2)
+    (ap (λ (r : Reply). cond (adds_pair r) (leb limit (length pairs)) false) refused.0 ∙ le-leb limit (length pairs) refused.1, refused.2)
 refused_is pairs new limit key value Memory refused =
-    (ap (λ (r : Reply). cond (adds r) (leb limit (length pairs)) false) refused.0 ∙ lt-leb limit (length pairs) refused.1, refused.2)
+    (ap (λ (r : Reply). cond (adds_pair r) (leb limit (length pairs)) false) refused.0 ∙ lt-leb limit (length pairs) refused.1, refused.2)
 
 pub same_pairs : {key value key' value' : List ℕ} → key' ≡ key → value' ≡ value → ◌≡◌ {A = Pair} (record { key = key'; value = value' }) (record { key = key; value = value })
 same_pairs e f = cc
@@ -72,9 +72,9 @@ none_removed pair (other ∷ pairs) e = none_step (same_pair pair other) other (
 -- ---- whether the store is full for a request
 
 full_by : (request : Request) (reply : Reply) (pairs : List Pair) (limit : ℕ) (b : Bool) → reply_to request pairs ≡ reply
-    → cond (adds reply) (leb limit (length pairs)) false ≡ b → is_full_for request pairs limit ≡ b
+    → cond (adds_pair reply) (leb limit (length pairs)) false ≡ b → is_full_for request pairs limit ≡ b
 unfolding is_full_for
-full_by request reply pairs limit b e f = ap (λ (r : Reply). cond (adds r) (leb limit (length pairs)) false) e ∙ f
+full_by request reply pairs limit b e f = ap (λ (r : Reply). cond (adds_pair r) (leb limit (length pairs)) false) e ∙ f
 
 pub not_full_retrieve : (key : List ℕ) (pairs : List Pair) (limit : ℕ) → is_full_for (request.Retrieve key) pairs limit ≡ false
 unfolding is_full_for reply_to
@@ -84,7 +84,7 @@ pub not_full_remove : (key value : List ℕ) (pairs : List Pair) (limit : ℕ) �
 unfolding is_full_for reply_to
 not_full_remove key value pairs limit = none_added (has_pair (record { key = key; value = value }) pairs)
   where
-    none_added : (b : Bool) → cond (adds (cond b reply.Removed reply.Absent)) (leb limit (length pairs)) false ≡ false
+    none_added : (b : Bool) → cond (adds_pair (cond b reply.Removed reply.Absent)) (leb limit (length pairs)) false ≡ false
     none_added true = refl
     none_added false = refl
 

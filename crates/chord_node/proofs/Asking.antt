@@ -24,7 +24,7 @@ use Rattle.chord_model.specs.Node.NodeStep.{Tells_again, Drops_seen, Executes, A
 use Rattle.chord_node.specs.View.{segments_of}
 use Rattle.chord_map.proofs.Equal.{eqb_same}
 use Rattle.chord_node.specs.Passed.{peer_of, PassesOn}
-use Rattle.chord_node.specs.Asked.{adds, is_full_for, past_answer, past_done, segment_after, entries_after, AnswersIn, done_in, ask_done, after_done, sent_by, note_of, AnswersBy, TakesMemory, AsksMemory, AskIs, AskNotes, AskSteps, AskStepsNoting}
+use Rattle.chord_node.specs.Asked.{adds_pair, is_full_for, past_answer, past_done, segment_after, entries_after, AnswersIn, done_in, ask_done, after_done, sent_by, note_of, AnswersBy, TakesMemory, AsksMemory, AskIs, AskRecords, AskSteps, AskStepsRecording}
 
 -- ---- the segment at an index
 
@@ -99,12 +99,12 @@ after_is (Some done) ask old held i s s' pairs limit e place same is seg ent =
     rw (put, ent, same, e) refl
 
 -- what the node answers if the segment with the key answered this
-pub asked_here : (ask : Ask) (noting : Bool) (old : Node) (held : List RoomySegment) (i : ℕ) (s s' : RoomySegment) (result : Result (Answered × Option Done) AllocError) (pairs : List Pair) (limit : ℕ)
+pub asked_here : (ask : Ask) (recording : Bool) (old : Node) (held : List RoomySegment) (i : ℕ) (s s' : RoomySegment) (result : Result (Answered × Option Done) AllocError) (pairs : List Pair) (limit : ℕ)
     → old.held ≡ segments_of held → IsPlace (id_of ask.request) held i s → limit ≡ old.limit
-    → AnswersIn ask noting (get_or held i s).segment old.entries old.limit result s'.segment pairs
-    → AskNotes ask noting old result (record old { held = segments_of (set held i s'); entries = pairs; limit = limit })
+    → AnswersIn ask recording (get_or held i s).segment old.entries old.limit result s'.segment pairs
+    → AskRecords ask recording old result (record old { held = segments_of (set held i s'); entries = pairs; limit = limit })
 unfolding ask_done
-asked_here ask noting old held i s s' (Ok both) pairs limit e place same h =
+asked_here ask recording old held i s s' (Ok both) pairs limit e place same h =
     let found : segment_with (id_of ask.request) old.held ≡ Some (get_or held i s).segment = ap (segment_with (id_of ask.request)) e ∙ with_here (id_of ask.request) held i s place in
     let done : Option Done = past_done (past_at ask.caller ask.number (get_or held i s).segment) ask old.entries old.limit in
     let did : done_in (segment_with (id_of ask.request) old.held) ask old ≡ done = ap (λ o. done_in o ask old) found in (
@@ -114,27 +114,27 @@ asked_here ask noting old held i s s' (Ok both) pairs limit e place same h =
             (λ d is. past_done_is (past_at ask.caller ask.number (get_or held i s).segment) ask old.entries old.limit d is) h.2 h.3
             ∙ ap (λ d. after_done d ask old) (sym did),
       ),
-      h.1 ∙ ap (note_of noting) (sym did),
+      h.1 ∙ ap (note_of recording) (sym did),
     )
-asked_here ask noting old held i s s' (Err fault) pairs limit e place same h =
+asked_here ask recording old held i s s' (Err fault) pairs limit e place same h =
     let found : segment_with (id_of ask.request) old.held ≡ Some (get_or held i s).segment = ap (segment_with (id_of ask.request)) e ∙ with_here (id_of ask.request) held i s place in
     let answered : Answered = past_answer (past_at ask.caller ask.number (get_or held i s).segment) ask old.entries old.limit in (
       (answered, subst (λ o. AnswersBy o ask old answered) (sym found) refl, h.0),
       same_node old _ pairs limit (put_same held i s s' place.in_range h.1 ∙ sym e) h.2 same,
     )
 
-note_none : (noting : Bool) → None ≡ note_of noting None
+note_none : (recording : Bool) → None ≡ note_of recording None
 note_none true = refl
 note_none false = refl
 
 -- what the node answers if no segment has the key
-pub asked_elsewhere : (ask : Ask) (noting : Bool) (old : Node) (held : List RoomySegment) (answered : Answered) → old.held ≡ segments_of held → find (has (id_of ask.request)) held ≡ None
-    → PassesOn old.links ask answered → AskNotes ask noting old (Ok (answered, None)) old
+pub asked_elsewhere : (ask : Ask) (recording : Bool) (old : Node) (held : List RoomySegment) (answered : Answered) → old.held ≡ segments_of held → find (has (id_of ask.request)) held ≡ None
+    → PassesOn old.links ask answered → AskRecords ask recording old (Ok (answered, None)) old
 unfolding ask_done
-asked_elsewhere ask noting old held answered e none passed =
+asked_elsewhere ask recording old held answered e none passed =
     let missed : segment_with (id_of ask.request) old.held ≡ None = ap (segment_with (id_of ask.request)) e ∙ find_none (id_of ask.request) held none in (
       (subst (λ o. AnswersBy o ask old answered) (sym missed) passed, ap (λ o. after_done (done_in o ask old) ask old) (sym missed)),
-      note_none noting ∙ ap (λ o. note_of noting (done_in o ask old)) (sym missed),
+      note_none recording ∙ ap (λ o. note_of recording (done_in o ask old)) (sym missed),
     )
 
 -- memory ran out for a call that would be sent on
@@ -146,7 +146,7 @@ asked_no_further ask view old e held v none (answered, passed, takes) =
 
 -- ---- the step
 
-is_added : (r : Reply) (b : Bool) → cond (adds r) b false ≡ true → (r ≡ reply.Added) × (b ≡ true)
+is_added : (r : Reply) (b : Bool) → cond (adds_pair r) b false ≡ true → (r ≡ reply.Added) × (b ≡ true)
 is_added reply.Added b e = (refl, e)
 is_added reply.Present b e = cc
 is_added reply.SetFull b e = cc
@@ -180,14 +180,14 @@ passed_by ask old e to true some = Drops ask e
 passed_by ask old e to false some = let there : ask.hops ≢ 0 = some refl in Forwards ask (ask.hops - 1) e (omega arith)
 
 passed_step : (ask : Ask) (old : Node) → segment_with (id_of ask.request) old.held ≡ None → (to : ℕ)
-    → NodeStep old (Some (AskMessage ask)) old (sent_by ask (cond ((ask.hops == 0) || (to == old.links.me.no)) answer.Dropped (answer.Forward to (record ask { hops = ask.hops - 1 })))) None
+    → NodeStep old (Some (AskMessage ask)) old (sent_by ask (cond ((ask.hops == 0) || (to == old.links.me.number)) answer.Dropped (answer.Forward to (record ask { hops = ask.hops - 1 })))) None
 passed_step ask old e to =
-    passed_by ask old e to ((ask.hops == 0) || (to == old.links.me.no))
-    (λ none zero_hops. let yes : ((ask.hops == 0) || (to == old.links.me.no)) ≡ true = ap (λ b. b || (to == old.links.me.no)) (eqb_same ask.hops 0 zero_hops) in cc)
+    passed_by ask old e to ((ask.hops == 0) || (to == old.links.me.number))
+    (λ none zero_hops. let yes : ((ask.hops == 0) || (to == old.links.me.number)) ≡ true = ap (λ b. b || (to == old.links.me.number)) (eqb_same ask.hops 0 zero_hops) in cc)
 
 ask_step : (ask : Ask) (old : Node) (answered : Answered) (o : Option Segment) → segment_with (id_of ask.request) old.held ≡ o → AnswersBy o ask old answered
     → NodeStep old (Some (AskMessage ask)) (after_done (done_in o ask old) ask old) (sent_by ask answered) (done_in o ask old)
-ask_step ask old answered None e (hop, next, is) = subst (λ a. NodeStep old (Some (AskMessage ask)) old (sent_by ask a) None) (sym is) (passed_step ask old e (peer_of hop).no)
+ask_step ask old answered None e (hop, next, is) = subst (λ a. NodeStep old (Some (AskMessage ask)) old (sent_by ask a) None) (sym is) (passed_step ask old e (peer_of hop).number)
 ask_step ask old answered (Some segment) e h = rw h (past_step ask old segment e (past_at ask.caller ask.number segment) refl)
 
 -- the answer is one step of the node
@@ -198,10 +198,10 @@ asked_steps ask old (Ok answered) new h =
     subst (λ n. NodeStep old (Some (AskMessage ask)) n (sent_by ask answered) (done_in (segment_with (id_of ask.request) old.held) ask old)) (sym h.1)
     (ask_step ask old answered (segment_with (id_of ask.request) old.held) refl h.0)
 
-pub asked_steps_noting : (ask : Ask) (noting : Bool) (old : Node) (result : Result (Answered × Option Done) AllocError) (new : Node)
-    → AskNotes ask noting old result new → AskStepsNoting ask old result new
-asked_steps_noting ask noting old (Err fault) new h = tt
-asked_steps_noting ask noting old (Ok both) new h = asked_steps ask old (Ok both.0) new h.0
+pub asked_steps_recording : (ask : Ask) (recording : Bool) (old : Node) (result : Result (Answered × Option Done) AllocError) (new : Node)
+    → AskRecords ask recording old result new → AskStepsRecording ask old result new
+asked_steps_recording ask recording old (Err fault) new h = tt
+asked_steps_recording ask recording old (Ok both) new h = asked_steps ask old (Ok both.0) new h.0
 
 -- ---- in the words of the code
 
@@ -226,23 +226,23 @@ pub holds_at : (x : ℕ) (held : List RoomySegment) → is_some (position (has x
 holds_at x held = holds_by x held (position (has x) held) refl
 
 -- `asked_here` over the view of the fields, which is the old value, and what the store held
-pub asked_at : (ask : Ask) (noting : Bool) (view old : Node) → view ≡ old → (held : List RoomySegment) (i : ℕ) (s s' : RoomySegment) (result : Result (Answered × Option Done) AllocError)
+pub asked_at : (ask : Ask) (recording : Bool) (view old : Node) → view ≡ old → (held : List RoomySegment) (i : ℕ) (s s' : RoomySegment) (result : Result (Answered × Option Done) AllocError)
     (pairs pairs' : List Pair) (limit limit' : ℕ)
     → view.held ≡ segments_of held → IsPlace (id_of ask.request) held i s → s ≡ get_or held i s → pairs ≡ view.entries → limit ≡ view.limit → limit' ≡ limit
-    → AnswersIn ask noting s.segment pairs limit result s'.segment pairs'
-    → AskNotes ask noting old result (record view { held = segments_of (set held i s'); entries = pairs'; limit = limit' })
-asked_at ask noting view old e held i s s' result pairs pairs' limit limit' v place at same_pairs same_limit same h =
-    let P : Node → Type 0 = λ old. AskNotes ask noting old result (record view { held = segments_of (set held i s'); entries = pairs'; limit = limit' }) in
-    let Q : RoomySegment → Type 0 = λ r. AnswersIn ask noting r.segment view.entries view.limit result s'.segment pairs' in
-    let R : List Pair → Type 0 = λ ps. AnswersIn ask noting s.segment ps limit result s'.segment pairs' in
-    let T : ℕ → Type 0 = λ n. AnswersIn ask noting s.segment view.entries n result s'.segment pairs' in
-    subst P e (asked_here ask noting view held i s s' result pairs' limit' v place (same ∙ same_limit) (subst Q at (subst T same_limit (subst R same_pairs h))))
+    → AnswersIn ask recording s.segment pairs limit result s'.segment pairs'
+    → AskRecords ask recording old result (record view { held = segments_of (set held i s'); entries = pairs'; limit = limit' })
+asked_at ask recording view old e held i s s' result pairs pairs' limit limit' v place at same_pairs same_limit same h =
+    let P : Node → Type 0 = λ old. AskRecords ask recording old result (record view { held = segments_of (set held i s'); entries = pairs'; limit = limit' }) in
+    let Q : RoomySegment → Type 0 = λ r. AnswersIn ask recording r.segment view.entries view.limit result s'.segment pairs' in
+    let R : List Pair → Type 0 = λ ps. AnswersIn ask recording s.segment ps limit result s'.segment pairs' in
+    let T : ℕ → Type 0 = λ n. AnswersIn ask recording s.segment view.entries n result s'.segment pairs' in
+    subst P e (asked_here ask recording view held i s s' result pairs' limit' v place (same ∙ same_limit) (subst Q at (subst T same_limit (subst R same_pairs h))))
 
-pub asked_past : (ask : Ask) (noting : Bool) (view old : Node) → view ≡ old → (held : List RoomySegment) (answered : Answered) → view.held ≡ segments_of held
-    → find (has (id_of ask.request)) held ≡ None → PassesOn view.links ask answered → AskNotes ask noting old (Ok (answered, None)) old
-asked_past ask noting view old e held answered v none passed =
-    let P : Node → Type 0 = λ old. AskNotes ask noting old (Ok (answered, None)) old in
-    subst P e (asked_elsewhere ask noting view held answered v none passed)
+pub asked_past : (ask : Ask) (recording : Bool) (view old : Node) → view ≡ old → (held : List RoomySegment) (answered : Answered) → view.held ≡ segments_of held
+    → find (has (id_of ask.request)) held ≡ None → PassesOn view.links ask answered → AskRecords ask recording old (Ok (answered, None)) old
+asked_past ask recording view old e held answered v none passed =
+    let P : Node → Type 0 = λ old. AskRecords ask recording old (Ok (answered, None)) old in
+    subst P e (asked_elsewhere ask recording view held answered v none passed)
 
 on_err : {A E : Type 0} (result : Result A E) (P : Type 0) → P → OnErr result P
 on_err (Ok a) P p = tt

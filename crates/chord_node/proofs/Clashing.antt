@@ -7,8 +7,8 @@ use Rattle.chord_handover.specs.Handover.{Part}
 use Rattle.chord_model.proofs.Clash.{back_clear}
 use Rattle.chord_model.proofs.Fitting.{part_fits, whole_fits}
 use Rattle.chord_model.proofs.Stocked.{no_clash}
-use Rattle.chord_node.specs.declared.handovers.given.Given.TheVariants as given
-use Rattle.chord_node.specs.declared.handovers.given.Back.TheVariants as back
+use Rattle.chord_node.specs.declared.handovers.part_answer.PartAnswer.TheVariants as given
+use Rattle.chord_node.specs.declared.handovers.part_answer.Back.TheVariants as back
 use Rattle.chord_model.specs.declared.message.Message.TheVariants.{Part as PartMessage, Declined as DeclinedMessage}
 use Rattle.chord_model.specs.Node.{Node}
 use Rattle.chord_model.specs.World.{World, Reached, node_at}

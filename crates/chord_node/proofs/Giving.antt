@@ -3,11 +3,11 @@ use Rattle.std.proofs.Common.{◌≡◌, ℕ, ◌+◌, ◌^◌, ◌<◌, ◌≤�
 use Rattle.std.specs.Prelude.{slice_get, remove}
 use Rattle.chord_handover.specs.Handover.{Part, Item, part_at}
 use Rattle.chord_handover.specs.Outbox.{Outbox, with_item}
-use Rattle.chord_handover.specs.Parcelled.{Parcelled, IsParcelled, handed}
+use Rattle.chord_handover.specs.Payload.{Payload, IsPayload, handover_of_payload}
 use Rattle.chord_ident.specs.declared.span.Span.{Span}
 use Rattle.chord_map.specs.declared.pair.Pair.{Pair}
 use Rattle.chord_node.proofs.Moving.{segments_get, segments_length, segments_remove, same_at}
-use Rattle.chord_model.proofs.Stocking.{stocked_less, parcel_taken}
+use Rattle.chord_model.proofs.Stocking.{stocked_less, payload_taken}
 use Rattle.chord_node.specs.declared.fault.GiveFault.{GiveFault}
 use Rattle.chord_node.specs.declared.fault.GiveFault.TheVariants as give
 use Rattle.chord_node.specs.Moves.{GiveIs, SendSteps}
@@ -29,7 +29,7 @@ same_fields view h h' e e' l g g' o o' p q r s t = rw (p, q, r, s, t) refl
 pub gave_at : (place to number : ℕ) (view old : Node) → view ≡ old → (held new_held : List RoomySegment) (a b : RoomySegment) (outbox outbox' : Outbox) (entries pairs : List Pair) (limit : ℕ) (part : Part) (span : Span)
     → view.held ≡ segments_of held → view.given ≡ outbox.given → view.outbox ≡ outbox.items → place < length held → a ≡ get_or held place a → b ≡ get_or held place b
     → number ≡ mark_of to outbox.given + 1 → number < 2 ^ 64
-    → part ≡ part_at (handed (record { from = view.number; to = to; number = number }) (record { segment = a.segment; pairs = pairs_inside a.segment.span view.entries })) 1
+    → part ≡ part_at (handover_of_payload (record { from = view.number; to = to; number = number }) (record { segment = a.segment; pairs = pairs_inside a.segment.span view.entries })) 1
     → pairs ≡ pairs_inside a.segment.span view.entries → new_held ≡ remove held place → span ≡ b.segment.span
     → entries ≡ pairs_outside span view.entries → limit ≡ view.limit → outbox' ≡ with_item to (record { segment = b.segment; pairs = pairs }) outbox
     → GiveIs place to old (Ok part) (record view { held = segments_of new_held; entries = entries; limit = limit; given = outbox'.given; outbox = outbox'.items })
@@ -46,7 +46,7 @@ gave_at place to number view old e held new_held a b outbox outbox' entries pair
       a.segment,
       ap (λ (hs : List Segment). slice_get hs place) v ∙ segments_get held place a inside at,
       subst (λ (n : ℕ). n < 2 ^ 64) (is_number ∙ is_next) left,
-      is_part ∙ ap (λ (n : ℕ). part_at (handed (record { from = view.number; to = to; number = n }) (record { segment = a.segment; pairs = pairs_inside a.segment.span view.entries })) 1) (is_number ∙ is_next),
+      is_part ∙ ap (λ (n : ℕ). part_at (handover_of_payload (record { from = view.number; to = to; number = n }) (record { segment = a.segment; pairs = pairs_inside a.segment.span view.entries })) 1) (is_number ∙ is_next),
       same_fields view _ _ _ _ limit _ _ _ _
           (ap segments_of is_held ∙ segments_remove held place ∙ ap (λ (hs : List Segment). remove hs place) (sym v))
           (is_entries ∙ ap (λ (s : Span). pairs_outside s view.entries) is_span ∙ ap (λ (s : Segment). pairs_outside s.span view.entries) (sym same))
@@ -70,8 +70,8 @@ pub give_stocked : (place to : ℕ) (old : Node) (part : Part) (new : Node) → 
 give_stocked place to old part new h stock = subst (λ (n : Node). IsStocked n.held n.entries) (sym h.4) (stocked_less old.held place h.0 old.entries h.1 stock)
 
 -- a given segment with its pairs is a payload
-pub gives_parcel : (held : List Segment) (entries pairs : List Pair) (a b : Segment) → a ≡ b → IsStocked held entries → pairs ≡ pairs_inside a.span entries
-    → IsParcelled (record { segment = b; pairs = pairs })
-gives_parcel held entries pairs a b same stock is =
-    let parcel : Segment → List Pair → Parcelled = λ s ps. record { segment = s; pairs = ps } in
-    subst (λ (ps : List Pair). IsParcelled (parcel b ps)) (sym (is ∙ ap (λ (s : Segment). pairs_inside s.span entries) same)) (parcel_taken held b entries stock)
+pub gives_payload : (held : List Segment) (entries pairs : List Pair) (a b : Segment) → a ≡ b → IsStocked held entries → pairs ≡ pairs_inside a.span entries
+    → IsPayload (record { segment = b; pairs = pairs })
+gives_payload held entries pairs a b same stock is =
+    let payload : Segment → List Pair → Payload = λ s ps. record { segment = s; pairs = ps } in
+    subst (λ (ps : List Pair). IsPayload (payload b ps)) (sym (is ∙ ap (λ (s : Segment). pairs_inside s.span entries) same)) (payload_taken held b entries stock)

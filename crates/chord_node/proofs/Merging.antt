@@ -1,8 +1,8 @@
 -- A merge of two held segments: one is taken out and joined to the other, and its index is removed.
 use Rattle.std.proofs.Common.{◌≡◌, ◌≢◌, ℕ, zero, suc, ◌<◌, None, Some, Result, Ok, Err, List, [], ◌∷◌, length, get_or, set, refl, sym, ◌∙◌, ap, subst}
 use Rattle.std.specs.Prelude.{slice_get, remove}
-use Rattle.chord_segment.specs.declared.fault.JoinFault.{JoinFault}
-use Rattle.chord_segment.specs.declared.fault.JoinFault.TheVariants as join
+use Rattle.chord_segment.specs.declared.fault.SegmentJoinFault.{SegmentJoinFault}
+use Rattle.chord_segment.specs.declared.fault.SegmentJoinFault.TheVariants as join
 use Rattle.chord_segment.specs.Segment.{Segment, RoomySegment}
 use Rattle.chord_segment.specs.Join.{JoinRefused, JoinIs}
 use Rattle.chord_node.specs.declared.fault.MergeFault.{MergeFault}
@@ -69,7 +69,7 @@ read_first held p o empty first second r =
     sym (get_past (segments_of held) p o empty.segment r.apart) ∙ ap (λ (ks : List Segment). slice_get ks p) (sym (segments_set held o empty))
     ∙ segments_get (set held o empty) p first r.first_in r.first_is
 
-pub unmerged : (held : List RoomySegment) (p o : ℕ) (empty first second a n : RoomySegment) (fault : JoinFault) → Read held p o empty first second
+pub unmerged : (held : List RoomySegment) (p o : ℕ) (empty first second a n : RoomySegment) (fault : SegmentJoinFault) → Read held p o empty first second
     → JoinIs first.segment second.segment (Err fault) a.segment → n.segment ≡ second.segment
     → segments_of (set (set (set held o empty) p a) o n) ≡ segments_of held
 unmerged held p o empty first second a n fault r h same =
@@ -111,14 +111,14 @@ merge_steps p o old (Ok done) new h =
 merge_steps p o old (Err fault) new h = tt
 
 -- a merge whose join is refused with this
-refused_is : (old new : List Segment) (p o : ℕ) (first second : Segment) (fault : JoinFault) → slice_get old p ≡ Some first → slice_get old o ≡ Some second → p ≢ o
+refused_is : (old new : List Segment) (p o : ℕ) (first second : Segment) (fault : SegmentJoinFault) → slice_get old p ≡ Some first → slice_get old o ≡ Some second → p ≢ o
     → JoinRefused first second fault → new ≡ old → MergeHeld p o old (Err (merge_fault_of fault)) new
 refused_is old new p o first second join.NotAdjacent e f ne h same = ((first, second, e, f, ne, h), same)
 refused_is old new p o first second join.Overlap e f ne h same = ((first, second, e, f, ne, h), same)
 refused_is old new p o first second join.Twice e f ne h same = ((first, second, e, f, ne, h), same)
 refused_is old new p o first second join.Memory e f ne h same = ((first, second, e, f, ne, h), same)
 
-pub refused : (held new : List RoomySegment) (p o : ℕ) (empty first second : RoomySegment) (a : Segment) (fault : JoinFault) (answer : MergeFault) → Read held p o empty first second
+pub refused : (held new : List RoomySegment) (p o : ℕ) (empty first second : RoomySegment) (a : Segment) (fault : SegmentJoinFault) (answer : MergeFault) → Read held p o empty first second
     → JoinIs first.segment second.segment (Err fault) a → segments_of new ≡ segments_of held → answer ≡ merge_fault_of fault
     → MergeHeld p o (segments_of held) (Err answer) (segments_of new)
 refused held new p o empty first second a fault answer r h same e =

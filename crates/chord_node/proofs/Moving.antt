@@ -5,9 +5,9 @@ use Rattle.std.proofs.lemmas.Bool.{and_parts, leb-true}
 use Rattle.std.specs.Prelude.{slice_get, insert, remove}
 use Rattle.std.specs.Option.{IsSome}
 use Rattle.chord_handover.proofs.OutboxLemmas.{item_at_is}
-use Rattle.chord_handover.specs.Handover.{Item, Part, item_at, part_at, parts_in, without, handover_of}
-use Rattle.chord_handover.specs.Outbox.{parcel_of, part_of_item}
-use Rattle.chord_handover.specs.Parcelled.{handed}
+use Rattle.chord_handover.specs.Handover.{Item, Part, item_at, part_at, parts_in, outbox_without, handover_of}
+use Rattle.chord_handover.specs.Outbox.{payload_of, part_of_item}
+use Rattle.chord_handover.specs.Payload.{handover_of_payload}
 use Rattle.chord_handover.specs.Taken.{Taken}
 use Rattle.chord_handover.specs.declared.ticket.Ticket.{Ticket}
 use Rattle.chord_ident.specs.declared.id.Id.{Id}
@@ -15,7 +15,7 @@ use Rattle.chord_map.specs.declared.pair.Pair.{Pair}
 use Rattle.chord_node.specs.declared.fault.CutAtFault.{CutAtFault}
 use Rattle.chord_node.specs.declared.fault.CutAtFault.TheVariants as cut
 use Rattle.chord_node.specs.declared.fault.NotStaying.{NotStaying}
-use Rattle.chord_node.specs.declared.fault.ResendFault.{ResendFault}
+use Rattle.chord_node.specs.declared.fault.ResendPartFault.{ResendPartFault}
 use Rattle.chord_node.specs.declared.fault.RetireFault.{RetireFault}
 use Rattle.chord_model.specs.declared.message.Message.TheVariants.{Part as PartMessage, Got as GotMessage}
 use Rattle.chord_model.specs.declared.phase.Phase.{Phase}
@@ -26,7 +26,7 @@ use Rattle.chord_model.specs.Node.NodeStep.{Cuts, Gives_again, Frees, Leaves, Re
 use Rattle.chord_node.specs.Rules.{HasStoreFor}
 use Rattle.chord_node.specs.Received.{GotIs}
 use Rattle.chord_node.specs.View.{segments_of}
-use Rattle.chord_segment.specs.Segment.{Segment, RoomySegment, before, behind}
+use Rattle.chord_segment.specs.Segment.{Segment, RoomySegment, part_before, part_behind}
 
 -- ---- the held segments without their room
 
@@ -69,12 +69,12 @@ held_more held made new s segment e f g =
 
 -- the held segments after the cut
 pub cut_knowns : (held new : List RoomySegment) (i : ℕ) (s first second : RoomySegment) (at : Id) → new ≡ insert (set held i first) (i + 1) second
-    → first.segment ≡ before at s.segment → second.segment ≡ behind at s.segment → segments_of new ≡ cut_held i s.segment at (segments_of held)
+    → first.segment ≡ part_before at s.segment → second.segment ≡ part_behind at s.segment → segments_of new ≡ cut_held i s.segment at (segments_of held)
 cut_knowns held new i s first second at e f g =
     ap segments_of e ∙ segments_insert (set held i first) (i + 1) second
     ∙ ap (λ (ks : List Segment). insert ks (i + 1) second.segment) (segments_set held i first)
     ∙ ap (λ (k : Segment). insert (set (segments_of held) i k) (i + 1) second.segment) f
-    ∙ ap (λ (k : Segment). insert (set (segments_of held) i (before at s.segment)) (i + 1) k) g
+    ∙ ap (λ (k : Segment). insert (set (segments_of held) i (part_before at s.segment)) (i + 1) k) g
 
 -- two reads at one index give equal segments
 pub same_at : (held held' : List RoomySegment) (i : ℕ) (a b : RoomySegment) → i < length held → held' ≡ held → a ≡ get_or held i a → b ≡ get_or held' i b → a.segment ≡ b.segment
@@ -135,21 +135,21 @@ module _ {S : Type 0} where
   stored_there phase phase' held held' items items' None there h = absurd (there h.0)
   stored_there phase phase' held held' items items' (Some store) there h = tt
 
-same_gone : (view : Node) (entries : List Pair) (taken : Taken) → entries ≡ view.entries → taken ≡ record { last = view.taken; noted = [] }
-    → ◌≡◌ {A = Node} (record view { phase = Gone; entries = entries; limit = 0; taken = taken.last; noted = taken.noted }) (record view { phase = Gone; limit = 0; noted = [] })
+same_gone : (view : Node) (entries : List Pair) (taken : Taken) → entries ≡ view.entries → taken ≡ record { last = view.taken; buffered = [] }
+    → ◌≡◌ {A = Node} (record view { phase = Gone; entries = entries; limit = 0; taken = taken.last; buffered = taken.buffered }) (record view { phase = Gone; limit = 0; buffered = [] })
 same_gone view entries taken e f = rw (e, f) refl
 
-pub retired : (view old : Node) → view ≡ old → (taken : Taken) → view.phase ≡ Leaving → view.held ≡ [] → view.outbox ≡ [] → view.entries ≡ [] → taken ≡ record { last = view.taken; noted = [] }
-    → RetireIs old (Ok tt) (record view { phase = Gone; entries = []; limit = 0; taken = taken.last; noted = taken.noted })
+pub retired : (view old : Node) → view ≡ old → (taken : Taken) → view.phase ≡ Leaving → view.held ≡ [] → view.outbox ≡ [] → view.entries ≡ [] → taken ≡ record { last = view.taken; buffered = [] }
+    → RetireIs old (Ok tt) (record view { phase = Gone; entries = []; limit = 0; taken = taken.last; buffered = taken.buffered })
 retired view old same taken leaving held outbox entries is =
-    subst (λ (node : Node). RetireIs node (Ok tt) (record view { phase = Gone; entries = []; limit = 0; taken = taken.last; noted = taken.noted })) same
+    subst (λ (node : Node). RetireIs node (Ok tt) (record view { phase = Gone; entries = []; limit = 0; taken = taken.last; buffered = taken.buffered })) same
     (leaving, held, outbox, entries, same_gone view [] taken (sym entries) is)
 
 -- ---- what is sent again
 
 given_again : (to number part : ℕ) (node : Node) (item : Item) (found : Part) → item_at to number node.outbox ≡ Some item
     → (b : Bool) → (nat_le 1 part && nat_le part (parts_in item.pairs)) ≡ b
-    → cond b (Some (part_at (handed (record { from = node.number; to = to; number = number }) (record { segment = item.segment; pairs = item.pairs })) part)) None ≡ Some found
+    → cond b (Some (part_at (handover_of_payload (record { from = node.number; to = to; number = number }) (record { segment = item.segment; pairs = item.pairs })) part)) None ≡ Some found
     → NodeStep node None node (Some (PartMessage found)) None
 given_again to number part node item found e true inside same =
     let bounds = and_parts (nat_le 1 part) (nat_le part (parts_in item.pairs)) inside in
@@ -162,12 +162,12 @@ given_again to number part node item found e true inside same =
 given_again to number part node item found e false inside same = cc
 
 resend_by : (to number part : ℕ) (node : Node) (found : Part) (o : Option Item) → item_at to number node.outbox ≡ o
-    → part_of_item node.number to number part (parcel_of o) ≡ Some found → NodeStep node None node (Some (PartMessage found)) None
+    → part_of_item node.number to number part (payload_of o) ≡ Some found → NodeStep node None node (Some (PartMessage found)) None
 resend_by to number part node found None e same = cc
 resend_by to number part node found (Some item) e same =
     given_again to number part node item found e (nat_le 1 part && nat_le part (parts_in item.pairs)) refl same
 
-pub resend_steps : (to number part : ℕ) (node : Node) (result : Result Part ResendFault) → ResendIs to number part node result → SendSteps node result node
+pub resend_steps : (to number part : ℕ) (node : Node) (result : Result Part ResendPartFault) → ResendIs to number part node result → SendSteps node result node
 resend_steps to number part node (Ok found) h = resend_by to number part node found (item_at to number node.outbox) refl h
 resend_steps to number part node (Err fault) h = tt
 
@@ -190,7 +190,7 @@ module _ {S : Type 0} where
   stored_held phase held held' items (Some store) none h = tt
 
   pub stored_without : (to number : ℕ) (phase : Phase) (held : List Segment) (items : List Item) (store : Option S)
-      → HasStoreFor phase held items store → HasStoreFor phase held (without to number items) store
-  unfolding without
-  stored_without to number phase held items None h = (h.0, h.1, ap (without to number) h.2)
+      → HasStoreFor phase held items store → HasStoreFor phase held (outbox_without to number items) store
+  unfolding outbox_without
+  stored_without to number phase held items None h = (h.0, h.1, ap (outbox_without to number) h.2)
   stored_without to number phase held items (Some store) h = tt

@@ -8,7 +8,7 @@ use Rattle.chord_map.specs.Map.{reply_to}
 use Rattle.chord_caller.specs.declared.ask.Ask.{Ask}
 use Rattle.chord_model.proofs.Events.{count-append_at}
 use Rattle.chord_node.specs.declared.asks.answered.Answered.{Answered}
-use Rattle.chord_node.specs.Asked.{done_in, ask_done, after_done, AskNotes}
+use Rattle.chord_node.specs.Asked.{done_in, ask_done, after_done, AskRecords}
 use Rattle.chord_model.specs.Node.{Node, segment_with, done_of}
 use Rattle.chord_model.specs.Stock.{holds, IsStocked}
 use Rattle.chord_map.specs.declared.done.Done.{Done}
@@ -39,7 +39,7 @@ after_stocked ask old (Some done) e stock =
     (found_holds (id_of ask.request) old.held there.0 there.1) stock
 
 -- what a node answers to a call keeps its stock
-pub asked_stocked : (ask : Ask) (noting : Bool) (old : Node) (result : Result (Answered × Option Done) AllocError) (new : Node) → AskNotes ask noting old result new
+pub asked_stocked : (ask : Ask) (recording : Bool) (old : Node) (result : Result (Answered × Option Done) AllocError) (new : Node) → AskRecords ask recording old result new
     → IsStocked old.held old.entries → IsStocked new.held new.entries
-asked_stocked ask noting old (Err fault) new h stock = subst (λ (n : Node). IsStocked n.held n.entries) (sym h.1) stock
-asked_stocked ask noting old (Ok both) new h stock = subst (λ (n : Node). IsStocked n.held n.entries) (sym h.0.1) (after_stocked ask old (ask_done ask old) refl stock)
+asked_stocked ask recording old (Err fault) new h stock = subst (λ (n : Node). IsStocked n.held n.entries) (sym h.1) stock
+asked_stocked ask recording old (Ok both) new h stock = subst (λ (n : Node). IsStocked n.held n.entries) (sym h.0.1) (after_stocked ask old (ask_done ask old) refl stock)

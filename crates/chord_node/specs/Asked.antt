@@ -17,16 +17,16 @@ use Rattle.chord_node.specs.declared.asks.answered.Answered.TheVariants as answe
 use Rattle.chord_model.specs.declared.message.Message.{Message}
 use Rattle.chord_model.specs.declared.message.Message.TheVariants.{Ask as AskMessage, Told as ToldMessage, Full as FullMessage}
 use Rattle.chord_node.specs.Passed.{PassesOn}
-use Rattle.chord_model.specs.Node.{Node, NodeStep, segment_with, executed, told_of, done_of}
+use Rattle.chord_model.specs.Node.{Node, NodeStep, segment_with, with_executed, told_of, done_of}
 
 -- whether a reply adds a pair
-abbrev pub adds : Reply → Bool
-adds reply.Added = true
-adds other = false
+abbrev pub adds_pair : Reply → Bool
+adds_pair reply.Added = true
+adds_pair other = false
 
 -- whether a request would add a pair to a store with no room
 unfoldable pub is_full_for : Request → List Pair → ℕ → Bool
-is_full_for request pairs limit = if adds (reply_to request pairs) then nat_le limit (length pairs) else false
+is_full_for request pairs limit = if adds_pair (reply_to request pairs) then nat_le limit (length pairs) else false
 
 -- a store's answer to a request, with its pairs before and after, and its limit
 abbrev pub Applied : Request → List Pair → ℕ → Result Reply StoreFault → List Pair → Type 0
@@ -74,13 +74,13 @@ note_of true did = did
 note_of false did = None
 
 -- What a segment and a store answer to a call, and the two afterwards; the executed call is
--- answered too if `noting`. Both stay as they were if memory runs out
+-- answered too if `recording`. Both stay as they were if memory runs out
 abbrev pub AnswersIn : Ask → Bool → Segment → List Pair → ℕ → Result (Answered × Option Done) AllocError → Segment → List Pair → Type 0
-AnswersIn ask noting segment pairs limit (Ok both) segment' pairs' =
+AnswersIn ask recording segment pairs limit (Ok both) segment' pairs' =
     let past = past_at ask.caller ask.number segment in
     let did = past_done past ask pairs limit in
-    (both.0 ≡ past_answer past ask pairs limit) × (both.1 ≡ note_of noting did) × (segment' ≡ segment_after did ask segment) × (pairs' ≡ entries_after did ask pairs)
-AnswersIn ask noting segment pairs limit (Err fault) segment' pairs' =
+    (both.0 ≡ past_answer past ask pairs limit) × (both.1 ≡ note_of recording did) × (segment' ≡ segment_after did ask segment) × (pairs' ≡ entries_after did ask pairs)
+AnswersIn ask recording segment pairs limit (Err fault) segment' pairs' =
     TakesMemory (past_answer (past_at ask.caller ask.number segment) ask pairs limit) × (segment' ≡ segment) × (pairs' ≡ pairs)
 
 -- the call that an Ask executes at the segment, if any
@@ -95,7 +95,7 @@ ask_done ask node = done_in (segment_with (id_of ask.request) node.held) ask nod
 -- the node after the call, if one was executed
 abbrev pub after_done : Option Done → Ask → Node → Node
 after_done None ask node = node
-after_done (Some done) ask node = executed ask node
+after_done (Some done) ask node = with_executed ask node
 
 -- the message that an answer sends
 abbrev pub sent_by : Ask → Answered → Option Message
@@ -120,15 +120,15 @@ AskIs ask old (Ok answered) new =
 AskIs ask old (Err fault) new = AsksMemory ask old × (new ≡ old)
 
 -- AskIs, with the executed call if it is to be recorded
-abbrev pub AskNotes : Ask → Bool → Node → Result (Answered × Option Done) AllocError → Node → Type 0
-AskNotes ask noting old (Ok both) new = AskIs ask old (Ok both.0) new × (both.1 ≡ note_of noting (ask_done ask old))
-AskNotes ask noting old (Err fault) new = AsksMemory ask old × (new ≡ old)
+abbrev pub AskRecords : Ask → Bool → Node → Result (Answered × Option Done) AllocError → Node → Type 0
+AskRecords ask recording old (Ok both) new = AskIs ask old (Ok both.0) new × (both.1 ≡ note_of recording (ask_done ask old))
+AskRecords ask recording old (Err fault) new = AsksMemory ask old × (new ≡ old)
 
 -- AskIs is one step of the node, unless memory ran out
 abbrev pub AskSteps : Ask → Node → Result Answered AllocError → Node → Type 0
 AskSteps ask old (Ok answered) new = NodeStep old (Some (AskMessage ask)) new (sent_by ask answered) (ask_done ask old)
 AskSteps ask old (Err fault) new = Unit {0}
 
-abbrev pub AskStepsNoting : Ask → Node → Result (Answered × Option Done) AllocError → Node → Type 0
-AskStepsNoting ask old (Ok both) new = AskSteps ask old (Ok both.0) new
-AskStepsNoting ask old (Err fault) new = Unit {0}
+abbrev pub AskStepsRecording : Ask → Node → Result (Answered × Option Done) AllocError → Node → Type 0
+AskStepsRecording ask old (Ok both) new = AskSteps ask old (Ok both.0) new
+AskStepsRecording ask old (Err fault) new = Unit {0}

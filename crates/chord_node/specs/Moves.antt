@@ -2,21 +2,21 @@
 use Rattle.std.specs.Prelude.{◌≡◌, ◌≢◌, ◌⊎◌, ℕ, ◌+◌, ◌^◌, ◌<◌, ◌≤◌, true, false, Option, None, Some, is_some, List, [], Result, Ok, Err, length, slice_get}
 use Rattle.chord_ident.specs.declared.id.Id.{Id}
 use Rattle.chord_ident.specs.Circle.{cuts}
-use Rattle.chord_segment.specs.declared.fault.JoinFault.{JoinFault}
-use Rattle.chord_segment.specs.declared.fault.JoinFault.TheVariants as join
+use Rattle.chord_segment.specs.declared.fault.SegmentJoinFault.{SegmentJoinFault}
+use Rattle.chord_segment.specs.declared.fault.SegmentJoinFault.TheVariants as join
 use Rattle.chord_segment.specs.Join.{JoinRefused}
 use Rattle.chord_segment.specs.Segment.{Segment, span_joined, stands_twice}
 use Rattle.chord_segment.specs.Marks.{mark_of}
 use Rattle.chord_handover.specs.Handover.{Part, item_at, part_at, handover_of}
-use Rattle.chord_handover.specs.Outbox.{parcel_of, part_of_item}
+use Rattle.chord_handover.specs.Outbox.{payload_of, part_of_item}
 use Rattle.chord_node.specs.declared.fault.CutAtFault.{CutAtFault}
 use Rattle.chord_node.specs.declared.fault.CutAtFault.TheVariants as cut
 use Rattle.chord_node.specs.declared.fault.MergeFault.{MergeFault}
 use Rattle.chord_node.specs.declared.fault.MergeFault.TheVariants as merge
 use Rattle.chord_node.specs.declared.fault.GiveFault.{GiveFault}
 use Rattle.chord_node.specs.declared.fault.GiveFault.TheVariants as give
-use Rattle.chord_node.specs.declared.fault.ResendFault.{ResendFault}
-use Rattle.chord_node.specs.declared.fault.ResendFault.TheVariants as resend
+use Rattle.chord_node.specs.declared.fault.ResendPartFault.{ResendPartFault}
+use Rattle.chord_node.specs.declared.fault.ResendPartFault.TheVariants as resend
 use Rattle.chord_node.specs.declared.fault.NotStaying.{NotStaying}
 use Rattle.chord_node.specs.declared.fault.RetireFault.{RetireFault}
 use Rattle.chord_node.specs.declared.fault.RetireFault.TheVariants as retire
@@ -36,10 +36,10 @@ SendSteps old (Err fault) new = Unit {0}
 
 -- part number `part` of the outbox's item of this receiver and number, if there is such a part
 abbrev pub part_in : ℕ → ℕ → ℕ → Node → Option Part
-part_in to number part node = part_of_item node.number to number part (parcel_of (item_at to number node.outbox))
+part_in to number part node = part_of_item node.number to number part (payload_of (item_at to number node.outbox))
 
 -- the part is sent again, if there is one
-abbrev pub ResendIs : ℕ → ℕ → ℕ → Node → Result Part ResendFault → Type 0
+abbrev pub ResendIs : ℕ → ℕ → ℕ → Node → Result Part ResendPartFault → Type 0
 ResendIs to number part node (Ok found) = part_in to number part node ≡ Some found
 ResendIs to number part node (Err resend.NoPart) = part_in to number part node ≡ None
 ResendIs to number part node (Err resend.Memory) = is_some (part_in to number part node) ≡ true
@@ -52,7 +52,7 @@ LeaveIs old (Err fault) new = (old.phase ≢ Staying) × (new ≡ old)
 -- a leaving node that holds nothing and has an empty outbox has no entries either, and is gone
 abbrev pub RetireIs : Node → Result (Unit {0}) RetireFault → Node → Type 0
 RetireIs old (Ok done) new =
-    (old.phase ≡ Leaving) × (old.held ≡ []) × (old.outbox ≡ []) × (old.entries ≡ []) × (new ≡ record old { phase = Gone; limit = 0; noted = [] })
+    (old.phase ≡ Leaving) × (old.held ≡ []) × (old.outbox ≡ []) × (old.entries ≡ []) × (new ≡ record old { phase = Gone; limit = 0; buffered = [] })
 RetireIs old (Err retire.NotLeaving) new = (old.phase ≢ Leaving) × (new ≡ old)
 RetireIs old (Err retire.NotEmpty) new = (old.phase ≡ Leaving) × ((old.held ≢ []) ⊎ (old.outbox ≢ [])) × (new ≡ old)
 
@@ -72,12 +72,12 @@ abbrev pub CutAtIs : ℕ → Id → Node → Result (Unit {0}) CutAtFault → No
 CutAtIs place at old result new = CutHeld place at old.held result new.held × (new ≡ with_held new.held old)
 
 -- both segments exist, and their join is refused with this fault
-abbrev pub RefusedAt : ℕ → ℕ → List Segment → JoinFault → Type 0
+abbrev pub RefusedAt : ℕ → ℕ → List Segment → SegmentJoinFault → Type 0
 RefusedAt place other old fault =
     (first : Segment) × (second : Segment) × (slice_get old place ≡ Some first) × (slice_get old other ≡ Some second) × (place ≢ other) × JoinRefused first second fault
 
 -- the refusal of a merge, from that of its join
-abbrev pub merge_fault_of : JoinFault → MergeFault
+abbrev pub merge_fault_of : SegmentJoinFault → MergeFault
 merge_fault_of join.NotAdjacent = merge.NotAdjacent
 merge_fault_of join.Overlap = merge.Overlap
 merge_fault_of join.Twice = merge.Twice

@@ -18,7 +18,7 @@ peer_of (Near peer) = peer
 -- the call goes to this peer with one hop less; dropped if no hops are left or the peer is the node
 abbrev pub passed_to : NodeLinks → Ask → Peer → Answered
 passed_to links ask peer =
-    if (ask.hops == 0) || (peer.no == links.me.no) then Dropped else Forward peer.no (record ask { hops = ask.hops - 1 })
+    if (ask.hops == 0) || (peer.number == links.me.number) then Dropped else Forward peer.number (record ask { hops = ask.hops - 1 })
 
 -- the call is passed on by the next hop
 abbrev pub PassesOn : NodeLinks → Ask → Answered → Type 0

@@ -8,61 +8,61 @@ use Rattle.chord_segment.specs.Segment.{Segment}
 use Rattle.chord_handover.specs.declared.gather.Gather.TheVariants.{More, Unfit, Whole}
 use Rattle.chord_handover.specs.declared.ticket.Ticket.{Ticket}
 use Rattle.chord_handover.specs.Gather.{GatherIs, AreWhole}
-use Rattle.chord_handover.specs.Handover.{Item, Part, ticket_of_part, item_at, without}
-use Rattle.chord_handover.specs.Parcelled.{Parcelled, handed}
-use Rattle.chord_handover.specs.Taken.{Taken, marked, is_noted, with_noted}
-use Rattle.chord_node.specs.declared.handovers.given.Given.{Given}
-use Rattle.chord_node.specs.declared.handovers.given.Given.TheVariants as given
-use Rattle.chord_node.specs.declared.handovers.given.Back.{Back}
-use Rattle.chord_node.specs.declared.handovers.given.Back.TheVariants as back
+use Rattle.chord_handover.specs.Handover.{Item, Part, ticket_of_part, item_at, outbox_without}
+use Rattle.chord_handover.specs.Payload.{Payload, handover_of_payload}
+use Rattle.chord_handover.specs.Taken.{Taken, with_mark, is_buffered, with_buffered}
+use Rattle.chord_node.specs.declared.handovers.part_answer.PartAnswer.{PartAnswer}
+use Rattle.chord_node.specs.declared.handovers.part_answer.PartAnswer.TheVariants as given
+use Rattle.chord_node.specs.declared.handovers.part_answer.Back.{Back}
+use Rattle.chord_node.specs.declared.handovers.part_answer.Back.TheVariants as back
 use Rattle.chord_node.specs.declared.handovers.hold.PutFault.{PutFault}
 use Rattle.chord_node.specs.declared.handovers.hold.PutFault.TheVariants as put
 use Rattle.chord_model.specs.declared.message.Message.{Message}
 use Rattle.chord_model.specs.declared.message.Message.TheVariants.{Part as PartMessage, Got as GotMessage, Declined as DeclinedMessage}
 use Rattle.chord_model.specs.declared.phase.Phase.TheVariants.{Gone}
 use Rattle.chord_model.specs.Headline.{IsNextFor}
-use Rattle.chord_model.specs.Node.{Node, NodeStep, with_given, with_back}
+use Rattle.chord_model.specs.Node.{Node, NodeStep, with_taken, with_back}
 use Rattle.chord_model.specs.Stock.{IsClash, IsClear}
 
 -- a payload's pairs go into a store, if its span overlaps no held one and the store has room
-abbrev pub PutIs : Parcelled → List Segment → List Pair → ℕ → Result (Unit {0}) PutFault → List Pair → Type 0
-PutIs parcelled held old limit (Ok done) new =
-    IsClear parcelled.segment.span held × (length old + length parcelled.pairs ≤ limit) × (new ≡ put_all parcelled.pairs old)
-PutIs parcelled held old limit (Err put.Clash) new = IsClash parcelled.segment.span held × (new ≡ old)
-PutIs parcelled held old limit (Err put.Full) new = IsClear parcelled.segment.span held × (limit < length old + length parcelled.pairs) × (new ≡ old)
-PutIs parcelled held old limit (Err put.Memory) new = IsClear parcelled.segment.span held × (length old + length parcelled.pairs ≤ limit) × (new ≡ old)
+abbrev pub PutIs : Payload → List Segment → List Pair → ℕ → Result (Unit {0}) PutFault → List Pair → Type 0
+PutIs payload held old limit (Ok done) new =
+    IsClear payload.segment.span held × (length old + length payload.pairs ≤ limit) × (new ≡ put_all payload.pairs old)
+PutIs payload held old limit (Err put.Clash) new = IsClash payload.segment.span held × (new ≡ old)
+PutIs payload held old limit (Err put.Full) new = IsClear payload.segment.span held × (limit < length old + length payload.pairs) × (new ≡ old)
+PutIs payload held old limit (Err put.Memory) new = IsClear payload.segment.span held × (length old + length payload.pairs ≤ limit) × (new ≡ old)
 
 -- the sender's next handover, now whole, is taken: its segment, its pairs and its number
-abbrev pub WholeIs : Part → Parcelled → List Segment → List Pair → ℕ → Taken → Result Given AllocError → List Segment → List Pair → Taken → Type 0
-WholeIs part parcelled held pairs limit taken (Ok given.Got) held' pairs' taken' =
-    IsClear parcelled.segment.span held × (length pairs + length parcelled.pairs ≤ limit)
-    × (held' ≡ held ++ parcelled.segment ∷ []) × (pairs' ≡ put_all parcelled.pairs pairs) × (taken' ≡ marked part.from taken)
-WholeIs part parcelled held pairs limit taken (Ok given.Clash) held' pairs' taken' =
-    IsClash parcelled.segment.span held × (held' ≡ held) × (pairs' ≡ pairs) × (taken' ≡ taken)
-WholeIs part parcelled held pairs limit taken (Ok given.Full) held' pairs' taken' =
-    IsClear parcelled.segment.span held × (limit < length pairs + length parcelled.pairs) × (held' ≡ held) × (pairs' ≡ pairs) × (taken' ≡ taken)
-WholeIs part parcelled held pairs limit taken (Ok answer) held' pairs' taken' = ⊥
-WholeIs part parcelled held pairs limit taken (Err fault) held' pairs' taken' = (held' ≡ held) × (pairs' ≡ pairs) × (taken' ≡ taken)
+abbrev pub WholeIs : Part → Payload → List Segment → List Pair → ℕ → Taken → Result PartAnswer AllocError → List Segment → List Pair → Taken → Type 0
+WholeIs part payload held pairs limit taken (Ok given.Got) held' pairs' taken' =
+    IsClear payload.segment.span held × (length pairs + length payload.pairs ≤ limit)
+    × (held' ≡ held ++ payload.segment ∷ []) × (pairs' ≡ put_all payload.pairs pairs) × (taken' ≡ with_mark part.from taken)
+WholeIs part payload held pairs limit taken (Ok given.Clash) held' pairs' taken' =
+    IsClash payload.segment.span held × (held' ≡ held) × (pairs' ≡ pairs) × (taken' ≡ taken)
+WholeIs part payload held pairs limit taken (Ok given.Full) held' pairs' taken' =
+    IsClear payload.segment.span held × (limit < length pairs + length payload.pairs) × (held' ≡ held) × (pairs' ≡ pairs) × (taken' ≡ taken)
+WholeIs part payload held pairs limit taken (Ok answer) held' pairs' taken' = ⊥
+WholeIs part payload held pairs limit taken (Err fault) held' pairs' taken' = (held' ≡ held) × (pairs' ≡ pairs) × (taken' ≡ taken)
 
 -- a part needs memory if it is buffered for the first time, or makes its payload whole
 abbrev pub PartTakesMemory : Part → List Part → Type 0
-PartTakesMemory part noted = (GatherIs part noted More × (is_noted part noted ≡ false)) ⊎ AreWhole part noted
+PartTakesMemory part buffered = (GatherIs part buffered More × (is_buffered part buffered ≡ false)) ⊎ AreWhole part buffered
 
 -- a part of the sender's next handover is buffered, or makes the handover whole
-abbrev pub NextIs : Part → List Segment → List Pair → ℕ → Taken → Result Given AllocError → List Segment → List Pair → Taken → Type 0
+abbrev pub NextIs : Part → List Segment → List Pair → ℕ → Taken → Result PartAnswer AllocError → List Segment → List Pair → Taken → Type 0
 NextIs part held pairs limit taken (Ok given.Part) held' pairs' taken' =
-    GatherIs part taken.noted More × (held' ≡ held) × (pairs' ≡ pairs) × (taken' ≡ with_noted part taken)
+    GatherIs part taken.buffered More × (held' ≡ held) × (pairs' ≡ pairs) × (taken' ≡ with_buffered part taken)
 NextIs part held pairs limit taken (Ok given.Clash) held' pairs' taken' =
-    (GatherIs part taken.noted Unfit ⊎ ((parcelled : Parcelled) × GatherIs part taken.noted (Whole parcelled) × IsClash parcelled.segment.span held))
+    (GatherIs part taken.buffered Unfit ⊎ ((payload : Payload) × GatherIs part taken.buffered (Whole payload) × IsClash payload.segment.span held))
     × (held' ≡ held) × (pairs' ≡ pairs) × (taken' ≡ taken)
 NextIs part held pairs limit taken (Ok answer) held' pairs' taken' =
-    (parcelled : Parcelled) × GatherIs part taken.noted (Whole parcelled) × WholeIs part parcelled held pairs limit taken (Ok answer) held' pairs' taken'
-NextIs part held pairs limit taken (Err fault) held' pairs' taken' = PartTakesMemory part taken.noted × (held' ≡ held) × (pairs' ≡ pairs) × (taken' ≡ taken)
+    (payload : Payload) × GatherIs part taken.buffered (Whole payload) × WholeIs part payload held pairs limit taken (Ok answer) held' pairs' taken'
+NextIs part held pairs limit taken (Err fault) held' pairs' taken' = PartTakesMemory part taken.buffered × (held' ≡ held) × (pairs' ≡ pairs) × (taken' ≡ taken)
 
 -- the item leaves the outbox, if it is there
 abbrev pub GotIs : Ticket → Node → Bool → Node → Type 0
 GotIs ticket old found new =
-    (found ≡ is_some (item_at ticket.to ticket.number old.outbox)) × (new ≡ record old { outbox = without ticket.to ticket.number old.outbox })
+    (found ≡ is_some (item_at ticket.to ticket.number old.outbox)) × (new ≡ record old { outbox = outbox_without ticket.to ticket.number old.outbox })
 
 -- the item is held again, if the outbox has it, its
 -- span overlaps no held one and the store has room
@@ -86,34 +86,34 @@ BackSteps ticket old (Ok answer) new = NodeStep old (Some (DeclinedMessage ticke
 BackSteps ticket old (Err fault) new = Unit {0}
 
 -- the part is of the next handover, and with the buffered parts makes this payload
-abbrev pub IsWholeFor : Node → Part → Parcelled → Type 0
-IsWholeFor node part parcelled = IsNextFor node part × GatherIs part node.noted (Whole parcelled)
+abbrev pub IsWholeFor : Node → Part → Payload → Type 0
+IsWholeFor node part payload = IsNextFor node part × GatherIs part node.buffered (Whole payload)
 
 -- what a node answers to a part, and the node afterwards
-abbrev pub PartIs : Part → Node → Result Given AllocError → Node → Type 0
+abbrev pub PartIs : Part → Node → Result PartAnswer AllocError → Node → Type 0
 PartIs part old (Ok given.Got) new =
     ((part.number ≤ mark_of part.from old.taken) × (new ≡ old))
-    ⊎ ((parcelled : Parcelled) × IsWholeFor old part parcelled × IsClear parcelled.segment.span old.held
-    × (length old.entries + length parcelled.pairs ≤ old.limit) × (new ≡ with_given (handed (ticket_of_part part) parcelled) old))
+    ⊎ ((payload : Payload) × IsWholeFor old part payload × IsClear payload.segment.span old.held
+    × (length old.entries + length payload.pairs ≤ old.limit) × (new ≡ with_taken (handover_of_payload (ticket_of_part part) payload) old))
 PartIs part old (Ok given.Declined) new = (mark_of part.from old.taken < part.number) × (old.phase ≡ Gone) × (new ≡ old)
 PartIs part old (Ok given.Early) new = (mark_of part.from old.taken + 1 < part.number) × (old.phase ≢ Gone) × (new ≡ old)
 PartIs part old (Ok given.Clash) new =
-    IsNextFor old part × (GatherIs part old.noted Unfit ⊎ ((parcelled : Parcelled) × GatherIs part old.noted (Whole parcelled) × IsClash parcelled.segment.span old.held))
+    IsNextFor old part × (GatherIs part old.buffered Unfit ⊎ ((payload : Payload) × GatherIs part old.buffered (Whole payload) × IsClash payload.segment.span old.held))
     × (new ≡ old)
 PartIs part old (Ok given.Full) new =
-    (parcelled : Parcelled) × IsWholeFor old part parcelled × IsClear parcelled.segment.span old.held
-    × (old.limit < length old.entries + length parcelled.pairs) × (new ≡ old)
+    (payload : Payload) × IsWholeFor old part payload × IsClear payload.segment.span old.held
+    × (old.limit < length old.entries + length payload.pairs) × (new ≡ old)
 PartIs part old (Ok given.Part) new =
-    IsNextFor old part × GatherIs part old.noted More × (new ≡ record old { noted = (with_noted part (record { last = old.taken; noted = old.noted })).noted })
-PartIs part old (Err fault) new = IsNextFor old part × PartTakesMemory part old.noted × (new ≡ old)
+    IsNextFor old part × GatherIs part old.buffered More × (new ≡ record old { buffered = (with_buffered part (record { last = old.taken; buffered = old.buffered })).buffered })
+PartIs part old (Err fault) new = IsNextFor old part × PartTakesMemory part old.buffered × (new ≡ old)
 
 -- the message that an answer to a part sends
-abbrev pub sent_for : Part → Given → Option Message
+abbrev pub sent_for : Part → PartAnswer → Option Message
 sent_for part given.Got = Some (GotMessage (ticket_of_part part))
 sent_for part given.Declined = Some (DeclinedMessage (ticket_of_part part))
 sent_for part answer = None
 
 -- the answer to a part is one step of the node, unless memory ran out
-abbrev pub PartSteps : Part → Node → Result Given AllocError → Node → Type 0
+abbrev pub PartSteps : Part → Node → Result PartAnswer AllocError → Node → Type 0
 PartSteps part old (Ok answer) new = NodeStep old (Some (PartMessage part)) new (sent_for part answer) None
 PartSteps part old (Err fault) new = Unit {0}

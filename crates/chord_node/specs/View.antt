@@ -10,9 +10,9 @@ abbrev pub segments_of : List RoomySegment → List Segment
 segments_of held = map (λ (segment : RoomySegment). segment.segment) held
 
 -- the receiver, the number and the span of an item of the outbox, if there is one
-abbrev pub kept_as : Option Item → Option (ℕ × ℕ × Span)
-kept_as None = None
-kept_as (Some item) = Some (item.to, item.number, item.segment.span)
+abbrev pub item_view : Option Item → Option (ℕ × ℕ × Span)
+item_view None = None
+item_view (Some item) = Some (item.to, item.number, item.segment.span)
 
 -- the span of a held segment, if there is one
 abbrev pub span_of : Option Segment → Option Span

@@ -41,7 +41,7 @@ pub enum GiveFault {
 
 /// Why a part is not sent again.
 #[derive(Clone, Copy, Debug, PartialEq, Eq, Error)]
-pub enum ResendFault {
+pub enum ResendPartFault {
     #[error("there is no such part")]
     NoPart,
     #[error("out of memory")]

@@ -6,8 +6,8 @@ ghost use Rattle.chord_handover.specs.Handover.{Part};
 ghost use Rattle.chord_model.specs.declared.message.Message.TheVariants.{Part as PartMessage, Declined as DeclinedMessage};
 ghost use Rattle.chord_model.specs.Node.{Node};
 ghost use Rattle.chord_model.specs.World.{World, Reached, node_at};
-ghost use Rattle.chord_node.specs.declared.handovers.given.Back.TheVariants as back;
-ghost use Rattle.chord_node.specs.declared.handovers.given.Given.TheVariants as given;
+ghost use Rattle.chord_node.specs.declared.handovers.part_answer.Back.TheVariants as back;
+ghost use Rattle.chord_node.specs.declared.handovers.part_answer.PartAnswer.TheVariants as given;
 ghost use Rattle.chord_node.specs.Received.{PartIs, BackIs};
 
 /// In a reachable world neither an arriving nor a declined handover overlaps a segment that the

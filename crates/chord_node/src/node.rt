@@ -7,8 +7,8 @@ ghost use Rattle.chord_segment.specs.Segment.{RoomySegment, id_of};
 ghost use Rattle.chord_model.specs.declared.message.Message.TheVariants.{Got as GotMessage};
 ghost use Rattle.chord_model.specs.declared.phase.Phase.TheVariants.{Gone};
 ghost use Rattle.chord_model.specs.Node.{newborn, founder, segment_with, NodeStep};
-ghost use Rattle.chord_node.specs.View.{span_of, kept_as};
-ghost use Rattle.chord_node.specs.Asked.{AskIs, AskNotes, AskSteps, AskStepsNoting};
+ghost use Rattle.chord_node.specs.View.{span_of, item_view};
+ghost use Rattle.chord_node.specs.Asked.{AskIs, AskRecords, AskSteps, AskStepsRecording};
 ghost use Rattle.chord_node.specs.Moves.{MoveSteps, SendSteps, CutAtIs, MergeIs, MayGive, GiveIs, ResendIs, LeaveIs, RetireIs};
 ghost use Rattle.chord_node.specs.Received.{PartIs, PartSteps, GotIs, BackIs, BackSteps};
 
@@ -16,18 +16,19 @@ use crate::asks::answered::Answered;
 use crate::asks::execute::answer_in;
 use crate::asks::pass_on::pass_on;
 use crate::asks::take::{answer_taken, pass_taken};
-use crate::fault::{CutAtFault, GiveFault, MergeFault, NotStaying, ResendFault, RetireFault};
+use crate::fault::{CutAtFault, GiveFault, MergeFault, NotStaying, ResendPartFault, RetireFault};
 use crate::handovers::give::prepare_give;
-use crate::handovers::given::{Back, Given};
 use crate::handovers::held::{cut_segment, merge_segments};
 use crate::handovers::hold::{PutFault, make_held};
+use crate::handovers::part_answer::{Back, PartAnswer};
 use crate::handovers::take_in::take_next;
 use chord_caller::Ask;
-use chord_handover::{Declined, Got, Outbox, Parcelled, Part, Taken, Ticket, Verdict};
+use chord_handover::{Declined, Got, Outbox, Part, Payload, Taken, Ticket, Verdict};
 use chord_ident::{Id, Span};
 use chord_links::{Links, Peer};
+use chord_map::Done;
 use chord_model::Phase;
-use chord_segment::{Done, Segment};
+use chord_segment::Segment;
 use chord_store::EntryStore;
 use std::alloc::{AllocError, Global};
 use std::marker::Model;
@@ -52,9 +53,9 @@ impl<S: EntryStore> Model for Node<S> {
 
     ghost Value = { NodeOf };
 
-    ghost view = { λ a. record { number = a.links.me.no; phase = a.phase; links = a.links; held = segments_of a.held.items; entries = entries_in S.content a.store; limit = limit_in S.limit a.store; given = a.outbox.outbox.given; outbox = a.outbox.outbox.items; taken = a.taken.taken.last; noted = a.taken.taken.noted } };
+    ghost view = { λ a. record { number = a.links.me.number; phase = a.phase; links = a.links; held = segments_of a.held.items; entries = entries_in S.content a.store; limit = limit_in S.limit a.store; given = a.outbox.outbox.given; outbox = a.outbox.outbox.items; taken = a.taken.taken.last; buffered = a.taken.taken.buffered } };
 
-    ghost invariant = { λ a. IsNode S.content a.phase a.links.me.no (segments_of a.held.items) a.store a.outbox.outbox };
+    ghost invariant = { λ a. IsNode S.content a.phase a.links.me.number (segments_of a.held.items) a.store a.outbox.outbox };
 }
 
 /// The index of the held segment whose span contains x.
@@ -76,7 +77,7 @@ impl<S: EntryStore> Node<S> {
     {
         let mut held = Vec::new(alloc);
         let whole = Segment::empty(alloc, Span::new(me.id, me.id));
-        let outbox = Outbox::new(alloc, me.no);
+        let outbox = Outbox::new(alloc, me.number);
         match held.push(whole) {
             Ok(()) => Ok(Node {
                 alloc,
@@ -96,7 +97,7 @@ impl<S: EntryStore> Node<S> {
         requires { S.content store ≡ [] }
         ensures { result ≡ newborn links (S.limit store) }
     {
-        let outbox = Outbox::new(alloc, links.me().no);
+        let outbox = Outbox::new(alloc, links.me().number);
         Node {
             alloc,
             phase: Phase::Staying,
@@ -112,8 +113,8 @@ impl<S: EntryStore> Node<S> {
     /// Full if its store has no room for the pair to add. A call for another key is passed on or
     /// dropped. If the call was executed, a copy of it with its reply is given too.
     pub fn on_ask(&mut self, ask: &Ask) -> Result<(Answered, Option<Done>), AllocError>
-        ensures answer { AskNotes ask.now true self.old result self.new }
-        ensures step { AskStepsNoting ask.now self.old result self.new }
+        ensures answer { AskRecords ask.now true self.old result self.new }
+        ensures step { AskStepsRecording ask.now self.old result self.new }
     {
         let x = Id::of_bytes(ask.request.key());
         let Some(place) = place_with(&self.held, x) else {
@@ -143,8 +144,8 @@ impl<S: EntryStore> Node<S> {
     /// Answers a call that it owns, with its key's identifier.
     fn answer_at(&mut self, id: Id, ask: Ask) -> Result<(Answered, Option<Done>), AllocError>
         requires { id.number ≡ id_of ask.request }
-        ensures answer { AskNotes ask false self.old result self.new }
-        ensures step { AskStepsNoting ask self.old result self.new }
+        ensures answer { AskRecords ask false self.old result self.new }
+        ensures step { AskStepsRecording ask self.old result self.new }
         ensures holds { OnErr result (is_some (segment_with (id_of ask.request) self.old.held) ≡ true) }
     {
         let Some(place) = place_with(&self.held, id) else {
@@ -159,7 +160,7 @@ impl<S: EntryStore> Node<S> {
     pub fn number(&self) -> u64
         ensures { result ≡ self.now.number }
     {
-        self.links.me().no
+        self.links.me().number
     }
 
     /// What the node knows of other nodes.
@@ -216,7 +217,7 @@ impl<S: EntryStore> Node<S> {
     }
 
     /// The number of items in the outbox.
-    pub fn kept_count(&self) -> usize
+    pub fn outbox_len(&self) -> usize
         ensures { result ≡ length self.now.outbox }
     {
         self.outbox.len()
@@ -224,23 +225,23 @@ impl<S: EntryStore> Node<S> {
 
     /// The receiver, the number and the span of item `i`
     /// of the outbox, counted from 0 in the order given.
-    pub fn kept(&self, i: u64) -> Option<(u64, u64, Span)>
-        ensures { result ≡ kept_as (slice_get self.now.outbox i) }
+    pub fn outbox_item(&self, i: u64) -> Option<(u64, u64, Span)>
+        ensures { result ≡ item_view (slice_get self.now.outbox i) }
     {
         let (to, number) = self.outbox.nth(i)?;
-        let parcelled = self.outbox.item(to, number)?;
-        Some((to, number, parcelled.segment().span()))
+        let payload = self.outbox.item(to, number)?;
+        Some((to, number, payload.segment().span()))
     }
 
     /// A part of an item of the outbox, to be sent again.
-    pub fn resend_part(&self, to: u64, number: u64, part: u64) -> Result<Part, ResendFault>
+    pub fn resend_part(&self, to: u64, number: u64, part: u64) -> Result<Part, ResendPartFault>
         ensures answer { ResendIs to number part self.now result }
         ensures step { SendSteps self.now result self.now }
     {
         match self.outbox.part(to, number, part) {
             Ok(Some(found)) => Ok(found),
-            Ok(None) => Err(ResendFault::NoPart),
-            Err(_) => Err(ResendFault::Memory),
+            Ok(None) => Err(ResendPartFault::NoPart),
+            Err(_) => Err(ResendPartFault::Memory),
         }
     }
 
@@ -296,7 +297,7 @@ impl<S: EntryStore> Node<S> {
         let Some(number) = self.outbox.next_number(to) else {
             return Err(GiveFault::NumbersSpent);
         };
-        let from = self.links.me().no;
+        let from = self.links.me().number;
         let store = self.store.as_mut().unwrap();
         let ticket = Ticket { from, to, number };
         let Ok((part, pairs)) = prepare_give(self.alloc, store, &self.held[place], ticket) else {
@@ -309,27 +310,27 @@ impl<S: EntryStore> Node<S> {
         }
         let segment = self.held.remove(place);
         store.drop_copied(&segment.span(), &pairs);
-        match self.outbox.give(to, Parcelled::new(segment, pairs)) {
+        match self.outbox.give(to, Payload::new(segment, pairs)) {
             Ok(_) => Ok(part),
             Err(_) => unreachable!(),
         }
     }
 
     /// Answers a part of a handover: buffers it, or takes the handover if the part makes it whole.
-    pub fn on_give(&mut self, part: &Part) -> Result<Given, AllocError>
+    pub fn on_give(&mut self, part: &Part) -> Result<PartAnswer, AllocError>
         requires to { part.now.to ≡ self.old.number }
         ensures answer { PartIs part.now self.old result self.new }
         ensures step { PartSteps part.now self.old result self.new }
     {
         let verdict = self.taken.judge(part.from, part.number);
         if verdict == Verdict::Again {
-            return Ok(Given::Got);
+            return Ok(PartAnswer::Got);
         }
         if self.phase == Phase::Gone {
-            return Ok(Given::Declined);
+            return Ok(PartAnswer::Declined);
         }
         if verdict == Verdict::Early {
-            return Ok(Given::Early);
+            return Ok(PartAnswer::Early);
         }
         let store = self.store.as_mut().unwrap();
         take_next(&mut self.held, store, &mut self.taken, part)
@@ -341,11 +342,11 @@ impl<S: EntryStore> Node<S> {
         ensures answer { BackIs declined.now self.old result self.new }
         ensures step { BackSteps declined.now self.old result self.new }
     {
-        let Some(parcelled) = self.outbox.item(declined.to, declined.number) else {
+        let Some(payload) = self.outbox.item(declined.to, declined.number) else {
             return Ok(Back::Unknown);
         };
         let store = self.store.as_mut().unwrap();
-        match make_held(&mut self.held, store, parcelled) {
+        match make_held(&mut self.held, store, payload) {
             Ok(()) => {}
             Err(PutFault::Clash) => return Ok(Back::Clash),
             Err(PutFault::Full) => return Ok(Back::Full),
@@ -386,7 +387,7 @@ impl<S: EntryStore> Node<S> {
             return Err(RetireFault::NotEmpty);
         }
         self.store = None;
-        self.taken.forget_noted();
+        self.taken.forget_buffered();
         self.phase = Phase::Gone;
         Ok(())
     }

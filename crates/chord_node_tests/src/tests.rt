@@ -15,7 +15,7 @@ use chord_links::{Links, Peer};
 use chord_map::Request;
 use chord_model::laws;
 use chord_node::laws::no_delivery_clashes;
-use chord_node::{Answered, Back, Given, Node};
+use chord_node::{Answered, Back, Node, PartAnswer};
 use chord_segment::Segment;
 use chord_store::{CappedStore, EntryStore};
 use std::alloc::{AllocError, Global};
@@ -88,7 +88,7 @@ pub fn found<S: EntryStore>(alloc: Global, store: S) -> Option<Node<S>> {
         return None;
     }
     let me = Peer {
-        no: 0,
+        number: 0,
         id: Id::new(A),
     };
     Node::found(alloc, me, 3, store).ok()
@@ -97,7 +97,7 @@ pub fn found<S: EntryStore>(alloc: Global, store: S) -> Option<Node<S>> {
 /// Node 1, at C, which holds nothing.
 pub fn newborn(alloc: Global, limit: u64) -> Node<CappedStore> {
     let me = Peer {
-        no: 1,
+        number: 1,
         id: Id::new(C),
     };
     Node::newborn(alloc, Links::alone(me, 3), CappedStore::new(alloc, limit))
@@ -139,7 +139,10 @@ pub fn first_part(alloc: Global, ticket: Ticket, span: Span, of: u64) -> Part
 }
 
 /// What the node answers to a part, if it is the part's receiver.
-pub fn handed<S: EntryStore>(node: &mut Node<S>, part: &Part) -> Result<Option<Given>, AllocError> {
+pub fn handed<S: EntryStore>(
+    node: &mut Node<S>,
+    part: &Part,
+) -> Result<Option<PartAnswer>, AllocError> {
     if part.to != node.number() {
         return Ok(None);
     }
@@ -147,12 +150,12 @@ pub fn handed<S: EntryStore>(node: &mut Node<S>, part: &Part) -> Result<Option<G
 }
 
 /// What the node answers to a part, with memory for it.
-pub fn given<S: EntryStore>(node: &mut Node<S>, part: &Part) -> Option<Given> {
+pub fn given<S: EntryStore>(node: &mut Node<S>, part: &Part) -> Option<PartAnswer> {
     handed(node, part).ok().flatten()
 }
 
 /// What the node answers to a part, which is then dropped.
-pub fn given_once<S: EntryStore>(node: &mut Node<S>, part: Part) -> Option<Given> {
+pub fn given_once<S: EntryStore>(node: &mut Node<S>, part: Part) -> Option<PartAnswer> {
     let given = given(node, &part);
     drop(part);
     given
@@ -164,7 +167,7 @@ pub fn given_empty(
     node: &mut Node<CappedStore>,
     ticket: Ticket,
     span: Span,
-) -> Option<Given> {
+) -> Option<PartAnswer> {
     given_once(node, empty_part(alloc, ticket, span))
 }
 

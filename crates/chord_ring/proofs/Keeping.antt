@@ -29,7 +29,7 @@ pub record Change (old new : Ring) (at : ℕ) (after : NodeLinks) : Type 0 where
 pub known_more : (old new : List ℕ) → ((node id : ℕ) → slice_get old node ≡ Some id → slice_get new node ≡ Some id)
     → (peers : List Peer) → AllByRecursion (IsPeerOf old) peers → AllByRecursion (IsPeerOf new) peers
 known_more old new grows [] known = tt
-known_more old new grows (peer ∷ peers) known = (grows peer.no peer.id.number known.0, known_more old new grows peers known.1)
+known_more old new grows (peer ∷ peers) known = (grows peer.number peer.id.number known.0, known_more old new grows peers known.1)
 
 module _ (old new : Ring) (at : ℕ) (after : NodeLinks) (sound : IsSound old) (change : Change old new at after) where
   -- a member is still a member, with the same number and identifier
@@ -60,7 +60,7 @@ module _ (old new : Ring) (at : ℕ) (after : NodeLinks) (sound : IsSound old) (
 
   pub still_live : (peers : List Peer) → IsSome (first_live old.members peers) → IsSome (first_live new.members peers)
   still_live peers live =
-      find_more (λ peer. is_member old.members peer.no) (λ peer. is_member new.members peer.no) (λ peer. still_is_member peer.no) peers live
+      find_more (λ peer. is_member old.members peer.number) (λ peer. is_member new.members peer.number) (λ peer. still_is_member peer.number) peers live
 
   -- a principal is still a principal
   pub principal_stays : (node : ℕ) → IsPrincipal old.members node → IsPrincipal new.members node
@@ -93,7 +93,7 @@ module _ (old new : Ring) (at : ℕ) (after : NodeLinks) (sound : IsSound old) (
                   let before = sound.each node links was in
                   record {
                     number = before.number;
-                    me_known = change.grows links.me.no links.me.id.number before.me_known;
+                    me_known = change.grows links.me.number links.me.id.number before.me_known;
                     known = known_more old.ids new.ids change.grows links.entries before.known;
                     rises = before.rises;
                     short = before.short;

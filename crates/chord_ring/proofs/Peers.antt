@@ -28,7 +28,7 @@ each_rising_front P owner past (peer ∷ peers) each =
 -- known peers have identifiers on the circle
 pub OnCircle-known : (ids : List ℕ) → IdsSound ids → (peers : List Peer) → AllByRecursion (IsPeerOf ids) peers → OnCircle peers
 OnCircle-known ids sound [] known = tt
-OnCircle-known ids sound (peer ∷ peers) known = (sound.fit peer.no peer.id.number known.0, OnCircle-known ids sound peers known.1)
+OnCircle-known ids sound (peer ∷ peers) known = (sound.fit peer.number peer.id.number known.0, OnCircle-known ids sound peers known.1)
 
 -- a list with a live entry is its first entry and the rest
 pub first_and_rest : (members : Members) (links : NodeLinks) → IsSome (first_live members links.entries) → links.entries ≡ first_entry links ∷ drop 1 links.entries
@@ -39,7 +39,7 @@ first_and_rest members links live = go links.entries live
     go (peer ∷ peers) some = refl
 
 -- a prefix that begins with a live node has a live node
-pub live_first : (members : Members) (r : ℕ) (head : Peer) (rest : List Peer) → 0 < r → is_member members head.no ≡ true
+pub live_first : (members : Members) (r : ℕ) (head : Peer) (rest : List Peer) → 0 < r → is_member members head.number ≡ true
     → IsSome (first_live members (take r (head ∷ rest)))
 live_first members zero head rest positive live = absurd (omega arith)
 live_first members (suc n) head rest positive live = rw live refl

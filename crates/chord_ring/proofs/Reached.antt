@@ -9,20 +9,20 @@ use Rattle.chord_links.specs.declared.peer.Peer.{Peer}
 use Rattle.chord_links.specs.NodeLinks.{NodeLinks, alone}
 use Rattle.chord_links.specs.Successors.{Skips}
 use Rattle.chord_ring.specs.Ring.{links_of, first_live, CanDepart}
-use Rattle.chord_ring.specs.Steps.{Ring, founded, without, IsReached, is_founded, after_step, after_departure}
+use Rattle.chord_ring.specs.Steps.{Ring, founded_ring, ring_without, IsReached, is_founded, after_step, after_departure}
 use Rattle.chord_ring.proofs.Lookups.{Updates, Updates-set, member_within}
 use Rattle.chord_ring.specs.Sound.{LinksSound, IsSound}
 use Rattle.chord_ring.proofs.Stepping.{Kept, Kept-step}
 
 -- the first node's number and links
 abbrev pub first_node : ℕ → Peer
-first_node id = record { no = 0; id = record { number = id } }
+first_node id = record { number = 0; id = record { number = id } }
 
 abbrev pub first_links : ℕ → ℕ → NodeLinks
 first_links id r = alone (first_node id) r
 
 -- the ring of one node has that node's links alone
-pub founded_links : (id r node : ℕ) (links : NodeLinks) → links_of (founded id r).members node ≡ Some links → (node ≡ 0) × (first_links id r ≡ links)
+pub founded_links : (id r node : ℕ) (links : NodeLinks) → links_of (founded_ring id r).members node ≡ Some links → (node ≡ 0) × (first_links id r ≡ links)
 founded_links id r zero links e = (refl, same_Some (first_links id r) links e)
 founded_links id r (suc node) links e = absurd (none-some links e)
 
@@ -30,7 +30,7 @@ pub founded_ids : (id node other : ℕ) → slice_get (id ∷ []) node ≡ Some 
 founded_ids id zero other e = (refl, same_Some id other e)
 founded_ids id (suc node) other e = absurd (none-some other e)
 
-pub IsSound-founded : (id r : ℕ) → id < circle → 0 < r → IsSound (founded id r)
+pub IsSound-founded : (id r : ℕ) → id < circle → 0 < r → IsSound (founded_ring id r)
 IsSound-founded id r id_in positive =
     record {
       ids =
@@ -54,7 +54,7 @@ IsSound-founded id r id_in positive =
       safe =
           record {
             live = λ node links is_its.
-                subst (λ (l : NodeLinks). IsSome (first_live (founded id r).members l.entries)) (founded_links id r node links is_its).1 refl;
+                subst (λ (l : NodeLinks). IsSome (first_live (founded_ring id r).members l.entries)) (founded_links id r node links is_its).1 refl;
             principal = (
               0,
               record {
@@ -70,7 +70,7 @@ IsSound-founded id r id_in positive =
     }
 
 -- a departure after which the others are safe keeps the ring sound and its principals
-pub Kept-departs : (old : Ring) (gone : ℕ) → IsSound old → CanDepart old.members gone → Kept old (without old gone)
+pub Kept-departs : (old : Ring) (gone : ℕ) → IsSound old → CanDepart old.members gone → Kept old (ring_without old gone)
 Kept-departs old gone sound (was, safe) =
     let within : gone < length old.members = go (links_of old.members gone) refl was in
     let updates : Updates old.members (slice_set old.members gone None) gone None = Updates-set old.members gone None within in

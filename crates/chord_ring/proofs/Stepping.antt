@@ -15,7 +15,7 @@ use Rattle.chord_links.proofs.Skipping.{Skips-behind_successor, Skips-joined, Sk
 use Rattle.chord_ring.specs.declared.ring_step.RingStep.{RingStep}
 use Rattle.chord_ring.specs.declared.ring_step.RingStep.TheVariants.{Join, Stabilise, Candidate, DropDead, Rectify}
 use Rattle.chord_ring.specs.Ring.{Members, links_of, is_member, first_live, KeepsPrincipals}
-use Rattle.chord_ring.specs.Steps.{Ring, Joins, Stabilises, TakesCandidate, DropsDead, Rectifies, Step, joined, behind, without_head, with_links, gives_way, is_live}
+use Rattle.chord_ring.specs.Steps.{Ring, Joins, Stabilises, TakesCandidate, DropsDead, Rectifies, Step, joined_links, links_behind, without_head, with_links, gives_way, is_live}
 use Rattle.chord_ring.proofs.Lookups.{Updates, Updates-set, Updates-push, member_within}
 use Rattle.chord_ring.specs.Sound.{IsPeerOf, IdsSound, LinksSound, IsSound}
 use Rattle.chord_ring.proofs.Peers.{each_take, each_rising_front, OnCircle-known, first_and_rest, live_first, Rises-past_less, slice_get-push_old, slice_get-push_new, IdsSound-push}
@@ -32,7 +32,7 @@ Kept-change old new at after sound change =
 
 -- a member's identifier is on the circle
 pub member_on_circle : (ring : Ring) → IsSound ring → (node : ℕ) (links : NodeLinks) → links_of ring.members node ≡ Some links → links.me.id.number < circle
-member_on_circle ring sound node links is_its = sound.ids.fit links.me.no links.me.id.number (sound.each node links is_its).me_known
+member_on_circle ring sound node links is_its = sound.ids.fit links.me.number links.me.id.number (sound.each node links is_its).me_known
 
 pub is_member_from : (members : Members) (node : ℕ) (links : NodeLinks) → links_of members node ≡ Some links → is_member members node ≡ true
 is_member_from members node links is_its = ap is_some is_its
@@ -59,7 +59,7 @@ Kept-with_links old at before after sound is_its same_me after_sound live skips 
 -- a member copies the list of a live node that is its first entry or lies before it
 pub Kept-behind : (old : Ring) (at head : ℕ) (links theirs : NodeLinks) → IsSound old → links_of old.members at ≡ Some links → links_of old.members head ≡ Some theirs
     → ((x : ℕ) → x < circle → IsBetween links.me.id.number x theirs.me.id.number → Skips links.me.id.number links.entries x)
-    → Kept old (with_links old at (behind links theirs))
+    → Kept old (with_links old at (links_behind links theirs))
 Kept-behind old at head links theirs sound is_its is_live near =
     let mine : LinksSound old.ids at links = sound.each at links is_its in
     let copied : LinksSound old.ids head theirs = sound.each head theirs is_live in
@@ -67,9 +67,9 @@ Kept-behind old at head links theirs sound is_its is_live near =
     let head_in = member_on_circle old sound head theirs is_live in
     let far = walk links.me.id.number theirs.me.id.number in
     let rest : List Peer = rising_front links.me.id.number far theirs.entries in
-    let live : is_member old.members theirs.me.no ≡ true =
+    let live : is_member old.members theirs.me.number ≡ true =
     ap (is_member old.members) copied.number ∙ is_member_from old.members head theirs is_live in
-    Kept-with_links old at links (behind links theirs) sound is_its refl
+    Kept-with_links old at links (links_behind links theirs) sound is_its refl
     (record {
       number = mine.number;
       me_known = mine.me_known;
@@ -122,7 +122,7 @@ Kept-drops_dead old node new sound step =
     let mine : LinksSound old.ids node links = sound.each node links step.is_its in
     let known : AllByRecursion (IsPeerOf old.ids) (first ∷ rest) = subst (AllByRecursion (IsPeerOf old.ids)) entries mine.known in
     let rises : Rises links.me.id.number 0 (first ∷ rest) = subst (Rises links.me.id.number 0) entries mine.rises in
-    let dead : is_member old.members first.no ≡ false = false_from_ne_true (is_member old.members first.no) step.is_dead in
+    let dead : is_member old.members first.number ≡ false = false_from_ne_true (is_member old.members first.number) step.is_dead in
     let live : IsSome (first_live old.members (first ∷ rest)) =
     subst (λ (l : List Peer). IsSome (first_live old.members l)) entries (sound.safe.live node links step.is_its) in
     subst (Kept old) (sym step.result)
@@ -140,7 +140,7 @@ Kept-drops_dead old node new sound step =
     let theirs : LinksSound old.ids other member = sound.each other member is_its in
     let not_first : ¬ (member.me.id.number ≡ first.id.number) =
     λ same.
-    let one : member.me.no ≡ first.no = sound.ids.apart member.me.no first.no member.me.id.number theirs.me_known (known.0 ∙ ap Some (sym same)) in
+    let one : member.me.number ≡ first.number = sound.ids.apart member.me.number first.number member.me.id.number theirs.me_known (known.0 ∙ ap Some (sym same)) in
     step.is_dead (ap (is_member old.members) (sym one ∙ theirs.number) ∙ is_member_from old.members other member is_its) in (
       node,
       links,
@@ -191,8 +191,8 @@ pub Kept-joins : (old : Ring) (id pred : ℕ) (new : Ring) → IsSound old → J
 Kept-joins old id pred new sound step =
     let links = step.links in
     let first = first_entry links in
-    let peer : Peer = record { no = length old.ids; id = record { number = id } } in
-    let after : NodeLinks = joined peer links in
+    let peer : Peer = record { number = length old.ids; id = record { number = id } } in
+    let after : NodeLinks = joined_links peer links in
     let rest : List Peer = drop 1 links.entries in
     let entries : links.entries ≡ first ∷ rest = first_and_rest old.members links (sound.safe.live pred links step.is_its) in
     let theirs : LinksSound old.ids pred links = sound.each pred links step.is_its in
@@ -253,10 +253,10 @@ stored old now node after sound same (step, done) =
 
 pub stored_joined : (old now new : Ring) (id pred number : ℕ) (links after : NodeLinks) → IsSound old → old ≡ now → Some links ≡ links_of now.members pred
     → id < circle → ¬ (Contains old.ids id) → IsBetween links.me.id.number id (first_entry links).id.number → number ≡ length old.ids
-    → after ≡ joined (record { no = number; id = record { number = id } }) links → new.ids ≡ old.ids ++ id ∷ [] → new.members ≡ old.members ++ Some after ∷ []
+    → after ≡ joined_links (record { number = number; id = record { number = id } }) links → new.ids ≡ old.ids ++ id ∷ [] → new.members ≡ old.members ++ Some after ∷ []
     → Joins now id pred new × IsSound new × KeepsPrincipals now.members new.members
 stored_joined old now new id pred number links after sound same is_its id_in unused between numbered stored ids members =
-    let peer : ℕ → Peer = λ (n : ℕ). record { no = n; id = record { number = id } } in
+    let peer : ℕ → Peer = λ (n : ℕ). record { number = n; id = record { number = id } } in
     let step : Joins old id pred new =
     record {
       links = links;
@@ -265,7 +265,7 @@ stored_joined old now new id pred number links after sound same is_its id_in unu
       is_unused = unused;
       is_between = between;
       ids = ids;
-      members = members ∙ ap (λ (l : NodeLinks). old.members ++ Some l ∷ []) (stored ∙ ap (λ (n : ℕ). joined (peer n) links) numbered);
+      members = members ∙ ap (λ (l : NodeLinks). old.members ++ Some l ∷ []) (stored ∙ ap (λ (n : ℕ). joined_links (peer n) links) numbered);
     } in
     let kept = Kept-joins old id pred new sound step in
     (subst (λ (r : Ring). Joins r id pred new) same step, kept.sound, subst (λ (r : Ring). KeepsPrincipals r.members new.members) same kept.principals)

@@ -49,7 +49,7 @@ is_on_way from to (Some links) = leb (walk from links.me.id.number) (walk from t
 pub record Way (members : Members) (from to : NodeLinks) (bound : ℕ) : Type 0 where
   pub before : List Peer
   pub on : OnCircle before
-  pub follows : Follows members from.me.no (before ++ to.me ∷ [])
+  pub follows : Follows members from.me.number (before ++ to.me ∷ [])
   pub onward : Rises from.me.id.number 0 (before ++ to.me ∷ [])
   pub few : length before < bound
 
@@ -108,14 +108,14 @@ module _ (ring : Ring) (sound : IsSound ring) (target : ℕ) (principal : IsPrin
   way_from (suc fuel) node from is_its enough =
       let (next, is_next, follows) = next_links ring sound node from is_its in
       let from_in = member_on_circle ring sound node from is_its in
-      let next_in = member_on_circle ring sound next.me.no next is_next in
+      let next_in = member_on_circle ring sound next.me.number next is_next in
       let not_passed : ¬ (IsBetween from.me.id.number to.me.id.number next.me.id.number) = passes_none ring sound node from next.me is_its follows target principal in
       let number = (sound.each node from is_its).number in
-      let follows_me : next_of ring.members from.me.no ≡ Some next.me = ap (next_of ring.members) number ∙ follows in
+      let follows_me : next_of ring.members from.me.number ≡ Some next.me = ap (next_of ring.members) number ∙ follows in
       elim (cases_order (walk from.me.id.number next.me.id.number) (walk from.me.id.number to.me.id.number)) [
         | inl same ↦
             let arrived : next.me ≡ to.me =
-            same_member ring sound next.me.no target next to is_next principal.is_its
+            same_member ring sound next.me.number target next to is_next principal.is_its
             (same_from_walk from.me.id.number next.me.id.number to.me.id.number from_in next_in to_in same) in
             record {
               before = [];
@@ -127,8 +127,8 @@ module _ (ring : Ring) (sound : IsSound ring) (target : ℕ) (principal : IsPrin
         | inr apart ↦
             elim apart [
               | inl nearer ↦
-                  let fewer : ahead next.me.id.number < ahead from.me.id.number = fewer_ahead node next.me.no from next is_its is_next nearer in
-                  let rest : Way ring.members next to (ahead next.me.id.number) = way_from fuel next.me.no next is_next (omega arith) in
+                  let fewer : ahead next.me.id.number < ahead from.me.id.number = fewer_ahead node next.me.number from next is_its is_next nearer in
+                  let rest : Way ring.members next to (ahead next.me.id.number) = way_from fuel next.me.number next is_next (omega arith) in
                   record {
                     before = next.me ∷ rest.before;
                     on = (next_in, rest.on);

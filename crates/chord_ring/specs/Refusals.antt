@@ -58,9 +58,9 @@ CandidateRefused ring node peer _ = ⊥
 abbrev pub DropRefused : Ring → ℕ → RingFault → Type 0
 DropRefused ring node NoSuchNode = is_member ring.members node ≡ false
 DropRefused ring node (Drop HeadLive) =
-    (links : NodeLinks) × (links_of ring.members node ≡ Some links) × IsTrue (is_member ring.members (first_entry links).no)
+    (links : NodeLinks) × (links_of ring.members node ≡ Some links) × IsTrue (is_member ring.members (first_entry links).number)
 DropRefused ring node (Drop Empty) =
-    (links : NodeLinks) × (links_of ring.members node ≡ Some links) × (is_member ring.members (first_entry links).no ≡ false) × (length links.entries ≤ 1)
+    (links : NodeLinks) × (links_of ring.members node ≡ Some links) × (is_member ring.members (first_entry links).number ≡ false) × (length links.entries ≤ 1)
 DropRefused ring node _ = ⊥
 
 -- NoSuchNode: the node or the notifier is no member.

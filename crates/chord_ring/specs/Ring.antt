@@ -21,7 +21,7 @@ is_member members node = is_some (links_of members node)
 
 -- the first of these peers that is live, that is a member
 abbrev pub first_live : Members → List Peer → Option Peer
-first_live members peers = find (λ peer. is_member members peer.no) peers
+first_live members peers = find (λ peer. is_member members peer.number) peers
 
 -- a principal is a member that no member's list skips
 pub record IsPrincipal (members : Members) (node : ℕ) : Type 0 where
@@ -49,7 +49,7 @@ next_of members node = option_and_then (λ links. first_live members links.entri
 -- from this node, following first live entries visits these peers in order
 abbrev pub Follows : Members → ℕ → List Peer → Type 0
 Follows members node [] = Unit {0}
-Follows members node (peer ∷ peers) = (next_of members node ≡ Some peer) × Follows members peer.no peers
+Follows members node (peer ∷ peers) = (next_of members node ≡ Some peer) × Follows members peer.number peers
 
 -- the number of members
 abbrev pub member_count : Members → ℕ
@@ -59,7 +59,7 @@ member_count members = count_by is_some members
 -- most as many hops as there are members
 pub record LeadsTo (members : Members) (from to : NodeLinks) : Type 0 where
   pub before : List Peer
-  pub follows : Follows members from.me.no (before ++ to.me ∷ [])
+  pub follows : Follows members from.me.number (before ++ to.me ∷ [])
   pub onward : Rises from.me.id.number 0 (before ++ to.me ∷ [])
   pub few : length before < member_count members
 

@@ -10,7 +10,7 @@ use Rattle.chord_ring.specs.Steps.{Ring}
 
 -- the peer is a node that was once a member
 abbrev pub IsPeerOf : List ℕ → Peer → Type 0
-IsPeerOf ids peer = slice_get ids peer.no ≡ Some peer.id.number
+IsPeerOf ids peer = slice_get ids peer.number ≡ Some peer.id.number
 
 -- identifiers are on the circle, and no two nodes have the same one
 pub record IdsSound (ids : List ℕ) : Type 0 where
@@ -19,7 +19,7 @@ pub record IdsSound (ids : List ℕ) : Type 0 where
 
 -- a member's links name nodes that were once members, at rising distances, at most r of them
 pub record LinksSound (ids : List ℕ) (node : ℕ) (links : NodeLinks) : Type 0 where
-  pub number : links.me.no ≡ node
+  pub number : links.me.number ≡ node
   pub me_known : IsPeerOf ids links.me
   pub known : AllByRecursion (IsPeerOf ids) links.entries
   pub rises : Rises links.me.id.number 0 links.entries

@@ -17,12 +17,12 @@ pub record Ring : Type 0 where
   pub members : Members
 
 -- the links of a new node that joins behind `pred`
-abbrev pub joined : Peer → NodeLinks → NodeLinks
-joined new pred = record { me = new; r = pred.r; predecessor = Some pred.me; entries = behind_predecessor new.id.number pred.r pred.entries; fingers = no_fingers new }
+abbrev pub joined_links : Peer → NodeLinks → NodeLinks
+joined_links new pred = record { me = new; r = pred.r; predecessor = Some pred.me; entries = behind_predecessor new.id.number pred.r pred.entries; fingers = no_fingers new }
 
 -- the links with the list rebuilt from that of this first entry
-abbrev pub behind : NodeLinks → NodeLinks → NodeLinks
-behind links head = with_entries links (behind_successor links.me.id.number links.r head.me head.entries)
+abbrev pub links_behind : NodeLinks → NodeLinks → NodeLinks
+links_behind links head = with_entries links (behind_successor links.me.id.number links.r head.me head.entries)
 
 -- the links without the first entry
 abbrev pub without_head : NodeLinks → NodeLinks
@@ -49,13 +49,13 @@ gives_way me notifier live (Some predecessor) =
     not live || is_between predecessor.id notifier.id me.id
 
 -- the links with the notifier as predecessor, if the old one gives way
-abbrev pub rectified : NodeLinks → Peer → Bool → NodeLinks
-rectified links notifier gives = if gives then record links { predecessor = Some notifier } else links
+abbrev pub rectified_links : NodeLinks → Peer → Bool → NodeLinks
+rectified_links links notifier gives = if gives then record links { predecessor = Some notifier } else links
 
 -- whether there is a peer and it is live
 abbrev pub is_live : Members → Option Peer → Bool
 is_live members None = false
-is_live members (Some peer) = is_member members peer.no
+is_live members (Some peer) = is_member members peer.number
 
 -- the ring with the links of one member replaced
 abbrev pub with_links : Ring → ℕ → NodeLinks → Ring
@@ -69,7 +69,7 @@ pub record Joins (old : Ring) (id pred : ℕ) (new : Ring) : Type 0 where
   pub is_unused : ¬ (Contains old.ids id)
   pub is_between : IsBetween links.me.id.number id (first_entry links).id.number
   pub ids : new.ids ≡ old.ids ++ id ∷ []
-  pub members : new.members ≡ old.members ++ Some (joined (record { no = length old.ids; id = record { number = id } }) links) ∷ []
+  pub members : new.members ≡ old.members ++ Some (joined_links (record { number = length old.ids; id = record { number = id } }) links) ∷ []
 
 -- a member copies the list of its first entry, which is live
 pub record Stabilises (old : Ring) (node head : ℕ) (new : Ring) : Type 0 where
@@ -78,7 +78,7 @@ pub record Stabilises (old : Ring) (node head : ℕ) (new : Ring) : Type 0 where
   pub is_its : links_of old.members node ≡ Some links
   pub is_live : links_of old.members head ≡ Some theirs
   pub is_first : first_entry links ≡ theirs.me
-  pub result : new ≡ with_links old node (behind links theirs)
+  pub result : new ≡ with_links old node (links_behind links theirs)
 
 -- a member takes a live node between itself and its first entry as its first entry
 pub record TakesCandidate (old : Ring) (node peer : ℕ) (new : Ring) : Type 0 where
@@ -87,13 +87,13 @@ pub record TakesCandidate (old : Ring) (node peer : ℕ) (new : Ring) : Type 0 w
   pub is_its : links_of old.members node ≡ Some links
   pub is_live : links_of old.members peer ≡ Some theirs
   pub is_between : IsBetween links.me.id.number theirs.me.id.number (first_entry links).id.number
-  pub result : new ≡ with_links old node (behind links theirs)
+  pub result : new ≡ with_links old node (links_behind links theirs)
 
 -- a member drops its first entry, which is dead
 pub record DropsDead (old : Ring) (node : ℕ) (new : Ring) : Type 0 where
   pub links : NodeLinks
   pub is_its : links_of old.members node ≡ Some links
-  pub is_dead : ¬ (IsTrue (is_member old.members (first_entry links).no))
+  pub is_dead : ¬ (IsTrue (is_member old.members (first_entry links).number))
   pub result : new ≡ with_links old node (without_head links)
 
 -- a member hears of another member that may be its predecessor
@@ -102,7 +102,7 @@ pub record Rectifies (old : Ring) (node notifier : ℕ) (new : Ring) : Type 0 wh
   pub theirs : NodeLinks
   pub is_its : links_of old.members node ≡ Some links
   pub is_theirs : links_of old.members notifier ≡ Some theirs
-  pub result : new ≡ with_links old node (rectified links theirs.me (gives_way links.me theirs.me (is_live old.members links.predecessor) links.predecessor))
+  pub result : new ≡ with_links old node (rectified_links links theirs.me (gives_way links.me theirs.me (is_live old.members links.predecessor) links.predecessor))
 
 -- one step of a ring
 abbrev pub Step : Ring → RingStep → Ring → Type 0
@@ -113,15 +113,15 @@ Step old (DropDead node) new = DropsDead old node new
 Step old (Rectify node notifier) new = Rectifies old node notifier new
 
 -- a ring of one node, which knows no other
-abbrev pub founded : ℕ → ℕ → Ring
-founded id r = record { ids = id ∷ []; members = Some (alone (record { no = 0; id = record { number = id } }) r) ∷ [] }
+abbrev pub founded_ring : ℕ → ℕ → Ring
+founded_ring id r = record { ids = id ∷ []; members = Some (alone (record { number = 0; id = record { number = id } }) r) ∷ [] }
 
 -- the ring without this member
-abbrev pub without : Ring → ℕ → Ring
-without ring node = record ring { members = slice_set ring.members node None }
+abbrev pub ring_without : Ring → ℕ → Ring
+ring_without ring node = record ring { members = slice_set ring.members node None }
 
 -- a ring that some steps and departures lead to; after each departure the others are safe
 pub data IsReached : Ring → Type 0 where
-  is_founded : (id r : ℕ) → id < 2 ^ 128 → 0 < r → IsReached (founded id r)
+  is_founded : (id r : ℕ) → id < 2 ^ 128 → 0 < r → IsReached (founded_ring id r)
   after_step : {old new : Ring} (step : RingStep) → IsReached old → Step old step new → IsReached new
-  after_departure : {old : Ring} (node : ℕ) → IsReached old → CanDepart old.members node → IsReached (without old node)
+  after_departure : {old : Ring} (node : ℕ) → IsReached old → CanDepart old.members node → IsReached (ring_without old node)

@@ -9,14 +9,14 @@ use crate::members::MemberReader;
 use chord_ident::{Id, between};
 use chord_links::Links;
 
-/// The links of the member `no` once `gone` has departed.
-fn member_without<M: MemberReader>(members: &M, gone: u64, no: u64) -> Option<&Links>
-    ensures { option_copied result ≡ links_of (slice_set (M.ring members.now).members gone None) no }
+/// The links of the member `number` once `gone` has departed.
+fn member_without<M: MemberReader>(members: &M, gone: u64, number: u64) -> Option<&Links>
+    ensures { option_copied result ≡ links_of (slice_set (M.ring members.now).members gone None) number }
 {
-    if no == gone {
+    if number == gone {
         return None;
     }
-    members.member(no)
+    members.member(number)
 }
 
 /// Whether an entry of the list is live once `gone` has departed.
@@ -24,7 +24,7 @@ fn has_live_entry<M: MemberReader>(members: &M, gone: u64, links: &Links) -> boo
     ensures { result ≡ is_some (first_live (slice_set (M.ring members.now).members gone None) links.now.entries) }
 {
     for peer in links.list().entries() {
-        if member_without(members, gone, peer.no).is_some() {
+        if member_without(members, gone, peer.number).is_some() {
             return true;
         }
     }
@@ -45,13 +45,13 @@ fn skips(links: &Links, x: Id) -> bool
     false
 }
 
-/// Whether node `no` is a principal once `gone` has departed.
+/// Whether node `number` is a principal once `gone` has departed.
 #[tactic(auto, using(crate::proofs::Lookups::member_within_without))]
-fn is_principal<M: MemberReader>(members: &M, gone: u64, no: u64) -> bool
-    ensures yes { IsTrue result → IsPrincipal (slice_set (M.ring members.now).members gone None) no }
-    ensures no { IsPrincipal (slice_set (M.ring members.now).members gone None) no → IsTrue result }
+fn is_principal<M: MemberReader>(members: &M, gone: u64, number: u64) -> bool
+    ensures yes { IsTrue result → IsPrincipal (slice_set (M.ring members.now).members gone None) number }
+    ensures number { IsPrincipal (slice_set (M.ring members.now).members gone None) number → IsTrue result }
 {
-    let Some(links) = member_without(members, gone, no) else {
+    let Some(links) = member_without(members, gone, number) else {
         return false;
     };
     let id = links.me().id;
@@ -69,10 +69,10 @@ fn is_principal<M: MemberReader>(members: &M, gone: u64, no: u64) -> bool
 #[tactic(auto, using(crate::proofs::Lookups::member_within_without))]
 fn are_live<M: MemberReader>(members: &M, gone: u64) -> bool
     ensures { let left = slice_set (M.ring members.now).members gone None in IsTrue result ↔
-        ((no : ℕ) (links : NodeLinks) → links_of left no ≡ Some links → IsSome (first_live left links.entries)) }
+        ((number : ℕ) (links : NodeLinks) → links_of left number ≡ Some links → IsSome (first_live left links.entries)) }
 {
-    for no in 0..members.count() {
-        if let Some(links) = member_without(members, gone, no) {
+    for number in 0..members.count() {
+        if let Some(links) = member_without(members, gone, number) {
             if !has_live_entry(members, gone, links) {
                 return false;
             }
@@ -84,23 +84,23 @@ fn are_live<M: MemberReader>(members: &M, gone: u64) -> bool
 /// Whether there is a principal once `gone` has departed.
 #[tactic(auto, using(crate::proofs::Lookups::principal_within_without))]
 fn has_principal<M: MemberReader>(members: &M, gone: u64) -> bool
-    ensures yes { IsTrue result → (no : ℕ) × IsPrincipal (slice_set (M.ring members.now).members gone None) no }
-    ensures no { (no : ℕ) → IsPrincipal (slice_set (M.ring members.now).members gone None) no → IsTrue result }
+    ensures yes { IsTrue result → (number : ℕ) × IsPrincipal (slice_set (M.ring members.now).members gone None) number }
+    ensures number { (number : ℕ) → IsPrincipal (slice_set (M.ring members.now).members gone None) number → IsTrue result }
 {
-    for no in 0..members.count() {
-        if is_principal(members, gone, no) {
+    for number in 0..members.count() {
+        if is_principal(members, gone, number) {
             return true;
         }
     }
     false
 }
 
-/// Whether node `no` is a member and, once it has departed, each member's list has a live entry and
+/// Whether node `number` is a member and, once it has departed, each member's list has a live entry and
 /// there is a principal. At worst it reads each list once for each member.
-pub fn can_depart_in<M: MemberReader>(members: &M, no: u64) -> bool
-    ensures { IsTrue result ↔ CanDepart (M.ring members.now).members no }
+pub fn can_depart_in<M: MemberReader>(members: &M, number: u64) -> bool
+    ensures { IsTrue result ↔ CanDepart (M.ring members.now).members number }
 {
-    members.member(no).is_some() && are_live(members, no) && has_principal(members, no)
+    members.member(number).is_some() && are_live(members, number) && has_principal(members, number)
 }
 
 /// The links of each member, in a list by number.
@@ -112,8 +112,8 @@ struct Listed<'a> {
 impl<'a> MemberReader for Listed<'a> {
     ghost ring = { λ listed. record { ids = []; members = listed.members.now } };
 
-    fn member(&self, no: u64) -> Option<&Links> {
-        match self.members.get(no as usize) {
+    fn member(&self, number: u64) -> Option<&Links> {
+        match self.members.get(number as usize) {
             Some(Some(links)) => Some(links),
             _ => None,
         }
@@ -125,8 +125,8 @@ impl<'a> MemberReader for Listed<'a> {
 }
 
 /// `can_depart_in` over a list of the members' links, by number.
-pub fn can_depart_among(members: &[Option<Links>], no: u64) -> bool
-    ensures { IsTrue result ↔ CanDepart members.now no }
+pub fn can_depart_among(members: &[Option<Links>], number: u64) -> bool
+    ensures { IsTrue result ↔ CanDepart members.now number }
 {
-    can_depart_in(&Listed { members }, no)
+    can_depart_in(&Listed { members }, number)
 }

@@ -12,8 +12,8 @@ pub trait MemberReader {
     ghost ring: { Self → Ring };
 
     /// The links of the node of this number, if it is a member.
-    fn member(&self, no: u64) -> Option<&Links>
-        ensures { option_copied result ≡ links_of (ring self.now).members no };
+    fn member(&self, number: u64) -> Option<&Links>
+        ensures { option_copied result ≡ links_of (ring self.now).members number };
 
     /// How many nodes ever joined. All numbers are below it.
     fn count(&self) -> u64

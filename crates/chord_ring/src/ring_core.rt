@@ -2,7 +2,7 @@
 ghost use Rattle.std.specs.Prelude.{◌≡◌, ◌<◌, ◌≤◌, ◌↔◌, length, IsTrue, IfOk, IfErr, OnOk, OnErr, None, Some, map, ◌≢◌};
 ghost use Rattle.std.specs.List.{Contains};
 ghost use Rattle.chord_ring.specs.Ring.{links_of, is_member, IsSafe, CanDepart, KeepsPrincipals, IsOneRing};
-ghost use Rattle.chord_ring.specs.Steps.{founded, without, with_links, Joins, Step};
+ghost use Rattle.chord_ring.specs.Steps.{founded_ring, ring_without, with_links, Joins, Step};
 ghost use Rattle.chord_ring.specs.declared.ring_step.RingStep.{RingStep};
 ghost use Rattle.chord_ring.specs.Refusals.{AreOwn, JoinRefused, Refused, Did};
 
@@ -52,34 +52,34 @@ impl RingCore {
     }
 
     /// Whether the node is a member.
-    pub fn is_member(&self, no: u64) -> bool
-        ensures { result ≡ is_member self.now.ring.members no }
+    pub fn is_member(&self, number: u64) -> bool
+        ensures { result ≡ is_member self.now.ring.members number }
     {
-        matches!(self.members.get(no as usize), Some(Some(_)))
+        matches!(self.members.get(number as usize), Some(Some(_)))
     }
 
     /// Whether the node is a member and, once it has departed, each member's list has a live entry
     /// and there is a principal.
-    pub fn can_depart(&self, no: u64) -> bool
-        ensures { IsTrue result ↔ CanDepart self.now.ring.members no }
+    pub fn can_depart(&self, number: u64) -> bool
+        ensures { IsTrue result ↔ CanDepart self.now.ring.members number }
     {
-        can_depart_in(self, no)
+        can_depart_in(self, number)
     }
 
     /// The links of a member.
-    pub fn links(&self, no: u64) -> Option<Links>
-        ensures { result ≡ links_of self.now.ring.members no }
+    pub fn links(&self, number: u64) -> Option<Links>
+        ensures { result ≡ links_of self.now.ring.members number }
     {
-        self.member(no).copied()
+        self.member(number).copied()
     }
 
     /// A ring of one node, whose list has only itself.
     pub fn found(alloc: Global, id: Id, r: usize) -> Result<RingCore, AllocError>
         requires low { 2 ≤ r }
         requires high { r ≤ 16 }
-        ensures { IfOk result (λ core. core.ring ≡ founded id.number r) }
+        ensures { IfOk result (λ core. core.ring ≡ founded_ring id.number r) }
     {
-        let first = Peer { no: 0, id };
+        let first = Peer { number: 0, id };
         let mut ids = Vec::new(alloc);
         ids.push(id)?;
         let mut members = Vec::new(alloc);
@@ -88,22 +88,22 @@ impl RingCore {
     }
 
     /// A member departs.
-    pub fn depart(&mut self, no: u64)
-        requires { CanDepart self.old.ring.members no }
-        ensures departed { self.new.ring ≡ without self.old.ring no }
+    pub fn depart(&mut self, number: u64)
+        requires { CanDepart self.old.ring.members number }
+        ensures departed { self.new.ring ≡ ring_without self.old.ring number }
         ensures principals { KeepsPrincipals self.old.ring.members self.new.ring.members }
     {
-        self.members[no as usize] = None;
+        self.members[number as usize] = None;
     }
 
     /// Stores a member's new links.
-    fn store(&mut self, no: u64, links: Links)
-        requires own { AreOwn self.old.ring no links }
-        requires step { (step : RingStep) × Step self.old.ring step (with_links self.old.ring no links) }
-        ensures stored { self.new.ring ≡ with_links self.old.ring no links }
+    fn store(&mut self, number: u64, links: Links)
+        requires own { AreOwn self.old.ring number links }
+        requires step { (step : RingStep) × Step self.old.ring step (with_links self.old.ring number links) }
+        ensures stored { self.new.ring ≡ with_links self.old.ring number links }
         ensures principals { KeepsPrincipals self.old.ring.members self.new.ring.members }
     {
-        self.members[no as usize] = Some(links);
+        self.members[number as usize] = Some(links);
     }
 
     /// Reserves room for one more node.
@@ -119,7 +119,7 @@ impl RingCore {
     /// A new node joins behind a member; answers its number.
     fn join(&mut self, id: Id, behind: u64) -> Result<u64, RingFault>
         ensures room { IsTrue self.old.has_room → IfErr result (λ fault. fault ≢ RingFault.Memory) }
-        ensures number { IfOk result (λ no. no ≡ length self.old.ring.ids) }
+        ensures number { IfOk result (λ number. number ≡ length self.old.ring.ids) }
         ensures done { OnOk result (Joins self.old.ring id.number behind self.new.ring) }
         ensures fault { IfErr result (λ fault. JoinRefused self.old.ring id.number behind fault) }
         ensures kept { OnErr result (self.new.ring ≡ self.old.ring) }
@@ -131,8 +131,8 @@ impl RingCore {
         if is_used(&self.ids, id) {
             return Err(RingFault::IdTaken);
         }
-        let no = self.ids.len() as u64;
-        let Ok(links) = join_behind(Peer { no, id }, &pred) else {
+        let number = self.ids.len() as u64;
+        let Ok(links) = join_behind(Peer { number, id }, &pred) else {
             return Err(RingFault::NotBetween);
         };
         if self.ids.reserve(1).is_err() || self.members.reserve(1).is_err() {
@@ -140,7 +140,7 @@ impl RingCore {
         }
         self.ids.push_reserved(id);
         self.members.push_reserved(Some(links));
-        Ok(no)
+        Ok(number)
     }
 
     /// One step of the ring.
@@ -154,24 +154,24 @@ impl RingCore {
     {
         match step {
             RingStep::Join(id, behind) => Ok(RingDid::Joined(self.join(id, behind)?)),
-            RingStep::Stabilise(no, head) => {
-                let did = stabilise_in(self, no, head)?;
-                self.store(no, did.0);
+            RingStep::Stabilise(number, head) => {
+                let did = stabilise_in(self, number, head)?;
+                self.store(number, did.0);
                 Ok(RingDid::Candidate(did.1))
             }
-            RingStep::Candidate(no, peer) => {
-                let links = take_candidate_in(self, no, peer)?;
-                self.store(no, links);
+            RingStep::Candidate(number, peer) => {
+                let links = take_candidate_in(self, number, peer)?;
+                self.store(number, links);
                 Ok(RingDid::Done)
             }
-            RingStep::DropDead(no) => {
-                let links = drop_dead_in(self, no)?;
-                self.store(no, links);
+            RingStep::DropDead(number) => {
+                let links = drop_dead_in(self, number)?;
+                self.store(number, links);
                 Ok(RingDid::Done)
             }
-            RingStep::Rectify(no, notifier) => {
-                let did = rectify_in(self, no, notifier)?;
-                self.store(no, did.0);
+            RingStep::Rectify(number, notifier) => {
+                let did = rectify_in(self, number, notifier)?;
+                self.store(number, did.0);
                 Ok(RingDid::Done)
             }
         }
@@ -181,8 +181,8 @@ impl RingCore {
 impl MemberReader for RingCore {
     ghost ring = { λ core. core.ring };
 
-    fn member(&self, no: u64) -> Option<&Links> {
-        match self.members.get(no as usize) {
+    fn member(&self, number: u64) -> Option<&Links> {
+        match self.members.get(number as usize) {
             Some(Some(links)) => Some(links),
             _ => None,
         }
@@ -196,7 +196,7 @@ impl MemberReader for RingCore {
 /// Whether a node ever had this identifier.
 fn is_used(ids: &[Id], id: Id) -> bool
     ensures yes { IsTrue result → Contains (map (λ used. used.number) ids.now) id.number }
-    ensures no { Contains (map (λ used. used.number) ids.now) id.number → IsTrue result }
+    ensures number { Contains (map (λ used. used.number) ids.now) id.number → IsTrue result }
 {
     for used in ids {
         if *used == id {

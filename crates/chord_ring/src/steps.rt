@@ -2,7 +2,7 @@
 ghost use Rattle.std.specs.Prelude.{◌≡◌, ◌<◌, ◌↔◌, length, IsTrue, IsOk, IfOk, IfErr, OnOk, OnErr, true, false};
 ghost use Rattle.chord_ident.specs.Circle.{IsBetween};
 ghost use Rattle.chord_links.specs.NodeLinks.{first_entry};
-ghost use Rattle.chord_ring.specs.Steps.{joined, behind, without_head, candidate_of, gives_way, rectified};
+ghost use Rattle.chord_ring.specs.Steps.{joined_links, links_behind, without_head, candidate_of, gives_way, rectified_links};
 
 use chord_ident::{Id, between};
 use chord_links::{Links, Peer, SuccList};
@@ -44,7 +44,7 @@ pub enum DropFault {
 pub fn join_behind(new: Peer, pred: &Links) -> Result<Links, NotBetween>
     ensures variant { IsOk result ↔
         IsBetween pred.now.me.id.number new.id.number (first_entry pred.now).id.number }
-    ensures ok { IfOk result (λ links. links ≡ joined new pred.now) }
+    ensures ok { IfOk result (λ links. links ≡ joined_links new pred.now) }
 {
     if !between(pred.me().id, new.id, pred.first().id) {
         return Err(NotBetween);
@@ -60,7 +60,7 @@ pub fn join_behind(new: Peer, pred: &Links) -> Result<Links, NotBetween>
 pub fn stabilise(me: &mut Links, head: &Links, live: bool) -> Result<Option<Peer>, StabiliseFault>
     ensures variant { IsOk result ↔ (IsTrue live × (first_entry me.old ≡ head.now.me)) }
     ensures ok { IfOk result (λ candidate. candidate ≡ candidate_of me.old head.now) }
-    ensures done { OnOk result (me.new ≡ behind me.old head.now) }
+    ensures done { OnOk result (me.new ≡ links_behind me.old head.now) }
     ensures fault { IfErr result (λ fault. (fault ≡ StabiliseFault.HeadDead) ↔ (live ≡ false)) }
     ensures kept { OnErr result (me.new ≡ me.old) }
 {
@@ -85,7 +85,7 @@ pub fn stabilise(me: &mut Links, head: &Links, live: bool) -> Result<Option<Peer
 pub fn take_candidate(me: &mut Links, peer: &Links, live: bool) -> Result<(), CandidateFault>
     ensures variant { IsOk result ↔ (IsTrue live
         × IsBetween me.old.me.id.number peer.now.me.id.number (first_entry me.old).id.number) }
-    ensures done { OnOk result (me.new ≡ behind me.old peer.now) }
+    ensures done { OnOk result (me.new ≡ links_behind me.old peer.now) }
     ensures fault { IfErr result (λ fault. (fault ≡ CandidateFault.Dead) ↔ (live ≡ false)) }
     ensures kept { OnErr result (me.new ≡ me.old) }
 {
@@ -121,7 +121,7 @@ pub fn drop_dead(me: &mut Links, head_live: bool) -> Result<(), DropFault>
 /// Hears of a node that may be the predecessor, and answers whether it now is.
 pub fn rectify(me: &mut Links, notifier: Peer, predecessor_live: bool) -> bool
     ensures answer { result ≡ gives_way me.old.me notifier predecessor_live me.old.predecessor }
-    ensures done { me.new ≡ rectified me.old notifier result }
+    ensures done { me.new ≡ rectified_links me.old notifier result }
 {
     let gives = match me.predecessor() {
         None => true,

@@ -13,7 +13,7 @@ fn is_live<M: MemberReader>(members: &M, peer: Option<Peer>) -> bool
     ensures { result ≡ is_live (M.ring members.now).members peer }
 {
     match peer {
-        Some(peer) => members.member(peer.no).is_some(),
+        Some(peer) => members.member(peer.number).is_some(),
         None => false,
     }
 }
@@ -22,15 +22,15 @@ fn is_live<M: MemberReader>(members: &M, peer: Option<Peer>) -> bool
 /// first entry, and the candidate it learned from there.
 pub fn stabilise_in<M: MemberReader>(
     members: &M,
-    no: u64,
+    number: u64,
     head: u64,
 ) -> Result<(Links, Option<Peer>), RingFault>
-    ensures done { IfOk result (λ did. Stabilises (M.ring members.now) no head (with_links (M.ring members.now) no did.0)) }
-    ensures own { IfOk result (λ did. AreOwn (M.ring members.now) no did.0) }
-    ensures candidate { IfOk result (λ did. IsCandidate (M.ring members.now) no head did.1) }
-    ensures fault { IfErr result (λ fault. StabiliseRefused (M.ring members.now) no head fault) }
+    ensures done { IfOk result (λ did. Stabilises (M.ring members.now) number head (with_links (M.ring members.now) number did.0)) }
+    ensures own { IfOk result (λ did. AreOwn (M.ring members.now) number did.0) }
+    ensures candidate { IfOk result (λ did. IsCandidate (M.ring members.now) number head did.1) }
+    ensures fault { IfErr result (λ fault. StabiliseRefused (M.ring members.now) number head fault) }
 {
-    let Some(links) = members.member(no) else {
+    let Some(links) = members.member(number) else {
         return Err(RingFault::NoSuchNode);
     };
     if head >= members.count() {
@@ -47,14 +47,14 @@ pub fn stabilise_in<M: MemberReader>(
 /// A member's links after it took a nearer live node as its first entry.
 pub fn take_candidate_in<M: MemberReader>(
     members: &M,
-    no: u64,
+    number: u64,
     peer: u64,
 ) -> Result<Links, RingFault>
-    ensures done { IfOk result (λ links. TakesCandidate (M.ring members.now) no peer (with_links (M.ring members.now) no links)) }
-    ensures own { IfOk result (λ links. AreOwn (M.ring members.now) no links) }
-    ensures fault { IfErr result (λ fault. CandidateRefused (M.ring members.now) no peer fault) }
+    ensures done { IfOk result (λ links. TakesCandidate (M.ring members.now) number peer (with_links (M.ring members.now) number links)) }
+    ensures own { IfOk result (λ links. AreOwn (M.ring members.now) number links) }
+    ensures fault { IfErr result (λ fault. CandidateRefused (M.ring members.now) number peer fault) }
 {
-    let Some(links) = members.member(no) else {
+    let Some(links) = members.member(number) else {
         return Err(RingFault::NoSuchNode);
     };
     if peer >= members.count() {
@@ -69,16 +69,16 @@ pub fn take_candidate_in<M: MemberReader>(
 }
 
 /// A member's links after it dropped its dead first entry.
-pub fn drop_dead_in<M: MemberReader>(members: &M, no: u64) -> Result<Links, RingFault>
-    ensures done { IfOk result (λ links. DropsDead (M.ring members.now) no (with_links (M.ring members.now) no links)) }
-    ensures own { IfOk result (λ links. AreOwn (M.ring members.now) no links) }
-    ensures fault { IfErr result (λ fault. DropRefused (M.ring members.now) no fault) }
+pub fn drop_dead_in<M: MemberReader>(members: &M, number: u64) -> Result<Links, RingFault>
+    ensures done { IfOk result (λ links. DropsDead (M.ring members.now) number (with_links (M.ring members.now) number links)) }
+    ensures own { IfOk result (λ links. AreOwn (M.ring members.now) number links) }
+    ensures fault { IfErr result (λ fault. DropRefused (M.ring members.now) number fault) }
 {
-    let Some(links) = members.member(no) else {
+    let Some(links) = members.member(number) else {
         return Err(RingFault::NoSuchNode);
     };
     let mut links = *links;
-    let live = members.member(links.first().no).is_some();
+    let live = members.member(links.first().number).is_some();
     drop_dead(&mut links, live).map_err(RingFault::Drop)?;
     Ok(links)
 }
@@ -87,15 +87,15 @@ pub fn drop_dead_in<M: MemberReader>(members: &M, no: u64) -> Result<Links, Ring
 /// may be its predecessor, and whether that now is.
 pub fn rectify_in<M: MemberReader>(
     members: &M,
-    no: u64,
+    number: u64,
     notifier: u64,
 ) -> Result<(Links, bool), RingFault>
-    ensures done { IfOk result (λ did. Rectifies (M.ring members.now) no notifier (with_links (M.ring members.now) no did.0)) }
-    ensures own { IfOk result (λ did. AreOwn (M.ring members.now) no did.0) }
-    ensures answer { IfOk result (λ did. GaveWay (M.ring members.now) no notifier did.1) }
-    ensures fault { IfErr result (λ fault. RectifyRefused (M.ring members.now) no notifier fault) }
+    ensures done { IfOk result (λ did. Rectifies (M.ring members.now) number notifier (with_links (M.ring members.now) number did.0)) }
+    ensures own { IfOk result (λ did. AreOwn (M.ring members.now) number did.0) }
+    ensures answer { IfOk result (λ did. GaveWay (M.ring members.now) number notifier did.1) }
+    ensures fault { IfErr result (λ fault. RectifyRefused (M.ring members.now) number notifier fault) }
 {
-    let Some(links) = members.member(no) else {
+    let Some(links) = members.member(number) else {
         return Err(RingFault::NoSuchNode);
     };
     let Some(theirs) = members.member(notifier) else {

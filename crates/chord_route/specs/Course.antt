@@ -10,7 +10,7 @@ use Rattle.chord_route.specs.Hops.{IsNextHop}
 abbrev pub Forwards : (ℕ → Option NodeLinks → Type 0) → ℕ → ℕ → NodeLinks → NodeLinks → Type 0
 Forwards answers target zero from to = from ≡ to
 Forwards answers target (suc n) from to =
-    (between : NodeLinks) × Forwards answers target n from between × ((node : Peer) × IsNextHop between target (Near node) × answers node.no (Some to))
+    (between : NodeLinks) × Forwards answers target n from between × ((node : Peer) × IsNextHop between target (Near node) × answers node.number (Some to))
 
 -- n forwards of the lookup lead from the node of this number to these links
 pub record ComesTo (answers : ℕ → Option NodeLinks → Type 0) (from target n : ℕ) (here : NodeLinks) : Type 0 where
@@ -31,4 +31,4 @@ pub record IsUnsettled (answers : ℕ → Option NodeLinks → Type 0) (from tar
   pub n : ℕ
   pub here : NodeLinks
   pub comes : ComesTo answers from target n here
-  pub stops : (n ≡ limit) ⊎ ((node : Peer) × IsNextHop here target (Near node) × answers node.no None)
+  pub stops : (n ≡ limit) ⊎ ((node : Peer) × IsNextHop here target (Near node) × answers node.number None)

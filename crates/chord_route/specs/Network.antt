@@ -7,14 +7,14 @@ use Rattle.chord_route.specs.IdealRing.{IsRing, IsSettled, IsIdeal}
 -- the table has each node of the ring under its number, below the limit, with ideal links
 pub record IsIdealNetwork (ring : List Peer) (table : ℕ → Option NodeLinks) (limit : ℕ) : Type 0 where
   pub on_circle : IsRing ring
-  pub below : (node : Peer) → Contains ring node → node.no < limit
-  pub ideal : (node : Peer) → Contains ring node → (links : NodeLinks) × (table node.no ≡ Some links) × (links.me ≡ node) × IsIdeal ring links
+  pub below : (node : Peer) → Contains ring node → node.number < limit
+  pub ideal : (node : Peer) → Contains ring node → (links : NodeLinks) × (table node.number ≡ Some links) × (links.me ≡ node) × IsIdeal ring links
 
 -- the table has each node of the ring with settled links: fingers may be missing or stale
 pub record IsSettledNetwork (ring : List Peer) (table : ℕ → Option NodeLinks) (limit : ℕ) : Type 0 where
   pub on_circle : IsRing ring
-  pub below : (node : Peer) → Contains ring node → node.no < limit
-  pub settled : (node : Peer) → Contains ring node → (links : NodeLinks) × (table node.no ≡ Some links) × (links.me ≡ node) × IsSettled ring links
+  pub below : (node : Peer) → Contains ring node → node.number < limit
+  pub settled : (node : Peer) → Contains ring node → (links : NodeLinks) × (table node.number ≡ Some links) × (links.me ≡ node) × IsSettled ring links
 
 -- every answer that may be given is the table's
 abbrev pub AnswersAs : (ℕ → Option NodeLinks → Type 0) → (ℕ → Option NodeLinks) → Type 0
@@ -27,7 +27,7 @@ pub record ReadsSettledRing (answers : ℕ → Option NodeLinks → Type 0) (slo
   pub answered : AnswersAs answers table
   pub start : Peer
   pub member : Contains ring start
-  pub number : start.no ≡ from
+  pub number : start.number ≡ from
 
 -- a reader whose answers do not change, from a member of an ideal ring
 pub record ReadsIdealRing (answers : ℕ → Option NodeLinks → Type 0) (slots from : ℕ) (ring : List Peer) : Type 0 where
@@ -36,4 +36,4 @@ pub record ReadsIdealRing (answers : ℕ → Option NodeLinks → Type 0) (slots
   pub answered : AnswersAs answers table
   pub start : Peer
   pub member : Contains ring start
-  pub number : start.no ≡ from
+  pub number : start.number ≡ from

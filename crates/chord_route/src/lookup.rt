@@ -21,8 +21,8 @@ pub trait LinkReader {
     ghost slot_count: { Self → ℕ };
 
     /// The links of the node of this number, if there is one.
-    fn links(&self, no: u64) -> Option<Links>
-        ensures { answers self.now no result };
+    fn links(&self, number: u64) -> Option<Links>
+        ensures { answers self.now number result };
 
     /// A number that all nodes' numbers are below.
     fn slots(&self) -> u64
@@ -57,7 +57,7 @@ fn look_up<R: LinkReader>(reader: &R, from: u64, target: Id) -> Result<Links, Lo
     for forwards in 0..2 * u128::from(reader.slots()) {
         match next_hop(&here, target) {
             Hop::Last(_) => return Ok(here),
-            Hop::Near(peer) => match reader.links(peer.no) {
+            Hop::Near(peer) => match reader.links(peer.number) {
                 Some(links) => here = links,
                 None => return Err(LookupFault::Unsettled),
             },

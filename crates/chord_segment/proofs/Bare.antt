@@ -6,20 +6,20 @@ use Rattle.chord_map.proofs.Each.{Each, Each-filter}
 use Rattle.chord_map.specs.declared.done.Done.{Done}
 use Rattle.chord_segment.specs.declared.mark.Mark.{Mark}
 use Rattle.chord_segment.specs.Segment.{dones_inside}
-use Rattle.chord_segment.specs.Callers.{OfCaller, mark_in, marks_in, calls_in, IsOwn, IsGrouped, bare, part_in}
+use Rattle.chord_segment.specs.Callers.{OfCaller, mark_in, marks_in, calls_in, IsOwn, IsGrouped, without_room, part_in}
 
 -- the lists are equal entry by entry, except for the room
 abbrev pub AreSame : List OfCaller → List OfCaller → Type 0
 AreSame [] [] = Unit {0}
 AreSame [] (y ∷ ys) = ⊥
 AreSame (x ∷ xs) [] = ⊥
-AreSame (x ∷ xs) (y ∷ ys) = (bare x ≡ bare y) × AreSame xs ys
+AreSame (x ∷ xs) (y ∷ ys) = (without_room x ≡ without_room y) × AreSame xs ys
 
 pub same_itself : (xs : List OfCaller) → AreSame xs xs
 same_itself [] = tt
 same_itself (x ∷ xs) = (refl, same_itself xs)
 
-pub same_push : (xs ys : List OfCaller) (x y : OfCaller) → AreSame xs ys → bare x ≡ bare y → AreSame (xs ++ x ∷ []) (ys ++ y ∷ [])
+pub same_push : (xs ys : List OfCaller) (x y : OfCaller) → AreSame xs ys → without_room x ≡ without_room y → AreSame (xs ++ x ∷ []) (ys ++ y ∷ [])
 same_push [] [] x y h e = (e, tt)
 same_push [] (b ∷ ys) x y h e = absurd h
 same_push (a ∷ xs) [] x y h e = absurd h
@@ -43,13 +43,13 @@ same_above n [] (b ∷ ys) h a = absurd h
 same_above n (x ∷ xs) [] h a = absurd h
 same_above n (x ∷ xs) (y ∷ ys) h a = (subst (λ k. n < k) (sym (ap (λ (o : OfCaller). o.caller) h.0)) a.0, same_above n xs ys h.1 a.1)
 
-own_bare : (x : OfCaller) → IsOwn x → IsOwn (bare x)
+own_bare : (x : OfCaller) → IsOwn x → IsOwn (without_room x)
 own_bare x o = record { own_calls = o.own_calls; no_floor = o.no_floor; no_calls = o.no_calls }
 
-own_back : (x : OfCaller) → IsOwn (bare x) → IsOwn x
+own_back : (x : OfCaller) → IsOwn (without_room x) → IsOwn x
 own_back x o = record { own_calls = o.own_calls; no_floor = o.no_floor; no_calls = o.no_calls }
 
-pub bare_is : (x y : OfCaller) → x.caller ≡ y.caller → x.floor ≡ y.floor → x.kept ≡ y.kept → x.shown ≡ y.shown → bare x ≡ bare y
+pub bare_is : (x y : OfCaller) → x.caller ≡ y.caller → x.floor ≡ y.floor → x.kept ≡ y.kept → x.shown ≡ y.shown → without_room x ≡ without_room y
 bare_is x y e f k s = λ i. record { caller = e i; floor = f i; kept = k i; shown = s i; room = 0 }
 
 pub mark_same : (x y : OfCaller) → x.caller ≡ y.caller → x.floor ≡ y.floor → x.kept ≡ y.kept → x.shown ≡ y.shown → mark_in x ≡ mark_in y
@@ -59,7 +59,7 @@ mark_same x y e f k s = ap mark_in (bare_is x y e f k s)
 pub hidden_own : (x : OfCaller) → x.floor ≡ 0 → x.kept ≡ [] → IsOwn x
 hidden_own x f k = record { own_calls = subst (Each (λ (done : Done). done.caller ≡ x.caller)) (sym k) tt; no_floor = λ e. f; no_calls = λ e. k }
 
-pub own_same : (x y : OfCaller) → bare x ≡ bare y → IsOwn y → IsOwn x
+pub own_same : (x y : OfCaller) → without_room x ≡ without_room y → IsOwn y → IsOwn x
 own_same x y e o = own_back x (subst IsOwn (sym e) (own_bare y o))
 
 pub same_grouped : (xs ys : List OfCaller) → AreSame xs ys → IsGrouped ys → IsGrouped xs
@@ -129,7 +129,7 @@ length-parted_upto span (suc i) [] = refl
 length-parted_upto span (suc i) (x ∷ xs) = ap suc (length-parted_upto span i xs)
 
 parted_one : (span : Span) (items xs : List OfCaller) (i : ℕ) (d new : OfCaller) → AreSame items (parted_upto span i xs) → i < length xs
-    → bare new ≡ part_in span (get_or items i d) → AreSame (set items i new) (parted_upto span (suc i) xs)
+    → without_room new ≡ part_in span (get_or items i d) → AreSame (set items i new) (parted_upto span (suc i) xs)
 parted_one span items [] i d new h s e = absurd (omega arith)
 parted_one span [] (x ∷ xs) zero d new h s e = absurd h
 parted_one span [] (x ∷ xs) (suc i) d new h s e = absurd h
@@ -137,7 +137,7 @@ parted_one span (a ∷ items) (x ∷ xs) zero d new h s e = (e ∙ ap (part_in s
 parted_one span (a ∷ items) (x ∷ xs) (suc i) d new h s e = (h.0, parted_one span items xs i d new h.1 (omega arith) e)
 
 pub parted_more : (span : Span) (items xs : List OfCaller) (i : ℕ) (d new : OfCaller) → AreSame items (parted_upto span i xs) → i < length xs
-    → bare new ≡ part_in span (get_or items i d) → AreSame (set items i new) (parted_upto span (i + 1) xs)
+    → without_room new ≡ part_in span (get_or items i d) → AreSame (set items i new) (parted_upto span (i + 1) xs)
 parted_more span items xs i d new h s e = rw add-one (parted_one span items xs i d new h s e)
 
 pub parted_all : (span : Span) (i : ℕ) (xs : List OfCaller) → length xs ≤ i → parted_upto span i xs ≡ map (part_in span) xs
@@ -155,6 +155,6 @@ pub take_next : (xs : List OfCaller) (i : ℕ) (d : OfCaller) → i < length xs 
 take_next xs i d s = rw add-one (take_more xs i d s)
 
 -- one more copy
-pub same_next : (copies xs : List OfCaller) (i : ℕ) (d copy : OfCaller) → AreSame copies (take i xs) → i < length xs → bare copy ≡ bare (get_or xs i d)
+pub same_next : (copies xs : List OfCaller) (i : ℕ) (d copy : OfCaller) → AreSame copies (take i xs) → i < length xs → without_room copy ≡ without_room (get_or xs i d)
     → AreSame (copies ++ copy ∷ []) (take (i + 1) xs)
 same_next copies xs i d copy h s e = subst (AreSame (copies ++ copy ∷ [])) (sym (take_next xs i d s)) (same_push copies (take i xs) copy (get_or xs i d) h e)

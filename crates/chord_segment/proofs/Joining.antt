@@ -11,8 +11,8 @@ use Rattle.chord_map.proofs.Each.{Each-filter, Each-map}
 use Rattle.chord_map.specs.declared.done.Done.{Done}
 use Rattle.chord_map.specs.History.{done_at, EachOnce}
 use Rattle.chord_segment.specs.Marks.{lift_all}
-use Rattle.chord_segment.specs.Segment.{Segment, id_of, above, placed, placed_all, span_joined, joined, stands_twice}
-use Rattle.chord_segment.specs.declared.fault.JoinFault.{JoinFault}
+use Rattle.chord_segment.specs.Segment.{Segment, id_of, calls_above, insert_call, insert_calls, span_joined, joined_segment, stands_twice}
+use Rattle.chord_segment.specs.declared.fault.SegmentJoinFault.{SegmentJoinFault}
 use Rattle.chord_segment.specs.Join.{JoinIs}
 use Rattle.chord_segment.specs.Rules.{IsNear, IsSegment}
 use Rattle.chord_segment.proofs.Lifting.{lift_all_grows, lift_all_reaches}
@@ -32,21 +32,21 @@ find_none_each p (y ∷ ys) e = let h = none_each_step p (p y) y (find p ys) e i
 abbrev NoneIn : List Done → List Done → Type 0
 NoneIn first second = Each (λ (d : Done). done_at d.caller d.number first ≡ None) second
 
-none_placed : (xs : List Done) (y : Done) (ys : List Done) → NoneIn xs ys → Each (λ (d : Done). (eqb d.caller y.caller && eqb d.number y.number) ≡ false) ys → NoneIn (placed y xs) ys
+none_placed : (xs : List Done) (y : Done) (ys : List Done) → NoneIn xs ys → Each (λ (d : Done). (eqb d.caller y.caller && eqb d.number y.number) ≡ false) ys → NoneIn (insert_call y xs) ys
 unfolding done_at
 none_placed xs y [] h k = tt
 none_placed xs y (d ∷ ys) h k = (find-placed_none _ xs y h.0 (other_way d.caller y.caller d.number y.number k.0), none_placed xs y ys h.1 k.1)
 
-pub EachOnce_placed_all : (more xs : List Done) → EachOnce xs → EachOnce more → NoneIn xs more → EachOnce (placed_all more xs)
-unfolding done_at placed_all
+pub EachOnce_placed_all : (more xs : List Done) → EachOnce xs → EachOnce more → NoneIn xs more → EachOnce (insert_calls more xs)
+unfolding done_at insert_calls
 EachOnce_placed_all [] xs hx hy h = hx
 EachOnce_placed_all (y ∷ more) xs hx hy h =
-    EachOnce_placed_all more (placed y xs) (EachOnce_placed xs y hx h.0) hy.1 (none_placed xs y more h.1 (find_none_each _ more hy.0))
+    EachOnce_placed_all more (insert_call y xs) (EachOnce_placed xs y hx h.0) hy.1 (none_placed xs y more h.1 (find_none_each _ more hy.0))
 
-pub Each_placed_all : (P : Done → Type 0) (more xs : List Done) → Each P xs → Each P more → Each P (placed_all more xs)
-unfolding placed_all
+pub Each_placed_all : (P : Done → Type 0) (more xs : List Done) → Each P xs → Each P more → Each P (insert_calls more xs)
+unfolding insert_calls
 Each_placed_all P [] xs hx hy = hx
-Each_placed_all P (y ∷ more) xs hx hy = Each_placed_all P more (placed y xs) (Each_placed P xs y hx hy.0) hy.1
+Each_placed_all P (y ∷ more) xs hx hy = Each_placed_all P more (insert_call y xs) (Each_placed P xs y hx hy.0) hy.1
 
 twice_step : (o : Option Done) (b : Bool) → (is_some o || b) ≡ false → (o ≡ None) × (b ≡ false)
 twice_step None b e = (refl, e)
@@ -70,27 +70,27 @@ in_whole_second : (after at upto : Id) (x : ℕ) → x < 2 ^ 128 → Splits afte
 in_whole_second after at upto x below splits h =
     (in_span_is (record { after = after; upto = upto }) x).1 ((splits.together x below).1 (inr ((in_span_is (record { after = at; upto = upto }) x).0 h)))
 
--- what holds of `joined`
+-- what holds of `joined_segment`
 pub joined-rules : (first second : Segment) → IsSegment first → IsSegment second → Splits first.span.after.number first.span.upto.number second.span.upto.number
-    → first.span.upto ≡ second.span.after → stands_twice first.kept second.kept ≡ false → IsSegment (joined first second)
-unfolding joined above
+    → first.span.upto ≡ second.span.after → stands_twice first.kept second.kept ≡ false → IsSegment (joined_segment first second)
+unfolding joined_segment calls_above
 joined-rules first second h k splits e once =
     let floors = lift_all second.floors first.floors in
     let whole = span_joined first.span second.span in
     let Inside : Done → Type 0 = λ d. in_span whole (id_of d.request) ≡ true in
     let below = λ (d : Done). key_id-below (key_of d.request) in
     record {
-      inside = Each-filter Inside _ (placed_all second.kept first.kept) (Each_placed_all Inside second.kept first.kept
+      inside = Each-filter Inside _ (insert_calls second.kept first.kept) (Each_placed_all Inside second.kept first.kept
           (Each-map (λ (d : Done). in_span first.span (id_of d.request) ≡ true) Inside (λ d t. in_whole_first first.span.after first.span.upto second.span.upto (id_of d.request) (below d) splits t) first.kept h.inside)
           (Each-map (λ (d : Done). in_span second.span (id_of d.request) ≡ true) Inside (λ d t. in_whole_second first.span.after first.span.upto second.span.upto (id_of d.request) (below d) splits (ap (λ (n : Id). in_span (record { after = n; upto = second.span.upto }) (id_of d.request)) e ∙ t)) second.kept k.inside));
-      near = near_above floors (placed_all second.kept first.kept) (Each_placed_all (IsClose floors) second.kept first.kept
+      near = near_above floors (insert_calls second.kept first.kept) (Each_placed_all (IsClose floors) second.kept first.kept
           (Each-map (IsNear first.floors) (IsClose floors) (λ (d : Done) n. let g = lift_all_grows d.caller second.floors first.floors in let m = n.near in omega arith) first.kept h.near)
           (Each-map (IsNear second.floors) (IsClose floors) (λ (d : Done) n. let g = lift_all_reaches d.caller second.floors first.floors in let m = n.near in omega arith) second.kept k.near));
-      once = EachOnce-filter _ (placed_all second.kept first.kept) (EachOnce_placed_all second.kept first.kept h.once k.once (none_twice first.kept second.kept once));
+      once = EachOnce-filter _ (insert_calls second.kept first.kept) (EachOnce_placed_all second.kept first.kept h.once k.once (none_twice first.kept second.kept once));
     }
 
 -- `join_is` up to equal segments
-pub join_is : (first second first' second' : Segment) → first ≡ first' → second ≡ second' → (result : Result (Unit {0}) JoinFault) (new : Segment)
+pub join_is : (first second first' second' : Segment) → first ≡ first' → second ≡ second' → (result : Result (Unit {0}) SegmentJoinFault) (new : Segment)
     → JoinIs first second result new → JoinIs first' second' result new
 join_is first second first' second' e f result new h =
     let P : Segment → Type 0 = λ s. JoinIs s second' result new in

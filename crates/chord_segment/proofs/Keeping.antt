@@ -8,7 +8,7 @@ use Rattle.chord_map.proofs.Each.{Each, Each-append, Each-map, Each-filter}
 use Rattle.chord_map.specs.declared.done.Done.{Done}
 use Rattle.chord_segment.specs.declared.mark.Mark.{Mark}
 use Rattle.chord_segment.specs.Marks.{mark_of, lift}
-use Rattle.chord_segment.specs.Segment.{placed, placed_all, above}
+use Rattle.chord_segment.specs.Segment.{insert_call, insert_calls, calls_above}
 use Rattle.chord_segment.specs.Callers.{OfCaller, mark_in, marks_in, calls_in, IsOwn, IsGrouped, IsOwnAt, AreAbove}
 use Rattle.chord_segment.proofs.Lifting.{mark_lifted, lifted_other}
 use Rattle.chord_segment.proofs.SegmentRules.{filter_agree}
@@ -93,17 +93,17 @@ own_floors caller floor xs i d new g s e f shown h =
 
 -- ---- more calls
 
-placed_past : (done : Done) (xs ys : List Done) → Each (λ (x : Done). x.caller ≤ done.caller) xs → placed done (xs ++ ys) ≡ xs ++ placed done ys
-unfolding placed
+placed_past : (done : Done) (xs ys : List Done) → Each (λ (x : Done). x.caller ≤ done.caller) xs → insert_call done (xs ++ ys) ≡ xs ++ insert_call done ys
+unfolding insert_call
 placed_past done [] ys h = refl
 placed_past done (x ∷ xs) ys h =
-    cond-false (ltb done.caller x.caller) (done ∷ x ∷ (xs ++ ys)) (x ∷ placed done (xs ++ ys)) (le-ltb done.caller x.caller h.0)
+    cond-false (ltb done.caller x.caller) (done ∷ x ∷ (xs ++ ys)) (x ∷ insert_call done (xs ++ ys)) (le-ltb done.caller x.caller h.0)
     ∙ ap (λ (zs : List Done). x ∷ zs) (placed_past done xs ys h.1)
 
-placed_front : (done : Done) (ys : List Done) → Each (λ (y : Done). done.caller < y.caller) ys → placed done ys ≡ done ∷ ys
-unfolding placed
+placed_front : (done : Done) (ys : List Done) → Each (λ (y : Done). done.caller < y.caller) ys → insert_call done ys ≡ done ∷ ys
+unfolding insert_call
 placed_front done [] h = refl
-placed_front done (y ∷ ys) h = cond-true (ltb done.caller y.caller) (done ∷ y ∷ ys) (y ∷ placed done ys) (lt-ltb done.caller y.caller h.0)
+placed_front done (y ∷ ys) h = cond-true (ltb done.caller y.caller) (done ∷ y ∷ ys) (y ∷ insert_call done ys) (lt-ltb done.caller y.caller h.0)
 
 abbrev Before : ℕ → List Done → Type 0
 Before caller dones = Each (λ (x : Done). x.caller < caller) dones
@@ -115,7 +115,7 @@ abbrev Behind : ℕ → List Done → Type 0
 Behind caller dones = Each (λ (x : Done). caller < x.caller) dones
 
 placed_here : (caller : ℕ) (done : Done) (lows own highs : List Done) → done.caller ≡ caller → Before caller lows → Owning caller own → Behind caller highs
-    → placed done (lows ++ (own ++ highs)) ≡ lows ++ ((own ++ done ∷ []) ++ highs)
+    → insert_call done (lows ++ (own ++ highs)) ≡ lows ++ ((own ++ done ∷ []) ++ highs)
 placed_here caller done lows own highs e b o a =
     placed_past done lows (own ++ highs) (Each-map (λ (x : Done). x.caller < caller) (λ (x : Done). x.caller ≤ done.caller) (λ x l. omega arith) lows b)
     ∙ ap (λ (zs : List Done). lows ++ zs)
@@ -125,12 +125,12 @@ placed_here caller done lows own highs e b o a =
 
 -- the calls of lesser callers, of this caller, and of greater callers
 pub placed_between : (caller : ℕ) (dones lows own highs : List Done) → Owning caller dones → Before caller lows → Owning caller own → Behind caller highs
-    → placed_all dones (lows ++ (own ++ highs)) ≡ lows ++ ((own ++ dones) ++ highs)
-unfolding placed_all
+    → insert_calls dones (lows ++ (own ++ highs)) ≡ lows ++ ((own ++ dones) ++ highs)
+unfolding insert_calls
 placed_between caller [] lows own highs n b o a = ap (λ (zs : List Done). lows ++ (zs ++ highs)) (sym (append-nil own))
 placed_between caller (done ∷ dones) lows own highs n b o a =
     let here : Owning caller (done ∷ []) = (n.0, tt) in
-    ap (placed_all dones) (placed_here caller done lows own highs n.0 b o a)
+    ap (insert_calls dones) (placed_here caller done lows own highs n.0 b o a)
     ∙ placed_between caller dones lows (own ++ done ∷ []) highs n.1 b (Each-append (λ (x : Done). x.caller ≡ caller) own (done ∷ []) o here) a
     ∙ ap (λ (zs : List Done). lows ++ (zs ++ highs)) (append_assoc own (done ∷ []) dones)
 
@@ -152,9 +152,9 @@ each_right P (x ∷ xs) ys h = each_right P xs ys h.1
 -- the other callers' calls stay, and the caller's own are those above the greater floor
 call_between : (caller floor : ℕ) (marks : List Mark) (dones lows own highs : List Done) → Owning caller dones
     → Before caller lows → Owning caller own → Behind caller highs → Each (Near marks) lows → Each (Near marks) highs
-    → above (lift caller floor marks) (placed_all dones (lows ++ (own ++ highs)))
+    → calls_above (lift caller floor marks) (insert_calls dones (lows ++ (own ++ highs)))
     ≡ lows ++ (filter (λ (x : Done). ltb (max (mark_of caller marks) floor) x.number) (own ++ dones) ++ highs)
-unfolding above
+unfolding calls_above
 call_between caller floor marks dones lows own highs n b o a near_lows near_highs =
     let floors : List Mark = lift caller floor marks in
     let p : Done → Bool = λ x. ltb (mark_of x.caller floors) x.number in
@@ -177,7 +177,7 @@ call_between caller floor marks dones lows own highs n b o a near_lows near_high
 pub own_calls : (caller floor : ℕ) (dones : List Done) (xs : List OfCaller) (i : ℕ) (d new : OfCaller) → IsGrouped xs → i < length xs → (get_or xs i d).caller ≡ caller
     → Owning caller dones → new.kept ≡ filter (λ (x : Done). ltb (max (get_or xs i d).floor floor) x.number) ((get_or xs i d).kept ++ dones)
     → AreAbove xs
-    → calls_in (set xs i new) ≡ above (lift caller floor (marks_in xs)) (placed_all dones (calls_in xs))
+    → calls_in (set xs i new) ≡ calls_above (lift caller floor (marks_in xs)) (insert_calls dones (calls_in xs))
 own_calls caller floor dones xs i d new g s e n h near =
     let own = get_or xs i d in
     let lows = take i xs in
@@ -196,7 +196,7 @@ own_calls caller floor dones xs i d new g s e n h near =
     (each_right (Near marks) own.kept (calls_in highs) (each_right (Near marks) (calls_in lows) (own.kept ++ calls_in highs) near_all)) in
     ap calls_in (set_split xs i new s) ∙ calls-append lows (new ∷ highs)
     ∙ ap (λ (ds : List Done). calls_in lows ++ (ds ++ calls_in highs)) (h ∙ ap (λ (k : ℕ). filter (λ (x : Done). ltb (max k floor) x.number) (own.kept ++ dones)) (sym (own_floor caller xs i d g s e)))
-    ∙ sym between ∙ ap (λ (ds : List Done). above (lift caller floor marks) (placed_all dones ds)) (sym parts)
+    ∙ sym between ∙ ap (λ (ds : List Done). calls_above (lift caller floor marks) (insert_calls dones ds)) (sym parts)
 
 -- an entry that took calls has only its own caller's
 took_own : (own new : OfCaller) (p : Done → Bool) (dones : List Done) → IsOwn own → new.caller ≡ own.caller → Owning own.caller dones → new.shown ≡ true
@@ -214,12 +214,12 @@ took_own own new p dones o e n shown h =
 pub record Took (caller floor : ℕ) (dones : List Done) (old new : List OfCaller) : Type 0 where
   pub grouped : IsGrouped new
   pub floors : marks_in new ≡ lift caller floor (marks_in old)
-  pub calls : calls_in new ≡ above (lift caller floor (marks_in old)) (placed_all dones (calls_in old))
+  pub calls : calls_in new ≡ calls_above (lift caller floor (marks_in old)) (insert_calls dones (calls_in old))
 
 pub took_at : (caller floor : ℕ) (dones : List Done) (xs : List OfCaller) (i : ℕ) (own new : OfCaller) → IsGrouped xs → IsOwnAt caller xs i → own ≡ get_or xs i own
     → Owning caller dones → AreAbove xs → new.caller ≡ own.caller → new.floor ≡ max own.floor floor → new.shown ≡ true
     → new.kept ≡ filter (λ (x : Done). ltb (max own.floor floor) x.number) (own.kept ++ dones) → Took caller floor dones xs (set xs i new)
-took_at caller floor dones xs i own new g at is n above e f shown h =
+took_at caller floor dones xs i own new g at is n calls_above e f shown h =
     let here : OfCaller = get_or xs i own in
     let o : IsOwn here = each_at IsOwn xs i own (owned xs g) at.in_range in
     let same : new.caller ≡ here.caller = e ∙ ap (λ (k : OfCaller). k.caller) is in
@@ -229,5 +229,5 @@ took_at caller floor dones xs i own new g at is n above e f shown h =
       grouped = grouped-set xs i own new g at.in_range (sym same)
           (took_own here new (λ (x : Done). ltb (max here.floor floor) x.number) dones o same (subst (λ (k : ℕ). Owning k dones) (sym (at.is_own own)) n) shown kept);
       floors = own_floors caller floor xs i own new g at.in_range (at.is_own own) (same ∙ at.is_own own) shown (f ∙ ap (λ (k : OfCaller). max k.floor floor) is);
-      calls = own_calls caller floor dones xs i own new g at.in_range (at.is_own own) n kept above;
+      calls = own_calls caller floor dones xs i own new g at.in_range (at.is_own own) n kept calls_above;
     }

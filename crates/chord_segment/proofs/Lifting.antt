@@ -6,7 +6,7 @@ use Rattle.chord_map.proofs.Lists.{by_test, Has, has_filter, has_cases}
 use Rattle.chord_map.specs.declared.done.Done.{Done}
 use Rattle.chord_segment.specs.declared.mark.Mark.{Mark}
 use Rattle.chord_segment.specs.Marks.{mark_of, lift, lift_all}
-use Rattle.chord_segment.specs.Segment.{placed, placed_all}
+use Rattle.chord_segment.specs.Segment.{insert_call, insert_calls}
 use Rattle.chord_segment.proofs.SegmentLemmas.{at_head, past_head, max_keeps, EachMark}
 
 -- ---- marks
@@ -136,43 +136,43 @@ placed_step : (b : Bool) (done other : Done) (dones rest : List Done) (x : Done)
 placed_step true done other dones rest x h next = ⊎_elim (λ e. inr e) (λ more. inl more) h
 placed_step false done other dones rest x h next = ⊎_elim (λ e. inl (inl e)) (λ more. ⊎_elim (λ a. inl (inr a)) (λ e. inr e) (next more)) h
 
-pub placed_has : (done : Done) (dones : List Done) (x : Done) → Has (placed done dones) x → Has dones x ⊎ (done ≡ x)
-unfolding placed
+pub placed_has : (done : Done) (dones : List Done) (x : Done) → Has (insert_call done dones) x → Has dones x ⊎ (done ≡ x)
+unfolding insert_call
 placed_has done [] x h = ⊎_elim (λ e. inr e) (λ n. absurd n) h
-placed_has done (other ∷ dones) x h = placed_step (ltb done.caller other.caller) done other dones (placed done dones) x h (placed_has done dones x)
+placed_has done (other ∷ dones) x h = placed_step (ltb done.caller other.caller) done other dones (insert_call done dones) x h (placed_has done dones x)
 
 has_step : (b : Bool) (done other : Done) (dones rest : List Done) (x : Done) → Has (other ∷ dones) x → (Has dones x → Has rest x) → Has (cond b (done ∷ other ∷ dones) (other ∷ rest)) x
 has_step true done other dones rest x h next = inr h
 has_step false done other dones rest x h next = ⊎_elim (λ e. inl e) (λ more. inr (next more)) h
 
-pub has_placed : (done : Done) (dones : List Done) (x : Done) → Has dones x → Has (placed done dones) x
-unfolding placed
+pub has_placed : (done : Done) (dones : List Done) (x : Done) → Has dones x → Has (insert_call done dones) x
+unfolding insert_call
 has_placed done [] x h = absurd h
-has_placed done (other ∷ dones) x h = has_step (ltb done.caller other.caller) done other dones (placed done dones) x h (has_placed done dones x)
+has_placed done (other ∷ dones) x h = has_step (ltb done.caller other.caller) done other dones (insert_call done dones) x h (has_placed done dones x)
 
 itself_step : (b : Bool) (done other : Done) (dones rest : List Done) → Has rest done → Has (cond b (done ∷ other ∷ dones) (other ∷ rest)) done
 itself_step true done other dones rest h = inl refl
 itself_step false done other dones rest h = inr h
 
-pub placed_itself : (done : Done) (dones : List Done) → Has (placed done dones) done
-unfolding placed
+pub placed_itself : (done : Done) (dones : List Done) → Has (insert_call done dones) done
+unfolding insert_call
 placed_itself done [] = inl refl
-placed_itself done (other ∷ dones) = itself_step (ltb done.caller other.caller) done other dones (placed done dones) (placed_itself done dones)
+placed_itself done (other ∷ dones) = itself_step (ltb done.caller other.caller) done other dones (insert_call done dones) (placed_itself done dones)
 
-pub placed_all_has : (more dones : List Done) (x : Done) → Has (placed_all more dones) x → Has dones x ⊎ Has more x
-unfolding placed_all
+pub placed_all_has : (more dones : List Done) (x : Done) → Has (insert_calls more dones) x → Has dones x ⊎ Has more x
+unfolding insert_calls
 placed_all_has [] dones x h = inl h
 placed_all_has (done ∷ more) dones x h =
-    ⊎_elim (λ a. ⊎_elim (λ there. inl there) (λ e. inr (inl e)) (placed_has done dones x a)) (λ b. inr (inr b)) (placed_all_has more (placed done dones) x h)
+    ⊎_elim (λ a. ⊎_elim (λ there. inl there) (λ e. inr (inl e)) (placed_has done dones x a)) (λ b. inr (inr b)) (placed_all_has more (insert_call done dones) x h)
 
-pub has_placed_all : (more dones : List Done) (x : Done) → Has dones x → Has (placed_all more dones) x
-unfolding placed_all
+pub has_placed_all : (more dones : List Done) (x : Done) → Has dones x → Has (insert_calls more dones) x
+unfolding insert_calls
 has_placed_all [] dones x h = h
-has_placed_all (done ∷ more) dones x h = has_placed_all more (placed done dones) x (has_placed done dones x h)
+has_placed_all (done ∷ more) dones x h = has_placed_all more (insert_call done dones) x (has_placed done dones x h)
 
-pub placed_all_itself : (more dones : List Done) (x : Done) → Has more x → Has (placed_all more dones) x
-unfolding placed_all
+pub placed_all_itself : (more dones : List Done) (x : Done) → Has more x → Has (insert_calls more dones) x
+unfolding insert_calls
 placed_all_itself [] dones x h = absurd h
 placed_all_itself (done ∷ more) dones x h =
-    ⊎_elim (λ e. has_placed_all more (placed done dones) x (subst (Has (placed done dones)) e (placed_itself done dones)))
-    (λ rest. placed_all_itself more (placed done dones) x rest) h
+    ⊎_elim (λ e. has_placed_all more (insert_call done dones) x (subst (Has (insert_call done dones)) e (placed_itself done dones)))
+    (λ rest. placed_all_itself more (insert_call done dones) x rest) h

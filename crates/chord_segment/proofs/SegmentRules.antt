@@ -11,7 +11,7 @@ use Rattle.chord_map.specs.declared.done.Done.{Done}
 use Rattle.chord_segment.specs.declared.mark.Mark.{Mark}
 use Rattle.chord_map.specs.History.{done_at, EachOnce}
 use Rattle.chord_segment.specs.Marks.{mark_of, lift}
-use Rattle.chord_segment.specs.Segment.{Segment, past_of, past_at, above, placed, append}
+use Rattle.chord_segment.specs.Segment.{Segment, past_of, past_at, calls_above, insert_call, append}
 use Rattle.chord_segment.specs.Segment.Past.{New, Seen}
 use Rattle.chord_segment.specs.Rules.{IsNear, IsSegment}
 use Rattle.chord_segment.proofs.Lifting.{mark_lifted, lift_grows}
@@ -64,19 +64,19 @@ placed_step : (p : Done → Bool) (b : Bool) (y x : Done) (xs rest : List Done) 
 placed_step p true y x xs rest e h next = rw h e
 placed_step p false y x xs rest e h next = none_step (p x) x (find p xs) (find p rest) e next
 
-pub find-placed_none : (p : Done → Bool) (xs : List Done) (y : Done) → find p xs ≡ None → p y ≡ false → find p (placed y xs) ≡ None
-unfolding placed
+pub find-placed_none : (p : Done → Bool) (xs : List Done) (y : Done) → find p xs ≡ None → p y ≡ false → find p (insert_call y xs) ≡ None
+unfolding insert_call
 find-placed_none p [] y e h = rw h refl
-find-placed_none p (x ∷ xs) y e h = placed_step p (ltb y.caller x.caller) y x xs (placed y xs) e h (λ none. find-placed_none p xs y none h)
+find-placed_none p (x ∷ xs) y e h = placed_step p (ltb y.caller x.caller) y x xs (insert_call y xs) e h (λ none. find-placed_none p xs y none h)
 
 each_step : (P : Done → Type 0) (b : Bool) (y x : Done) (xs rest : List Done) → P y → P x → Each P xs → Each P rest → Each P (cond b (y ∷ x ∷ xs) (x ∷ rest))
 each_step P true y x xs rest hy hx hs hr = (hy, (hx, hs))
 each_step P false y x xs rest hy hx hs hr = (hx, hr)
 
-pub Each_placed : (P : Done → Type 0) (xs : List Done) (y : Done) → Each P xs → P y → Each P (placed y xs)
-unfolding placed
+pub Each_placed : (P : Done → Type 0) (xs : List Done) (y : Done) → Each P xs → P y → Each P (insert_call y xs)
+unfolding insert_call
 Each_placed P [] y hs hy = (hy, tt)
-Each_placed P (x ∷ xs) y hs hy = each_step P (ltb y.caller x.caller) y x xs (placed y xs) hy hs.0 hs.1 (Each_placed P xs y hs.1 hy)
+Each_placed P (x ∷ xs) y hs hy = each_step P (ltb y.caller x.caller) y x xs (insert_call y xs) hy hs.0 hs.1 (Each_placed P xs y hs.1 hy)
 
 -- no call of the list is of that caller and number
 apart_step : (b : Bool) (x : Done) (o : Option Done) → cond b (Some x) o ≡ None → b ≡ false
@@ -91,12 +91,12 @@ once_placed_step false y x xs rest none first more first_rest more_rest = (first
 pub other_way : (a b m n : ℕ) → (eqb a b && eqb m n) ≡ false → (eqb b a && eqb n m) ≡ false
 other_way a b m n h = grind (arith, nat_tests)
 
-pub EachOnce_placed : (xs : List Done) (y : Done) → EachOnce xs → done_at y.caller y.number xs ≡ None → EachOnce (placed y xs)
-unfolding done_at placed
+pub EachOnce_placed : (xs : List Done) (y : Done) → EachOnce xs → done_at y.caller y.number xs ≡ None → EachOnce (insert_call y xs)
+unfolding done_at insert_call
 EachOnce_placed [] y h none = (refl, tt)
 EachOnce_placed (x ∷ xs) y h none =
     let here = apart_step (eqb x.caller y.caller && eqb x.number y.number) x _ none in
-    once_placed_step (ltb y.caller x.caller) y x xs (placed y xs) none h.0 h.1
+    once_placed_step (ltb y.caller x.caller) y x xs (insert_call y xs) none h.0 h.1
     (find-placed_none _ xs y h.0 (other_way x.caller y.caller x.number y.number here))
     (EachOnce_placed xs y h.1 (rest_none (eqb x.caller y.caller && eqb x.number y.number) x _ none))
 
@@ -105,24 +105,24 @@ abbrev pub IsClose : List Mark → Done → Type 0
 IsClose floors done = done.number ≤ mark_of done.caller floors + 16
 
 -- the calls left above the floors are near them
-pub near_above : (floors : List Mark) (dones : List Done) → Each (IsClose floors) dones → Each (IsNear floors) (above floors dones)
-unfolding above
+pub near_above : (floors : List Mark) (dones : List Done) → Each (IsClose floors) dones → Each (IsNear floors) (calls_above floors dones)
+unfolding calls_above
 near_above floors dones h =
     Each_filter_with (IsClose floors) (IsNear floors) _ (λ done close test. record { above = ltb-true _ _ test; near = close }) dones h
 
 -- what holds after `append`
 pub append-rules : (done : Done) (floor : ℕ) (segment : Segment) → IsSegment segment → in_span segment.span (id_of done.request) ≡ true
     → past_at done.caller done.number segment ≡ New → done.number ≤ floor + 16 → IsSegment (append done floor segment)
-unfolding append above
+unfolding append calls_above
 append-rules done floor segment h key new near =
     let floors = lift done.caller floor segment.floors in
     let news = new_is done.caller done.number segment new in
     let grown : (other : ℕ) → mark_of other segment.floors ≤ mark_of other floors = λ other. lift_grows other done.caller floor segment.floors in
     let close : IsClose floors done = rw (mark_lifted done.caller floor segment.floors) (omega arith) in
     record {
-      inside = Each-filter _ _ (placed done segment.kept) (Each_placed _ segment.kept done h.inside key);
-      near = near_above floors (placed done segment.kept) (Each_placed _ segment.kept done (Each-map (IsNear segment.floors) (IsClose floors) (λ (d : Done) n. let g = grown d.caller in let k = n.near in omega arith) segment.kept h.near) close);
-      once = EachOnce-filter _ (placed done segment.kept) (EachOnce_placed segment.kept done h.once news.1);
+      inside = Each-filter _ _ (insert_call done segment.kept) (Each_placed _ segment.kept done h.inside key);
+      near = near_above floors (insert_call done segment.kept) (Each_placed _ segment.kept done (Each-map (IsNear segment.floors) (IsClose floors) (λ (d : Done) n. let g = grown d.caller in let k = n.near in omega arith) segment.kept h.near) close);
+      once = EachOnce-filter _ (insert_call done segment.kept) (EachOnce_placed segment.kept done h.once news.1);
     }
 
 -- two tests that agree on a list filter it alike

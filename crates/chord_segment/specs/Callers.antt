@@ -66,8 +66,8 @@ IsEntry caller (Some own) callers =
     (mark_of caller (marks_in callers) ≡ own.floor) × ((number : ℕ) → done_at caller number (calls_in callers) ≡ done_at caller number own.kept)
 
 -- the entry with its room set to 0
-abbrev pub bare : OfCaller → OfCaller
-bare own = record { caller = own.caller; floor = own.floor; kept = own.kept; shown = own.shown; room = 0 }
+abbrev pub without_room : OfCaller → OfCaller
+without_room own = record { caller = own.caller; floor = own.floor; kept = own.kept; shown = own.shown; room = 0 }
 
 -- the entry with only its calls in the span, and room 0
 abbrev pub part_in : Span → OfCaller → OfCaller

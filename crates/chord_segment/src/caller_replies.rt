@@ -4,7 +4,7 @@ ghost use Rattle.std.specs.Option.{option_copied};
 ghost use Rattle.chord_map.specs.declared.done.Done.{Done as DoneOf};
 ghost use Rattle.chord_map.specs.History.{done_at};
 ghost use Rattle.chord_segment.specs.Segment.{stands_twice};
-ghost use Rattle.chord_segment.specs.Callers.{IsTwin, bare, part_in};
+ghost use Rattle.chord_segment.specs.Callers.{IsTwin, without_room, part_in};
 
 use crate::dones::{any_twice, keep_inside, same_dones};
 use chord_ident::Span;
@@ -142,7 +142,7 @@ impl CallerReplies {
 
     /// An equal copy.
     pub fn try_copy(&self) -> Result<CallerReplies, AllocError>
-        ensures { IfOk result (λ copy. bare copy ≡ bare self.now) }
+        ensures { IfOk result (λ copy. without_room copy ≡ without_room self.now) }
     {
         let kept = copy_dones(*self.kept.allocator(), &self.kept)?;
         Ok(CallerReplies {
@@ -155,7 +155,7 @@ impl CallerReplies {
 
     /// Drops the calls whose keys lie outside the span.
     pub fn keep_inside(&mut self, span: Span)
-        ensures { bare self.new ≡ part_in span self.old }
+        ensures { without_room self.new ≡ part_in span self.old }
     {
         keep_inside(&mut self.kept, span);
     }

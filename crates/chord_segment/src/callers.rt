@@ -2,7 +2,7 @@
 ghost use Rattle.std.specs.Prelude.{◌≡◌, ◌≢◌, ◌↔◌, ◌≤◌, ℕ, [], length, IsTrue, IsOk, IfOk, IfErr, OnOk};
 ghost use Rattle.std.specs.Option.{option_copied};
 ghost use Rattle.chord_segment.specs.Marks.{lift, lift_all};
-ghost use Rattle.chord_segment.specs.Segment.{placed, placed_all, above, dones_inside, stands_twice};
+ghost use Rattle.chord_segment.specs.Segment.{insert_call, insert_calls, calls_above, dones_inside, stands_twice};
 ghost use Rattle.chord_segment.specs.Callers.{mark_in, marks_in, calls_in, AreAbove, HasRoom, HasRoomFor, IsAlike, IsEntry, IsGapAt, IsNextShown, IsOwn, IsOwnAt};
 
 use crate::caller_replies::CallerReplies;
@@ -97,7 +97,7 @@ impl Callers {
         requires room { HasRoom done.caller 1 self.old }
         requires above { AreAbove self.old }
         ensures floors { marks_in self.new ≡ lift done.caller floor (marks_in self.old) }
-        ensures calls { calls_in self.new ≡ above (lift done.caller floor (marks_in self.old)) (placed done (calls_in self.old)) }
+        ensures calls { calls_in self.new ≡ calls_above (lift done.caller floor (marks_in self.old)) (insert_call done (calls_in self.old)) }
     {
         match self.place_of(done.caller) {
             Ok(place) => self.entries[place].keep(done, floor),
@@ -147,7 +147,7 @@ impl Callers {
         requires room { HasRoomFor other.old self.old }
         requires above { AreAbove self.old }
         ensures floors { marks_in self.new ≡ lift_all (marks_in other.old) (marks_in self.old) }
-        ensures calls { calls_in self.new ≡ above (marks_in self.new) (placed_all (calls_in other.old) (calls_in self.old)) }
+        ensures calls { calls_in self.new ≡ calls_above (marks_in self.new) (insert_calls (calls_in other.old) (calls_in self.old)) }
         ensures left { other.new ≡ [] }
     {
         let _ = &self.entries;
@@ -164,7 +164,7 @@ impl Callers {
         requires room { HasRoom other.caller (length other.kept) self.old }
         requires above { AreAbove self.old }
         ensures floors { marks_in self.new ≡ lift_all (mark_in other) (marks_in self.old) }
-        ensures calls { calls_in self.new ≡ above (marks_in self.new) (placed_all other.kept (calls_in self.old)) }
+        ensures calls { calls_in self.new ≡ calls_above (marks_in self.new) (insert_calls other.kept (calls_in self.old)) }
         ensures room { (caller room : ℕ) → other.caller ≢ caller → HasRoom caller room self.old → HasRoom caller room self.new }
     {
         if !other.is_shown() {

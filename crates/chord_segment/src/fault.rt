@@ -1,7 +1,7 @@
 //! Why a segment is not cut, or two are not joined.
 ghost use Rattle.std.specs.Prelude.{◌≡◌};
 ghost use Rattle.chord_segment.specs.declared.fault.CutFault.TheVariants.{Memory as CutMemory};
-ghost use Rattle.chord_segment.specs.declared.fault.JoinFault.TheVariants.{Memory as JoinMemory};
+ghost use Rattle.chord_segment.specs.declared.fault.SegmentJoinFault.TheVariants.{Memory as JoinMemory};
 
 use crate::segment::Segment;
 use std::alloc::AllocError;
@@ -26,7 +26,7 @@ impl From<AllocError> for CutFault {
 
 /// Why two segments are not joined.
 #[derive(Clone, Copy, Debug, PartialEq, Eq, Error)]
-pub enum JoinFault {
+pub enum SegmentJoinFault {
     #[error("the second segment does not begin where the first ends")]
     NotAdjacent,
     #[error("the segments overlap")]
@@ -37,11 +37,11 @@ pub enum JoinFault {
     Memory,
 }
 
-impl From<AllocError> for JoinFault {
+impl From<AllocError> for SegmentJoinFault {
     ghost from_gives = { λ _ fault. fault ≡ JoinMemory };
 
-    fn from(_refused: AllocError) -> JoinFault {
-        JoinFault::Memory
+    fn from(_refused: AllocError) -> SegmentJoinFault {
+        SegmentJoinFault::Memory
     }
 }
 
@@ -55,7 +55,7 @@ pub struct Uncut {
 /// Two segments that were not joined, given back.
 #[derive(Debug, Drop)]
 pub struct Unjoined {
-    pub fault: JoinFault,
+    pub fault: SegmentJoinFault,
     pub first: Segment,
     pub second: Segment,
 }

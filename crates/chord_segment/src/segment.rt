@@ -4,11 +4,11 @@ ghost use Rattle.chord_ident.specs.Circle.{Splits, in_span};
 ghost use Rattle.chord_segment.specs.Marks.{mark_of};
 ghost use Rattle.chord_segment.specs.Segment.{id_of, empty_segment, past_at, append};
 ghost use Rattle.chord_segment.specs.Segment.Past.{New};
-ghost use Rattle.chord_segment.specs.Shown.{shown};
+ghost use Rattle.chord_segment.specs.Shown.{past_shown};
 ghost use Rattle.chord_segment.specs.Join.{CutIs, PartsAre, JoinIs, WholeIs};
 
 use crate::callers::Callers;
-use crate::fault::{CutFault, JoinFault, Uncut, Unjoined};
+use crate::fault::{CutFault, SegmentJoinFault, Uncut, Unjoined};
 use crate::past::Past;
 use chord_ident::{Id, Span};
 use chord_map::Done;
@@ -68,7 +68,7 @@ impl Segment {
     /// What the segment knows of a call.
     #[tactic(auto, unfolding(crate::specs::Segment::past_at))]
     pub fn find(&self, caller: u64, number: u64) -> Past<'_>
-        ensures { shown result ≡ past_at caller number self.now.segment }
+        ensures { past_shown result ≡ past_at caller number self.now.segment }
     {
         let Some(own) = self.callers.entry(caller) else {
             return if number == 0 { Past::Seen } else { Past::New };
@@ -167,7 +167,7 @@ impl Segment {
     }
 
     /// Joins the next segment behind this one, and empties the next.
-    pub fn absorb(&mut self, next: &mut Segment) -> Result<(), JoinFault>
+    pub fn absorb(&mut self, next: &mut Segment) -> Result<(), SegmentJoinFault>
         ensures answer { JoinIs self.old.segment next.old.segment result self.new.segment }
         ensures err { OnErr result (next.new.segment ≡ next.old.segment) }
         ensures left { OnOk result (next.new.segment ≡ empty_segment next.old.segment.span) }
@@ -175,17 +175,17 @@ impl Segment {
     {
         let at = self.span.upto;
         if at != next.span.after {
-            return Err(JoinFault::NotAdjacent);
+            return Err(SegmentJoinFault::NotAdjacent);
         }
         let whole = Span {
             after: self.span.after,
             upto: next.span.upto,
         };
         let Ok(_) = whole.cut(at) else {
-            return Err(JoinFault::Overlap);
+            return Err(SegmentJoinFault::Overlap);
         };
         if self.callers.any_twice(&next.callers) {
-            return Err(JoinFault::Twice);
+            return Err(SegmentJoinFault::Twice);
         }
         self.callers.ready(&next.callers)?;
         self.readied = None;

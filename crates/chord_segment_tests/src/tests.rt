@@ -3,8 +3,8 @@
 mod growths;
 
 use chord_ident::{Id, Span};
-use chord_map::{Reply, Request};
-use chord_segment::{CutFault, Done, JoinFault, Past, Segment};
+use chord_map::{Done, Reply, Request};
+use chord_segment::{CutFault, Past, Segment, SegmentJoinFault};
 use std::alloc::{AllocError, Global};
 use std::test::Fail;
 
@@ -142,7 +142,7 @@ fn others_are_not_the_same(rt: HostRuntime) -> Result<(), Fail> {
 }
 
 /// Why the two are not joined, and whether each still keeps the first call of caller 0.
-fn unjoined(alloc: Global) -> Option<(JoinFault, bool, bool)> {
+fn unjoined(alloc: Global) -> Option<(SegmentJoinFault, bool, bool)> {
     let first = one(alloc, span(A, C), b"abc").ok();
     let second = one(alloc, span(C, A), b"b").ok();
     let (first, second) = first.zip(second)?;
@@ -155,7 +155,7 @@ fn unjoined(alloc: Global) -> Option<(JoinFault, bool, bool)> {
 
 #[test]
 fn neighbours_keep_a_call_once(rt: HostRuntime) {
-    assert!(rt; unjoined(rt.alloc()) == Some((JoinFault::Twice, true, true)));
+    assert!(rt; unjoined(rt.alloc()) == Some((SegmentJoinFault::Twice, true, true)));
 }
 
 /// Why an empty segment of (A, B] cannot be cut at this point.
@@ -167,7 +167,7 @@ fn cut_fault(alloc: Global, at: u128) -> Option<CutFault> {
 }
 
 /// Why an empty segment of (A, B] cannot be joined with an empty one of this span.
-fn join_fault(alloc: Global, next: Span) -> Option<JoinFault> {
+fn join_fault(alloc: Global, next: Span) -> Option<SegmentJoinFault> {
     let first = Segment::empty(alloc, span(A, B));
     let unjoined = first.join(Segment::empty(alloc, next)).err()?;
     let fault = unjoined.fault;
@@ -186,7 +186,13 @@ fn refused_cuts_and_joins(rt: HostRuntime) {
     );
     assert!(rt; cuts == (outside, outside, outside));
     let joins = (join_fault(alloc, span(C, A)), join_fault(alloc, span(B, B)));
-    assert!(rt; joins == (Some(JoinFault::NotAdjacent), Some(JoinFault::Overlap)));
+    assert!(rt;
+        joins
+            == (
+                Some(SegmentJoinFault::NotAdjacent),
+                Some(SegmentJoinFault::Overlap)
+            )
+    );
 }
 
 /// Keeps the call of caller 0 with this number and key.

@@ -15,11 +15,11 @@ use Rattle.chord_serve.specs.declared.served.Served.TheVariants as served
 use Rattle.std.specs.declared.alloc.AllocError.{AllocError}
 use Rattle.chord_serve.specs.Question.{Question}
 use Rattle.chord_serve.specs.SessionState.{SessionState}
-use Rattle.chord_serve.specs.Session.{start, move_of}
-use Rattle.chord_serve.specs.Output.{written, state_after, questions, question_of}
+use Rattle.chord_serve.specs.Session.{first_state, move_of}
+use Rattle.chord_serve.specs.Output.{bytes_written, state_after, questions, question_of}
 use Rattle.chord_serve.specs.Steps.{Step, MayAsk, Deals}
 use Rattle.chord_serve.specs.declared.connection.Connection.{Connection}
-use Rattle.chord_serve.specs.Writes.{WritesFront}
+use Rattle.chord_serve.specs.Writes.{WritesPrefix}
 use Rattle.chord_serve.proofs.Serving.{Serves, Serves-append, as_function, serves}
 use Rattle.chord_wire.specs.Streams.{request_frame, Spells}
 use Rattle.chord_serve.specs.Served.{fault_frame, is_other, AreOfVersion, Dealt, IsRefused, Refuses, DealsWithAll, AsksNext, StopsAfter, DealsWithNext, DealsWithPart, WritesPart, DealsWithBatch, TakesTurn, IsServed, TellsFault, IsStop, EndsInput}
@@ -53,7 +53,7 @@ stop_ends left served.TurnsSpent stop = absurd stop
 
 module _ {A : Type 0} (answers : A → Question → Asked → A → Type 0) where
   pub nothing : (v : Option ℕ) (s : SessionState) (a : A) (bytes : List ℕ) → Dealt answers v s a bytes [] bytes v s a
-  unfolding written state_after questions
+  unfolding bytes_written state_after questions
   nothing v s a bytes = record { requests = []; given = []; spelled = record { each = tt; parts = refl }; versions = refl; output_is = refl; state_is = refl; answered = refl }
 
   -- the steps for the answered requests
@@ -182,21 +182,21 @@ module _ {A : Type 0} (answers : A → Question → Asked → A → Type 0) wher
   all_stops v s a bytes output rest b p = record { rest = rest; version = p.version; state = p.state; asker = b; dealt = p.dealt; last = inl refl }
 
   -- only a prefix of the output was written
-  front_served : (end : Served) (v : Option ℕ) (s : SessionState) (a : A) (bytes whole front rest : List ℕ) (b : A) → whole ≡ front ++ rest → IsServed answers end v s a bytes whole b → IsServed answers served.Write v s a bytes front b
-  front_served served.Ended v s a bytes whole front rest b e p = (whole, rest, e, inl (all_stops v s a bytes whole [] b p))
-  front_served served.Truncated v s a bytes whole front rest b e p = (whole, rest, e, inl (all_stops v s a bytes whole p.0 b p.2))
-  front_served served.Read v s a bytes whole front rest b e p = (whole, rest, e, inl (all_stops v s a bytes whole p.0 b p.1))
-  front_served served.TurnsSpent v s a bytes whole front rest b e p = (whole, rest, e, inl (all_stops v s a bytes whole p.0 b p.1))
-  front_served (served.Malformed code) v s a bytes whole front rest b e p = (whole, rest, e, inr (p.0, p.2))
-  front_served served.Write v s a bytes whole front rest b e p = (p.0, rest ++ p.1, p.2 ∙ ap (λ (ys : List ℕ). ys ++ p.1) e ∙ append_assoc front rest p.1, p.3)
-  front_served served.Memory v s a bytes whole front rest b e p = (whole, rest, e, inl p)
+  prefix_served : (end : Served) (v : Option ℕ) (s : SessionState) (a : A) (bytes whole prefix rest : List ℕ) (b : A) → whole ≡ prefix ++ rest → IsServed answers end v s a bytes whole b → IsServed answers served.Write v s a bytes prefix b
+  prefix_served served.Ended v s a bytes whole prefix rest b e p = (whole, rest, e, inl (all_stops v s a bytes whole [] b p))
+  prefix_served served.Truncated v s a bytes whole prefix rest b e p = (whole, rest, e, inl (all_stops v s a bytes whole p.0 b p.2))
+  prefix_served served.Read v s a bytes whole prefix rest b e p = (whole, rest, e, inl (all_stops v s a bytes whole p.0 b p.1))
+  prefix_served served.TurnsSpent v s a bytes whole prefix rest b e p = (whole, rest, e, inl (all_stops v s a bytes whole p.0 b p.1))
+  prefix_served (served.Malformed code) v s a bytes whole prefix rest b e p = (whole, rest, e, inr (p.0, p.2))
+  prefix_served served.Write v s a bytes whole prefix rest b e p = (p.0, rest ++ p.1, p.2 ∙ ap (λ (ys : List ℕ). ys ++ p.1) e ∙ append_assoc prefix rest p.1, p.3)
+  prefix_served served.Memory v s a bytes whole prefix rest b e p = (whole, rest, e, inl p)
 
   -- at an error of the writer
-  pub part_unwritten : (result : Result Bool Served) (v w : Option ℕ) (s t : SessionState) (a b : A) (bytes rest output : List ℕ) (old new : Option (List ℕ)) → DealsWithPart answers result (connected bytes v s) a output (connected rest w t) b → WritesFront old new output
+  pub part_unwritten : (result : Result Bool Served) (v w : Option ℕ) (s t : SessionState) (a b : A) (bytes rest output : List ℕ) (old new : Option (List ℕ)) → DealsWithPart answers result (connected bytes v s) a output (connected rest w t) b → WritesPrefix old new output
       → WritesPart answers (Err served.Write) (connected bytes v s) a old new (connected rest w t) b
   part_unwritten (Ok more) v w s t a b bytes rest output old new p f =
-      (f.front, (output, f.rest, f.parts, inl (record { rest = rest; version = w; state = t; asker = b; dealt = p.0; last = inl refl })), f.appends)
-  part_unwritten (Err end) v w s t a b bytes rest output old new p f = (f.front, front_served end v s a bytes output f.front f.rest b f.parts p, f.appends)
+      (f.prefix, (output, f.rest, f.parts, inl (record { rest = rest; version = w; state = t; asker = b; dealt = p.0; last = inl refl })), f.appends)
+  part_unwritten (Err end) v w s t a b bytes rest output old new p f = (f.prefix, prefix_served end v s a bytes output f.prefix f.rest b f.parts p, f.appends)
 
   -- requests answered, and the output written for them
   abbrev pub DealsSo : Option ℕ → SessionState → A → List ℕ → Option (List ℕ) → Option (List ℕ) → List ℕ → Option ℕ → SessionState → A → Type 0
@@ -245,29 +245,29 @@ module _ {A : Type 0} (answers : A → Question → Asked → A → Type 0) wher
 
   -- the reads so far
   abbrev pub TurnsSo : A → Option (List ℕ) → Option (List ℕ) → Option (List ℕ) → Option (List ℕ) → List ℕ → Option ℕ → SessionState → A → Type 0
-  TurnsSo a left left' old new rest w t b = TakesTurn answers (Ok tt) (connected [] None start) a left left' old new (connected rest w t) b
+  TurnsSo a left left' old new rest w t b = TakesTurn answers (Ok tt) (connected [] None first_state) a left left' old new (connected rest w t) b
 
   pub turn_on : (w x : Option ℕ) (t u : SessionState) (a b c : A) (rest end : List ℕ) (left left' left'' old mid new : Option (List ℕ)) → TurnsSo a left left' old mid rest w t b → TakesTurn answers (Ok tt) (connected rest w t) b left' left'' mid new (connected end x u) c → TurnsSo a left left'' old new end x u c
   turn_on w x t u a b c rest end left left' left'' old mid new p q = (
     p.0 ++ q.0,
     p.1 ++ q.1,
     Consumes-trans left left' left'' p.0 q.0 p.2 q.2,
-    Dealt-then None w x start t u a b c (p.0 ++ q.0) p.1 (rest ++ q.0) q.1 end (Dealt-fed None w start t a b p.0 p.1 rest q.0 p.3) q.3,
+    Dealt-then None w x first_state t u a b c (p.0 ++ q.0) p.1 (rest ++ q.0) q.1 end (Dealt-fed None w first_state t a b p.0 p.1 rest q.0 p.3) q.3,
     q.4,
     Appends-trans old mid new p.1 q.1 p.5 q.5,
   )
 
-  pub turn_ends : (last : Served) (w : Option ℕ) (t : SessionState) (a b c : A) (rest : List ℕ) (left left' left'' old mid new : Option (List ℕ)) → TurnsSo a left left' old mid rest w t b → EndsTurn last w t b rest left' left'' mid new c → EndsTurn last None start a [] left left'' old new c
+  pub turn_ends : (last : Served) (w : Option ℕ) (t : SessionState) (a b c : A) (rest : List ℕ) (left left' left'' old mid new : Option (List ℕ)) → TurnsSo a left left' old mid rest w t b → EndsTurn last w t b rest left' left'' mid new c → EndsTurn last None first_state a [] left left'' old new c
   turn_ends last w t a b c rest left left' left'' old mid new p q = (
     p.0 ++ q.0,
     p.1 ++ q.1,
     Consumes-trans left left' left'' p.0 q.0 p.2 q.2,
-    served_after last None w start t a b c (p.0 ++ q.0) p.1 (rest ++ q.0) q.1 (Dealt-fed None w start t a b p.0 p.1 rest q.0 p.3) q.3,
+    served_after last None w first_state t a b c (p.0 ++ q.0) p.1 (rest ++ q.0) q.1 (Dealt-fed None w first_state t a b p.0 p.1 rest q.0 p.3) q.3,
     Appends-trans old mid new p.1 q.1 p.5 q.4,
   )
 
-  pub turns_spent : (w : Option ℕ) (t : SessionState) (a b : A) (rest : List ℕ) (left left' old new : Option (List ℕ)) → TurnsSo a left left' old new rest w t b → EndsTurn served.TurnsSpent None start a [] left left' old new b
+  pub turns_spent : (w : Option ℕ) (t : SessionState) (a b : A) (rest : List ℕ) (left left' old new : Option (List ℕ)) → TurnsSo a left left' old new rest w t b → EndsTurn served.TurnsSpent None first_state a [] left left' old new b
   turns_spent w t a b rest left left' old new p = (p.0, p.1, p.2, (rest, record { version = w; state = t; dealt = p.3; undecided = p.4 }), p.5)
 
-  pub no_turn : (a : A) (left old : Option (List ℕ)) → next_request [] ≡ Ok None → TurnsSo a left left old old [] None start a
-  no_turn a left old none = ([], [], Consumes-nil left, nothing None start a [], none, Appends-nil old)
+  pub no_turn : (a : A) (left old : Option (List ℕ)) → next_request [] ≡ Ok None → TurnsSo a left left old old [] None first_state a
+  no_turn a left old none = ([], [], Consumes-nil left, nothing None first_state a [], none, Appends-nil old)

@@ -1,4 +1,4 @@
-pub mod Fronts
+pub mod Prefixes
 pub mod Places
 pub mod StepLaws
 pub mod Serving

@@ -7,8 +7,8 @@ use Rattle.chord_serve.specs.declared.session.Move.TheVariants.{Refuse, Again, A
 use Rattle.chord_serve.specs.Question.{Question}
 use Rattle.chord_serve.specs.Question as question
 use Rattle.chord_serve.specs.SessionState.{SessionState}
-use Rattle.chord_serve.specs.Session.{accepted, added, move_of}
-use Rattle.chord_serve.specs.Output.{Reaction, reaction, react, question_of, and_then, told, written, state_after, questions, AreAnswers}
+use Rattle.chord_serve.specs.Session.{with_accepted, with_open_request, move_of}
+use Rattle.chord_serve.specs.Output.{Reaction, reaction, react, question_of, and_then, after_answer, bytes_written, state_after, questions, AreAnswers}
 use Rattle.chord_serve.specs.Steps.{Asks, Does, Step}
 
 module _ {A : Type 0} (answers : A → Question → Asked → A → Type 0) where
@@ -39,7 +39,7 @@ module _ {A : Type 0} (answers : A → Question → Asked → A → Type 0) wher
       → Asks answers s a q r.number bytes mid b → Reacts m t a r bytes mid b unused
   asks_reacts s a q r bytes mid b unused m t e qe p = record {
     given = p.answer ∷ unused;
-    same = e p.answer ∙ ap (λ (x : List ℕ). made x (told s r.number p.answer) unused) (sym p.bytes_are) ∙ ap (λ (x : SessionState). made bytes x unused) (sym p.state_is);
+    same = e p.answer ∙ ap (λ (x : List ℕ). made x (after_answer s r.number p.answer) unused) (sym p.bytes_are) ∙ ap (λ (x : SessionState). made bytes x unused) (sym p.state_is);
     more = λ qs c h. subst (λ (o : Option Question). AreAnswers answers a (and_then o qs) (p.answer ∷ unused) c) (sym qe) (b, p.asks, p.not_memory, h);
   }
 
@@ -54,25 +54,25 @@ module _ {A : Type 0} (answers : A → Question → Asked → A → Type 0) wher
     same = ap (λ (x : List ℕ). made x t unused) (sym p.0) ∙ ap (λ (x : SessionState). made bytes x unused) (sym p.1);
     more = λ qs c h. subst (λ (x : A). AreAnswers answers x qs unused c) p.2 h;
   }
-  reacts Ask t a r bytes mid b unused p = asks_reacts (added t r.request) a (question.Ask r.request) r bytes mid b unused Ask t (λ x. refl) refl p
+  reacts Ask t a r bytes mid b unused p = asks_reacts (with_open_request t r.request) a (question.Ask r.request) r bytes mid b unused Ask t (λ x. refl) refl p
   reacts Retry t a r bytes mid b unused p = asks_reacts t a (question.Retry r.number) r bytes mid b unused Retry t (λ x. refl) refl p
 
   -- the answers with which the functions say what was done
   pub record Functional (s : SessionState) (a : A) (rs : List WireRequest) (output : List ℕ) (s' : SessionState) (a' : A) : Type 0 where
     pub given : List Asked
-    pub output_is : output ≡ written s rs given
+    pub output_is : output ≡ bytes_written s rs given
     pub state_is : s' ≡ state_after s rs given
     pub answered : AreAnswers answers a (questions s rs given) given a'
 
   pub as_function : (s : SessionState) (a : A) (rs : List WireRequest) (output : List ℕ) (s' : SessionState) (a' : A) → Serves s a rs output s' a' → Functional s a rs output s' a'
-  unfolding written state_after questions
+  unfolding bytes_written state_after questions
   as_function s a [] output s' a' p = record { given = []; output_is = p.0; state_is = p.1; answered = p.2 }
   as_function s a (r ∷ rs) output s' a' p =
       let f = as_function p.2 p.3 rs p.1 s' a' p.5 in
-      let one = reacts (move_of s r) (accepted s r) a r p.0 p.2 p.3 f.given p.4 in
+      let one = reacts (move_of s r) (with_accepted s r) a r p.0 p.2 p.3 f.given p.4 in
       record {
         given = one.given;
-        output_is = p.6 ∙ ap (λ (w : List ℕ). p.0 ++ w) f.output_is ∙ ap (λ (x : Reaction). x.bytes ++ written x.state rs x.unused) (sym one.same);
+        output_is = p.6 ∙ ap (λ (w : List ℕ). p.0 ++ w) f.output_is ∙ ap (λ (x : Reaction). x.bytes ++ bytes_written x.state rs x.unused) (sym one.same);
         state_is = f.state_is ∙ ap (λ (x : Reaction). state_after x.state rs x.unused) (sym one.same);
         answered = subst (λ (x : Reaction). AreAnswers answers a (and_then (question_of (move_of s r) r) (questions x.state rs x.unused)) one.given a') (sym one.same) (one.more (questions p.2 rs f.given) a' f.answered);
       }
@@ -90,15 +90,15 @@ module _ {A : Type 0} (answers : A → Question → Asked → A → Type 0) wher
   does Retry t a r qs [] c h = absurd h
   does Retry t a r qs (x ∷ given) c h = (h.0, record { answer = x; not_memory = h.2; asks = h.1; bytes_are = refl; state_is = refl }, h.3)
 
-  pub as_relation : (s : SessionState) (a : A) (rs : List WireRequest) (given : List Asked) (a' : A) → AreAnswers answers a (questions s rs given) given a' → Serves s a rs (written s rs given) (state_after s rs given) a'
-  unfolding written state_after questions
+  pub as_relation : (s : SessionState) (a : A) (rs : List WireRequest) (given : List Asked) (a' : A) → AreAnswers answers a (questions s rs given) given a' → Serves s a rs (bytes_written s rs given) (state_after s rs given) a'
+  unfolding bytes_written state_after questions
   as_relation s a [] [] a' h = (refl, refl, h)
   as_relation s a [] (x ∷ given) a' h = absurd h
   as_relation s a (r ∷ rs) given a' h =
       let x = reaction s r given in
-      let d = does (move_of s r) (accepted s r) a r (questions x.state rs x.unused) given a' h in
-      (x.bytes, written x.state rs x.unused, x.state, d.0, d.1, as_relation x.state d.0 rs x.unused a' d.2, refl)
+      let d = does (move_of s r) (with_accepted s r) a r (questions x.state rs x.unused) given a' h in
+      (x.bytes, bytes_written x.state rs x.unused, x.state, d.0, d.1, as_relation x.state d.0 rs x.unused a' d.2, refl)
 
   pub serves : (s : SessionState) (a : A) (rs : List WireRequest) (output : List ℕ) (s' : SessionState) (a' : A) → Functional s a rs output s' a' → Serves s a rs output s' a'
   serves s a rs output s' a' f =
-      subst (λ (w : List ℕ). Serves s a rs w s' a') (sym f.output_is) (subst (λ (t : SessionState). Serves s a rs (written s rs f.given) t a') (sym f.state_is) (as_relation s a rs f.given a' f.answered))
+      subst (λ (w : List ℕ). Serves s a rs w s' a') (sym f.output_is) (subst (λ (t : SessionState). Serves s a rs (bytes_written s rs f.given) t a') (sym f.state_is) (as_relation s a rs f.given a' f.answered))

@@ -8,13 +8,13 @@ use Rattle.chord_wire.specs.declared.request.WireRequest.{WireRequest}
 use Rattle.chord_wire.specs.Spelling.{IsWireRequest, HasFloor}
 use Rattle.chord_serve.specs.ClientState.{ClientState}
 use Rattle.chord_serve.specs.HasWindow.{HasWindow, IsClient}
-use Rattle.chord_serve.specs.InFlight.{floor_under, floor_of, is_full, next_of, sent, place_of, IsAwaitedAgain, JudgedIs}
+use Rattle.chord_serve.specs.InFlight.{floor_under, floor_of, is_full, next_of, with_sent, place_of, IsAwaitedAgain, JudgedIs}
 use Rattle.std.proofs.lemmas.List.Elements.{All-same, All-rest, All-head, All-push, All-append, All-take, All-drop}
 use Rattle.std.specs.List.{remove}
 use Rattle.chord_wire.specs.declared.answer.Answer.{Answer}
 use Rattle.chord_wire.specs.declared.answer.Answer.TheVariants as answer
-use Rattle.chord_serve.specs.declared.in_flight.ReceiveFault.{ReceiveFault}
-use Rattle.chord_serve.specs.declared.in_flight.ReceiveFault.TheVariants as receive
+use Rattle.chord_serve.specs.declared.wire_client.ReceiveFault.{ReceiveFault}
+use Rattle.chord_serve.specs.declared.wire_client.ReceiveFault.TheVariants as receive
 
 floor_under-le : (most : ℕ) (wires : List WireRequest) → floor_under most wires ≤ most
 floor_under-le most [] = omega arith
@@ -45,9 +45,9 @@ state version window last awaited refused bytes = record { version = version; wi
 
 -- the fields after a request was sent
 pub sent_state : (v w l : ℕ) (xs ys : List WireRequest) (bytes : List ℕ) (c : ClientState) (request : Request) (wire : WireRequest) (xs' : List WireRequest)
-    → state v w l xs ys bytes ≡ c → wire ≡ next_of c request → xs' ≡ xs ++ wire ∷ [] → state v w wire.number xs' ys bytes ≡ sent c request
+    → state v w l xs ys bytes ≡ c → wire ≡ next_of c request → xs' ≡ xs ++ wire ∷ [] → state v w wire.number xs' ys bytes ≡ with_sent c request
 sent_state v w l xs ys bytes c request wire xs' view is more =
-    subst (λ (d : ClientState). wire ≡ next_of d request → state v w wire.number xs' ys bytes ≡ sent d request) view
+    subst (λ (d : ClientState). wire ≡ next_of d request → state v w wire.number xs' ys bytes ≡ with_sent d request) view
     (λ (h : wire ≡ next_of (state v w l xs ys bytes) request).
     ap (λ (zs : List WireRequest). state v w wire.number zs ys bytes) more ∙ ap (λ (x : WireRequest). state v w x.number (xs ++ x ∷ []) ys bytes) h) is
 

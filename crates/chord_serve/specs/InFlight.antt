@@ -9,14 +9,14 @@ use Rattle.chord_wire.specs.declared.request.WireRequest.{WireRequest}
 use Rattle.chord_wire.specs.declared.answer.Answer.{Answer}
 use Rattle.chord_wire.specs.declared.answer.Answer.TheVariants as answer
 use Rattle.chord_wire.specs.Streams.{request_frame}
-use Rattle.chord_serve.specs.Writes.{WritesFront}
+use Rattle.chord_serve.specs.Writes.{WritesPrefix}
 use Rattle.chord_serve.specs.Calls.{GetsAnswer}
-use Rattle.chord_serve.specs.declared.in_flight.SendFault.{SendFault}
-use Rattle.chord_serve.specs.declared.in_flight.SendFault.TheVariants as send
-use Rattle.chord_serve.specs.declared.in_flight.AgainFault.{AgainFault}
-use Rattle.chord_serve.specs.declared.in_flight.AgainFault.TheVariants as again
-use Rattle.chord_serve.specs.declared.in_flight.ReceiveFault.{ReceiveFault}
-use Rattle.chord_serve.specs.declared.in_flight.ReceiveFault.TheVariants as receive
+use Rattle.chord_serve.specs.declared.wire_client.SendFault.{SendFault}
+use Rattle.chord_serve.specs.declared.wire_client.SendFault.TheVariants as send
+use Rattle.chord_serve.specs.declared.wire_client.AgainFault.{AgainFault}
+use Rattle.chord_serve.specs.declared.wire_client.AgainFault.TheVariants as again
+use Rattle.chord_serve.specs.declared.wire_client.ReceiveFault.{ReceiveFault}
+use Rattle.chord_serve.specs.declared.wire_client.ReceiveFault.TheVariants as receive
 use Rattle.chord_serve.specs.ClientState.{ClientState}
 
 -- a client before its first request
@@ -40,16 +40,16 @@ abbrev pub next_of : ClientState → Request → WireRequest
 next_of c request = record { version = c.version; number = c.last + 1; floor = floor_of c; request = request }
 
 -- the client with one more request that waits for its answer, after the others
-abbrev pub sent : ClientState → Request → ClientState
-sent c request = record { version = c.version; window = c.window; last = c.last + 1; awaited = c.awaited ++ next_of c request ∷ []; refused = c.refused; bytes = c.bytes }
+abbrev pub with_sent : ClientState → Request → ClientState
+with_sent c request = record { version = c.version; window = c.window; last = c.last + 1; awaited = c.awaited ++ next_of c request ∷ []; refused = c.refused; bytes = c.bytes }
 
 -- A send writes the frame of the next request. At Write it wrote only a prefix of it; the request
 -- still counts as sent.
 abbrev pub SendIs : Result ℕ SendFault → Request → (old : ClientState) (held held' : Option (List ℕ)) (new : ClientState) → Type 0
-SendIs (Ok number) request old held held' new = (is_full old ≢ true) × (number ≡ old.last + 1) × (new ≡ sent old request) × Appends held held' (request_frame (next_of old request))
+SendIs (Ok number) request old held held' new = (is_full old ≢ true) × (number ≡ old.last + 1) × (new ≡ with_sent old request) × Appends held held' (request_frame (next_of old request))
 SendIs (Err send.WindowFull) request old held held' new = (is_full old ≡ true) × (new ≡ old) × Keeps held held'
 SendIs (Err send.NumbersSpent) request old held held' new = (is_full old ≢ true) × (old.last + 1 ≡ 2 ^ 64) × (new ≡ old) × Keeps held held'
-SendIs (Err send.Write) request old held held' new = (is_full old ≢ true) × (new ≡ sent old request) × WritesFront held held' (request_frame (next_of old request))
+SendIs (Err send.Write) request old held held' new = (is_full old ≢ true) × (new ≡ with_sent old request) × WritesPrefix held held' (request_frame (next_of old request))
 SendIs (Err send.Memory) request old held held' new = (is_full old ≢ true) × (new ≡ old) × Keeps held held'
 
 -- the index of the request with this number
@@ -72,7 +72,7 @@ pub record IsAwaitedAgain (number : ℕ) (wire : WireRequest) (old new : ClientS
 abbrev pub AgainIs : Result (Unit {0}) AgainFault → ℕ → (old : ClientState) (held held' : Option (List ℕ)) (new : ClientState) → Type 0
 AgainIs (Ok done) number old held held' new = (wire : WireRequest) × IsAwaitedAgain number wire old new × Appends held held' (request_frame wire)
 AgainIs (Err again.NotRefused) number old held held' new = (place_of number old.refused ≡ None) × (new ≡ old) × Keeps held held'
-AgainIs (Err again.Write) number old held held' new = (wire : WireRequest) × IsAwaitedAgain number wire old new × WritesFront held held' (request_frame wire)
+AgainIs (Err again.Write) number old held held' new = (wire : WireRequest) × IsAwaitedAgain number wire old new × WritesPrefix held held' (request_frame wire)
 AgainIs (Err again.Memory) number old held held' new = (place_of number old.refused ≢ None) × (new ≡ old) × Keeps held held'
 
 -- the number of an answer

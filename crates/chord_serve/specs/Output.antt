@@ -13,7 +13,7 @@ use Rattle.chord_serve.specs.declared.session.Move.TheVariants.{Refuse, Again, A
 use Rattle.chord_serve.specs.Question.{Question, IsReplyTo}
 use Rattle.chord_serve.specs.Question as question
 use Rattle.chord_serve.specs.SessionState.{SessionState}
-use Rattle.chord_serve.specs.Session.{accepted, added, answered_at, repeated, move_of}
+use Rattle.chord_serve.specs.Session.{with_accepted, with_open_request, answered_at, frame_again, move_of}
 
 -- the frame of an asker's answer
 abbrev pub frame_of : ℕ → Asked → List ℕ
@@ -23,11 +23,11 @@ frame_of number asked.NoAnswer = frame (fault_body number fault.NoAnswer)
 frame_of number asked.Memory = []
 
 -- the session after this answer to a number: a reply's frame is stored
-abbrev pub told : SessionState → ℕ → Asked → SessionState
-told s number (asked.Reply reply) = answered_at s number (frame (reply_body number reply))
-told s number asked.Full = s
-told s number asked.NoAnswer = s
-told s number asked.Memory = s
+abbrev pub after_answer : SessionState → ℕ → Asked → SessionState
+after_answer s number (asked.Reply reply) = answered_at s number (frame (reply_body number reply))
+after_answer s number asked.Full = s
+after_answer s number asked.NoAnswer = s
+after_answer s number asked.Memory = s
 
 -- what a session writes for a request, the session afterwards, and the answers left for later
 -- questions
@@ -39,18 +39,18 @@ pub record Reaction : Type 0 where
 -- a question takes the next answer
 abbrev pub on_answer : SessionState → ℕ → List Asked → Reaction
 on_answer s number [] = record { bytes = []; state = s; unused = [] }
-on_answer s number (answer ∷ more) = record { bytes = frame_of number answer; state = told s number answer; unused = more }
+on_answer s number (answer ∷ more) = record { bytes = frame_of number answer; state = after_answer s number answer; unused = more }
 
 -- the reaction to a request by this move
 abbrev pub react : Move → SessionState → WireRequest → List Asked → Reaction
 react (Refuse code) s r given = record { bytes = frame (fault_body r.number code); state = s; unused = given }
-react Again s r given = record { bytes = repeated s r.number; state = s; unused = given }
-react Ask s r given = on_answer (added s r.request) r.number given
+react Again s r given = record { bytes = frame_again s r.number; state = s; unused = given }
+react Ask s r given = on_answer (with_open_request s r.request) r.number given
 react Retry s r given = on_answer s r.number given
 
 -- the reaction to a request
 abbrev pub reaction : SessionState → WireRequest → List Asked → Reaction
-reaction s r given = react (move_of s r) (accepted s r) r given
+reaction s r given = react (move_of s r) (with_accepted s r) r given
 
 -- the question that a move asks, if any
 abbrev pub question_of : Move → WireRequest → Option Question
@@ -64,9 +64,9 @@ and_then None questions = questions
 and_then (Some q) questions = q ∷ questions
 
 -- all that the session writes
-unfoldable pub written : SessionState → List WireRequest → List Asked → List ℕ
-written s [] given = []
-written s (r ∷ requests) given = (reaction s r given).bytes ++ written (reaction s r given).state requests (reaction s r given).unused
+unfoldable pub bytes_written : SessionState → List WireRequest → List Asked → List ℕ
+bytes_written s [] given = []
+bytes_written s (r ∷ requests) given = (reaction s r given).bytes ++ bytes_written (reaction s r given).state requests (reaction s r given).unused
 
 -- the session after all requests
 unfoldable pub state_after : SessionState → List WireRequest → List Asked → SessionState
@@ -85,7 +85,7 @@ AreAnswers {A = A} answers a (q ∷ questions) (x ∷ given) a' = (b : A) × ans
 AreAnswers {A = A} answers a [] (x ∷ given) a' = ⊥
 AreAnswers {A = A} answers a (q ∷ questions) [] a' = ⊥
 
--- puts a request with its question's answer, if it has one, in front of the pairs
+-- puts a request with its question's answer, if it has one, in prefix of the pairs
 abbrev pub and_pair : Option Question → WireRequest → List Asked → List (Request × Asked) → List (Request × Asked)
 and_pair None r given pairs = pairs
 and_pair (Some q) r [] pairs = pairs

@@ -16,7 +16,7 @@ use Rattle.chord_serve.specs.Question.{Question}
 use Rattle.chord_serve.specs.SessionState.{SessionState}
 use Rattle.chord_serve.specs.Session.{move_of}
 use Rattle.chord_serve.specs.declared.connection.Connection.{Connection}
-use Rattle.chord_serve.specs.Output.{written, state_after, questions, question_of, AreAnswers}
+use Rattle.chord_serve.specs.Output.{bytes_written, state_after, questions, question_of, AreAnswers}
 
 -- the frame of a fault
 abbrev pub fault_frame : WireFault → List ℕ
@@ -40,7 +40,7 @@ module _ {A : Type 0} (answers : A → Question → Asked → A → Type 0) wher
     pub given : List Asked
     pub spelled : Spells bytes requests rest
     pub versions : AreOfVersion v requests v'
-    pub output_is : output ≡ written s requests given
+    pub output_is : output ≡ bytes_written s requests given
     pub state_is : s' ≡ state_after s requests given
     pub answered : AreAnswers answers a (questions s requests given) given a'
 

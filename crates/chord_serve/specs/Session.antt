@@ -4,46 +4,46 @@ use Rattle.chord_map.specs.declared.request.Request.{Request}
 use Rattle.chord_map.specs.Same.{same_request}
 use Rattle.chord_wire.specs.declared.request.WireRequest.{WireRequest}
 use Rattle.chord_wire.specs.declared.fault.FaultCode.TheVariants.{BadNumber, NumberReused}
-use Rattle.chord_serve.specs.declared.kept.Kept.{Kept}
+use Rattle.chord_serve.specs.declared.asked_request.AskedRequest.{AskedRequest}
 use Rattle.chord_serve.specs.declared.session.Move.{Move}
 use Rattle.chord_serve.specs.declared.session.Move.TheVariants as moves
 use Rattle.chord_serve.specs.SessionState.{SessionState}
 
 -- a session before its first request
-abbrev pub start : SessionState
-start = record { floor = 0; kept = [] }
+abbrev pub first_state : SessionState
+first_state = record { floor = 0; kept = [] }
 
 -- the last number asked
-abbrev pub last : SessionState → ℕ
-last s = s.floor + length s.kept
+abbrev pub last_number : SessionState → ℕ
+last_number s = s.floor + length s.kept
 
 -- how many of the first requests are answered without a gap
-abbrev pub answered_of : List Kept → ℕ
+abbrev pub answered_of : List AskedRequest → ℕ
 answered_of [] = 0
 answered_of (k ∷ ks) = if is_some k.frame then answered_of ks + 1 else 0
 
 -- the greatest number with all numbers up to it answered
-abbrev pub answered : SessionState → ℕ
-answered s = s.floor + answered_of s.kept
+abbrev pub answered_floor : SessionState → ℕ
+answered_floor s = s.floor + answered_of s.kept
 
 -- whether the request's number or floor is out of line
 abbrev pub is_out : SessionState → WireRequest → Bool
-is_out s r = r.number == 0 || nat_lt (answered s) r.floor || nat_le r.number s.floor || nat_lt (last s + 1) r.number
+is_out s r = r.number == 0 || nat_lt (answered_floor s) r.floor || nat_le r.number s.floor || nat_lt (last_number s + 1) r.number
 
 -- the session with its floor raised to this one; requests at or below it are dropped
 abbrev pub raised : SessionState → ℕ → SessionState
 raised s floor = record { floor = max s.floor floor; kept = drop (floor - s.floor) s.kept }
 
 -- the session once it let the request in
-abbrev pub accepted : SessionState → WireRequest → SessionState
-accepted s r = if is_out s r then s else raised s r.floor
+abbrev pub with_accepted : SessionState → WireRequest → SessionState
+with_accepted s r = if is_out s r then s else raised s r.floor
 
 -- the index of a number's request
 abbrev pub place_of : SessionState → ℕ → ℕ
 place_of s number = number - s.floor - 1
 
 -- a request asked before is answered again or asked again; another one under its number is refused
-abbrev pub move_at : Option Kept → Request → Move
+abbrev pub move_at : Option AskedRequest → Request → Move
 move_at None request = moves.Ask
 move_at (Some k) request = if same_request k.request request then (if is_some k.frame then moves.Again else moves.Retry) else moves.Refuse NumberReused
 
@@ -52,11 +52,11 @@ abbrev pub move_of : SessionState → WireRequest → Move
 move_of s r = if is_out s r then moves.Refuse BadNumber else move_at (slice_get (raised s r.floor).kept (place_of (raised s r.floor) r.number)) r.request
 
 -- the session with one more request, not answered yet
-abbrev pub added : SessionState → Request → SessionState
-added s request = record { floor = s.floor; kept = s.kept ++ record { request = request; frame = None } ∷ [] }
+abbrev pub with_open_request : SessionState → Request → SessionState
+with_open_request s request = record { floor = s.floor; kept = s.kept ++ record { request = request; frame = None } ∷ [] }
 
 -- the requests with this reply frame at this index
-abbrev pub frame_at : List Kept → ℕ → List ℕ → List Kept
+abbrev pub frame_at : List AskedRequest → ℕ → List ℕ → List AskedRequest
 frame_at [] place frame = []
 frame_at (k ∷ ks) zero frame = record { request = k.request; frame = Some frame } ∷ ks
 frame_at (k ∷ ks) (suc place) frame = k ∷ frame_at ks place frame
@@ -67,12 +67,12 @@ answered_at s number frame = record { floor = s.floor; kept = frame_at s.kept (p
 
 -- the reply frame of a number, if it has one
 abbrev pub frame_kept : SessionState → ℕ → Option (List ℕ)
-frame_kept s number = option_and_then (λ (k : Kept). k.frame) (slice_get s.kept (place_of s number))
+frame_kept s number = option_and_then (λ (k : AskedRequest). k.frame) (slice_get s.kept (place_of s number))
 
 abbrev pub bytes_of : Option (List ℕ) → List ℕ
 bytes_of None = []
 bytes_of (Some bytes) = bytes
 
 -- the reply frame of a number, to be written again
-abbrev pub repeated : SessionState → ℕ → List ℕ
-repeated s number = bytes_of (frame_kept s number)
+abbrev pub frame_again : SessionState → ℕ → List ℕ
+frame_again s number = bytes_of (frame_kept s number)

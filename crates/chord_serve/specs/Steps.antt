@@ -11,8 +11,8 @@ use Rattle.chord_serve.specs.declared.session.Move.TheVariants.{Refuse, Again, A
 use Rattle.chord_serve.specs.Question.{Question}
 use Rattle.chord_serve.specs.Question as question
 use Rattle.chord_serve.specs.SessionState.{SessionState}
-use Rattle.chord_serve.specs.Session.{accepted, added, repeated, move_of}
-use Rattle.chord_serve.specs.Output.{frame_of, told, question_of}
+use Rattle.chord_serve.specs.Session.{with_accepted, with_open_request, frame_again, move_of}
+use Rattle.chord_serve.specs.Output.{frame_of, after_answer, question_of}
 
 module _ {A : Type 0} (answers : A → Question → Asked → A → Type 0) where
   -- the question is asked once; its answer is written, and a reply stored
@@ -21,18 +21,18 @@ module _ {A : Type 0} (answers : A → Question → Asked → A → Type 0) wher
     pub not_memory : answer ≢ asked.Memory
     pub asks : answers a q answer a'
     pub bytes_are : bytes ≡ frame_of number answer
-    pub state_is : s' ≡ told s number answer
+    pub state_is : s' ≡ after_answer s number answer
 
   -- this move, from a session that let the request in
   abbrev pub Does : Move → SessionState → A → WireRequest → List ℕ → SessionState → A → Type 0
   Does (Refuse code) s a r bytes s' a' = (bytes ≡ frame (fault_body r.number code)) × (s' ≡ s) × (a' ≡ a)
-  Does Again s a r bytes s' a' = (bytes ≡ repeated s r.number) × (s' ≡ s) × (a' ≡ a)
-  Does Ask s a r bytes s' a' = Asks (added s r.request) a (question.Ask r.request) r.number bytes s' a'
+  Does Again s a r bytes s' a' = (bytes ≡ frame_again s r.number) × (s' ≡ s) × (a' ≡ a)
+  Does Ask s a r bytes s' a' = Asks (with_open_request s r.request) a (question.Ask r.request) r.number bytes s' a'
   Does Retry s a r bytes s' a' = Asks s a (question.Retry r.number) r.number bytes s' a'
 
   -- what the session writes for one request, and the session and the asker afterwards
   abbrev pub Step : SessionState → A → WireRequest → List ℕ → SessionState → A → Type 0
-  Step s a r bytes s' a' = Does (move_of s r) (accepted s r) a r bytes s' a'
+  Step s a r bytes s' a' = Does (move_of s r) (with_accepted s r) a r bytes s' a'
 
   -- the question, if there is one, may have been asked
   abbrev pub MayAsk : Option Question → A → A → Type 0

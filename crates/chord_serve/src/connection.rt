@@ -2,7 +2,7 @@
 ghost use Rattle.std.specs.Prelude.{◌≡◌, ◌≢◌, ◌<◌, [], None, Ok, Err, true, length, IfErr, OnOk};
 ghost use Rattle.chord_wire.specs.Reading.{next_request};
 ghost use Rattle.chord_serve.specs.BytesRead.{ReadsBetween};
-ghost use Rattle.chord_serve.specs.Session.{start};
+ghost use Rattle.chord_serve.specs.Session.{first_state};
 ghost use Rattle.chord_serve.specs.Served.{is_other, IsStop, EndsInput, DealsWithNext, DealsWithPart, DealsWithBatch, TakesTurn, TellsFault, WritesPart};
 
 use crate::asker::Asker;
@@ -51,7 +51,7 @@ impl Connection {
     pub fn new(alloc: Global) -> Connection
         ensures frames { result.frames ≡ [] }
         ensures version { result.version ≡ None }
-        ensures session { result.session ≡ start }
+        ensures session { result.session ≡ first_state }
     {
         Connection {
             frames: Frames::new(alloc),

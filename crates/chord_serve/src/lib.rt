@@ -4,25 +4,25 @@
 //! the answers: a reply, a fault, or, for a number that was answered before, the same frame again.
 //! [`Served`] says why the session ended.
 //! The other end is [`call`], which sends one request and waits,
-//! or a [`Client`], which has up to 16 requests in flight.
+//! or a [`WireClient`], which has up to 16 requests in flight.
 //! [`laws`] says that the output does not depend on how the input was cut.
 #![tactic(auto)]
 
+mod asked_request;
 mod asker;
-mod client;
+mod call;
 mod connection;
 mod due;
-mod in_flight;
-mod kept;
 pub mod laws;
 mod served;
 mod server;
 mod session;
 mod step;
+mod wire_client;
 mod write_bytes;
 
 pub use asker::{Asked, Asker};
-pub use client::{CallFault, call, call_2};
-pub use in_flight::{AgainFault, Client, ReceiveFault, SendFault};
+pub use call::{CallFault, call, call_2};
 pub use served::Served;
 pub use server::serve;
+pub use wire_client::{AgainFault, ReceiveFault, SendFault, WireClient};

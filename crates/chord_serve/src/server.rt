@@ -2,7 +2,7 @@
 ghost use Rattle.std.specs.Prelude.{◌≡◌, ◌*◌, List, ℕ, None};
 ghost use Rattle.std.specs.Io.KnownBytes.{Appends, Consumes};
 ghost use Rattle.chord_serve.specs.BytesRead.{ReadsBetween};
-ghost use Rattle.chord_serve.specs.Session.{start};
+ghost use Rattle.chord_serve.specs.Session.{first_state};
 ghost use Rattle.chord_serve.specs.Served.{IsServed, EndsInput};
 
 use crate::asker::Asker;
@@ -27,7 +27,7 @@ pub fn serve<R: Read, W: Write, A: Asker>(
     ensures bytes { ReadsBetween 0 (4096 * turns) (R.remaining reader.old) (R.remaining reader.new) }
     ensures spent { result ≡ Served.TurnsSpent → ReadsBetween turns (4096 * turns) (R.remaining reader.old) (R.remaining reader.new) }
     ensures served { (input : List ℕ) × (output : List ℕ) × Consumes (R.remaining reader.old) (R.remaining reader.new) input
-        × IsServed A.answers result None start asker.old input output asker.new
+        × IsServed A.answers result None first_state asker.old input output asker.new
         × Appends (W.contents writer.old) (W.contents writer.new) output }
 {
     let mut connection = Connection::new(alloc);

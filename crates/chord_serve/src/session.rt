@@ -1,10 +1,10 @@
 //! The requests of a session and their reply frames.
 ghost use Rattle.chord_wire.specs.Spelling.{IsWireRequest};
 ghost use Rattle.std.specs.Prelude.{◌≡◌, ◌≢◌, IsSome, ◌≤◌, ◌^◌, slice_get, Some, ◌<◌, ◌-◌, ◌+◌, length, OnOk, OnErr};
-ghost use Rattle.chord_serve.specs.Session.{start, last, answered_of, is_out, raised, accepted, place_of, move_at, move_of, added, answered_at, frame_kept};
+ghost use Rattle.chord_serve.specs.Session.{first_state, last_number, answered_of, is_out, raised, with_accepted, place_of, move_at, move_of, with_open_request, answered_at, frame_kept};
 ghost use Rattle.std.specs.Option.{option_map};
 
-use crate::kept::Kept;
+use crate::asked_request::AskedRequest;
 use chord_map::{Bytes, Request};
 use chord_wire::{FaultCode, WireRequest};
 use std::alloc::{AllocError, Global};
@@ -27,7 +27,7 @@ pub enum Move {
 #[derive(Debug, Drop)]
 pub struct Session {
     floor: u64,
-    kept: Vec<Kept>,
+    kept: Vec<AskedRequest>,
 }
 
 impl Model for Session {
@@ -41,7 +41,7 @@ impl Model for Session {
     ghost invariant = { λ s. s.floor + vec_len s.kept < 2 ^ 64 };
 }
 
-fn answered_of(kept: &[Kept]) -> usize
+fn answered_of(kept: &[AskedRequest]) -> usize
     ensures count { result ≡ answered_of kept.now }
     ensures bound { result ≤ length kept.now }
 {
@@ -57,7 +57,7 @@ fn answered_of(kept: &[Kept]) -> usize
 
 impl Session {
     pub fn new(alloc: Global) -> Session
-        ensures { result ≡ start }
+        ensures { result ≡ first_state }
     {
         Session {
             floor: 0,
@@ -70,11 +70,11 @@ impl Session {
     pub fn accept(&mut self, wire: &WireRequest) -> Move
         requires { IsWireRequest wire.now }
         ensures call { result ≡ move_of self.old wire.now }
-        ensures state { self.new ≡ accepted self.old wire.now }
+        ensures state { self.new ≡ with_accepted self.old wire.now }
         ensures code { result ≢ Move.Refuse FaultCode.Memory }
         ensures above { result ≢ Move.Refuse FaultCode.BadNumber → self.new.floor < wire.now.number }
-        ensures next { result ≡ Move.Ask → wire.now.number ≡ last self.new + 1 }
-        ensures asked { result ≡ Move.Retry → wire.now.number ≤ last self.new }
+        ensures next { result ≡ Move.Ask → wire.now.number ≡ last_number self.new + 1 }
+        ensures asked { result ≡ Move.Retry → wire.now.number ≤ last_number self.new }
         ensures answered { result ≡ Move.Again → IsSome (frame_kept self.new wire.now.number) }
     {
         if self.is_out(wire) {
@@ -86,7 +86,7 @@ impl Session {
 
     fn is_out(&self, wire: &WireRequest) -> bool
         ensures test { result ≡ is_out self.now wire.now }
-        ensures in_range { last self.now < 2 ^ 64 }
+        ensures in_range { last_number self.now < 2 ^ 64 }
     {
         let answered = self.floor + answered_of(&self.kept) as u64;
         let last = self.floor + self.kept.len() as u64;
@@ -95,7 +95,7 @@ impl Session {
     }
 
     fn raise(&mut self, floor: u64)
-        requires { floor ≤ last self.old }
+        requires { floor ≤ last_number self.old }
         ensures { self.new ≡ raised self.old floor }
     {
         if self.floor < floor {
@@ -106,10 +106,10 @@ impl Session {
 
     /// Adds a request that is not answered yet.
     pub fn add(&mut self, request: Request) -> Result<(), AllocError>
-        requires { last self.old < 2 ^ 64 - 1 }
-        ensures ok { OnOk result (self.new ≡ added self.old request) }
+        requires { last_number self.old < 2 ^ 64 - 1 }
+        ensures ok { OnOk result (self.new ≡ with_open_request self.old request) }
     {
-        self.kept.push(Kept {
+        self.kept.push(AskedRequest {
             request,
             frame: None,
         })?;
@@ -127,7 +127,7 @@ impl Session {
     /// Stores the reply frame of a number.
     pub fn keep(&mut self, number: u64, frame: Bytes)
         requires above { self.old.floor < number }
-        requires kept { number ≤ last self.old }
+        requires kept { number ≤ last_number self.old }
         ensures { self.new ≡ answered_at self.old number frame }
     {
         let place = self.place_of(number);

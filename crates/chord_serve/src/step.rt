@@ -2,8 +2,8 @@
 ghost use Rattle.std.specs.Prelude.{◌≡◌, ◌≢◌, ◌<◌, ◌≤◌, OnOk};
 ghost use Rattle.chord_wire.specs.Spelling.{IsWireRequest};
 ghost use Rattle.chord_serve.specs.Question.{IsAnswer};
-ghost use Rattle.chord_serve.specs.Session.{last};
-ghost use Rattle.chord_serve.specs.Output.{frame_of, told};
+ghost use Rattle.chord_serve.specs.Session.{last_number};
+ghost use Rattle.chord_serve.specs.Output.{frame_of, after_answer};
 ghost use Rattle.chord_serve.specs.Steps.{Deals};
 ghost use Rattle.chord_serve.specs.Writes.{Joins};
 ghost use Rattle.chord_serve.specs.declared.asker.Asked.TheVariants as asked;
@@ -25,9 +25,9 @@ fn tell(
 ) -> Result<(), AllocError>
     requires fits { IsAnswer answer }
     requires above { session.old.floor < number }
-    requires kept { number ≤ last session.old }
+    requires kept { number ≤ last_number session.old }
     ensures due { Joins result due.old due.new (frame_of number answer) }
-    ensures told { OnOk result (session.new ≡ told session.old number answer) }
+    ensures told { OnOk result (session.new ≡ after_answer session.old number answer) }
     ensures answered { OnOk result (answer ≢ asked.Memory) }
 {
     match answer {

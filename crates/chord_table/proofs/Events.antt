@@ -13,7 +13,7 @@ use Rattle.chord_table.proofs.Later.{GoesOn, event_goes_on, was_there_after, was
 use Rattle.chord_table.proofs.Numbers.{one_actor}
 use Rattle.chord_table.proofs.Showing.{IsHeir, shows_changed}
 use Rattle.chord_table.proofs.Worlds.{IsNew, event_steps, there_after, others_after, nodes_after, callers_after, sent_after, others_entered}
-use Rattle.chord_table.specs.Actors.{IsThere, AreOne, Event, after, entered}
+use Rattle.chord_table.specs.Actors.{IsThere, AreOne, Event, world_after, world_with}
 use Rattle.chord_table.specs.Later.{WasThere}
 use Rattle.chord_table.specs.Seen.{Actor, OfNode, OfCaller, Sight, View, Admitted, Shown, Witnessed, Sent, Spent}
 use Rattle.chord_table.specs.Views.{OneIs, IsSeen, IsTrueOf, HaveOneOwner, Shows}
@@ -79,29 +79,29 @@ admitted_heir nodes callers more_nodes more_callers taken = record { left = λ u
 -- ---- an event
 
 all_sent_after : (world : World) (new : Actor) (sent : Option Message) (call : Option Done) (messages : List Message)
-    → All (Contains world.sent) messages → All (Contains (after world new sent call).sent) messages
+    → All (Contains world.sent) messages → All (Contains (world_after world new sent call).sent) messages
 all_sent_after world new sent call messages all =
-    All-weaker (Contains world.sent) (Contains (after world new sent call).sent) (λ m. sent_after world new sent call m) messages all
+    All-weaker (Contains world.sent) (Contains (world_after world new sent call).sent) (λ m. sent_after world new sent call m) messages all
 
 -- the sights of other actors whose seats were taken in stay true
 all_seen_after : (world : World) (old new : Actor) (sent : Option Message) (call : Option Done) (taken : List Sight) → AreOne old new → (OneIs taken old → ⊥)
-    → All (IsSeen world) taken → All (IsSeen (after world new sent call)) taken
-all_seen_after world old new sent call [] same apart all = All-nil (IsSeen (after world new sent call))
+    → All (IsSeen world) taken → All (IsSeen (world_after world new sent call)) taken
+all_seen_after world old new sent call [] same apart all = All-nil (IsSeen (world_after world new sent call))
 all_seen_after world old new sent call (sight ∷ rest) same apart all =
     let first = All-head (IsSeen world) sight rest all in
-    All-cons (IsSeen (after world new sent call)) sight rest
+    All-cons (IsSeen (world_after world new sent call)) sight rest
     (others_after world new sight.actor sent call (λ one. apart (inl (one_right old new sight.actor same one))) first.0, all_sent_after world new sent call sight.messages first.1)
     (all_seen_after world old new sent call rest same (λ one. apart (inr one)) (All-tail (IsSeen world) sight rest all))
 
 -- each view stays true after an event, except those of its actor
 true_after : (world : World) (old new : Actor) (messages : List Message) (sent : Option Message) (call : Option Done) → AreOne old new → GoesOn old new → IsThere world old
-    → (u : View) → (HaveOneOwner u (Shown old messages) → ⊥) → IsTrueOf world u → IsTrueOf (after world new sent call) u
+    → (u : View) → (HaveOneOwner u (Shown old messages) → ⊥) → IsTrueOf world u → IsTrueOf (world_after world new sent call) u
 true_after world old new messages sent call same on here (Admitted nodes callers taken) apart (n, c, differ, all) =
     (nodes_after world new sent call ∙ n, callers_after world new sent call ∙ c, differ, all_seen_after world old new sent call taken same apart all)
 true_after world old new messages sent call same on here (Shown other more) apart (there, all) =
     (others_after world new other sent call (λ one. apart (one_right old new other same one)) there, all_sent_after world new sent call more all)
 true_after world old new messages sent call same on here (Witnessed callers) apart were =
-    All-weaker (WasThere world) (WasThere (after world new sent call)) (λ c. was_there_after world old new sent call same on here c) callers were
+    All-weaker (WasThere world) (WasThere (world_after world new sent call)) (λ c. was_there_after world old new sent call same on here c) callers were
 true_after world old new messages sent call same on here (Sent message) apart was = sent_after world new sent call message was
 true_after world old new messages sent call same on here Spent apart h = tt
 
@@ -112,12 +112,12 @@ known_was_sent world messages (Some message) all known = All-contains (Contains 
 -- an event of the actor that a seat shows is a step of the world, and the seats show the new world
 pub event_shown : (world : World) (views : List View) (id : ℕ) (old new : Actor) (messages : List Message) (taken sent : Option Message) (call : Option Done)
     → Shows world views → get_elem? views id ≡ some (Shown old messages) → WasSent messages taken → Event old taken new sent call
-    → WorldStep world (after world new sent call) × Shows (after world new sent call) (set views id (Shown new messages))
+    → WorldStep world (world_after world new sent call) × Shows (world_after world new sent call) (set views id (Shown new messages))
 event_shown world views id old new messages taken sent call shows at known event =
     let mine = shows.agrees id (Shown old messages) at in
     let same = one_actor old new taken sent call event in (
       event_steps world old new taken sent call mine.0 (known_was_sent world messages taken mine.1 known) event,
-      shows_changed world (after world new sent call) views id (Shown old messages) (Shown new messages) shows at (shown_heir old new messages messages same)
+      shows_changed world (world_after world new sent call) views id (Shown old messages) (Shown new messages) shows at (shown_heir old new messages messages same)
           (there_after world old new sent call same mine.0, all_sent_after world new sent call messages mine.1)
           (λ seat u apart e. true_after world old new messages sent call same (event_goes_on old new taken sent call event) mine.0 u (λ one. apart (shows.apart seat id u (Shown old messages) e at one)) (shows.agrees seat u e)),
     )
@@ -126,12 +126,12 @@ event_shown world views id old new messages taken sent call shows at known event
 
 -- each view stays true after an actor was admitted, except the registrar's
 pub true_entered : (world : World) (new : Actor) (nodes callers : List ℕ) → IsNew world new
-    → (u : View) → (HaveOneOwner u (Admitted nodes callers []) → ⊥) → IsTrueOf world u → IsTrueOf (entered world new) u
+    → (u : View) → (HaveOneOwner u (Admitted nodes callers []) → ⊥) → IsTrueOf world u → IsTrueOf (world_with world new) u
 true_entered world new nodes callers none (Admitted _ _ _) apart h = absurd (apart tt)
 true_entered world (OfNode new) nodes callers none (Shown other messages) apart (there, all) = (others_entered world (OfNode new) other none there, all)
 true_entered world (OfCaller new) nodes callers none (Shown other messages) apart (there, all) = (others_entered world (OfCaller new) other none there, all)
 true_entered world new nodes callers none (Witnessed others) apart were =
-    All-weaker (WasThere world) (WasThere (entered world new)) (λ c. was_there_entered world new c) others were
+    All-weaker (WasThere world) (WasThere (world_with world new)) (λ c. was_there_entered world new c) others were
 true_entered world (OfNode new) nodes callers none (Sent message) apart was = was
 true_entered world (OfCaller new) nodes callers none (Sent message) apart was = was
 true_entered world new nodes callers none Spent apart h = tt

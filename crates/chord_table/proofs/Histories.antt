@@ -11,7 +11,7 @@ use Rattle.chord_model.proofs.CallerLemmas.{submission_left}
 use Rattle.chord_model.specs.Headline.{OneHistory, request_with, submitted_by}
 use Rattle.chord_model.specs.World.{World, caller_at}
 use Rattle.chord_table.specs.Later.{IsLater, WasThere}
-use Rattle.chord_table.specs.Shown.{IsIn, latest, taken_by_all}
+use Rattle.chord_table.specs.Shown.{IsIn, latest_callers, taken_by_all}
 
 -- what is true of all of a list is true of all of a prefix
 all_left : {A : Type 0} (P : A → Type 0) (xs more longer : List A) → longer ≡ xs ++ more → All P longer → All P xs
@@ -83,18 +83,18 @@ abbrev IsOwn : Caller → Type 0
 IsOwn caller = EachOnce caller.mine × Each (λ call. call.caller ≡ caller.number) caller.mine
 
 -- each call taken by these callers was taken by one of them
-from_one : (callers : List Caller) (call : Done) → Has (taken_by_all (latest callers)) call → (caller : Caller) × Has callers caller × Has caller.mine call
+from_one : (callers : List Caller) (call : Done) → Has (taken_by_all (latest_callers callers)) call → (caller : Caller) × Has callers caller × Has caller.mine call
 from_one [] call h = absurd h
 from_one (first ∷ rest) call h =
     by_test (is_some (caller_at first.number rest))
     (λ t.
-    let r = from_one rest call (subst (λ l. Has (taken_by_all l) call) (cond-true (is_some (caller_at first.number rest)) (latest rest) (first ∷ latest rest) t) h) in
+    let r = from_one rest call (subst (λ l. Has (taken_by_all l) call) (cond-true (is_some (caller_at first.number rest)) (latest_callers rest) (first ∷ latest_callers rest) t) h) in
     (r.0, inr r.1, r.2))
     (λ f. ⊎_elim
     (λ a. (first, inl refl, a))
     (λ b. let r = from_one rest call b in (r.0, inr r.1, r.2))
-    (has_cases first.mine (taken_by_all (latest rest)) call
-    (subst (λ l. Has (taken_by_all l) call) (cond-false (is_some (caller_at first.number rest)) (latest rest) (first ∷ latest rest) f) h)))
+    (has_cases first.mine (taken_by_all (latest_callers rest)) call
+    (subst (λ l. Has (taken_by_all l) call) (cond-false (is_some (caller_at first.number rest)) (latest_callers rest) (first ∷ latest_callers rest) f) h)))
 
 not_at : (number : ℕ) (callers : List Caller) (caller : Caller) → is_some (caller_at number callers) ≡ false → Has callers caller → caller.number ≡ number → ⊥
 unfolding caller_at
@@ -104,26 +104,26 @@ not_at number callers caller none h same =
 
 -- two callers have no call in common
 others_apart : (first : Caller) (rest : List Caller) → IsOwn first → Each IsOwn rest → is_some (caller_at first.number rest) ≡ false
-    → Each (λ call. done_at call.caller call.number (taken_by_all (latest rest)) ≡ None) first.mine
+    → Each (λ call. done_at call.caller call.number (taken_by_all (latest_callers rest)) ≡ None) first.mine
 others_apart first rest own others none call h =
-    by_option (done_at call.caller call.number (taken_by_all (latest rest)))
+    by_option (done_at call.caller call.number (taken_by_all (latest_callers rest)))
     (λ e. e)
     (λ more some.
-    let (its_caller, its_number, there) = done_is call.caller call.number (taken_by_all (latest rest)) more some in
+    let (its_caller, its_number, there) = done_is call.caller call.number (taken_by_all (latest_callers rest)) more some in
     let (caller, listed, taken) = from_one rest more there in
     absurd (not_at first.number rest caller none listed (sym ((others caller listed).1 more taken) ∙ its_caller ∙ own.1 call h)))
 
-once_all : (callers : List Caller) → Each IsOwn callers → EachOnce (taken_by_all (latest callers))
+once_all : (callers : List Caller) → Each IsOwn callers → EachOnce (taken_by_all (latest_callers callers))
 once_all [] each = tt
 once_all (first ∷ rest) each =
     let others = once_all rest (λ c h. each c (inr h)) in
     by_test (is_some (caller_at first.number rest))
-    (λ t. subst (λ l. EachOnce (taken_by_all l)) (sym (cond-true (is_some (caller_at first.number rest)) (latest rest) (first ∷ latest rest) t)) others)
-    (λ f. subst (λ l. EachOnce (taken_by_all l)) (sym (cond-false (is_some (caller_at first.number rest)) (latest rest) (first ∷ latest rest) f))
-    (once_both first.mine (taken_by_all (latest rest)) (each first (inl refl)).0 others (others_apart first rest (each first (inl refl)) (λ c h. each c (inr h)) f)))
+    (λ t. subst (λ l. EachOnce (taken_by_all l)) (sym (cond-true (is_some (caller_at first.number rest)) (latest_callers rest) (first ∷ latest_callers rest) t)) others)
+    (λ f. subst (λ l. EachOnce (taken_by_all l)) (sym (cond-false (is_some (caller_at first.number rest)) (latest_callers rest) (first ∷ latest_callers rest) f))
+    (once_both first.mine (taken_by_all (latest_callers rest)) (each first (inl refl)).0 others (others_apart first rest (each first (inl refl)) (λ c h. each c (inr h)) f)))
 
 -- no call was taken by two of the callers
-pub once_in_all : (history : List Done) (callers : List Caller) → All (IsIn history) callers → EachOnce (taken_by_all (latest callers))
+pub once_in_all : (history : List Done) (callers : List Caller) → All (IsIn history) callers → EachOnce (taken_by_all (latest_callers callers))
 once_in_all history callers all = once_all callers (λ caller h. own caller (each_all (IsIn history) callers all caller h))
   where
     own : (caller : Caller) → IsIn history caller → IsOwn caller

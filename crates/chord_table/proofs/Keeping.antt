@@ -13,21 +13,21 @@ use Rattle.chord_table.proofs.Events.{shown_heir, admitted_heir, event_shown, tr
 use Rattle.chord_table.proofs.Later.{later_itself}
 use Rattle.chord_table.proofs.Showing.{IsHeir, shows_changed, shows_added}
 use Rattle.chord_table.proofs.Worlds.{IsNew, new_apart, there_entered, may_enter}
-use Rattle.chord_table.specs.Actors.{IsThere, AreOne, after, entered}
+use Rattle.chord_table.specs.Actors.{IsThere, AreOne, world_after, world_with}
 use Rattle.chord_table.specs.Later.{WasThere}
 use Rattle.chord_table.specs.Seen.{Actor, OfNode, OfCaller, Sight, View, Admitted, Shown, Witnessed, Sent, Spent}
-use Rattle.chord_table.specs.Views.{Name, word_of, sight_of, OneIs, IsSeen, IsTrueOf, HaveOneOwner, Shows, IsKept, IsTrueOfSome, view_of, Register, changed, admitting, told, testimony, gathered, MayBecome, MayEnter}
+use Rattle.chord_table.specs.Views.{Name, word_of, sight_of, OneIs, IsSeen, IsTrueOf, HaveOneOwner, Shows, IsKept, IsTrueOfSome, view_of, Register, with_actor, with_admitted, with_message, testimony, joined_witnesses, MayBecome, MayEnter}
 
 -- a table with a word has more than 0 words
 pub some_words : {word words : ℕ} → word < words → 0 < words
 some_words at = omega arith
 
 -- after an event the seat shows the actor's new state and has the same word
-pub still_seated : (name : Name) (word : ℕ) (old next : Me ℕ View) (s : Sight) (new : Actor) → old ≡ (view_of s, []) → next ≡ (changed new old.0, old.1)
+pub still_seated : (name : Name) (word : ℕ) (old next : Me ℕ View) (s : Sight) (new : Actor) → old ≡ (view_of s, []) → next ≡ (with_actor new old.0, old.1)
     → word ≡ word_of name s.actor → word_of name s.actor ≡ word_of name new
     → (next ≡ (view_of (sight_of next.0), [])) × (word ≡ word_of name (sight_of next.0).actor)
 still_seated name word old next s new is becomes at same =
-    let shown : next ≡ (Shown new s.messages, []) = becomes ∙ ap (λ (m : Me ℕ View). (changed new m.0, m.1)) is in
+    let shown : next ≡ (Shown new s.messages, []) = becomes ∙ ap (λ (m : Me ℕ View). (with_actor new m.0, m.1)) is in
     subst (λ (m : Me ℕ View). (m ≡ (view_of (sight_of m.0), [])) × (word ≡ word_of name (sight_of m.0).actor)) (sym shown) (refl, at ∙ same)
 
 -- the registrar's seat alone shows the empty world
@@ -66,31 +66,31 @@ witness_has_none callers Spent h = h
 
 -- an event that sends nothing, or whose message is lost, at any word
 pub local_as : (slots id word : ℕ) (me : Me ℕ View) (s : Sight) (new : Actor) (f : ℕ → ℕ) → me ≡ (view_of s, []) → (sent : Option Message) × MayBecome s.actor s.messages new sent
-    → Allows IsKept slots id me word f (λ found m. m ≡ (changed new me.0, me.1))
+    → Allows IsKept slots id me word f (λ found m. m ≡ (with_actor new me.0, me.1))
 local_as slots id word me s new f is (sent, (taken, call, known, event)) =
-    subst (λ (m : Me ℕ View). Allows IsKept slots id m word f (λ found w. w ≡ (changed new m.0, m.1))) (sym is) allowed
+    subst (λ (m : Me ℕ View). Allows IsKept slots id m word f (λ found w. w ≡ (with_actor new m.0, m.1))) (sym is) allowed
   where
     allowed : Allows IsKept slots id (view_of s, []) word f (λ found w. w ≡ (Shown new s.messages, []))
     allowed t (world, reached, shows) len at fits =
         let next = event_shown world t.views id s.actor new s.messages taken sent call shows at known event in
-        (Shown new s.messages, keeps, tt, (after world new sent call, Goes_on reached next.0, next.1), refl)
+        (Shown new s.messages, keeps, tt, (world_after world new sent call, Goes_on reached next.0, next.1), refl)
 
 -- an event whose message gets a new seat
 pub send_as : (id : ℕ) (me : Me ℕ View) (s : Sight) (new : Actor) (message : Message) → me ≡ (view_of s, []) → MayBecome s.actor s.messages new (Some message)
-    → Splits IsKept id me.0 (changed new me.0) (Sent message)
+    → Splits IsKept id me.0 (with_actor new me.0) (Sent message)
 send_as id me s new message is (taken, call, known, event) =
-    subst (λ (m : Me ℕ View). Splits IsKept id m.0 (changed new m.0) (Sent message)) (sym is) allowed
+    subst (λ (m : Me ℕ View). Splits IsKept id m.0 (with_actor new m.0) (Sent message)) (sym is) allowed
   where
-    was_sent : (world : World) (actor : Actor) → Contains (after world actor (Some message) call).sent message
+    was_sent : (world : World) (actor : Actor) → Contains (world_after world actor (Some message) call).sent message
     was_sent world (OfNode node) = Contains-push world.sent message
     was_sent world (OfCaller caller) = Contains-push world.sent message
 
     allowed : Splits IsKept id (view_of s) (Shown new s.messages) (Sent message)
     allowed t (world, reached, shows) at =
         let next = event_shown world t.views id s.actor new s.messages taken (Some message) call shows at known event in (
-          after world new (Some message) call,
+          world_after world new (Some message) call,
           Goes_on reached next.0,
-          shows_added (after world new (Some message) call) (set t.views id (Shown new s.messages)) (Sent message) next.1 (was_sent world new) (λ seat u e. (nobodys message u, λ h. h)),
+          shows_added (world_after world new (Some message) call) (set t.views id (Shown new s.messages)) (Sent message) next.1 (was_sent world new) (λ seat u e. (nobodys message u, λ h. h)),
         )
 
 -- the world has no actor with the number of a new one
@@ -101,16 +101,16 @@ none_is_new world new none (sight ∷ rest) all (inr h) = none_is_new world new 
 
 -- a new actor gets a new seat
 pub admit_as : (id : ℕ) (new : Actor) (me : Me ℕ View) (register : Register) → me ≡ (Admitted register.nodes register.callers [], []) → MayEnter register new
-    → Splits IsKept id me.0 (admitting new me.0) (Shown new [])
+    → Splits IsKept id me.0 (with_admitted new me.0) (Shown new [])
 admit_as id new me register is may =
-    subst (λ (m : Me ℕ View). Splits IsKept id m.0 (admitting new m.0) (Shown new [])) (sym is) allowed
+    subst (λ (m : Me ℕ View). Splits IsKept id m.0 (with_admitted new m.0) (Shown new [])) (sym is) allowed
   where
     old_view : View
     old_view = Admitted register.nodes register.callers []
 
-    listed : (world : World) (actor : Actor) → IsTrueOf world old_view → IsTrueOf (entered world actor) (admitting actor old_view)
-    listed world (OfNode node) (nodes, callers, differ, others) = (register_entered world register.nodes node nodes, callers, tt, All-nil (IsSeen (entered world (OfNode node))))
-    listed world (OfCaller caller) (nodes, callers, differ, others) = (nodes, callers_entered world register.callers caller callers, tt, All-nil (IsSeen (entered world (OfCaller caller))))
+    listed : (world : World) (actor : Actor) → IsTrueOf world old_view → IsTrueOf (world_with world actor) (with_admitted actor old_view)
+    listed world (OfNode node) (nodes, callers, differ, others) = (register_entered world register.nodes node nodes, callers, tt, All-nil (IsSeen (world_with world (OfNode node))))
+    listed world (OfCaller caller) (nodes, callers, differ, others) = (nodes, callers_entered world register.callers caller callers, tt, All-nil (IsSeen (world_with world (OfCaller caller))))
 
     not_there : (world : World) → IsNew world new → (u : View) → IsTrueOf world u → (HaveOneOwner u (Shown new []) → ⊥) × (HaveOneOwner (Shown new []) u → ⊥)
     not_there world none (Admitted _ _ taken) (nodes, callers, differ, all) = (none_is_new world new none taken all, none_is_new world new none taken all)
@@ -125,32 +125,32 @@ admit_as id new me register is may =
     not_there world none (Sent _) h = ((λ x. x), (λ x. x))
     not_there world none Spent h = ((λ x. x), (λ x. x))
 
-    no_actors : (actor : Actor) → (HaveOneOwner (admitting actor old_view) (Shown new []) → ⊥) × (HaveOneOwner (Shown new []) (admitting actor old_view) → ⊥)
+    no_actors : (actor : Actor) → (HaveOneOwner (with_admitted actor old_view) (Shown new []) → ⊥) × (HaveOneOwner (Shown new []) (with_admitted actor old_view) → ⊥)
     no_actors (OfNode node) = ((λ h. h), (λ h. h))
     no_actors (OfCaller caller) = ((λ h. h), (λ h. h))
 
-    alone : (views : List View) (world : World) → IsNew world new → Shows world views → (seat : ℕ) (u : View) → get_elem? (set views id (admitting new old_view)) seat ≡ some u
+    alone : (views : List View) (world : World) → IsNew world new → Shows world views → (seat : ℕ) (u : View) → get_elem? (set views id (with_admitted new old_view)) seat ≡ some u
         → (HaveOneOwner u (Shown new []) → ⊥) × (HaveOneOwner (Shown new []) u → ⊥)
     alone views world none shows seat u e = ⊎_elim
-        (λ (x : (seat ≡ id) × (admitting new old_view ≡ u)). subst (λ (v : View). (HaveOneOwner v (Shown new []) → ⊥) × (HaveOneOwner (Shown new []) v → ⊥)) x.1 (no_actors new))
+        (λ (x : (seat ≡ id) × (with_admitted new old_view ≡ u)). subst (λ (v : View). (HaveOneOwner v (Shown new []) → ⊥) × (HaveOneOwner (Shown new []) v → ⊥)) x.1 (no_actors new))
         (λ (x : (seat ≢ id) × (get_elem? views seat ≡ some u)). not_there world none u (shows.agrees seat u x.1))
-        (at_set views id seat (admitting new old_view) u e)
+        (at_set views id seat (with_admitted new old_view) u e)
 
-    heir : (actor : Actor) → IsHeir old_view (admitting actor old_view)
+    heir : (actor : Actor) → IsHeir old_view (with_admitted actor old_view)
     heir (OfNode node) = admitted_heir register.nodes register.callers (register.nodes ++ node.number ∷ []) register.callers []
     heir (OfCaller caller) = admitted_heir register.nodes register.callers register.nodes (register.callers ++ caller.number ∷ []) []
 
-    no_message : (world : World) (actor : Actor) → IsThere (entered world actor) actor → IsTrueOf (entered world actor) (Shown actor [])
-    no_message world actor there = (there, All-nil (Contains (entered world actor).sent))
+    no_message : (world : World) (actor : Actor) → IsThere (world_with world actor) actor → IsTrueOf (world_with world actor) (Shown actor [])
+    no_message world actor there = (there, All-nil (Contains (world_with world actor).sent))
 
-    allowed : Splits IsKept id old_view (admitting new old_view) (Shown new [])
+    allowed : Splits IsKept id old_view (with_admitted new old_view) (Shown new [])
     allowed s (world, reached, shows) at =
-        let next : World = entered world new in
+        let next : World = world_with world new in
         let true = shows.agrees id old_view at in
         let (none, step) = may_enter world register new true may in
-        let all = shows_changed world next s.views id old_view (admitting new old_view) shows at (heir new) (listed world new true)
+        let all = shows_changed world next s.views id old_view (with_admitted new old_view) shows at (heir new) (listed world new true)
         (λ seat u apart e. true_entered world new register.nodes register.callers none u (λ one. apart (shows.apart seat id u old_view e at one)) (shows.agrees seat u e)) in
-        (next, Goes_on reached step, shows_added next (set s.views id (admitting new old_view)) (Shown new []) all (no_message world new (there_entered world new none)) (alone s.views world none shows))
+        (next, Goes_on reached step, shows_added next (set s.views id (with_admitted new old_view)) (Shown new []) all (no_message world new (there_entered world new none)) (alone s.views world none shows))
 
 spends : (other : ℕ) (w : World) (views : List View) → Shows w views → Shows w (set views other Spent)
 spends other w views shows = record {
@@ -169,10 +169,10 @@ spends other w views shows = record {
 
 -- an actor takes in a message that was sent
 pub receive_as : (id other : ℕ) (me you : Me ℕ View) (s : Sight) (message : Message) → me ≡ (view_of s, []) → you ≡ (Sent message, [])
-    → Joins IsKept id me.0 other you.0 (told me.0 you.0) Spent
+    → Joins IsKept id me.0 other you.0 (with_message me.0 you.0) Spent
 receive_as id other me you s message is came =
-    subst (λ (m : Me ℕ View). Joins IsKept id m.0 other you.0 (told m.0 you.0) Spent) (sym is)
-    (subst (λ (y : Me ℕ View). Joins IsKept id (view_of s) other y.0 (told (view_of s) y.0) Spent) (sym came) allowed)
+    subst (λ (m : Me ℕ View). Joins IsKept id m.0 other you.0 (with_message m.0 you.0) Spent) (sym is)
+    (subst (λ (y : Me ℕ View). Joins IsKept id (view_of s) other y.0 (with_message (view_of s) y.0) Spent) (sym came) allowed)
   where
     itself : (actor : Actor) → AreOne actor actor
     itself (OfNode node) = refl
@@ -227,10 +227,10 @@ testify_as id me s caller is calls =
 
 -- one witness takes in another
 pub gather_as : (id other : ℕ) (me you : Me ℕ View) (callers more : List Caller) → me ≡ (Witnessed callers, []) → you ≡ (Witnessed more, [])
-    → Joins IsKept id me.0 other you.0 (gathered me.0 you.0) Spent
+    → Joins IsKept id me.0 other you.0 (joined_witnesses me.0 you.0) Spent
 gather_as id other me you callers more is came =
-    subst (λ (m : Me ℕ View). Joins IsKept id m.0 other you.0 (gathered m.0 you.0) Spent) (sym is)
-    (subst (λ (y : Me ℕ View). Joins IsKept id (Witnessed callers) other y.0 (gathered (Witnessed callers) y.0) Spent) (sym came) allowed)
+    subst (λ (m : Me ℕ View). Joins IsKept id m.0 other you.0 (joined_witnesses m.0 you.0) Spent) (sym is)
+    (subst (λ (y : Me ℕ View). Joins IsKept id (Witnessed callers) other y.0 (joined_witnesses (Witnessed callers) y.0) Spent) (sym came) allowed)
   where
     heir : IsHeir (Witnessed callers) (Witnessed (callers ++ more))
     heir = record { left = λ u h. h; right = λ u h. absurd (witness_has_none (callers ++ more) u h) }

@@ -8,7 +8,7 @@ use Rattle.chord_map.specs.declared.done.Done.{Done}
 use Rattle.chord_model.proofs.CallerLemmas.{caller_left, nothing_more, put_same, put_apart}
 use Rattle.chord_model.specs.declared.message.Message.{Message}
 use Rattle.chord_model.specs.World.{World, caller_at, put_caller}
-use Rattle.chord_table.specs.Actors.{IsThere, AreOne, Event, after, entered}
+use Rattle.chord_table.specs.Actors.{IsThere, AreOne, Event, world_after, world_with}
 use Rattle.chord_table.specs.Later.{IsLater, WasThere}
 use Rattle.chord_table.specs.Seen.{Actor, OfNode, OfCaller}
 
@@ -51,7 +51,7 @@ event_goes_on _ _ _ _ _ (Event.Calls {old = old} {new = new} {taken = taken} {se
 
 -- a caller that was there is there after an event, then or later
 pub was_there_after : (world : World) (old new : Actor) (sent : Option Message) (call : Option Done) → AreOne old new → GoesOn old new → IsThere world old
-    → (caller : Caller) → WasThere world caller → WasThere (after world new sent call) caller
+    → (caller : Caller) → WasThere world caller → WasThere (world_after world new sent call) caller
 was_there_after world (OfNode old) (OfNode new) sent call same on here caller was = was
 was_there_after world (OfCaller old) (OfCaller new) sent call same on here caller (now, at, later) =
     let here_too : caller_at new.number world.callers ≡ Some old = subst (λ n. caller_at n world.callers ≡ Some old) same here in
@@ -68,6 +68,6 @@ was_there_after world (OfNode old) (OfCaller new) sent call same on here caller 
 was_there_after world (OfCaller old) (OfNode new) sent call same on here caller was = absurd same
 
 -- a caller that was there is there after an actor was admitted
-pub was_there_entered : (world : World) (new : Actor) (caller : Caller) → WasThere world caller → WasThere (entered world new) caller
+pub was_there_entered : (world : World) (new : Actor) (caller : Caller) → WasThere world caller → WasThere (world_with world new) caller
 was_there_entered world (OfNode new) caller was = was
 was_there_entered world (OfCaller new) caller (now, at, later) = (now, caller_left caller.number world.callers (new ∷ []) now at, later)

@@ -14,7 +14,7 @@ use Rattle.chord_table.proofs.Later.{later_itself}
 use Rattle.chord_table.specs.Actors.{IsThere, AreOne}
 use Rattle.chord_table.specs.Later.{WasThere}
 use Rattle.chord_table.specs.Seen.{Actor, OfNode, OfCaller, Sight}
-use Rattle.chord_table.specs.Shown.{IsIn, latest, taken_by_all, AssemblyShown, WholeShown, world_of}
+use Rattle.chord_table.specs.Shown.{IsIn, latest_callers, taken_by_all, AssemblyShown, WholeShown, world_of}
 use Rattle.chord_table.specs.Views.{OneIs, AllDiffer, IsSeen, IsTrueOfSome, Assembled, view_of_assembled, with_node, with_caller, nodes_among, callers_among, IsWhole}
 
 -- the first number, and the others
@@ -165,12 +165,12 @@ none_found (sight ∷ rest) caller apart =
     none_step sight.actor (callers_among rest) caller (λ one. apart (inl one)) (none_found rest caller (λ one. apart (inr one)))
 
 -- no number occurs twice, so each caller is the latest of its number
-latest_step : (actor : Actor) (rest : List Sight) → (OneIs rest actor → ⊥) → latest (callers_among rest) ≡ callers_among rest
-    → latest (with_caller actor (callers_among rest)) ≡ with_caller actor (callers_among rest)
+latest_step : (actor : Actor) (rest : List Sight) → (OneIs rest actor → ⊥) → latest_callers (callers_among rest) ≡ callers_among rest
+    → latest_callers (with_caller actor (callers_among rest)) ≡ with_caller actor (callers_among rest)
 latest_step (OfNode node) rest apart same = same
 latest_step (OfCaller caller) rest apart same = rw (none_found rest caller apart) (ap (λ (cs : List Caller). caller ∷ cs) same)
 
-all_latest : (taken : List Sight) → AllDiffer taken → latest (callers_among taken) ≡ callers_among taken
+all_latest : (taken : List Sight) → AllDiffer taken → latest_callers (callers_among taken) ≡ callers_among taken
 all_latest [] differ = refl
 all_latest (sight ∷ rest) differ = latest_step sight.actor rest differ.0 (all_latest rest differ.1)
 

@@ -12,7 +12,7 @@ use Rattle.chord_model.specs.World.{World, WorldStep, WasSent, node_at, caller_a
 use Rattle.chord_map.proofs.Equal.{eqb_same}
 use Rattle.chord_map.specs.declared.done.Done.{Done}
 use Rattle.chord_table.proofs.Numbers.{absent, node_put, caller_put}
-use Rattle.chord_table.specs.Actors.{IsThere, AreOne, Event, after, entered, node_numbers, caller_numbers}
+use Rattle.chord_table.specs.Actors.{IsThere, AreOne, Event, world_after, world_with, node_numbers, caller_numbers}
 use Rattle.chord_table.specs.Seen.{Actor, OfNode, OfCaller}
 use Rattle.chord_table.specs.Views.{IsTrueOf, Register, MayEnter}
 use Rattle.chord_table.specs.Seen.{Admitted}
@@ -20,14 +20,14 @@ use Rattle.chord_table.specs.Seen.{Admitted}
 -- ---- an event
 
 pub event_steps : (world : World) (old new : Actor) (taken sent : Option Message) (call : Option Done) → IsThere world old → WasSent world.sent taken → Event old taken new sent call
-    → WorldStep world (after world new sent call)
+    → WorldStep world (world_after world new sent call)
 event_steps world _ _ _ _ _ there was (Event.Acts {old = old} {new = new} {taken = taken} {sent = sent} {done = call} step) =
     WorldStep.Acts old.number old new taken sent call there was step
 event_steps world _ _ _ _ _ there was (Event.Calls {old = old} {new = new} {taken = taken} {sent = sent} step) =
     WorldStep.Calls old.number old new taken sent there was step
 
 -- after an event the world has the actor in its new state
-pub there_after : (world : World) (old new : Actor) (sent : Option Message) (call : Option Done) → AreOne old new → IsThere world old → IsThere (after world new sent call) new
+pub there_after : (world : World) (old new : Actor) (sent : Option Message) (call : Option Done) → AreOne old new → IsThere world old → IsThere (world_after world new sent call) new
 there_after world (OfNode old) (OfNode new) sent call same there =
     node_at-put_same new old world.nodes (subst (λ n. node_at n world.nodes ≡ Some old) same there)
 there_after world (OfCaller old) (OfCaller new) sent call same there =
@@ -36,22 +36,22 @@ there_after world (OfNode old) (OfCaller new) sent call same there = absurd same
 there_after world (OfCaller old) (OfNode new) sent call same there = absurd same
 
 -- after an event the world has each other actor as before
-pub others_after : (world : World) (new other : Actor) (sent : Option Message) (call : Option Done) → (AreOne other new → ⊥) → IsThere world other → IsThere (after world new sent call) other
+pub others_after : (world : World) (new other : Actor) (sent : Option Message) (call : Option Done) → (AreOne other new → ⊥) → IsThere world other → IsThere (world_after world new sent call) other
 others_after world (OfNode new) (OfNode other) sent call apart there = node_at-put_other other.number new world.nodes apart ∙ there
 others_after world (OfCaller new) (OfCaller other) sent call apart there = put_apart new world.callers other.number apart ∙ there
 others_after world (OfNode new) (OfCaller other) sent call apart there = there
 others_after world (OfCaller new) (OfNode other) sent call apart there = there
 
-pub nodes_after : (world : World) (new : Actor) (sent : Option Message) (call : Option Done) → node_numbers (after world new sent call) ≡ node_numbers world
+pub nodes_after : (world : World) (new : Actor) (sent : Option Message) (call : Option Done) → node_numbers (world_after world new sent call) ≡ node_numbers world
 nodes_after world (OfNode new) sent call = node_put new world.nodes
 nodes_after world (OfCaller new) sent call = refl
 
-pub callers_after : (world : World) (new : Actor) (sent : Option Message) (call : Option Done) → caller_numbers (after world new sent call) ≡ caller_numbers world
+pub callers_after : (world : World) (new : Actor) (sent : Option Message) (call : Option Done) → caller_numbers (world_after world new sent call) ≡ caller_numbers world
 callers_after world (OfNode new) sent call = refl
 callers_after world (OfCaller new) sent call = caller_put new world.callers
 
 -- what was sent before an event is sent after it
-pub sent_after : (world : World) (new : Actor) (sent : Option Message) (call : Option Done) (message : Message) → Contains world.sent message → Contains (after world new sent call).sent message
+pub sent_after : (world : World) (new : Actor) (sent : Option Message) (call : Option Done) (message : Message) → Contains world.sent message → Contains (world_after world new sent call).sent message
 sent_after world (OfNode new) None call message was = was
 sent_after world (OfNode new) (Some sent) call message was = Contains-append_left world.sent (sent ∷ []) message was
 sent_after world (OfCaller new) None call message was = was
@@ -70,12 +70,12 @@ new_apart world (OfCaller new) (OfCaller other) none there same = none-some othe
 new_apart world (OfNode new) (OfCaller other) none there same = same
 new_apart world (OfCaller new) (OfNode other) none there same = same
 
-pub there_entered : (world : World) (new : Actor) → IsNew world new → IsThere (entered world new) new
+pub there_entered : (world : World) (new : Actor) → IsNew world new → IsThere (world_with world new) new
 unfolding node_at caller_at
 there_entered world (OfNode new) none = node_at_push_same new.number world.nodes new refl none
 there_entered world (OfCaller new) none = find_push_hit (λ (c : Caller). eqb c.number new.number) world.callers new (eqb_same new.number new.number refl) none
 
-pub others_entered : (world : World) (new other : Actor) → IsNew world new → IsThere world other → IsThere (entered world new) other
+pub others_entered : (world : World) (new other : Actor) → IsNew world new → IsThere world other → IsThere (world_with world new) other
 unfolding node_at caller_at
 others_entered world (OfNode new) (OfNode other) none there =
     node_at_push_other other.number world.nodes new (λ same. new_apart world (OfNode new) (OfNode other) none there (sym same)) ∙ there
@@ -92,22 +92,22 @@ no_node (node ∷ nodes) e = cc
 
 -- admitting an actor that the registrar may admit is one step of the world
 pub may_enter : (world : World) (register : Register) (new : Actor) → IsTrueOf world (Admitted register.nodes register.callers []) → MayEnter register new
-    → IsNew world new × WorldStep world (entered world new)
+    → IsNew world new × WorldStep world (world_with world new)
 unfolding node_at caller_at
 may_enter world register (OfNode node) (nodes, callers, none_differ, others) (inl (first, (links, limit, within, is))) =
     let none : world.nodes ≡ [] = no_node world.nodes (nodes ∙ first) in (
       ap (node_at node.number) none,
-      subst (λ (n : Node). WorldStep world (entered world (OfNode n))) (sym is)
+      subst (λ (n : Node). WorldStep world (world_with world (OfNode n))) (sym is)
           (subst (λ (ns : List Node). WorldStep world (record world { nodes = ns ++ founder links limit ∷ [] })) (sym none) (WorldStep.Creates links limit within none)),
     )
 may_enter world register (OfNode node) (nodes, callers, none_differ, others) (inr (some, new, (links, limit, within, is))) =
     let none : node_at node.number world.nodes ≡ None = absent (λ (n : Node). n.number) world.nodes node.number (subst (λ ns. Contains ns node.number → ⊥) (sym nodes) new) in (
       none,
-      subst (λ (n : Node). WorldStep world (entered world (OfNode n))) (sym is)
+      subst (λ (n : Node). WorldStep world (world_with world (OfNode n))) (sym is)
           (WorldStep.Joins links limit within (λ e. some (sym nodes ∙ no_node_number world e)) (subst (λ (n : Node). node_at n.number world.nodes ≡ None) is none)),
     )
 may_enter world register (OfCaller caller) (nodes, callers, none_differ, others) (new, (window, low, high, is)) =
     let none : caller_at caller.number world.callers ≡ None = absent (λ (c : Caller). c.number) world.callers caller.number (subst (λ ns. Contains ns caller.number → ⊥) (sym callers) new) in (
       none,
-      subst (λ (c : Caller). WorldStep world (entered world (OfCaller c))) (sym is) (WorldStep.Opens caller.number window low high none),
+      subst (λ (c : Caller). WorldStep world (world_with world (OfCaller c))) (sym is) (WorldStep.Opens caller.number window low high none),
     )

@@ -27,16 +27,16 @@ pub data Event : Actor → Option Message → Actor → Option Message → Optio
       → Event (OfCaller old) (letter_sent taken) (OfCaller new) (letter_sent sent) None
 
 -- the world after an event: this actor in its new state, the message sent and the call executed
-abbrev pub after : World → Actor → Option Message → Option Done → World
-after world (OfNode node) sent done =
+abbrev pub world_after : World → Actor → Option Message → Option Done → World
+world_after world (OfNode node) sent done =
     record world { nodes = put_node node world.nodes; sent = with_one world.sent sent; history = with_one world.history done }
-after world (OfCaller caller) sent done =
+world_after world (OfCaller caller) sent done =
     record world { callers = put_caller caller world.callers; sent = with_one world.sent sent; history = with_one world.history done }
 
 -- the world with one actor more
-abbrev pub entered : World → Actor → World
-entered world (OfNode node) = record world { nodes = world.nodes ++ node ∷ [] }
-entered world (OfCaller caller) = record world { callers = world.callers ++ caller ∷ [] }
+abbrev pub world_with : World → Actor → World
+world_with world (OfNode node) = record world { nodes = world.nodes ++ node ∷ [] }
+world_with world (OfCaller caller) = record world { callers = world.callers ++ caller ∷ [] }
 
 -- the numbers of the nodes
 abbrev pub node_numbers : World → List ℕ

@@ -45,9 +45,9 @@ pub record CallerShown (sight : CallerSight) : Type 0 where
   pub one_holder : world.nodes ≢ [] → (x : ℕ) → x < 2 ^ 128 → HasOneHolder x world.nodes
 
 -- of the callers with one number, the last one only
-abbrev pub latest : List Caller → List Caller
-latest [] = []
-latest (caller ∷ rest) = if is_some (caller_at caller.number rest) then latest rest else caller ∷ latest rest
+abbrev pub latest_callers : List Caller → List Caller
+latest_callers [] = []
+latest_callers (caller ∷ rest) = if is_some (caller_at caller.number rest) then latest_callers rest else caller ∷ latest_callers rest
 
 -- all calls that these callers took, one caller after another
 abbrev pub taken_by_all : List Caller → List Done
@@ -77,7 +77,7 @@ pub record WitnessShown (callers : List Caller) : Type 0 where
   pub headline : Headline world
   pub legal : IsLegal world.history
   pub stand : All (IsIn world.history) callers
-  pub once : EachOnce (taken_by_all (latest callers))
+  pub once : EachOnce (taken_by_all (latest_callers callers))
   pub one_holder : world.nodes ≢ [] → (x : ℕ) → x < 2 ^ 128 → HasOneHolder x world.nodes
 
 -- One world has each of these actors as it was when its seat was taken in, none twice; it has those

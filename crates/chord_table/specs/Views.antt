@@ -78,20 +78,20 @@ abbrev pub IsTrueOfSome : View → Type 0
 IsTrueOfSome view = (world : World) × Reached world × IsTrueOf world view
 
 -- an actor's view, with this new state
-abbrev pub changed : Actor → View → View
-changed new (Shown actor messages) = Shown new messages
-changed new view = view
+abbrev pub with_actor : Actor → View → View
+with_actor new (Shown actor messages) = Shown new messages
+with_actor new view = view
 
 -- the registrar's view with one number more
-abbrev pub admitting : Actor → View → View
-admitting (OfNode node) (Admitted nodes callers taken) = Admitted (nodes ++ node.number ∷ []) callers taken
-admitting (OfCaller caller) (Admitted nodes callers taken) = Admitted nodes (callers ++ caller.number ∷ []) taken
-admitting actor view = view
+abbrev pub with_admitted : Actor → View → View
+with_admitted (OfNode node) (Admitted nodes callers taken) = Admitted (nodes ++ node.number ∷ []) callers taken
+with_admitted (OfCaller caller) (Admitted nodes callers taken) = Admitted nodes (callers ++ caller.number ∷ []) taken
+with_admitted actor view = view
 
 -- an actor's view with this message behind its others
-abbrev pub told : View → View → View
-told (Shown actor messages) (Sent message) = Shown actor (messages ++ message ∷ [])
-told view other = view
+abbrev pub with_message : View → View → View
+with_message (Shown actor messages) (Sent message) = Shown actor (messages ++ message ∷ [])
+with_message view other = view
 
 -- the witness's view of the caller that this view shows
 abbrev pub testimony : View → View
@@ -99,9 +99,9 @@ testimony (Shown (OfCaller caller) messages) = Witnessed (caller ∷ [])
 testimony view = Spent
 
 -- the callers of both views
-abbrev pub gathered : View → View → View
-gathered (Witnessed callers) (Witnessed more) = Witnessed (callers ++ more)
-gathered view other = view
+abbrev pub joined_witnesses : View → View → View
+joined_witnesses (Witnessed callers) (Witnessed more) = Witnessed (callers ++ more)
+joined_witnesses view other = view
 
 -- the callers of a witness's view
 abbrev pub callers_of : View → List Caller
@@ -114,7 +114,7 @@ view_of sight = Shown sight.actor sight.messages
 
 -- any node, where the proof needs one
 abbrev pub no_node : Node
-no_node = newborn (alone (record { no = 0; id = record { number = 0 } }) 2) 0
+no_node = newborn (alone (record { number = 0; id = record { number = 0 } }) 2) 0
 
 -- any caller, where the proof needs one
 abbrev pub no_caller : Caller
@@ -154,9 +154,9 @@ abbrev pub view_of_register : Register → View
 view_of_register register = Admitted register.nodes register.callers []
 
 -- the registrar's view, with one more actor whose seat it took in
-abbrev pub taking : View → View → View
-taking (Admitted nodes callers taken) (Shown actor messages) = Admitted nodes callers (taken ++ record { actor = actor; messages = messages } ∷ [])
-taking view other = view
+abbrev pub with_seat : View → View → View
+with_seat (Admitted nodes callers taken) (Shown actor messages) = Admitted nodes callers (taken ++ record { actor = actor; messages = messages } ∷ [])
+with_seat view other = view
 
 -- what an assembly's seat shows: who is registered, and what each seat that it took in showed
 pub record Assembled : Type 0 where
@@ -213,9 +213,9 @@ caller_in (OfNode node) = no_caller
 caller_in (OfCaller caller) = caller
 
 -- the caller after it submitted the call in this message; unchanged if the message is no call
-abbrev pub submitting : Message → Caller → Caller
-submitting (Ask ask) caller = with_request ask.request caller
-submitting message caller = caller
+abbrev pub with_submission : Message → Caller → Caller
+with_submission (Ask ask) caller = with_request ask.request caller
+with_submission message caller = caller
 
 -- some event leads from the old to the new state and sends this message, if any; it takes in one of
 -- these messages or none

@@ -5,10 +5,10 @@ ghost use Rattle.chord_table.specs.Seen.{OfCaller};
 ghost use Rattle.chord_table.specs.Shown.{IsShown};
 ghost use Rattle.chord_table.specs.Views.{MayBecome, caller_in};
 
+use crate::envelope::Envelope;
 use crate::event::Event;
 use crate::moves::{Local, Look, Post, Receive, Testify};
 use crate::naming::Naming;
-use crate::parcel::Parcel;
 use crate::shared::Shared;
 use crate::view::View;
 use crate::witness::Witness;
@@ -57,15 +57,15 @@ impl<J: Naming> ActorSeat<J> {
         table: &Shared<J>,
         after: &A,
         message: Message,
-    ) -> Parcel<J>
+    ) -> Envelope<J>
         requires picked { E.message ≡ message }
         requires event { MayBecome self.old.actor self.old.messages E.actor (Some message) }
         ensures seat { self.new ≡ record self.old { actor = E.actor } }
-        ensures parcel { result ≡ message }
+        ensures envelope { result ≡ message }
     {
         let _ = after;
         let seat = table.table.shared.split_seat::<Post<E>>(&mut self.seat);
-        Parcel {
+        Envelope {
             message,
             seat,
             of: PhantomData,
@@ -73,15 +73,15 @@ impl<J: Naming> ActorSeat<J> {
     }
 
     /// Takes in a message that was sent to the actor.
-    pub(crate) fn receive(&mut self, table: &Shared<J>, parcel: Parcel<J>) -> Message
-        ensures message { result ≡ parcel }
-        ensures seat { self.new ≡ record self.old { messages = self.old.messages ++ parcel ∷ [] } }
+    pub(crate) fn receive(&mut self, table: &Shared<J>, envelope: Envelope<J>) -> Message
+        ensures message { result ≡ envelope }
+        ensures seat { self.new ≡ record self.old { messages = self.old.messages ++ envelope ∷ [] } }
     {
-        let Parcel {
+        let Envelope {
             message,
             seat,
             of: _,
-        } = parcel;
+        } = envelope;
         table
             .table
             .shared

@@ -1,15 +1,15 @@
 //! The seats of callers.
 ghost use Rattle.std.specs.Prelude.{◌≡◌, ◌++◌, [], ◌∷◌, Contains, Option, None, Some};
 ghost use Rattle.chord_caller.specs.Caller.{AskLetter, CallerStep, Letter, with_request};
-ghost use Rattle.chord_caller.specs.Client.{hearing};
+ghost use Rattle.chord_caller.specs.Client.{caller_after_hearing};
 ghost use Rattle.chord_model.specs.Letters.{message_of};
 ghost use Rattle.chord_model.specs.declared.message.Message.TheVariants.{Ask as AskMessage, Told as ToldMessage};
 ghost use Rattle.chord_table.specs.Shown.{CallerShown};
 ghost use Rattle.chord_table.specs.Views.{MayCall};
 
 use crate::actor_seat::ActorSeat;
+use crate::envelope::Envelope;
 use crate::naming::Naming;
-use crate::parcel::Parcel;
 use crate::shared::Shared;
 use crate::witness::Witness;
 use chord_caller::{Ask, CallerCore, Told};
@@ -45,29 +45,29 @@ impl<J: Naming> CallerSeat<J> {
     }
 
     /// Records an event of the caller, and sends its message.
-    pub fn send(&mut self, table: &Shared<J>, after: &CallerCore, message: Message) -> Parcel<J>
+    pub fn send(&mut self, table: &Shared<J>, after: &CallerCore, message: Message) -> Envelope<J>
         requires event { (sent : Letter) × (message ≡ message_of sent) × MayCall self.old.caller self.old.messages after.now (Some sent) }
         ensures seat { self.new ≡ record self.old { caller = after.now } }
-        ensures parcel { result ≡ message }
+        ensures envelope { result ≡ message }
     {
         self.seat.send::<Brand, CallerCore>(table, after, message)
     }
 
     /// Records that the caller submitted a call, and sends it. No core has to hold what the seat
     /// shows.
-    pub fn submit(&mut self, table: &Shared<J>, ask: Ask) -> Parcel<J>
+    pub fn submit(&mut self, table: &Shared<J>, ask: Ask) -> Envelope<J>
         requires event { CallerStep self.old.caller None (with_request ask.request self.old.caller) (Some (AskLetter ask)) }
         ensures seat { self.new ≡ record self.old { caller = with_request ask.request self.old.caller } }
-        ensures parcel { result ≡ AskMessage ask }
+        ensures envelope { result ≡ AskMessage ask }
     {
         self.seat.send::<Brand, ()>(table, &(), Message::Ask(ask))
     }
 
     /// Sends a pending call again, which leaves the caller as it is.
-    pub fn resend(&mut self, table: &Shared<J>, ask: Ask) -> Parcel<J>
+    pub fn resend(&mut self, table: &Shared<J>, ask: Ask) -> Envelope<J>
         requires event { CallerStep self.old.caller None self.old.caller (Some (AskLetter ask)) }
         ensures seat { self.new ≡ self.old }
-        ensures parcel { result ≡ AskMessage ask }
+        ensures envelope { result ≡ AskMessage ask }
     {
         let again = Message::Ask(ask);
         self.seat.send::<Brand, ()>(table, &(), again)
@@ -76,17 +76,17 @@ impl<J: Naming> CallerSeat<J> {
     /// Records that the caller heard a reply that came.
     pub fn hear(&mut self, table: &Shared<J>, told: &Told)
         requires came { Contains self.old.messages (ToldMessage told.now) }
-        ensures { self.new ≡ record self.old { caller = hearing told.now self.old.caller } }
+        ensures { self.new ≡ record self.old { caller = caller_after_hearing told.now self.old.caller } }
     {
         self.seat.local::<Brand, Told>(table, told);
     }
 
     /// Takes in a message for the caller.
-    pub fn receive(&mut self, table: &Shared<J>, parcel: Parcel<J>) -> Message
-        ensures message { result ≡ parcel }
-        ensures seat { self.new ≡ record self.old { messages = self.old.messages ++ parcel ∷ [] } }
+    pub fn receive(&mut self, table: &Shared<J>, envelope: Envelope<J>) -> Message
+        ensures message { result ≡ envelope }
+        ensures seat { self.new ≡ record self.old { messages = self.old.messages ++ envelope ∷ [] } }
     {
-        self.seat.receive(table, parcel)
+        self.seat.receive(table, envelope)
     }
 
     /// A witness of the caller as it is now.

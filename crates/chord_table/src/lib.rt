@@ -1,14 +1,14 @@
 //! What running threads know of one world of nodes and callers.
 //!
 //! One table is shared by all threads. Each node and each caller has a seat of it ([`NodeSeat`],
-//! [`CallerSeat`]), and each message under way is a [`Parcel`] with a seat of its own. What a seat
+//! [`CallerSeat`]), and each message under way is a [`Envelope`] with a seat of its own. What a seat
 //! shows is data that only proofs see: the actor's state, and messages that were sent. The rule of
 //! the table is that at every moment its seats show a reachable world, so the theorem over worlds
 //! holds of what threads see.
 //!
 //! A [`Registrar`] admits nodes and callers. A node that answered a call says so to its seat, which
-//! gives the reply as an envelope: `let parcel = seat.send(&table, &node, Message::Told(told));`.
-//! The caller's seat takes it in with `seat.receive(&table, parcel)`. The prover refuses a step
+//! gives the reply as an envelope: `let envelope = seat.send(&table, &node, Message::Told(told));`.
+//! The caller's seat takes it in with `seat.receive(&table, envelope)`. The prover refuses a step
 //! that is no event of the core from the state that the seat shows.
 //!
 //! Each look proves something of one world; two looks need not be of the same run. To prove
@@ -18,25 +18,25 @@
 
 mod actor_seat;
 mod assembly;
-mod blank_table;
 mod caller_seat;
+mod envelope;
 mod event;
 mod law;
 mod moves;
 mod naming;
 mod node_seat;
-mod parcel;
 mod registrar;
 mod shared;
+mod table_parts;
 mod view;
 mod witness;
 
 pub use assembly::Assembly;
-pub use blank_table::BlankTable;
 pub use caller_seat::CallerSeat;
+pub use envelope::Envelope;
 pub use naming::Naming;
 pub use node_seat::NodeSeat;
-pub use parcel::Parcel;
 pub use registrar::Registrar;
 pub use shared::Shared;
+pub use table_parts::TableParts;
 pub use witness::Witness;

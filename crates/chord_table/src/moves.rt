@@ -12,9 +12,9 @@ pub struct Local<E> {
 
 impl<E: Event> Play<u8, View> for Local<E> {
     ghost use Rattle.std.specs.Prelude.{◌≡◌};
-    ghost use Rattle.chord_table.specs.Views.{changed};
+    ghost use Rattle.chord_table.specs.Views.{with_actor};
 
-    ghost then = { λ step me found new. new ≡ (changed E.actor me.0, me.1) };
+    ghost then = { λ step me found new. new ≡ (with_actor E.actor me.0, me.1) };
 }
 
 /// A look, which proves that what the seat shows is true of some world.
@@ -34,9 +34,9 @@ pub struct Post<E> {
 
 impl<E: Event> Split<View> for Post<E> {
     ghost use Rattle.chord_table.specs.Seen.{Sent};
-    ghost use Rattle.chord_table.specs.Views.{changed};
+    ghost use Rattle.chord_table.specs.Views.{with_actor};
 
-    ghost left = { changed E.actor };
+    ghost left = { with_actor E.actor };
 
     ghost right = { λ v. Sent E.message };
 }
@@ -49,9 +49,9 @@ pub struct Admit<E> {
 impl<E: Event> Split<View> for Admit<E> {
     ghost use Rattle.std.specs.Prelude.{[]};
     ghost use Rattle.chord_table.specs.Seen.{Shown};
-    ghost use Rattle.chord_table.specs.Views.{admitting};
+    ghost use Rattle.chord_table.specs.Views.{with_admitted};
 
-    ghost left = { admitting E.actor };
+    ghost left = { with_admitted E.actor };
 
     ghost right = { λ v. Shown E.actor [] };
 }
@@ -82,9 +82,9 @@ pub struct Gather;
 
 impl Join<View> for Gather {
     ghost use Rattle.chord_table.specs.Seen.{Spent};
-    ghost use Rattle.chord_table.specs.Views.{gathered};
+    ghost use Rattle.chord_table.specs.Views.{joined_witnesses};
 
-    ghost both = { gathered };
+    ghost both = { joined_witnesses };
 
     ghost spent = { Spent };
 }
@@ -94,9 +94,9 @@ pub struct Receive;
 
 impl Join<View> for Receive {
     ghost use Rattle.chord_table.specs.Seen.{Spent};
-    ghost use Rattle.chord_table.specs.Views.{told};
+    ghost use Rattle.chord_table.specs.Views.{with_message};
 
-    ghost both = { told };
+    ghost both = { with_message };
 
     ghost spent = { Spent };
 }
@@ -106,9 +106,9 @@ pub struct Take;
 
 impl Join<View> for Take {
     ghost use Rattle.chord_table.specs.Seen.{Spent};
-    ghost use Rattle.chord_table.specs.Views.{taking};
+    ghost use Rattle.chord_table.specs.Views.{with_seat};
 
-    ghost both = { taking };
+    ghost both = { with_seat };
 
     ghost spent = { Spent };
 }

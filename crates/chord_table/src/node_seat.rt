@@ -5,8 +5,8 @@ ghost use Rattle.chord_table.specs.Shown.{NodeShown};
 ghost use Rattle.chord_table.specs.Views.{MayAct};
 
 use crate::actor_seat::ActorSeat;
+use crate::envelope::Envelope;
 use crate::naming::Naming;
-use crate::parcel::Parcel;
 use crate::shared::Shared;
 use chord_model::laws;
 use chord_node::{Message, Node};
@@ -46,20 +46,20 @@ impl<J: Naming> NodeSeat<J> {
         table: &Shared<J>,
         after: &Node<S>,
         message: Message,
-    ) -> Parcel<J>
+    ) -> Envelope<J>
         requires event { MayAct self.old.node self.old.messages after.now (Some message) }
         ensures seat { self.new ≡ record self.old { node = after.now } }
-        ensures parcel { result ≡ message }
+        ensures envelope { result ≡ message }
     {
         self.seat.send::<Brand, Node<S>>(table, after, message)
     }
 
     /// Takes in a message for the node.
-    pub fn receive(&mut self, table: &Shared<J>, parcel: Parcel<J>) -> Message
-        ensures message { result ≡ parcel }
-        ensures seat { self.new ≡ record self.old { messages = self.old.messages ++ parcel ∷ [] } }
+    pub fn receive(&mut self, table: &Shared<J>, envelope: Envelope<J>) -> Message
+        ensures message { result ≡ envelope }
+        ensures seat { self.new ≡ record self.old { messages = self.old.messages ++ envelope ∷ [] } }
     {
-        self.seat.receive(table, parcel)
+        self.seat.receive(table, envelope)
     }
 
     /// Proves that what the seat shows is true of some reachable world, for which the theorem

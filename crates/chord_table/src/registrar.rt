@@ -4,13 +4,13 @@ ghost use Rattle.chord_caller.specs.Answers.{new_caller};
 ghost use Rattle.chord_table.specs.Views.{MayEnter, MayFound, MayOpen, with_number, word_of};
 
 use crate::actor_seat::ActorSeat;
-use crate::blank_table::BlankTable;
 use crate::caller_seat::CallerSeat;
 use crate::event::Event;
 use crate::moves::Admit;
 use crate::naming::Naming;
 use crate::node_seat::NodeSeat;
 use crate::shared::Shared;
+use crate::table_parts::TableParts;
 use crate::view::View;
 use atomic_table::{Seat, Table};
 use chord_caller::CallerCore;
@@ -41,16 +41,16 @@ impl<J: Naming> Model for Registrar<J> {
 impl Registrar<Brand> {
     /// A table with a word for each of `slots` nodes, one at least, and of `callers` callers. More
     /// than 2^64 - 1 of them together count as out of memory.
-    pub fn open(alloc: Global, slots: usize, callers: usize) -> Result<BlankTable, AllocError>
+    pub fn open(alloc: Global, slots: usize, callers: usize) -> Result<TableParts, AllocError>
         requires some { 1 ≤ slots }
-        ensures { IfOk result (λ blank. (blank.slots ≡ slots) × (blank.callers ≡ callers)) }
+        ensures { IfOk result (λ parts. (parts.slots ≡ slots) × (parts.callers ≡ callers)) }
     {
         let Some(count) = slots.checked_add(callers) else {
             return Err(AllocError);
         };
         let words = vec![in alloc; 0u64; count]?;
         let (table, seat) = Table::of_words(alloc, words.as_slice(), &())?;
-        Ok(BlankTable {
+        Ok(TableParts {
             table,
             seat,
             slots,
@@ -64,41 +64,46 @@ impl<J: Naming> Registrar<J> {
     pub fn admit_node<S: EntryStore>(
         &mut self,
         table: &Shared<J>,
-        no: u64,
+        number: u64,
         node: &Node<S>,
     ) -> NodeSeat<J>
-        requires own { no ≡ node.now.number }
-        requires slot { no < J.name.slots }
+        requires own { number ≡ node.now.number }
+        requires slot { number < J.name.slots }
         requires may { MayFound self.old.nodes node.now }
-        ensures admitted { self.new ≡ record self.old { nodes = self.old.nodes ++ no ∷ [] } }
+        ensures admitted { self.new ≡ record self.old { nodes = self.old.nodes ++ number ∷ [] } }
         ensures seat { result ≡ record { node = node.now; messages = [] } }
     {
-        let seat = self.admit::<Brand, Node<S>>(table, no as usize, node);
+        let seat = self.admit::<Brand, Node<S>>(table, number as usize, node);
         NodeSeat { seat }
     }
 
     /// Admits a new caller, and gives the seat that shows it.
-    pub fn admit_caller(&mut self, table: &Shared<J>, no: u64, core: &CallerCore) -> CallerSeat<J>
-        requires own { no ≡ core.now.number }
-        requires place { no < J.name.callers }
+    pub fn admit_caller(
+        &mut self,
+        table: &Shared<J>,
+        number: u64,
+        core: &CallerCore,
+    ) -> CallerSeat<J>
+        requires own { number ≡ core.now.number }
+        requires place { number < J.name.callers }
         requires may { MayOpen self.old.callers core.now }
-        ensures admitted { self.new ≡ record self.old { callers = self.old.callers ++ no ∷ [] } }
+        ensures admitted { self.new ≡ record self.old { callers = self.old.callers ++ number ∷ [] } }
         ensures seat { result ≡ record { caller = core.now; messages = [] } }
     {
-        let word = table.slots + no as usize;
+        let word = table.slots + number as usize;
         let seat = self.admit::<Brand, CallerCore>(table, word, core);
         CallerSeat { seat }
     }
 
     /// Admits a new caller of this number and window, and gives the seat that shows it.
-    pub fn open_caller(&mut self, table: &Shared<J>, no: u64, window: u64) -> CallerSeat<J>
-        requires place { no < J.name.callers }
-        requires may { MayOpen self.old.callers (new_caller no window) }
-        ensures admitted { self.new ≡ record self.old { callers = self.old.callers ++ no ∷ [] } }
-        ensures seat { result ≡ record { caller = new_caller no window; messages = [] } }
+    pub fn open_caller(&mut self, table: &Shared<J>, number: u64, window: u64) -> CallerSeat<J>
+        requires place { number < J.name.callers }
+        requires may { MayOpen self.old.callers (new_caller number window) }
+        ensures admitted { self.new ≡ record self.old { callers = self.old.callers ++ number ∷ [] } }
+        ensures seat { result ≡ record { caller = new_caller number window; messages = [] } }
     {
-        let place = table.slots + no as usize;
-        let opened = (no, window);
+        let place = table.slots + number as usize;
+        let opened = (number, window);
         let seat = self.admit::<Brand, (u64, u64)>(table, place, &opened);
         CallerSeat { seat }
     }

@@ -12,7 +12,7 @@ use chord_links::{Links, Peer};
 use chord_map::{Reply, Request};
 use chord_node::{Answered, Message, Node};
 use chord_store::{CappedStore, EntryStore};
-use chord_table::{BlankTable, CallerSeat, Naming, NodeSeat, Parcel, Registrar, Shared};
+use chord_table::{CallerSeat, Envelope, Naming, NodeSeat, Registrar, Shared, TableParts};
 use std::alloc::{AllocError, Global};
 use std::marker::Brand;
 use std::test::Fail;
@@ -44,9 +44,9 @@ fn ask<J: Naming>(
     core: &mut CallerCore,
     seat: &mut CallerSeat<J>,
     request: Request,
-) -> Result<Parcel<J>, Fail>
+) -> Result<Envelope<J>, Fail>
     requires { seat.old.caller ≡ core.old }
-    ensures { IfOk result (λ parcel. seat.new.caller ≡ core.new) }
+    ensures { IfOk result (λ envelope. seat.new.caller ≡ core.new) }
 {
     let ask = core.submit(request)?;
     Ok(seat.send(table, core, Message::Ask(ask)))
@@ -87,21 +87,24 @@ fn reply<J: Naming, S: EntryStore>(
     table: &Shared<J>,
     node: &mut Node<S>,
     seat: &mut NodeSeat<J>,
-    parcel: Parcel<J>,
-) -> Result<Parcel<J>, Fail>
+    envelope: Envelope<J>,
+) -> Result<Envelope<J>, Fail>
     requires { seat.old.node ≡ node.old }
 {
-    let call = call_in(seat.receive(table, parcel))?;
+    let call = call_in(seat.receive(table, envelope))?;
     let told = told_by(node, call)?;
     Ok(seat.send(table, node, Message::Told(told)))
 }
 
 /// The first node of a ring, with this number.
-fn founded<S: EntryStore>(alloc: Global, no: u64, store: S) -> Result<Node<S>, Fail>
+fn founded<S: EntryStore>(alloc: Global, number: u64, store: S) -> Result<Node<S>, Fail>
     requires vacant { S.content store ≡ [] }
-    ensures { IfOk result (λ node. node ≡ founder (alone (record { no = no; id = record { number = 5 } }) 3) (S.limit store)) }
+    ensures { IfOk result (λ node. node ≡ founder (alone (record { number = number; id = record { number = 5 } }) 3) (S.limit store)) }
 {
-    let me = Peer { no, id: Id::new(5) };
+    let me = Peer {
+        number,
+        id: Id::new(5),
+    };
     match Node::found(alloc, me, 3, store) {
         Ok(node) => Ok(node),
         Err(store) => {
@@ -116,11 +119,11 @@ fn take<J: Naming>(
     table: &Shared<J>,
     core: &mut CallerCore,
     seat: &mut CallerSeat<J>,
-    parcel: Parcel<J>,
+    envelope: Envelope<J>,
 ) -> Result<Heard, Fail>
     requires { seat.old.caller ≡ core.old }
 {
-    let Message::Told(told) = seat.receive(table, parcel) else {
+    let Message::Told(told) = seat.receive(table, envelope) else {
         return Err(Fail::from("no reply"));
     };
     let heard = core.take(told)?;
@@ -161,16 +164,16 @@ fn hears<J: Naming, S: EntryStore>(
 /// Admits a node with this store and a caller for that, and gives the same three results.
 fn is_answered<J: Naming, S: EntryStore>(
     alloc: Global,
-    blank: BlankTable,
+    parts: TableParts,
     store: S,
 ) -> Result<(bool, Heard, usize), Fail>
-    requires name { blank ≡ J.name }
-    requires slots { blank.slots ≡ 2 }
-    requires callers { blank.callers ≡ 1 }
+    requires name { parts ≡ J.name }
+    requires slots { parts.slots ≡ 2 }
+    requires callers { parts.callers ≡ 1 }
     requires vacant { S.content store ≡ [] }
 {
     let mut node = founded(alloc, 0, store)?;
-    let (table, mut registrar) = blank.open::<J>();
+    let (table, mut registrar) = parts.assemble::<J>();
     let mut seat = registrar.admit_node(&table, 0, &node);
     let mut core = CallerCore::new(alloc, 0, 1);
     let mut caller = registrar.admit_caller(&table, 0, &core);
@@ -187,23 +190,23 @@ fn is_answered<J: Naming, S: EntryStore>(
 /// `is_answered` with a boxed store.
 fn is_answered_from_a_box<J: Naming>(
     alloc: Global,
-    blank: BlankTable,
+    parts: TableParts,
     store: Box<dyn EntryStore + Send>,
 ) -> Result<(bool, Heard, usize), Fail>
-    requires name { blank ≡ J.name }
-    requires slots { blank.slots ≡ 2 }
-    requires callers { blank.callers ≡ 1 }
+    requires name { parts ≡ J.name }
+    requires slots { parts.slots ≡ 2 }
+    requires callers { parts.callers ≡ 1 }
     requires vacant { content store ≡ [] }
 {
-    is_answered::<J, Box<dyn EntryStore + Send>>(alloc, blank, store)
+    is_answered::<J, Box<dyn EntryStore + Send>>(alloc, parts, store)
 }
 
 #[test]
 fn a_caller_is_answered(rt: HostRuntime) -> Result<(), Fail> {
     let alloc = rt.alloc();
-    let blank = Registrar::open(alloc, 2, 1)?;
+    let parts = Registrar::open(alloc, 2, 1)?;
     let store: Box<dyn EntryStore + Send> = Box::new(alloc, CappedStore::new(alloc, 4))?;
-    let heard = is_answered_from_a_box::<Brand>(alloc, blank, store)?;
+    let heard = is_answered_from_a_box::<Brand>(alloc, parts, store)?;
     assert!(rt; heard == (true, Heard::Fresh, 1));
     Ok(())
 }
@@ -226,13 +229,13 @@ fn comes<J: Naming>(
 }
 
 /// Admits a node and a caller for that check, and gives its result.
-fn comes_as_it_was_sent<J: Naming>(alloc: Global, blank: BlankTable) -> Result<bool, Fail>
-    requires name { blank ≡ J.name }
-    requires slots { blank.slots ≡ 2 }
-    requires callers { blank.callers ≡ 1 }
+fn comes_as_it_was_sent<J: Naming>(alloc: Global, parts: TableParts) -> Result<bool, Fail>
+    requires name { parts ≡ J.name }
+    requires slots { parts.slots ≡ 2 }
+    requires callers { parts.callers ≡ 1 }
 {
     let node = founded(alloc, 0, CappedStore::new(alloc, 4))?;
-    let (table, mut registrar) = blank.open::<J>();
+    let (table, mut registrar) = parts.assemble::<J>();
     let mut seat = registrar.admit_node(&table, 0, &node);
     let mut core = CallerCore::new(alloc, 0, 1);
     let mut caller = registrar.admit_caller(&table, 0, &core);
@@ -248,22 +251,22 @@ fn comes_as_it_was_sent<J: Naming>(alloc: Global, blank: BlankTable) -> Result<b
 
 #[test]
 fn a_call_comes_as_it_was_sent(rt: HostRuntime) -> Result<(), Fail> {
-    let blank = Registrar::open(rt.alloc(), 2, 1)?;
-    assert!(rt; comes_as_it_was_sent::<Brand>(rt.alloc(), blank)?);
+    let parts = Registrar::open(rt.alloc(), 2, 1)?;
+    assert!(rt; comes_as_it_was_sent::<Brand>(rt.alloc(), parts)?);
     Ok(())
 }
 
 /// Admits a node beside another, and records an event of it.
-fn enters_later<J: Naming>(alloc: Global, blank: BlankTable) -> Result<(), Fail>
-    requires name { blank ≡ J.name }
-    requires slots { blank.slots ≡ 2 }
+fn enters_later<J: Naming>(alloc: Global, parts: TableParts) -> Result<(), Fail>
+    requires name { parts ≡ J.name }
+    requires slots { parts.slots ≡ 2 }
 {
     let first = founded(alloc, 1, CappedStore::new(alloc, 4))?;
-    let (table, mut registrar) = blank.open::<J>();
+    let (table, mut registrar) = parts.assemble::<J>();
     drop(registrar.admit_node(&table, 1, &first));
     drop(first);
     let other = Peer {
-        no: 0,
+        number: 0,
         id: Id::new(7),
     };
     let links = Links::alone(other, 3);
@@ -281,6 +284,6 @@ fn enters_later<J: Naming>(alloc: Global, blank: BlankTable) -> Result<(), Fail>
 
 #[test]
 fn a_node_enters_later(rt: HostRuntime) -> Result<(), Fail> {
-    let blank = Registrar::open(rt.alloc(), 2, 0)?;
-    enters_later::<Brand>(rt.alloc(), blank)
+    let parts = Registrar::open(rt.alloc(), 2, 0)?;
+    enters_later::<Brand>(rt.alloc(), parts)
 }

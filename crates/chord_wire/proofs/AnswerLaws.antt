@@ -18,7 +18,7 @@ use Rattle.chord_wire.specs.Spelling.{IsBytes, frame, value_field}
 use Rattle.chord_wire.specs.Replies.{IsReply, IsAnswer, reply_kind, reply_fields, values_field, answer_body, kind_of, number_of, fields_of}
 use Rattle.chord_wire.specs.FaultTable.{IsKind}
 use Rattle.chord_wire.specs.Reading.{◌>>=◌, number_at, value_at, body_at, TakesNext, IsDecided, with_more}
-use Rattle.chord_wire.specs.ReadingReplies.{is_above, or_fault, status_of, status_at, code_at, rising_at, values_from, answer_at, ended, answer_fields, answer_in, answer_of_body, next_answer}
+use Rattle.chord_wire.specs.ReadingReplies.{is_above, or_fault, status_of, status_at, code_at, rising_at, values_from, answer_at, answer_at_end, answer_fields, answer_in, answer_of_body, next_answer}
 use Rattle.chord_wire.proofs.Steps.{IsBytes-rest, IsBytes-front, IsBytes-back, bind_ok, guard_on, guard_then, ok_is, Takes, Takes-then, wide32, wide64, number_takes, number_again}
 use Rattle.std.specs.Prelude.{IfOk, IfSome}
 use Rattle.chord_wire.proofs.RequestLaws.{ends, body_takes, body_again, body_stays}
@@ -212,7 +212,7 @@ BodyTaken kind bytes a = IsAnswer a × (kind_of a ≡ kind) × (bytes ≡ to_be_
 fields_take : (kind : ℕ) (bytes : List ℕ) (a : Answer) → IsKind kind → IsBytes bytes → answer_fields kind bytes ≡ Ok a → BodyTaken kind bytes a
 unfolding answer_fields
 fields_take kind bytes a known fits e =
-    let b = bind_ok (number_at w64 (fault BadLength 0) bytes) (λ n. ended n.0 (answer_at kind n.0 n.1)) a e in
+    let b = bind_ok (number_at w64 (fault BadLength 0) bytes) (λ n. answer_at_end n.0 (answer_at kind n.0 n.1)) a e in
     let d = bind_ok (answer_at kind b.0.0 b.0.1) (λ x. cond (eqb (length x.1) 0) (Ok x.0) (Err (fault Trailing b.0.0))) a b.2 in
     let g = guard_then (eqb (length d.0.1) 0) (fault Trailing b.0.0) d.0.0 a d.2 in
     let n = number_takes w64 (2 ^ 64) wide64 (fault BadLength 0) bytes b.0.0 b.0.1 fits b.1 in

@@ -69,14 +69,14 @@ unfoldable pub answer_at : ℕ → ℕ → List ℕ → Result (Answer × List �
 answer_at kind number bytes = if kind == 130 then values_from number bytes else (if kind == 255 then code_at number bytes else status_at kind number bytes)
 
 -- no byte may come after the last field
-abbrev pub ended : ℕ → Result (Answer × List ℕ) WireFault → Result Answer WireFault
-ended number read = read >>= λ x. if length x.1 == 0 then Ok x.0 else Err (fault Trailing number)
+abbrev pub answer_at_end : ℕ → Result (Answer × List ℕ) WireFault → Result Answer WireFault
+answer_at_end number read = read >>= λ x. if length x.1 == 0 then Ok x.0 else Err (fault Trailing number)
 
 -- the fields after the kind
 unfoldable pub answer_fields : ℕ → List ℕ → Result Answer WireFault
 answer_fields kind bytes = do
   number ← number_at w64 (fault BadLength 0) bytes
-  ended number.0 (answer_at kind number.0 number.1)
+  answer_at_end number.0 (answer_at kind number.0 number.1)
 
 -- the answer of a whole body, or its first fault
 unfoldable pub answer_in : List ℕ → Result Answer WireFault

@@ -23,7 +23,7 @@ use Rattle.chord_model.specs.declared.message.Message.{Message}
 use Rattle.chord_model.specs.declared.message.Message.TheVariants.{Ask as AskMessage, Told as ToldMessage, Full as FullMessage}
 use Rattle.chord_model.specs.Headline.{Headline, request_with, submitted_by, answers}
 use Rattle.chord_model.specs.Node.{Node, segment_with}
-use Rattle.chord_node.specs.Asked.{AskIs, AskNotes, AnswersBy, ask_done, after_done, past_answer, is_full_for, sent_by}
+use Rattle.chord_node.specs.Asked.{AskIs, AskRecords, AnswersBy, ask_done, after_done, past_answer, is_full_for, sent_by}
 use Rattle.chord_model.specs.World.{WorldStep, put_node, caller_at, put_caller, with_one}
 use Rattle.chord_model.specs.World.WorldStep.{Calls}
 use Rattle.chord_node.proofs.Asking.{asked_steps}
@@ -229,7 +229,7 @@ full_step place caller number view old same kept sent =
 -- ---- in the words of the code
 
 pub answers_from : (place : ℕ) (ask : Ask) (old : List Node) (node after : Node) (result : Result (Answered × Option Done) AllocError) (new : List Node) → place < length old → node ≡ get_or old place node
-    → AskNotes ask true node result after → new ≡ set old place after → AnswersAt place ask old result new
+    → AskRecords ask true node result after → new ≡ set old place after → AnswersAt place ask old result new
 answers_from place ask old node after (Ok both) new within here h is =
     record { node = node; after = after; here = got old place node within here; answers = h; new_is = is }
 answers_from place ask old node after (Err fault) new within here h is =

@@ -6,8 +6,8 @@ use Rattle.std.proofs.lemmas.Option.{slice_get_within, same_Some}
 use Rattle.chord_map.proofs.Equal.{eqb_other}
 use Rattle.chord_ident.specs.declared.id.Id.{Id}
 use Rattle.chord_handover.specs.Handover.{Part, parts_in, item_at}
-use Rattle.chord_handover.specs.Parcelled.{Parcelled}
-use Rattle.chord_handover.specs.Outbox.{parcel_of, part_of_item}
+use Rattle.chord_handover.specs.Payload.{Payload}
+use Rattle.chord_handover.specs.Outbox.{payload_of, part_of_item}
 use Rattle.chord_node.specs.declared.fault.CutAtFault.{CutAtFault}
 use Rattle.chord_node.specs.declared.fault.CutAtFault.TheVariants as cut
 use Rattle.chord_node.specs.declared.fault.MergeFault.{MergeFault}
@@ -15,7 +15,7 @@ use Rattle.chord_node.specs.declared.fault.MergeFault.TheVariants as merge
 use Rattle.chord_node.specs.declared.fault.GiveFault.{GiveFault}
 use Rattle.chord_node.specs.declared.fault.GiveFault.TheVariants as give
 use Rattle.chord_node.specs.declared.fault.NotStaying.{NotStaying}
-use Rattle.chord_node.specs.declared.fault.ResendFault.{ResendFault}
+use Rattle.chord_node.specs.declared.fault.ResendPartFault.{ResendPartFault}
 use Rattle.chord_node.specs.declared.fault.RetireFault.{RetireFault}
 use Rattle.chord_node.specs.declared.fault.RetireFault.TheVariants as retire
 use Rattle.chord_model.specs.declared.phase.Phase.TheVariants as phase
@@ -247,10 +247,10 @@ one_of : (b : Bool) (p q : Part) → cond b (Some p) None ≡ Some q → p ≡ q
 one_of true p q e = same_Some p q e
 one_of false p q e = cc
 
-resent_ends : (from to number part : ℕ) (o : Option Parcelled) (q : Part) → part_of_item from to number part o ≡ Some q → (q.from ≡ from) × (q.to ≡ to)
+resent_ends : (from to number part : ℕ) (o : Option Payload) (q : Part) → part_of_item from to number part o ≡ Some q → (q.from ≡ from) × (q.to ≡ to)
 resent_ends from to number part None q e = cc
-resent_ends from to number part (Some parcelled) q e =
-    let same = one_of (nat_le 1 part && nat_le part (parts_in parcelled.pairs)) _ q e in (ap (λ (p : Part). p.from) (sym same), ap (λ (p : Part). p.to) (sym same))
+resent_ends from to number part (Some payload) q e =
+    let same = one_of (nat_le 1 part && nat_le part (parts_in payload.pairs)) _ q e in (ap (λ (p : Part). p.from) (sym same), ap (λ (p : Part). p.to) (sym same))
 
 -- the world after a node changed and sent a part
 abbrev pub after_sending : Node → Part → WorldState → WorldState
@@ -339,7 +339,7 @@ pub part_not : (place to item slot : ℕ) (old : WorldState) (refusal : Refusal)
 part_not place to item slot old refusal (Ok outcome) cannot is = absurd is
 part_not place to item slot old refusal (Err e) cannot is = (inl (subst (CannotAct place old) (sym is) cannot), refl)
 
-pub part_refused : (place to item slot : ℕ) (node : Node) (fault : ResendFault) (view old new : WorldState) (result : Result Outcome Refusal) → view ≡ old → IsWorld view → HasNode to old
+pub part_refused : (place to item slot : ℕ) (node : Node) (fault : ResendPartFault) (view old new : WorldState) (result : Result Outcome Refusal) → view ≡ old → IsWorld view → HasNode to old
     → is_crashed place old ≡ false → slice_get view.world.nodes place ≡ Some node → ResendIs to item slot node (Err fault) → IsErrAnd result (λ e. e ≡ refusal_of_resend fault) → new ≡ old
     → SendPartIs place to item slot old result new
 part_refused place to item slot node fault view old new (Ok outcome) same kept there running here why is e = absurd is
@@ -356,7 +356,7 @@ pub resends : (place to item slot : ℕ) (node : Node) (part : Part) (view old n
     → to < length view.world.nodes → ResendIs to item slot node (Ok part) → NodeStep node None node (Some (PartMessage part)) None → new ≡ after_sending node part view → After old new
 resends place to item slot node part view old new same kept here running there is steps e =
     sends_after place to node node part view old new same kept here running there (record { number = refl; gone = refl; links = refl })
-    (resent_ends node.number to item slot (parcel_of (item_at to item node.outbox)) part is) steps e
+    (resent_ends node.number to item slot (payload_of (item_at to item node.outbox)) part is) steps e
 
 -- ---- a node that is gone
 

@@ -9,7 +9,7 @@ use Rattle.chord_ident.specs.Circle.{in_span}
 use Rattle.chord_model.specs.declared.holder.Holder.{Holder}
 use Rattle.chord_model.specs.declared.holder.Holder.TheVariants as holder
 use Rattle.chord_model.specs.Node.{Node, segment_with}
-use Rattle.chord_model.specs.World.{at_node, under_way, holders, taken_by, last_taken, HasOneHolder}
+use Rattle.chord_model.specs.World.{at_node, holders_under_way, holders, taken_by, last_taken, HasOneHolder}
 use Rattle.chord_segment.specs.Segment.{Segment}
 use Rattle.chord_world.specs.Holding.{is_open, way_of, holders_at, HolderIs}
 use Rattle.chord_world.specs.State.{WorldState, NodesFrom}
@@ -70,16 +70,16 @@ over_one_more x taken node i before here place item h e =
 
 pub under_way_none : (x : ℕ) (nodes : List Node) (node : Node) (count : ℕ) → length node.outbox ≤ count
     → ((place : ℕ) (item : Item) → place < count → slice_get node.outbox place ≡ Some item → is_open x (last_taken nodes) node item ≡ false)
-    → under_way x (last_taken nodes) node ≡ []
+    → holders_under_way x (last_taken nodes) node ≡ []
 under_way_none x nodes node count all over =
     none_passes (is_open x (last_taken nodes) node) (way_of node) node.outbox
     (λ place item e. let within = slice_get_within node.outbox place item e in over place item (omega arith) e)
 
 pub under_way_found : (x : ℕ) (nodes : List Node) (node : Node) (place : ℕ) (found : Holder)
     → ((item : Item) × (slice_get node.outbox place ≡ Some item) × (is_open x (last_taken nodes) node item ≡ true) × (found ≡ way_of node item))
-    → Contains (under_way x (last_taken nodes) node) found
+    → Contains (holders_under_way x (last_taken nodes) node) found
 under_way_found x nodes node place found (item, there, open_to, is) =
-    subst (Contains (under_way x (last_taken nodes) node)) (sym is)
+    subst (Contains (holders_under_way x (last_taken nodes) node)) (sym is)
     (contains_has _ _ (one_passes (is_open x (last_taken nodes) node) (way_of node) node.outbox place item there open_to))
 
 -- ---- one node
@@ -91,7 +91,7 @@ node_found x nodes node None e there = cc
 node_found x nodes node (Some segment) e there =
     let hit = found (λ (s : Segment). in_span s.span x) node.held segment (sym e) in
     let at = place_of node.held segment hit.1 in
-    contains_has _ _ (has_left _ (under_way x (last_taken nodes) node) _
+    contains_has _ _ (has_left _ (holders_under_way x (last_taken nodes) node) _
     (one_passes (λ (s : Segment). in_span s.span x) (λ (s : Segment). holder.Node node.number) node.held at.0 segment at.1 hit.0))
 
 not_held : (x : ℕ) (node : Node) (o : Option Segment) → o ≡ segment_with x node.held → is_some o ≡ false → at_node x node ≡ []
@@ -101,13 +101,13 @@ not_held x node None e no_one =
     none_passes (λ (s : Segment). in_span s.span x) (λ (s : Segment). holder.Node node.number) node.held
     (λ place s at. not_found (λ (s : Segment). in_span s.span x) node.held s (sym e) (has_got node.held place s at))
 
-pub some_way_found : (x : ℕ) (nodes : List Node) (node : Node) (o : Option Holder) → IfSome o (λ found. Contains (under_way x (last_taken nodes) node) found)
+pub some_way_found : (x : ℕ) (nodes : List Node) (node : Node) (o : Option Holder) → IfSome o (λ found. Contains (holders_under_way x (last_taken nodes) node) found)
     → IfSome o (λ found. Contains (holders_at x nodes node) found)
 some_way_found x nodes node None h = tt
 some_way_found x nodes node (Some found) h = contains_has _ _ (has_right (at_node x node) _ found (has_contained _ _ h))
 
 pub none_way_found : (x : ℕ) (nodes : List Node) (node : Node) (o : Option Holder) → is_some (segment_with x node.held) ≡ false
-    → IfNone o (under_way x (last_taken nodes) node ≡ []) → IfNone o (holders_at x nodes node ≡ [])
+    → IfNone o (holders_under_way x (last_taken nodes) node ≡ []) → IfNone o (holders_at x nodes node ≡ [])
 none_way_found x nodes node (Some found) missed h = tt
 none_way_found x nodes node None missed h = rw (not_held x node (segment_with x node.held) refl missed, h) refl
 

@@ -6,7 +6,7 @@ use mathlib.Core.Logic.{∥∥₁_map}
 use Rattle.chord_ident.specs.declared.id.Id.{Id}
 use Rattle.chord_links.specs.NodeLinks.{alone}
 use Rattle.chord_ring.specs.Sound.{IsSound}
-use Rattle.chord_ring.specs.Steps.{founded}
+use Rattle.chord_ring.specs.Steps.{founded_ring}
 use Rattle.chord_ring.proofs.Reached.{IsSound-founded}
 use Rattle.chord_caller.specs.Caller.{Caller}
 use Rattle.chord_caller.specs.Answers.{new_caller}
@@ -31,9 +31,9 @@ new_is_world r low high = record { reached = ∣ Stays ∣₁; nodes = tt; calle
 -- ---- a first node
 
 pub founds : (id : Id) (limit : ℕ) (old : WorldState) → id.number < 2 ^ 128 → old.world.nodes ≡ [] → WorldStep old.world (with_founder id limit old).world
-founds id limit old circle none = Creates (alone (record { no = 0; id = id }) old.r) limit circle none
+founds id limit old circle none = Creates (alone (record { number = 0; id = id }) old.r) limit circle none
 
-founded_ring : (id : Id) (r limit : ℕ) → ring_with (founder (alone (record { no = 0; id = id }) r) limit ∷ []) (false ∷ []) ≡ founded id.number r
+founded_ring : (id : Id) (r limit : ℕ) → ring_with (founder (alone (record { number = 0; id = id }) r) limit ∷ []) (false ∷ []) ≡ founded_ring id.number r
 unfolding members_of ids_of
 founded_ring id r limit = refl
 
@@ -96,8 +96,8 @@ no_room view old nodes flags same n f = (λ i. with_more (n i) (f i) view) ∙ s
 
 -- a first node, in the terms of the code
 pub founded_items : (id : Id) (limit : ℕ) (view : WorldState) (nodes before : List Node) (node : Node) → view.world.nodes ≡ []
-    → nodes ≡ before ++ node ∷ [] → before ≡ view.world.nodes → node ≡ founder (alone (record { no = 0; id = id }) view.r) limit
-    → nodes ≡ founder (alone (record { no = 0; id = id }) view.r) limit ∷ []
+    → nodes ≡ before ++ node ∷ [] → before ≡ view.world.nodes → node ≡ founder (alone (record { number = 0; id = id }) view.r) limit
+    → nodes ≡ founder (alone (record { number = 0; id = id }) view.r) limit ∷ []
 founded_items id limit view nodes before node none items same is =
     items ∙ ap (λ (ns : List Node). ns ++ node ∷ []) (same ∙ none) ∙ ap (λ (n : Node). n ∷ []) is
 
@@ -111,7 +111,7 @@ founded_flags view flags before kept none is same =
     no_flags (f ∷ fs) e = absurd (omega arith)
 
 pub founded_at : (id : Id) (limit : ℕ) (view : WorldState) (nodes : List Node) (flags : List Bool) → id.number < 2 ^ 128 → view.world.nodes ≡ [] → IsWorld view
-    → nodes ≡ founder (alone (record { no = 0; id = id }) view.r) limit ∷ [] → flags ≡ false ∷ [] → IsWorld (with_more nodes flags view)
+    → nodes ≡ founder (alone (record { number = 0; id = id }) view.r) limit ∷ [] → flags ≡ false ∷ [] → IsWorld (with_more nodes flags view)
 founded_at id limit view nodes flags circle none kept is flagged =
     subst IsWorld (λ i. with_more (sym is i) (sym flagged i) view) (founded_is_world id limit view circle none kept)
 
@@ -128,14 +128,14 @@ some_first f [] some = absurd (some refl)
 some_first f (x ∷ xs) some = omega arith
 
 pub founded_answer : (id : Id) (limits : List ℕ) (limit : ℕ) (view old : WorldState) (nodes : List Node) (flags : List Bool) → view ≡ old → view.world.nodes ≡ []
-    → slice_get limits 0 ≡ Some limit → nodes ≡ founder (alone (record { no = 0; id = id }) view.r) limit ∷ [] → flags ≡ false ∷ []
+    → slice_get limits 0 ≡ Some limit → nodes ≡ founder (alone (record { number = 0; id = id }) view.r) limit ∷ [] → flags ≡ false ∷ []
     → CreateIs id limits old (Ok (did.Node 0)) (with_more nodes flags view)
 founded_answer id limits limit view old nodes flags same none first is flagged =
     subst (λ w. CreateIs id limits w (Ok (did.Node 0)) (with_more nodes flags view)) same
     (none, refl, (limit, first, λ i. with_more (is i) (flagged i) view))
 
 pub founded_step : (id : Id) (limit : ℕ) (view old : WorldState) (nodes : List Node) (flags : List Bool) → view ≡ old → id.number < 2 ^ 128 → view.world.nodes ≡ []
-    → nodes ≡ founder (alone (record { no = 0; id = id }) view.r) limit ∷ [] → WorldStep old.world (with_more nodes flags view).world
+    → nodes ≡ founder (alone (record { number = 0; id = id }) view.r) limit ∷ [] → WorldStep old.world (with_more nodes flags view).world
 founded_step id limit view old nodes flags same circle none is =
     subst (λ w. WorldStep w.world (with_more nodes flags view).world) same
     (subst (λ ns. WorldStep view.world (with_more ns flags view).world) (sym is) (founds id limit view circle none))

@@ -11,7 +11,7 @@ use Rattle.chord_links.specs.NodeLinks.{NodeLinks}
 use Rattle.chord_ring.proofs.Stepping.{Kept, Kept-fingers}
 use Rattle.chord_world.specs.Members.{is_gone, links_unless, member_links, ring_with}
 use Rattle.chord_world.specs.State.{WorldState, IsWorld, ring_of, is_crashed}
-use Rattle.chord_world.specs.Linking.{IsFinger, pointed, with_node, Points, PointsAt}
+use Rattle.chord_world.specs.Linking.{IsFinger, with_finger_at, with_node, Points, PointsAt}
 use Rattle.chord_world.proofs.Placing.{node_at_place, put_node_place, node_number}
 use Rattle.chord_world.proofs.RingLemmas.{member_at, ring_relinked}
 use Rattle.chord_world.proofs.Keeping.{with_nodes}
@@ -29,9 +29,9 @@ node_missing place view old same kept past =
 
 -- the ring after it: unchanged except for the fingers
 pointed_ring : (place finger : ℕ) (peer : Peer) (node : Node) (view : WorldState) → IsWorld view → slice_get view.world.nodes place ≡ Some node → is_crashed place view ≡ false
-    → Kept (ring_of view) (ring_with (set view.world.nodes place (pointed finger peer node)) view.crashed)
+    → Kept (ring_of view) (ring_with (set view.world.nodes place (with_finger_at finger peer node)) view.crashed)
 pointed_ring place finger peer node view kept here running =
-    let after = pointed finger peer node in
+    let after = with_finger_at finger peer node in
     elim (cases_Bool (is_gone node.phase)) [
       | inl gone ↦ ring_is place node after view kept here refl
           (ap (λ g. links_unless (is_crashed place view || g) after.links) gone
@@ -49,16 +49,16 @@ pointed_ring place finger peer node view kept here running =
     gone_both false links other = refl
 
 pub pointed_after : (place finger : ℕ) (peer : Peer) (node : Node) (view old new : WorldState) → view ≡ old → IsWorld view → slice_get view.world.nodes place ≡ Some node → is_crashed place old ≡ false
-    → new ≡ with_node (pointed finger peer node) view → After old new
+    → new ≡ with_node (with_finger_at finger peer node) view → After old new
 pointed_after place finger peer node view old new same kept here running is =
     let runs : is_crashed place view ≡ false = ap (is_crashed place) same ∙ running in
-    acts_at place node (pointed finger peer node) None None None None view old new same kept
+    acts_at place node (with_finger_at finger peer node) None None None None view old new same kept
     (record {
       here = here;
       running = runs;
       number = refl;
       was = tt;
-      does = Links_change (pointed finger peer node).links refl;
+      does = Links_change (with_finger_at finger peer node).links refl;
       call = tt;
       aimed = kept.targets;
       ring = pointed_ring place finger peer node view kept here runs;
@@ -67,10 +67,10 @@ pointed_after place finger peer node view old new same kept here running is =
 
 -- restated in the terms of the code
 pub pointed_is : (place finger : ℕ) (peer : Peer) (view : WorldState) (nodes : List Node) → IsWorld view → (points : PointsAt place finger peer view.world.nodes nodes)
-    → with_nodes nodes view ≡ with_node (pointed finger peer points.node) view
+    → with_nodes nodes view ≡ with_node (with_finger_at finger peer points.node) view
 pointed_is place finger peer view nodes kept points =
     let at = node_number 0 place points.node view.world.nodes kept.nodes points.here in
-    let put : nodes ≡ put_node (pointed finger peer points.node) view.world.nodes = points.new_is ∙ sym (put_node_place 0 place (pointed finger peer points.node) view.world.nodes kept.nodes at) in
+    let put : nodes ≡ put_node (with_finger_at finger peer points.node) view.world.nodes = points.new_is ∙ sym (put_node_place 0 place (with_finger_at finger peer points.node) view.world.nodes kept.nodes at) in
     ap (λ (ns : List Node). with_nodes ns view) put
 
 pub node_within : (place : ℕ) (view old : WorldState) → view ≡ old → IsWorld view → place < length view.world.nodes → (node : Node) × (node_at place old.world.nodes ≡ Some node)
@@ -89,5 +89,5 @@ points_after place finger to other peer view old nodes same kept fits running th
       there = node_stands to view view other refl kept there;
       running = ap (is_crashed place) same ∙ running;
       is_finger = fits;
-      new_is = pointed_is place finger peer view nodes kept points ∙ ap (λ p. with_node (pointed finger p points.node) view) me;
+      new_is = pointed_is place finger peer view nodes kept points ∙ ap (λ p. with_node (with_finger_at finger p points.node) view) me;
     })

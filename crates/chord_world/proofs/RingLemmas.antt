@@ -4,7 +4,7 @@ use Rattle.std.specs.Prelude.{slice_get, slice_index_or}
 use Rattle.std.proofs.lemmas.List.{get_or_past, length-map}
 use Rattle.chord_links.specs.NodeLinks.{NodeLinks}
 use Rattle.chord_ring.specs.Ring.{links_of}
-use Rattle.chord_ring.specs.Steps.{with_links, without}
+use Rattle.chord_ring.specs.Steps.{with_links, ring_without}
 use Rattle.chord_model.specs.Node.{Node}
 use Rattle.chord_world.specs.State.{WorldState, is_crashed}
 use Rattle.chord_world.specs.Members.{is_gone, links_unless, member_links, members_of, id_of_node, ids_of, ring_with}
@@ -173,7 +173,7 @@ ring_relinked place node links nodes crashed e here running staying me =
 
 -- a node is gone
 pub ring_departed : (place : ℕ) (node after : Node) (nodes : List Node) (crashed : List Bool) → length crashed ≡ length nodes → slice_get nodes place ≡ Some node
-    → is_gone after.phase ≡ true → after.links.me ≡ node.links.me → ring_with (set nodes place after) crashed ≡ without (ring_with nodes crashed) place
+    → is_gone after.phase ≡ true → after.links.me ≡ node.links.me → ring_with (set nodes place after) crashed ≡ ring_without (ring_with nodes crashed) place
 ring_departed place node after nodes crashed e here gone me =
     let out = slice_index_or crashed place false in
     let ids = ids_same place node after nodes here me in

@@ -8,8 +8,8 @@ use Rattle.chord_model.specs.World.{World, Run}
 use Rattle.chord_model.specs.World.Run.{Stays, Goes_on}
 use Rattle.chord_world.specs.declared.outcome.Outcome.{Outcome}
 use Rattle.chord_world.specs.declared.refusal.Refusal.{Refusal}
-use Rattle.chord_world.specs.declared.running.Answer.{Answer}
-use Rattle.chord_world.specs.declared.running.Answer.TheVariants.{Did, Refused}
+use Rattle.chord_world.specs.declared.run.StepResult.{StepResult}
+use Rattle.chord_world.specs.declared.run.StepResult.TheVariants.{Did, Refused}
 use Rattle.chord_world.specs.declared.step.Step.{Step}
 use Rattle.chord_world.specs.declared.step.Step.TheVariants.{Create, Join, OpenCaller, Submit, Resend, Deliver, Show, Meet, Cut, Merge, Give, SendPart, Leave, Retire, Stabilise, Candidate, DropDead, Rectify, Crash, Finger}
 use Rattle.chord_world.specs.State.{WorldState}
@@ -18,14 +18,14 @@ use Rattle.chord_world.specs.Runs.{Ran, result_of, limits_left}
 use Rattle.chord_world.specs.Runs.Ran.{Then}
 
 -- one more step
-pub ran_more : (limits : List ℕ) (first : WorldState) (steps steps' : List Step) (answers answers' : List Answer) (left left' : List ℕ) (middle last : WorldState) (step : Step) (answer : Answer) (result : Result Outcome Refusal)
+pub ran_more : (limits : List ℕ) (first : WorldState) (steps steps' : List Step) (answers answers' : List StepResult) (left left' : List ℕ) (middle last : WorldState) (step : Step) (answer : StepResult) (result : Result Outcome Refusal)
     → Ran limits first steps answers left middle → StepIs step left middle result last → result_of answer ≡ result
     → steps' ≡ steps ++ step ∷ [] → answers' ≡ answers ++ answer ∷ [] → left' ≡ limits_left step answer left → Ran limits first steps' answers' left' last
 ran_more limits first steps steps' answers answers' left left' middle last step answer result ran did e s a l =
     rw (s, a, l) (Then step answer last ran (subst (λ r. StepIs step left middle r last) (sym e) did))
 
 -- the limits of the stores that are left
-limits_by : {S : Type 0} (f : S → ℕ) (step : Step) (answer : Answer) (stores left : List S) → StoresLeft step (result_of answer) stores left → map f left ≡ limits_left step answer (map f stores)
+limits_by : {S : Type 0} (f : S → ℕ) (step : Step) (answer : StepResult) (stores left : List S) → StoresLeft step (result_of answer) stores left → map f left ≡ limits_left step answer (map f stores)
 limits_by f (Create id) (Did outcome) stores left e = ap (map f) e ∙ sym (drop-map f 1 stores)
 limits_by f (Create id) (Refused refusal) stores left e = ap (map f) e
 limits_by f (Join id behind) (Did outcome) stores left e = ap (map f) e ∙ sym (drop-map f 1 stores)
@@ -67,7 +67,7 @@ limits_by f (Crash node) (Refused refusal) stores left e = ap (map f) e
 limits_by f (Finger node finger to) (Did outcome) stores left e = ap (map f) e
 limits_by f (Finger node finger to) (Refused refusal) stores left e = ap (map f) e
 
-pub limits_after : {S : Type 0} (f : S → ℕ) (step : Step) (answer : Answer) (result : Result Outcome Refusal) (stores left : List S) → result_of answer ≡ result
+pub limits_after : {S : Type 0} (f : S → ℕ) (step : Step) (answer : StepResult) (result : Result Outcome Refusal) (stores left : List S) → result_of answer ≡ result
     → StoresLeft step result stores left → map f left ≡ limits_left step answer (map f stores)
 limits_after f step answer result stores left e h = limits_by f step answer stores left (subst (λ r. StoresLeft step r stores left) (sym e) h)
 

@@ -5,7 +5,7 @@ use Rattle.std.specs.declared.alloc.AllocError.{AllocError}
 use Rattle.std.proofs.lemmas.Option.{slice_get_within}
 use Rattle.std.proofs.lemmas.List.{length-set}
 use Rattle.chord_caller.specs.declared.ask.Ask.{Ask}
-use Rattle.chord_caller.specs.Caller.{Note, Caller, CallerStep, Letter, unknown}
+use Rattle.chord_caller.specs.Caller.{Note, Caller, CallerStep, Letter, unknown_calls}
 use Rattle.chord_caller.specs.Caller.Letter.{AskLetter, NoteLetter}
 use Rattle.chord_caller.specs.Caller.CallerStep.{Meets}
 use Rattle.chord_caller.specs.declared.fault.ResendFault.TheVariants.{Idle}
@@ -118,7 +118,7 @@ pub idle_from : (named : Option ℕ) (core : Caller) (number : ℕ) → WantedIs
 idle_from named core number wanted idle = Not_pending number wanted idle
 
 pub meets_from : (place : ℕ) (note : Note) (old : List Caller) (core after : Caller) (result : Result (Unit {0}) AllocError) → place < length old → core ≡ get_or old place core
-    → OnOk result (after ≡ record core { told = core.told ++ unknown core note.done }) → OnErr result (after ≡ core) → MeetsAt place note old result (slice_set old place after)
+    → OnOk result (after ≡ record core { told = core.told ++ unknown_calls core note.done }) → OnErr result (after ≡ core) → MeetsAt place note old result (slice_set old place after)
 meets_from place note old core after (Ok met) within e ok err =
     record { core = core; here = got old place core within e; new_is = ap (λ (c : Caller). set old place c) ok }
 meets_from place note old core after (Err refused) within e ok err =

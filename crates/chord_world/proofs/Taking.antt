@@ -4,10 +4,10 @@ use Rattle.std.specs.Prelude.{slice_get, Contains}
 use Rattle.std.specs.declared.alloc.AllocError.{AllocError}
 use Rattle.chord_handover.specs.declared.ticket.Ticket.{Ticket}
 use Rattle.chord_handover.specs.Handover.{Part, ticket_of_part}
-use Rattle.chord_node.specs.declared.handovers.given.Given.{Given}
-use Rattle.chord_node.specs.declared.handovers.given.Given.TheVariants as given
-use Rattle.chord_node.specs.declared.handovers.given.Back.{Back}
-use Rattle.chord_node.specs.declared.handovers.given.Back.TheVariants as back
+use Rattle.chord_node.specs.declared.handovers.part_answer.PartAnswer.{PartAnswer}
+use Rattle.chord_node.specs.declared.handovers.part_answer.PartAnswer.TheVariants as given
+use Rattle.chord_node.specs.declared.handovers.part_answer.Back.{Back}
+use Rattle.chord_node.specs.declared.handovers.part_answer.Back.TheVariants as back
 use Rattle.chord_model.specs.declared.message.Message.{Message}
 use Rattle.chord_model.specs.declared.message.Message.TheVariants.{Part as PartMessage, Got as GotMessage, Declined as DeclinedMessage}
 use Rattle.chord_model.specs.Node.{Node}
@@ -34,7 +34,7 @@ use Rattle.chord_world.proofs.Pointing.{node_stands, node_within}
 still_same : (node after : Node) → after ≡ node → IsStill node after
 still_same node after e = subst (IsStill node) (sym e) (record { number = refl; gone = refl; links = refl })
 
-pub still_part : (part : Part) (answer : Given) (node after : Node) → PartIs part node (Ok answer) after → IsStill node after
+pub still_part : (part : Part) (answer : PartAnswer) (node after : Node) → PartIs part node (Ok answer) after → IsStill node after
 still_part part given.Got node after (inl h) = still_same node after h.1
 still_part part given.Got node after (inr h) = subst (IsStill node) (sym h.4) (record { number = refl; gone = refl; links = refl })
 still_part part given.Declined node after h = still_same node after h.2
@@ -81,7 +81,7 @@ for_out place to view old same kept within is_for out =
 
 -- ---- a part
 
-confirmed : (part : Part) (answer : Given) → confirmation (ticket_of_part part) answer ≡ sent_for part answer
+confirmed : (part : Part) (answer : PartAnswer) → confirmation (ticket_of_part part) answer ≡ sent_for part answer
 confirmed part given.Got = refl
 confirmed part given.Declined = refl
 confirmed part given.Early = refl
@@ -89,7 +89,7 @@ confirmed part given.Clash = refl
 confirmed part given.Full = refl
 confirmed part given.Part = refl
 
-known_reply : (nodes count : ℕ) (part : Part) (answer : Given) → part.from < nodes → part.to < nodes → SendsCall nodes count (sent_for part answer)
+known_reply : (nodes count : ℕ) (part : Part) (answer : PartAnswer) → part.from < nodes → part.to < nodes → SendsCall nodes count (sent_for part answer)
 known_reply nodes count part given.Got from to = (from, to)
 known_reply nodes count part given.Declined from to = (from, to)
 known_reply nodes count part given.Early from to = tt
@@ -97,7 +97,7 @@ known_reply nodes count part given.Clash from to = tt
 known_reply nodes count part given.Full from to = tt
 known_reply nodes count part given.Part from to = tt
 
-reply_aimed : (sent : List Message) (targets : List (Option ℕ)) (part : Part) (answer : Given) → AreAimed sent targets → AreAimed (with_one sent (sent_for part answer)) (with_one targets (no_target (sent_for part answer)))
+reply_aimed : (sent : List Message) (targets : List (Option ℕ)) (part : Part) (answer : PartAnswer) → AreAimed sent targets → AreAimed (with_one sent (sent_for part answer)) (with_one targets (no_target (sent_for part answer)))
 reply_aimed sent targets part given.Got all = aimed_pushed sent targets (GotMessage (ticket_of_part part)) None all tt
 reply_aimed sent targets part given.Declined all = aimed_pushed sent targets (DeclinedMessage (ticket_of_part part)) None all tt
 reply_aimed sent targets part given.Early all = all
@@ -110,12 +110,12 @@ abbrev pub after_part : List Node → List Message → List (Option ℕ) → Wor
 after_part nodes sent targets view = record view { world = record view.world { nodes = nodes; sent = sent }; targets = targets }
 
 -- a part that its receiver took in
-pub record TookPart (place to : ℕ) (part : Part) (answer : Given) (view : WorldState) (nodes : List Node) : Type 0 where
+pub record TookPart (place to : ℕ) (part : Part) (answer : PartAnswer) (view : WorldState) (nodes : List Node) : Type 0 where
   pub sent : slice_get view.world.sent place ≡ Some (PartMessage part)
   pub own : part.to ≡ to
   pub does : DoesAt (PartIs part) (PartSteps part) to view.world.nodes (Ok answer) nodes
 
-pub part_is : (place to : ℕ) (part : Part) (answer : Given) (ticket : Ticket) (view : WorldState) (nodes : List Node) (sent before : List Message) (targets earlier : List (Option ℕ)) → IsWorld view
+pub part_is : (place to : ℕ) (part : Part) (answer : PartAnswer) (ticket : Ticket) (view : WorldState) (nodes : List Node) (sent before : List Message) (targets earlier : List (Option ℕ)) → IsWorld view
     → (took : TookPart place to part answer view nodes) → ticket ≡ ticket_of_part part → sent ≡ with_one before (confirmation ticket answer) → before ≡ view.world.sent
     → targets ≡ with_one earlier (no_target (confirmation ticket answer)) → earlier ≡ view.targets
     → after_part nodes sent targets view ≡ acted took.does.after (sent_for part answer) (no_target (sent_for part answer)) None view
@@ -127,7 +127,7 @@ part_is place to part answer ticket view nodes sent before targets earlier kept 
     let goes : targets ≡ with_one view.targets (no_target (sent_for part answer)) = t ∙ ap (λ m. with_one earlier (no_target m)) message ∙ ap (λ xs. with_one xs (no_target (sent_for part answer))) t' in
     λ i. after_part (put i) (messages i) (goes i) view
 
-pub part_after : (place to : ℕ) (part : Part) (answer : Given) (view old new : WorldState) (nodes : List Node) → view ≡ old → IsWorld view → is_crashed to old ≡ false
+pub part_after : (place to : ℕ) (part : Part) (answer : PartAnswer) (view old new : WorldState) (nodes : List Node) → view ≡ old → IsWorld view → is_crashed to old ≡ false
     → (took : TookPart place to part answer view nodes) → new ≡ acted took.does.after (sent_for part answer) (no_target (sent_for part answer)) None view → After old new
 part_after place to part answer view old new nodes same kept running took is =
     let ends = part_ends view place part kept took.sent in
@@ -136,7 +136,7 @@ part_after place to part answer view old new nodes same kept running took is =
     (known_reply (length view.world.nodes) (length view.world.callers) part answer ends.0 ends.1)
     (reply_aimed view.world.sent view.targets part answer kept.targets) is
 
-pub part_delivers : (place to : ℕ) (part : Part) (answer : Given) (view old new : WorldState) (nodes : List Node) (outcome : Outcome) → view ≡ old → IsWorld view → is_crashed to old ≡ false
+pub part_delivers : (place to : ℕ) (part : Part) (answer : PartAnswer) (view old new : WorldState) (nodes : List Node) (outcome : Outcome) → view ≡ old → IsWorld view → is_crashed to old ≡ false
     → (took : TookPart place to part answer view nodes) → new ≡ acted took.does.after (sent_for part answer) (no_target (sent_for part answer)) None view
     → outcome_of_given answer (length view.world.sent) ≡ Some outcome → Delivers place old outcome new
 part_delivers place to part answer view old new nodes outcome same kept running took is told =
@@ -163,7 +163,7 @@ came place to view old asked part items before read_as same messages here own is
     record { sent = sent; own = ap (λ (p : Part). p.to) (same_part view place part asked sent asked_here) ∙ own }
 
 -- no answer to a part that was sent is a clash
-pub part_fits : (place to : ℕ) (part : Part) (answer : Given) (view : WorldState) (nodes : List Node) → IsWorld view → Came place to part view
+pub part_fits : (place to : ℕ) (part : Part) (answer : PartAnswer) (view : WorldState) (nodes : List Node) → IsWorld view → Came place to part view
     → DoesAt (PartIs part) (PartSteps part) to view.world.nodes (Ok answer) nodes
     → ((world : World) (part : Part) (node new : Node) → ∥ Reached world ∥₁ → Contains world.sent (PartMessage part)
     → node_at part.to world.nodes ≡ Some node → ¬ PartIs part node (Ok given.Clash) new) → answer ≢ given.Clash

@@ -10,7 +10,7 @@ use Rattle.chord_links.specs.NodeLinks.{NodeLinks}
 use Rattle.chord_ring.specs.declared.ring_step.RingStep.{RingStep}
 use Rattle.chord_ring.specs.Ring.{KeepsPrincipals, CanDepart}
 use Rattle.chord_ring.specs.Sound.{IsSound}
-use Rattle.chord_ring.specs.Steps.{Ring, Step, Joins, joined, with_links, without}
+use Rattle.chord_ring.specs.Steps.{Ring, Step, Joins, joined_links, with_links, ring_without}
 use Rattle.chord_ring.specs.Refusals.{AreOwn}
 use Rattle.chord_ring.proofs.Stepping.{Kept, Kept-step, Kept-joins}
 use Rattle.chord_ring.proofs.OneRing.{links_from_member}
@@ -114,9 +114,9 @@ out_within number view old same kept can' =
 
 crashed_here : (place : ℕ) (view : WorldState) → IsWorld view → view.world.nodes ≢ [] → CanDepart (ring_of view).members place → AfterCrash place view (with_crash place view)
 crashed_here place view kept created can =
-    let ring : ring_of (with_crash place view) ≡ without (ring_of view) place =
+    let ring : ring_of (with_crash place view) ≡ ring_without (ring_of view) place =
     (λ i. record { ids = ids_of view.world.nodes; members = members_crash place view.world.nodes view.crashed kept.crashed i }) in
-    let kept_ring : Kept (ring_of view) (without (ring_of view) place) = Kept-departs (ring_of view) place (kept.ring created) can in
+    let kept_ring : Kept (ring_of view) (ring_without (ring_of view) place) = Kept-departs (ring_of view) place (kept.ring created) can in
     record {
       world =
           record {
@@ -187,7 +187,7 @@ pub record AfterJoin (id : Id) (behind limit : ℕ) (old : WorldState) (number :
   pub joins : JoinsBehind id behind limit old number new
 
 abbrev link : Id → ℕ → NodeLinks → NodeLinks
-link id number pred = joined (record { no = number; id = id }) pred
+link id number pred = joined_links (record { number = number; id = id }) pred
 
 joined_here : (id : Id) (behind limit : ℕ) (pred : NodeLinks) (view : WorldState) → IsWorld view → MayJoin id behind pred view
     → AfterJoin id behind limit view (length view.world.nodes) (with_newborn (link id (length view.world.nodes) pred) limit view)
@@ -256,7 +256,7 @@ used_is id view old read same is has =
 
 -- restated in the terms of the code
 pub joins_at : (id : Id) (behind limit number : ℕ) (pred links : NodeLinks) (view old : WorldState) (nodes : List Node) (crashed : List Bool) → view ≡ old → IsWorld view → MayJoin id behind pred old
-    → number ≡ length view.world.nodes → links ≡ joined (record { no = number; id = id }) pred → nodes ≡ view.world.nodes ++ newborn links limit ∷ [] → crashed ≡ view.crashed ++ false ∷ []
+    → number ≡ length view.world.nodes → links ≡ joined_links (record { number = number; id = id }) pred → nodes ≡ view.world.nodes ++ newborn links limit ∷ [] → crashed ≡ view.crashed ++ false ∷ []
     → AfterJoin id behind limit old number (with_more nodes crashed view)
 joins_at id behind limit number pred links view old nodes crashed same kept may numbered is pushed flagged =
     let links_are : links ≡ link id (length view.world.nodes) pred = is ∙ ap (λ n. link id n pred) numbered in
@@ -268,7 +268,7 @@ joins_at id behind limit number pred links view old nodes crashed same kept may 
     (joined_here id behind limit pred view kept (subst (MayJoin id behind pred) (sym same) may))))
 
 pub can_join : (id : Id) (behind : ℕ) (limits : List ℕ) (number : ℕ) (pred links : NodeLinks) (view old : WorldState) → view ≡ old → MayJoin id behind pred old → number ≡ length view.world.nodes
-    → links ≡ joined (record { no = number; id = id }) pred → limits ≢ [] → CanJoin id behind limits old links
+    → links ≡ joined_links (record { number = number; id = id }) pred → limits ≢ [] → CanJoin id behind limits old links
 can_join id behind limits number pred links view old same may numbered is stocked = record {
   pred = pred;
   may = may;

@@ -2,7 +2,7 @@
 use Rattle.std.specs.Prelude.{◌≡◌, ◌≢◌, ℕ, ◌<◌, ◌≤◌, true, false, Option, None, Some, Result, Ok, Err, List, [], ◌∷◌, ◌++◌, length, slice_get, slice_set}
 use Rattle.std.specs.declared.alloc.AllocError.{AllocError}
 use Rattle.chord_caller.specs.declared.ask.Ask.{Ask}
-use Rattle.chord_caller.specs.Caller.{Note, Caller, known, unknown}
+use Rattle.chord_caller.specs.Caller.{Note, Caller, known_calls, unknown_calls}
 use Rattle.chord_caller.specs.Answers.{is_pending, PendingIs, ResendIs}
 use Rattle.chord_model.specs.declared.message.Message.{Message}
 use Rattle.chord_model.specs.declared.message.Message.TheVariants.{Ask as AskMessage, Note as NoteMessage}
@@ -88,7 +88,7 @@ ResendStepIs caller via named = DoneOrRefused (DoesResend caller via named) (Ref
 
 -- the note of what a caller knows
 abbrev pub note_of : Caller → Note
-note_of core = record { caller = core.number; done = known core }
+note_of core = record { caller = core.number; done = known_calls core }
 
 -- the note was sent in this message
 pub record SendsNote (caller : ℕ) (old : WorldState) (message : ℕ) (new : WorldState) : Type 0 where
@@ -110,7 +110,7 @@ ShowIs caller = DoneOrRefused (DoesShow caller) (RefusesShow caller)
 
 -- the caller after it met the note
 abbrev pub with_note : Note → Caller → Caller
-with_note note core = record core { told = core.told ++ unknown core note.done }
+with_note note core = record core { told = core.told ++ unknown_calls core note.done }
 
 -- the caller met the note of this message
 pub record MeetsNote (caller message : ℕ) (old new : WorldState) : Type 0 where

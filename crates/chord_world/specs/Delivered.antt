@@ -9,8 +9,8 @@ use Rattle.chord_caller.specs.Answers.{TakeIs}
 use Rattle.chord_node.specs.declared.asks.answered.Answered.{Answered}
 use Rattle.chord_node.specs.declared.asks.answered.Answered.TheVariants as answer
 use Rattle.chord_model.specs.declared.message.Message.TheVariants.{Ask as AskMessage, Told as ToldMessage, Full as FullMessage, Part as PartMessage, Got as GotMessage, Declined as DeclinedMessage, Note as NoteMessage}
-use Rattle.chord_node.specs.declared.handovers.given.Given.{Given}
-use Rattle.chord_node.specs.declared.handovers.given.Back.{Back}
+use Rattle.chord_node.specs.declared.handovers.part_answer.PartAnswer.{PartAnswer}
+use Rattle.chord_node.specs.declared.handovers.part_answer.Back.{Back}
 use Rattle.chord_handover.specs.declared.ticket.Ticket.{Ticket}
 use Rattle.chord_handover.specs.Handover.{Part}
 use Rattle.chord_node.specs.Received.{PartIs, GotIs, BackIs, sent_for}
@@ -69,7 +69,7 @@ pub data Delivers (message : ℕ) (old : WorldState) : Outcome → WorldState �
       → caller_at told.caller old.world.callers ≡ Some core → TakeIs told core (Ok heard) after
       → Delivers message old (outcome_heard heard told.caller) (with_heard after old)
   -- a Part is delivered to its receiver
-  Part_to_node : (part : Part) (node after : Node) (given : Given) (outcome : Outcome) → slice_get old.world.sent message ≡ Some (PartMessage part)
+  Part_to_node : (part : Part) (node after : Node) (given : PartAnswer) (outcome : Outcome) → slice_get old.world.sent message ≡ Some (PartMessage part)
       → node_at part.to old.world.nodes ≡ Some node → is_crashed part.to old ≡ false → PartIs part node (Ok given) after
       → outcome_of_given given (length old.world.sent) ≡ Some outcome → Delivers message old outcome (with_reply after (sent_for part given) old)
   -- a Got is delivered to the giver

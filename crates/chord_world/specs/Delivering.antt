@@ -12,7 +12,7 @@ use Rattle.chord_node.specs.declared.asks.answered.Answered.TheVariants as answe
 use Rattle.chord_model.specs.declared.message.Message.{Message}
 use Rattle.chord_model.specs.declared.message.Message.TheVariants.{Ask as AskMessage, Told as ToldMessage, Full as FullMessage}
 use Rattle.chord_model.specs.Node.{Node}
-use Rattle.chord_node.specs.Asked.{AskNotes}
+use Rattle.chord_node.specs.Asked.{AskRecords}
 use Rattle.chord_model.specs.World.{with_one}
 use Rattle.chord_world.specs.declared.outcome.Outcome.{Outcome}
 use Rattle.chord_world.specs.declared.refusal.Refusal.{Refusal}
@@ -24,7 +24,7 @@ pub record Answers (place : ℕ) (ask : Ask) (old : List Node) (answered : Answe
   pub node : Node
   pub after : Node
   pub here : slice_get old place ≡ Some node
-  pub answers : AskNotes ask true node (Ok (answered, did)) after
+  pub answers : AskRecords ask true node (Ok (answered, did)) after
   pub new_is : new ≡ slice_set old place after
 
 -- it answered, or memory ran out and nothing changed

@@ -8,8 +8,8 @@ use Rattle.chord_node.specs.declared.fault.MergeFault.{MergeFault}
 use Rattle.chord_node.specs.declared.fault.MergeFault.TheVariants as merge
 use Rattle.chord_node.specs.declared.fault.GiveFault.{GiveFault}
 use Rattle.chord_node.specs.declared.fault.GiveFault.TheVariants as give
-use Rattle.chord_node.specs.declared.fault.ResendFault.{ResendFault}
-use Rattle.chord_node.specs.declared.fault.ResendFault.TheVariants as resend
+use Rattle.chord_node.specs.declared.fault.ResendPartFault.{ResendPartFault}
+use Rattle.chord_node.specs.declared.fault.ResendPartFault.TheVariants as resend
 use Rattle.chord_node.specs.declared.fault.NotStaying.{NotStaying}
 use Rattle.chord_node.specs.declared.fault.RetireFault.{RetireFault}
 use Rattle.chord_node.specs.declared.fault.RetireFault.TheVariants as retire
@@ -123,12 +123,12 @@ abbrev pub GiveStepIs : ℕ → ℕ → ℕ → WorldState → Result Outcome Re
 GiveStepIs number place to = DoneOrRefused (DoesGive number place to) (RefusesGive number place to)
 
 -- a part that is sent again
-abbrev pub refusal_of_resend : ResendFault → Refusal
+abbrev pub refusal_of_resend : ResendPartFault → Refusal
 refusal_of_resend resend.NoPart = refused.Step step_fault.NoPart
 refusal_of_resend resend.Memory = refused.Memory
 
 -- a resent part leaves the node unchanged
-abbrev pub Resends : ℕ → ℕ → ℕ → Call (Result Part ResendFault)
+abbrev pub Resends : ℕ → ℕ → ℕ → Call (Result Part ResendPartFault)
 Resends to number part node result after = ResendIs to number part node result × (after ≡ node)
 
 -- there is no such part, or no such receiver

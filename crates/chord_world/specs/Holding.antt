@@ -5,7 +5,7 @@ use Rattle.chord_ident.specs.Circle.{in_span}
 use Rattle.chord_model.specs.declared.holder.Holder.{Holder}
 use Rattle.chord_model.specs.declared.holder.Holder.TheVariants as holder
 use Rattle.chord_model.specs.Node.{Node}
-use Rattle.chord_model.specs.World.{at_node, holders, last_taken, under_way}
+use Rattle.chord_model.specs.World.{at_node, holders, last_taken, holders_under_way}
 use Rattle.chord_world.specs.State.{WorldState}
 
 -- whether the item hands x over and its receiver has not taken it yet
@@ -18,7 +18,7 @@ way_of node item = holder.UnderWay node.number item.to item.number
 
 -- the node if it holds x, and its open handovers of x
 abbrev pub holders_at : ℕ → List Node → Node → List Holder
-holders_at x nodes node = at_node x node ++ under_way x (last_taken nodes) node
+holders_at x nodes node = at_node x node ++ holders_under_way x (last_taken nodes) node
 
 -- the one holder of x, once there is a node
 abbrev pub HolderIs : ℕ → WorldState → Option Holder → Type 0

@@ -5,7 +5,7 @@ use Rattle.chord_ident.specs.declared.id.Id.{Id}
 use Rattle.chord_ident.specs.Circle.{IsBetween}
 use Rattle.chord_links.specs.NodeLinks.{NodeLinks, first_entry}
 use Rattle.chord_ring.specs.Ring.{is_member, links_of}
-use Rattle.chord_ring.specs.Steps.{Joins, joined}
+use Rattle.chord_ring.specs.Steps.{Joins, joined_links}
 use Rattle.chord_ring.specs.Refusals.{JoinRefused}
 use Rattle.chord_ring.specs.declared.ring_fault.RingFault.TheVariants as fault
 use Rattle.chord_model.specs.Node.{newborn}
@@ -57,7 +57,7 @@ pub record MayJoin (id : Id) (behind : ℕ) (pred : NodeLinks) (old : WorldState
 pub record CanJoin (id : Id) (behind : ℕ) (limits : List ℕ) (old : WorldState) (links : NodeLinks) : Type 0 where
   pub pred : NodeLinks
   pub may : MayJoin id behind pred old
-  pub links_are : links ≡ joined (record { no = length old.world.nodes; id = id }) pred
+  pub links_are : links ≡ joined_links (record { number = length old.world.nodes; id = id }) pred
   pub stocked : limits ≢ []
 
 -- the links of a node that can join, or the refusal

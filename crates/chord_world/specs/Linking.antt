@@ -19,8 +19,8 @@ abbrev pub IsFinger : ℕ → Type 0
 IsFinger finger = (1 ≤ finger) × (finger ≤ 128)
 
 -- the node with this finger set to this peer
-abbrev pub pointed : ℕ → Peer → Node → Node
-pointed finger peer node = record node { links = record node.links { fingers = with_finger node.links.fingers finger peer } }
+abbrev pub with_finger_at : ℕ → Peer → Node → Node
+with_finger_at finger peer node = record node { links = record node.links { fingers = with_finger node.links.fingers finger peer } }
 
 -- the world after a node changed
 abbrev pub with_node : Node → WorldState → WorldState
@@ -34,7 +34,7 @@ pub record Points (number finger to : ℕ) (old new : WorldState) : Type 0 where
   pub there : node_at to old.world.nodes ≡ Some peer
   pub running : is_crashed number old ≡ false
   pub is_finger : IsFinger finger
-  pub new_is : new ≡ with_node (pointed finger peer.links.me node) old
+  pub new_is : new ≡ with_node (with_finger_at finger peer.links.me node) old
 
 -- both nodes exist
 abbrev pub AreNodes : ℕ → ℕ → WorldState → Type 0
@@ -64,4 +64,4 @@ LinksAre number state (Some links) = (node : Node) × (node_at number state.worl
 pub record PointsAt (place finger : ℕ) (peer : Peer) (old new : List Node) : Type 0 where
   pub node : Node
   pub here : slice_get old place ≡ Some node
-  pub new_is : new ≡ slice_set old place (pointed finger peer node)
+  pub new_is : new ≡ slice_set old place (with_finger_at finger peer node)

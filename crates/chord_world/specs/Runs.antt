@@ -6,8 +6,8 @@ use Rattle.chord_caller.specs.Caller.{Caller}
 use Rattle.chord_model.specs.World.{caller_at}
 use Rattle.chord_world.specs.declared.outcome.Outcome.{Outcome}
 use Rattle.chord_world.specs.declared.refusal.Refusal.{Refusal}
-use Rattle.chord_world.specs.declared.running.Answer.{Answer}
-use Rattle.chord_world.specs.declared.running.Answer.TheVariants.{Did, Refused}
+use Rattle.chord_world.specs.declared.run.StepResult.{StepResult}
+use Rattle.chord_world.specs.declared.run.StepResult.TheVariants.{Did, Refused}
 use Rattle.chord_world.specs.declared.step.Step.{Step}
 use Rattle.chord_world.specs.declared.step.Step.TheVariants.{Create, Join}
 use Rattle.chord_ring.specs.Ring.{IsSafe, IsOneRing}
@@ -30,20 +30,20 @@ abbrev pub StandsOnOneRing : WorldState → Type 0
 StandsOnOneRing state = state.world.nodes ≢ [] → IsSafe (ring_of state).members × IsOneRing (ring_of state).members
 
 -- an answer as a result
-abbrev pub result_of : Answer → Result Outcome Refusal
+abbrev pub result_of : StepResult → Result Outcome Refusal
 result_of (Did outcome) = Ok outcome
 result_of (Refused refusal) = Err refusal
 
 -- the limits of the stores that are left after a step
-abbrev pub limits_left : Step → Answer → List ℕ → List ℕ
+abbrev pub limits_left : Step → StepResult → List ℕ → List ℕ
 limits_left (Create id) (Did outcome) limits = drop 1 limits
 limits_left (Join id behind) (Did outcome) limits = drop 1 limits
 limits_left step answer limits = limits
 
 -- From a world and stores with these limits, the steps got these answers in order, and ended in
 -- this world with stores of these limits left.
-pub data Ran (limits : List ℕ) (first : WorldState) : List Step → List Answer → List ℕ → WorldState → Type 0 where
+pub data Ran (limits : List ℕ) (first : WorldState) : List Step → List StepResult → List ℕ → WorldState → Type 0 where
   Nothing : Ran limits first [] [] limits first
-  Then : {steps : List Step} {answers : List Answer} {left : List ℕ} {middle : WorldState} (step : Step) (answer : Answer) (last : WorldState)
+  Then : {steps : List Step} {answers : List StepResult} {left : List ℕ} {middle : WorldState} (step : Step) (answer : StepResult) (last : WorldState)
       → Ran limits first steps answers left middle → StepIs step left middle (result_of answer) last
       → Ran limits first (steps ++ step ∷ []) (answers ++ answer ∷ []) (limits_left step answer left) last

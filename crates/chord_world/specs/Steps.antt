@@ -43,7 +43,7 @@ AdvancesBy step old result new = Advances old result new
 -- the world with its first node, whose store has this limit
 abbrev pub with_founder : Id → ℕ → WorldState → WorldState
 with_founder id limit old =
-    record old { world = record old.world { nodes = founder (alone (record { no = 0; id = id }) old.r) limit ∷ [] }; crashed = false ∷ [] }
+    record old { world = record old.world { nodes = founder (alone (record { number = 0; id = id }) old.r) limit ∷ [] }; crashed = false ∷ [] }
 
 -- the limits are those of the stores that are left
 abbrev pub DoesCreate : Id → List ℕ → WorldState → Outcome → WorldState → Type 0

@@ -1,10 +1,10 @@
 -- How a node takes in a Part, a Got or a Declined.
 use Rattle.std.specs.Prelude.{◌≡◌, ℕ, Bool, true, false, Option, None, Some, List, slice_get}
 use Rattle.chord_handover.specs.declared.ticket.Ticket.{Ticket}
-use Rattle.chord_node.specs.declared.handovers.given.Given.{Given}
-use Rattle.chord_node.specs.declared.handovers.given.Given.TheVariants as given
-use Rattle.chord_node.specs.declared.handovers.given.Back.{Back}
-use Rattle.chord_node.specs.declared.handovers.given.Back.TheVariants as back
+use Rattle.chord_node.specs.declared.handovers.part_answer.PartAnswer.{PartAnswer}
+use Rattle.chord_node.specs.declared.handovers.part_answer.PartAnswer.TheVariants as given
+use Rattle.chord_node.specs.declared.handovers.part_answer.Back.{Back}
+use Rattle.chord_node.specs.declared.handovers.part_answer.Back.TheVariants as back
 use Rattle.chord_model.specs.declared.message.Message.{Message}
 use Rattle.chord_model.specs.declared.message.Message.TheVariants.{Got as GotMessage, Declined as DeclinedMessage}
 use Rattle.chord_model.specs.Node.{Node, NodeStep}
@@ -20,7 +20,7 @@ IsNumbered place nodes = (node : Node) → slice_get nodes place ≡ Some node �
 
 -- the outcome of an answer to a part, if `count` messages were sent before; Clash has none, for it
 -- never happens
-abbrev pub outcome_of_given : Given → ℕ → Option Outcome
+abbrev pub outcome_of_given : PartAnswer → ℕ → Option Outcome
 outcome_of_given given.Got count = Some (did.Got count)
 outcome_of_given given.Declined count = Some (did.Declined count)
 outcome_of_given given.Early count = Some did.Early
@@ -29,7 +29,7 @@ outcome_of_given given.Part count = Some did.Noted
 outcome_of_given given.Clash count = None
 
 -- the message that the answer sends back to the giver
-abbrev pub confirmation : Ticket → Given → Option Message
+abbrev pub confirmation : Ticket → PartAnswer → Option Message
 confirmation ticket given.Got = Some (GotMessage ticket)
 confirmation ticket given.Declined = Some (DeclinedMessage ticket)
 confirmation ticket answer = None

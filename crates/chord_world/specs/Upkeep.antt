@@ -43,7 +43,7 @@ pub record RelinksAt (place : ℕ) (links : NodeLinks) (old new : List Node) : T
 -- the outcome of a step of the ring
 abbrev pub outcome_of_ring : RingDid → Outcome
 outcome_of_ring (ring.Joined number) = did.Node number
-outcome_of_ring (ring.Candidate candidate) = did.Candidate (option_map (λ (peer : Peer). peer.no) candidate)
+outcome_of_ring (ring.Candidate candidate) = did.Candidate (option_map (λ (peer : Peer). peer.number) candidate)
 outcome_of_ring ring.Done = did.Done
 
 -- the ring did the step, with this outcome

@@ -1,7 +1,7 @@
 //! Who holds an identifier.
 ghost use Rattle.std.specs.Prelude.{◌≡◌, true, false, [], Some, IfSome, IfNone, Contains, slice_get};
 ghost use Rattle.chord_handover.specs.Handover.{Item};
-ghost use Rattle.chord_model.specs.World.{holders, last_taken, under_way};
+ghost use Rattle.chord_model.specs.World.{holders, last_taken, holders_under_way};
 ghost use Rattle.chord_world.specs.Holding.{holders_at, is_open, way_of, HolderIs};
 ghost use Rattle.chord_world.specs.State.{NodesFrom};
 
@@ -34,7 +34,7 @@ fn under_way_at<S: EntryStore>(
     ensures none { IfNone result ((item : Item) → slice_get node.now.outbox place ≡ Some item → is_open id.number (last_taken nodes.now) node.now item ≡ false) }
 {
     let from = node.number();
-    let (to, number, span) = node.kept(place as u64)?;
+    let (to, number, span) = node.outbox_item(place as u64)?;
     if span.contains(id) && taken_last(nodes, to, from) < number {
         Some(Holder::UnderWay { from, to, number })
     } else {
@@ -45,10 +45,10 @@ fn under_way_at<S: EntryStore>(
 /// A handover of the identifier from this node that its receiver has not taken, if any.
 fn find_under_way<S: EntryStore>(nodes: &[Node<S>], node: &Node<S>, id: Id) -> Option<Holder>
     requires { NodesFrom 0 nodes.now }
-    ensures found { IfSome result (λ holder. Contains (under_way id.number (last_taken nodes.now) node.now) holder) }
-    ensures none { IfNone result (under_way id.number (last_taken nodes.now) node.now ≡ []) }
+    ensures found { IfSome result (λ holder. Contains (holders_under_way id.number (last_taken nodes.now) node.now) holder) }
+    ensures none { IfNone result (holders_under_way id.number (last_taken nodes.now) node.now ≡ []) }
 {
-    for place in 0..node.kept_count() {
+    for place in 0..node.outbox_len() {
         if let Some(holder) = under_way_at(nodes, node, place, id) {
             return Some(holder);
         }

@@ -14,10 +14,10 @@ use chord_ring::MemberReader;
 use chord_store::EntryStore;
 
 /// Whether the node of this number crashed, according to these flags.
-pub(crate) fn is_out(crashed: &[bool], no: u64) -> bool
-    ensures { result ≡ slice_index_or crashed.now no false }
+pub(crate) fn is_out(crashed: &[bool], number: u64) -> bool
+    ensures { result ≡ slice_index_or crashed.now number false }
 {
-    match crashed.get(no as usize) {
+    match crashed.get(number as usize) {
         Some(out) => *out,
         None => false,
     }
@@ -36,7 +36,7 @@ fn links_of_member<S: EntryStore>(node: &Node<S>) -> Option<&Links>
 /// Whether a node ever had this identifier.
 pub(crate) fn is_used<S: EntryStore>(nodes: &[Node<S>], id: Id) -> bool
     ensures yes { IsTrue result → Contains (map id_of_node nodes.now) id.number }
-    ensures no { Contains (map id_of_node nodes.now) id.number → IsTrue result }
+    ensures number { Contains (map id_of_node nodes.now) id.number → IsTrue result }
 {
     for node in nodes {
         if node.links().me().id == id {
@@ -49,11 +49,11 @@ pub(crate) fn is_used<S: EntryStore>(nodes: &[Node<S>], id: Id) -> bool
 impl<S: EntryStore> MemberReader for World<S> {
     ghost ring = { λ state. ring_of state };
 
-    fn member(&self, no: u64) -> Option<&Links> {
-        if no >= self.nodes.len() as u64 || is_out(&self.crashed, no) {
+    fn member(&self, number: u64) -> Option<&Links> {
+        if number >= self.nodes.len() as u64 || is_out(&self.crashed, number) {
             return None;
         }
-        links_of_member(&self.nodes[no as usize])
+        links_of_member(&self.nodes[number as usize])
     }
 
     fn count(&self) -> u64 {
@@ -63,9 +63,9 @@ impl<S: EntryStore> MemberReader for World<S> {
 
 impl<S: EntryStore> World<S> {
     /// The links of the node of this number, if it is a member.
-    pub(crate) fn links_in_ring(&self, no: u64) -> Option<Links>
-        ensures { result ≡ links_of (ring_of self.now).members no }
+    pub(crate) fn links_in_ring(&self, number: u64) -> Option<Links>
+        ensures { result ≡ links_of (ring_of self.now).members number }
     {
-        self.member(no).copied()
+        self.member(number).copied()
     }
 }

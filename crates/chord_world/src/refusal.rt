@@ -6,7 +6,7 @@ ghost use Rattle.chord_world.specs.Handing.{refusal_of_cut, refusal_of_merge, re
 
 use chord_caller::SubmitFault;
 use chord_map::RequestFault;
-use chord_node::{CutAtFault, GiveFault, MergeFault, NotStaying, ResendFault, RetireFault};
+use chord_node::{CutAtFault, GiveFault, MergeFault, NotStaying, ResendPartFault, RetireFault};
 use chord_ring::{CandidateFault, DropFault, RingFault, StabiliseFault};
 use std::alloc::AllocError;
 use thiserror::Error;
@@ -182,13 +182,13 @@ impl From<GiveFault> for Refusal {
     }
 }
 
-impl From<ResendFault> for Refusal {
+impl From<ResendPartFault> for Refusal {
     ghost from_gives = { λ fault refusal. refusal ≡ refusal_of_resend fault };
 
-    fn from(fault: ResendFault) -> Refusal {
+    fn from(fault: ResendPartFault) -> Refusal {
         match fault {
-            ResendFault::NoPart => Refusal::Step(StepFault::NoPart),
-            ResendFault::Memory => Refusal::Memory,
+            ResendPartFault::NoPart => Refusal::Step(StepFault::NoPart),
+            ResendPartFault::Memory => Refusal::Memory,
         }
     }
 }

@@ -9,7 +9,7 @@ use chord_links::Peer;
 use chord_map::Reply;
 use chord_node::Message;
 use chord_store::ListStore;
-use chord_world::{Answer, Outcome, Refusal, Step, StepFault, World, run};
+use chord_world::{Outcome, Refusal, Step, StepFault, StepResult, World, run};
 use deeds::{A, Deed, new_world, steps_of};
 use std::alloc::{AllocError, Global};
 use std::test::Fail;
@@ -35,18 +35,18 @@ const REPEATED: &[Deed] = &[
     Deed::Deliver(3),
 ];
 
-const ANSWERS_TO_REPEATED: &[Answer] = &[
-    Answer::Refused(Refusal::NotCreated),
-    Answer::Did(Outcome::Node(0)),
-    Answer::Refused(Refusal::AlreadyCreated),
-    Answer::Refused(Refusal::Step(StepFault::BadWindow)),
-    Answer::Did(Outcome::Caller(0)),
-    Answer::Did(Outcome::Message(0)),
-    Answer::Did(Outcome::Told(1)),
-    Answer::Did(Outcome::Fresh(0)),
-    Answer::Did(Outcome::Told(2)),
-    Answer::Did(Outcome::Known),
-    Answer::Refused(Refusal::NoSuchMessage),
+const ANSWERS_TO_REPEATED: &[StepResult] = &[
+    StepResult::Refused(Refusal::NotCreated),
+    StepResult::Did(Outcome::Node(0)),
+    StepResult::Refused(Refusal::AlreadyCreated),
+    StepResult::Refused(Refusal::Step(StepFault::BadWindow)),
+    StepResult::Did(Outcome::Caller(0)),
+    StepResult::Did(Outcome::Message(0)),
+    StepResult::Did(Outcome::Told(1)),
+    StepResult::Did(Outcome::Fresh(0)),
+    StepResult::Did(Outcome::Told(2)),
+    StepResult::Did(Outcome::Known),
+    StepResult::Refused(Refusal::NoSuchMessage),
 ];
 
 /// One empty list.
@@ -62,7 +62,7 @@ fn one_list(alloc: Global) -> Result<Vec<ListStore>, AllocError>
 fn world_after(
     alloc: Global,
     script: &[Deed],
-) -> Result<(Box<World<ListStore>>, Vec<Answer>), AllocError> {
+) -> Result<(Box<World<ListStore>>, Vec<StepResult>), AllocError> {
     let steps = steps_of(alloc, script)?;
     let mut stores = one_list(alloc)?;
     let mut world = new_world(alloc)?;
@@ -85,7 +85,7 @@ fn world_of(alloc: Global, script: &[Deed]) -> Result<Box<World<ListStore>>, All
 }
 
 /// The answers to the steps.
-fn answers_to(alloc: Global, script: &[Deed]) -> Result<Vec<Answer>, AllocError> {
+fn answers_to(alloc: Global, script: &[Deed]) -> Result<Vec<StepResult>, AllocError> {
     let (_, answers) = world_after(alloc, script)?;
     Ok(answers)
 }
@@ -144,21 +144,21 @@ const NOTED: &[Deed] = &[
     Deed::Deliver(2),
 ];
 
-const ANSWERS_TO_NOTED: &[Answer] = &[
-    Answer::Did(Outcome::Node(0)),
-    Answer::Did(Outcome::Caller(0)),
-    Answer::Did(Outcome::Caller(1)),
-    Answer::Did(Outcome::Message(0)),
-    Answer::Did(Outcome::Told(1)),
-    Answer::Did(Outcome::Fresh(1)),
-    Answer::Did(Outcome::Message(2)),
-    Answer::Did(Outcome::Met),
-    Answer::Did(Outcome::Message(3)),
-    Answer::Did(Outcome::Message(4)),
-    Answer::Did(Outcome::Told(5)),
-    Answer::Did(Outcome::Told(6)),
-    Answer::Did(Outcome::Fresh(0)),
-    Answer::Refused(Refusal::Step(StepFault::NeedsMeet)),
+const ANSWERS_TO_NOTED: &[StepResult] = &[
+    StepResult::Did(Outcome::Node(0)),
+    StepResult::Did(Outcome::Caller(0)),
+    StepResult::Did(Outcome::Caller(1)),
+    StepResult::Did(Outcome::Message(0)),
+    StepResult::Did(Outcome::Told(1)),
+    StepResult::Did(Outcome::Fresh(1)),
+    StepResult::Did(Outcome::Message(2)),
+    StepResult::Did(Outcome::Met),
+    StepResult::Did(Outcome::Message(3)),
+    StepResult::Did(Outcome::Message(4)),
+    StepResult::Did(Outcome::Told(5)),
+    StepResult::Did(Outcome::Told(6)),
+    StepResult::Did(Outcome::Fresh(0)),
+    StepResult::Refused(Refusal::Step(StepFault::NeedsMeet)),
 ];
 
 #[test]
@@ -215,15 +215,15 @@ const RESENT: &[Deed] = &[
     Deed::Meet(0, 1),
 ];
 
-const ANSWERS_BEFORE: &[Answer] = &[
-    Answer::Refused(Refusal::NotCreated),
-    Answer::Refused(Refusal::NotCreated),
+const ANSWERS_BEFORE: &[StepResult] = &[
+    StepResult::Refused(Refusal::NotCreated),
+    StepResult::Refused(Refusal::NotCreated),
 ];
 
-const ANSWERS_BEHIND: &[Answer] = &[
-    Answer::Refused(Refusal::Step(StepFault::Idle)),
-    Answer::Refused(Refusal::Step(StepFault::Idle)),
-    Answer::Refused(Refusal::Step(StepFault::NotNote)),
+const ANSWERS_BEHIND: &[StepResult] = &[
+    StepResult::Refused(Refusal::Step(StepFault::Idle)),
+    StepResult::Refused(Refusal::Step(StepFault::Idle)),
+    StepResult::Refused(Refusal::Step(StepFault::NotNote)),
 ];
 
 /// Pending requests are sent again; none is left in the end.
@@ -245,11 +245,11 @@ const FINGERS: &[Deed] = &[
     Deed::Finger(0, 1, 0),
 ];
 
-const ANSWERS_TO_FINGERS: &[Answer] = &[
-    Answer::Did(Outcome::Node(0)),
-    Answer::Refused(Refusal::NoSuchNode),
-    Answer::Refused(Refusal::Step(StepFault::BadFinger)),
-    Answer::Did(Outcome::Done),
+const ANSWERS_TO_FINGERS: &[StepResult] = &[
+    StepResult::Did(Outcome::Node(0)),
+    StepResult::Refused(Refusal::NoSuchNode),
+    StepResult::Refused(Refusal::Step(StepFault::BadFinger)),
+    StepResult::Did(Outcome::Done),
 ];
 
 /// Whether node 0 is the only node, and only its first finger is set, to itself.
@@ -259,7 +259,7 @@ fn has_its_first_finger(world: &World<ListStore>) -> bool {
     };
     let id = Id::new(7);
     let (first, second) = (links.fingers().get(1), links.fingers().get(2));
-    first == Some(Peer { no: 0, id }) && second == None && world.links(1).is_none()
+    first == Some(Peer { number: 0, id }) && second == None && world.links(1).is_none()
 }
 
 #[test]

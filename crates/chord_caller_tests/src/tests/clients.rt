@@ -1,24 +1,24 @@
 //! A client answers as a caller does, and hands out what it takes.
 
 use super::{added, insert, is_ask, number_of};
-use chord_caller::{Ask, ClientCore, Outcome, ResendFault, SubmitFault, Told};
+use chord_caller::{Ask, ClientCore, ResendFault, SubmitFault, TakeOutcome, Told};
 use chord_map::{Reply, RequestFault, Values};
 use std::alloc::Global;
 
-fn is_added(outcome: Outcome) -> bool {
-    let is_added = matches!(&outcome, Outcome::Fresh(Reply::Added));
+fn is_added(outcome: TakeOutcome) -> bool {
+    let is_added = matches!(&outcome, TakeOutcome::Fresh(Reply::Added));
     drop(outcome);
     is_added
 }
 
-fn is_known(outcome: Outcome) -> bool {
-    let is_known = matches!(&outcome, Outcome::Known);
+fn is_known(outcome: TakeOutcome) -> bool {
+    let is_known = matches!(&outcome, TakeOutcome::Known);
     drop(outcome);
     is_known
 }
 
-fn is_foreign(outcome: Outcome) -> bool {
-    let is_foreign = matches!(&outcome, Outcome::Foreign);
+fn is_foreign(outcome: TakeOutcome) -> bool {
+    let is_foreign = matches!(&outcome, TakeOutcome::Foreign);
     drop(outcome);
     is_foreign
 }

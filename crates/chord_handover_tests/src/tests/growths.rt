@@ -1,8 +1,8 @@
 //! A refused growth leaves everything unchanged, and a second try succeeds. With ample memory
 //! nothing is refused; the tests are also run with each growth refused in turn.
 
-use super::{A, empty_parcel, makes, note, part, said, two_parts};
-use chord_handover::{GiveFault, Outbox, Part, Taken, Ungiven};
+use super::{A, empty_payload, makes, note, part, said, two_parts};
+use chord_handover::{Outbox, OutboxGiveFault, Part, Taken, Ungiven};
 use chord_ident::{Id, Span};
 use std::alloc::{AllocError, Global};
 
@@ -32,20 +32,20 @@ fn note_the_second(taken: &mut Taken, (first, second): &(Part, Part)) -> bool {
 }
 
 /// What the second part makes, whether it is buffered, and then what the first makes.
-fn noted_in_turn(alloc: Global) -> Option<(&'static str, bool, &'static str)> {
+fn buffered_in_turn(alloc: Global) -> Option<(&'static str, bool, &'static str)> {
     let parts = parts(alloc).ok()?;
     let mut taken = Taken::new(alloc);
     let second = said(made(&taken, &parts.1));
-    let is_noted = note_the_second(&mut taken, &parts);
+    let is_buffered = note_the_second(&mut taken, &parts);
     let first = said(made(&taken, &parts.0));
     drop(taken);
     drop(parts);
-    Some((second, is_noted, first))
+    Some((second, is_buffered, first))
 }
 
 #[test]
 fn refused_notes_and_gathers(rt: HostRuntime) {
-    assert!(rt; noted_in_turn(rt.alloc()) == Some(("more", true, "whole")));
+    assert!(rt; buffered_in_turn(rt.alloc()) == Some(("more", true, "whole")));
 }
 
 /// Reserves room, again if memory was refused. Whether nothing of node 0 is taken after each try.
@@ -64,15 +64,15 @@ fn a_refused_reserve_takes_nothing(rt: HostRuntime) {
 /// Gives the payload that a refused give gave back, if that left the outbox empty.
 fn give_again(outbox: &mut Outbox, ungiven: Ungiven) -> Option<u64> {
     let span = Span::new(Id::new(A), Id::new(A));
-    let is_same = ungiven.parcelled.segment().span() == span;
-    let is_back = is_same & (ungiven.fault == GiveFault::Memory) & outbox.is_empty();
-    let number = outbox.give(1, ungiven.parcelled).ok();
+    let is_same = ungiven.payload.segment().span() == span;
+    let is_back = is_same & (ungiven.fault == OutboxGiveFault::Memory) & outbox.is_empty();
+    let number = outbox.give(1, ungiven.payload).ok();
     if is_back { number } else { None }
 }
 
 /// Gives an empty payload to node 1, again if memory was refused, and answers its number.
 fn give(outbox: &mut Outbox, alloc: Global) -> Option<u64> {
-    match outbox.give(1, empty_parcel(alloc)) {
+    match outbox.give(1, empty_payload(alloc)) {
         Ok(number) => Some(number),
         Err(ungiven) => give_again(outbox, ungiven),
     }
@@ -93,7 +93,7 @@ fn given_and_kept(mut outbox: Outbox, alloc: Global) -> (Option<u64>, bool) {
 }
 
 #[test]
-fn a_refused_give_hands_the_parcel_back(rt: HostRuntime) {
+fn a_refused_give_hands_the_payload_back(rt: HostRuntime) {
     let outbox = Outbox::new(rt.alloc(), 0);
     assert!(rt; given_and_kept(outbox, rt.alloc()) == (Some(1), true));
 }
@@ -132,17 +132,17 @@ fn refused_parts_and_copies(rt: HostRuntime) -> Result<(), AllocError> {
 }
 
 /// A receiver that buffered the first part.
-fn noted_first(alloc: Global) -> Option<Taken> {
+fn buffered_first(alloc: Global) -> Option<Taken> {
     let first = first_part(alloc).ok()?;
     let mut taken = Taken::new(alloc);
-    let is_noted = note(&mut taken, &first).is_ok() || note(&mut taken, &first).is_ok();
+    let is_buffered = note(&mut taken, &first).is_ok() || note(&mut taken, &first).is_ok();
     drop(first);
-    is_noted.then_some(taken)
+    is_buffered.then_some(taken)
 }
 
 /// What a second part with the pairs of the first makes with that.
 fn made_again(alloc: Global) -> Option<&'static str> {
-    let (taken, first) = noted_first(alloc).zip(first_part(alloc).ok())?;
+    let (taken, first) = buffered_first(alloc).zip(first_part(alloc).ok())?;
     let second = part(alloc, 2, first.pairs);
     let made = said(makes(&taken, &second));
     drop(taken);
@@ -152,6 +152,6 @@ fn made_again(alloc: Global) -> Option<&'static str> {
 
 /// Parts that are all there and make no payload need no memory.
 #[test]
-fn parts_of_no_parcel_are_unfit(rt: HostRuntime) {
+fn parts_of_no_payload_are_unfit(rt: HostRuntime) {
     assert!(rt; made_again(rt.alloc()) == Some("unfit"));
 }

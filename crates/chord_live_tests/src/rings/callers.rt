@@ -3,7 +3,9 @@ ghost use Rattle.std.specs.Prelude.{◌≡◌, [], ◌∷◌};
 ghost use Rattle.chord_table.specs.Shown.{WitnessShown};
 
 use super::{Store, begin, call, founded, inserted, is_added, is_told, retrieved, settings};
-use chord_live::{AskFault, Blank, Caller, CollectFault, LeaveFault, Open, OpenCaller, Ring};
+use chord_live::{Caller, OpenCaller};
+use chord_live_ring::{NoProbe, Ring, RingParts};
+use chord_live_types::{AskFault, CollectFault, LeaveFault};
 use chord_map::{Reply, Request};
 use chord_store::{CappedStore, EntryStore};
 use chord_table::{Naming, Witness};
@@ -19,8 +21,8 @@ use std::time::Clock;
 fn a_capped_ring(rt: HostRuntime) -> Result<(), Fail> {
     let alloc = rt.alloc();
     let store: Store = Box::new(alloc, CappedStore::new(alloc, 1))?;
-    let done = match Blank::new(alloc, settings(1, 3, 1, 2_000)) {
-        Ok(blank) => capped_boxed::<Brand, _>(&rt, alloc, blank, store),
+    let done = match RingParts::new(alloc, settings(1, 3, 1, 2_000)) {
+        Ok(parts) => capped_boxed::<Brand, _>(&rt, alloc, parts, store),
         Err(_) => {
             drop(store);
             None
@@ -33,13 +35,13 @@ fn a_capped_ring(rt: HostRuntime) -> Result<(), Fail> {
 fn capped_boxed<J: Naming + Send + Sync, R: Threads + Wait + Clock + Sync>(
     rt: &R,
     alloc: Global,
-    blank: Blank,
+    parts: RingParts,
     store: Store,
 ) -> Option<(bool, Option<[bool; 5]>)>
-    requires name { blank ≡ J.name }
+    requires name { parts ≡ J.name }
     requires vacant { content store ≡ [] }
 {
-    capped::<J, Store, R>(rt, alloc, blank, store)
+    capped::<J, Store, R>(rt, alloc, parts, store)
 }
 
 /// A node with room for one pair has a worker while three callers ask. Gives whether the worker
@@ -47,17 +49,17 @@ fn capped_boxed<J: Naming + Send + Sync, R: Threads + Wait + Clock + Sync>(
 fn capped<J: Naming + Send + Sync, S: EntryStore + Send, R: Threads + Wait + Clock + Sync>(
     rt: &R,
     alloc: Global,
-    blank: Blank,
+    parts: RingParts,
     store: S,
 ) -> Option<(bool, Option<[bool; 5]>)>
-    requires name { blank ≡ J.name }
+    requires name { parts ≡ J.name }
     requires vacant { S.content store ≡ [] }
 {
-    let founded = founded::<J, S, R>(rt, blank, store)?;
+    let founded = founded::<J, S, R>(rt, parts, store)?;
     let ring = &founded;
     let done = thread::join(
         rt,
-        move || ring.work(rt, 0, &Open).is_ok(),
+        move || ring.work(rt, 0, &NoProbe).is_ok(),
         move || {
             let done = use_the_ring(rt, alloc, ring);
             ring.stop();

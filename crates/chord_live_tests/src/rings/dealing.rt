@@ -6,19 +6,19 @@ use chord_caller::{Ask, Told};
 use chord_handover::Ticket;
 use chord_ident::Id;
 use chord_links::{Links, Peer};
-use chord_live::{Target, Tidied, deal, tidy};
+use chord_live_ring::{Target, Tidied, deal, tidy};
 use chord_map::{Reply, Request};
 use chord_node::{Message, Node};
 use chord_store::CappedStore;
 use std::alloc::{AllocError, Global};
 
 const ZERO: Peer = Peer {
-    no: 0,
+    number: 0,
     id: Id { number: A },
 };
 
 const ONE: Peer = Peer {
-    no: 1,
+    number: 1,
     id: Id { number: C },
 };
 

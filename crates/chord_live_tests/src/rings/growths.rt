@@ -4,9 +4,10 @@ ghost use Rattle.std.specs.Prelude.{◌≡◌, []};
 
 use super::{A, C, begin, inserted, is_added, is_told, settings, succeeds};
 use chord_ident::Id;
-use chord_live::{
-    AskFault, BeginFault, Blank, Caller, CollectFault, CreateFault, JoinFault, NewFault, Open,
-    OpenCaller, RetryFault, Ring, TickFault,
+use chord_live::{Caller, OpenCaller};
+use chord_live_ring::{NoProbe, Ring, RingParts};
+use chord_live_types::{
+    AskFault, BeginFault, CollectFault, CreateFault, JoinFault, NewFault, RetryFault, TickFault,
 };
 use chord_store::{CappedStore, EntryStore};
 use chord_table::Naming;
@@ -20,17 +21,17 @@ use std::time::Clock;
 #[test]
 fn refused_growths_of_a_ring(rt: HostRuntime) {
     let done = match unnamed(rt.alloc()) {
-        Ok(blank) => two_nodes::<Brand, _>(&rt, rt.alloc(), blank),
+        Ok(parts) => two_nodes::<Brand, _>(&rt, rt.alloc(), parts),
         Err(_) => false,
     };
     assert!(rt; done);
 }
 
 /// A ring for two nodes and two callers, tried twice if out of memory.
-fn unnamed(alloc: Global) -> Result<Blank, NewFault> {
+fn unnamed(alloc: Global) -> Result<RingParts, NewFault> {
     let limits = settings(2, 2, 20, 50);
-    match Blank::new(alloc, limits) {
-        Err(NewFault::Memory) => Blank::new(alloc, limits),
+    match RingParts::new(alloc, limits) {
+        Err(NewFault::Memory) => RingParts::new(alloc, limits),
         made => made,
     }
 }
@@ -58,10 +59,10 @@ fn joined<J: Naming, S: EntryStore>(rt: &impl Wait, ring: &Ring<J, S>, store: S)
 }
 
 /// Ticks a node, again if out of memory. Says whether it did.
-fn ticked<J: Naming, S: EntryStore>(rt: &impl Wait, ring: &Ring<J, S>, no: u64) -> bool {
-    match ring.tick(rt, no) {
+fn ticked<J: Naming, S: EntryStore>(rt: &impl Wait, ring: &Ring<J, S>, number: u64) -> bool {
+    match ring.tick(rt, number) {
         Ok(()) => true,
-        Err(TickFault::Memory) => ring.tick(rt, no).is_ok(),
+        Err(TickFault::Memory) => ring.tick(rt, number).is_ok(),
         Err(_) => false,
     }
 }
@@ -86,11 +87,11 @@ fn settled<J: Naming, R: Wait>(rt: &R, alloc: Global, ring: &Ring<J, CappedStore
 fn two_nodes<J: Naming + Send + Sync, R: Threads + Wait + Clock + Sync>(
     rt: &R,
     alloc: Global,
-    blank: Blank,
+    parts: RingParts,
 ) -> bool
-    requires { blank ≡ J.name }
+    requires { parts ≡ J.name }
 {
-    let Ok(opened) = blank.open::<J, CappedStore>() else {
+    let Ok(opened) = parts.assemble::<J, CappedStore>() else {
         return true;
     };
     let ring = &opened;
@@ -100,7 +101,7 @@ fn two_nodes<J: Naming + Send + Sync, R: Threads + Wait + Clock + Sync>(
     }
     let (ended, done) = thread::join(
         rt,
-        move || ring.work(rt, 0, &Open).is_ok(),
+        move || ring.work(rt, 0, &NoProbe).is_ok(),
         move || {
             let done = use_the_ring(rt, alloc, ring);
             ring.stop();

@@ -4,10 +4,11 @@ ghost use Rattle.std.specs.Prelude.{◌≡◌};
 use super::{A, B, C, begin, call, founded, is_added, retrieved, settings, succeeds};
 use chord_ident::Id;
 use chord_links::Peer;
-use chord_live::{
-    AskFault, BeginFault, Blank, Caller, CollectFault, CreateFault, JoinFault, LeaveFault,
-    NewFault, NoSuchNode, Open, OpenCaller, OpenFault, RetireFault, RetryFault, Ring, Settings,
-    TickFault,
+use chord_live::{Caller, OpenCaller};
+use chord_live_ring::{NoProbe, Ring, RingParts, RingRetireFault, Settings};
+use chord_live_types::{
+    AskFault, BeginFault, CollectFault, CreateFault, JoinFault, LeaveFault, NewFault, NoSuchNode,
+    OpenFault, RetryFault, TickFault,
 };
 use chord_map::{Bytes, Request, RequestFault};
 use chord_store::{CappedStore, EntryStore, Inserted};
@@ -19,7 +20,7 @@ use std::time::Clock;
 
 /// Checks that there is no ring of these settings.
 fn are_bad(alloc: Global, settings: Settings) -> bool {
-    let made = Blank::new(alloc, settings);
+    let made = RingParts::new(alloc, settings);
     let are_bad = matches!(&made, Err(NewFault::BadSettings));
     drop(made);
     are_bad
@@ -54,7 +55,10 @@ fn lists_have_limits(rt: HostRuntime) {
 fn settings_at_their_limits_are_good(rt: HostRuntime) {
     for (slots, callers, tries, wait_ms) in [(1, 0, 1, 1), (64, 64, 1_000, 60_000)] {
         let limits = settings(slots, callers, tries, wait_ms);
-        assert!(rt; succeeds(Blank::new(rt.alloc(), limits)), "{slots} slots");
+        assert!(rt;
+            succeeds(RingParts::new(rt.alloc(), limits)),
+            "{slots} slots"
+        );
     }
 }
 
@@ -90,8 +94,8 @@ fn is_refused<F: PartialEq + Copy>(
 
 #[test]
 fn a_ring_refuses(rt: HostRuntime) {
-    let refused = match Blank::new(rt.alloc(), settings(2, 1, 1, 10)) {
-        Ok(blank) => refusals::<Brand, _>(&rt, rt.alloc(), blank),
+    let refused = match RingParts::new(rt.alloc(), settings(2, 1, 1, 10)) {
+        Ok(parts) => refusals::<Brand, _>(&rt, rt.alloc(), parts),
         Err(_) => None,
     };
     assert!(rt; refused == Some([true; 6]));
@@ -99,10 +103,14 @@ fn a_ring_refuses(rt: HostRuntime) {
 
 /// Checks the refusals of a ring in six states: with no node, with the first, with two, with calls
 /// for unknown nodes, with one that left, and stopped. Gives a result for each.
-fn refusals<J: Naming, R: Wait + Clock>(rt: &R, alloc: Global, blank: Blank) -> Option<[bool; 6]>
-    requires { blank ≡ J.name }
+fn refusals<J: Naming, R: Wait + Clock>(
+    rt: &R,
+    alloc: Global,
+    parts: RingParts,
+) -> Option<[bool; 6]>
+    requires { parts ≡ J.name }
 {
-    let ring = blank.open::<J, CappedStore>().ok()?;
+    let ring = parts.assemble::<J, CappedStore>().ok()?;
     let without_a_node = has_no_node(rt, &ring);
     let created = is_created_once(rt, alloc, &ring);
     let filled = fills_its_slots(rt, alloc, &ring);
@@ -118,14 +126,14 @@ fn refusals<J: Naming, R: Wait + Clock>(rt: &R, alloc: Global, blank: Blank) -> 
 fn has_no_node<J: Naming, R: Wait + Clock>(rt: &R, ring: &Ring<J, CappedStore>) -> bool {
     let ticked = ring.tick(rt, 0) == Err(TickFault::NoSuchNode);
     let crashed = ring.crash(rt, 0) == Err(NoSuchNode);
-    let worked = ring.work(rt, 0, &Open) == Err(NoSuchNode);
+    let worked = ring.work(rt, 0, &NoProbe) == Err(NoSuchNode);
     ticked & crashed & worked
 }
 
 /// Checks that the node has this number and identifier.
-fn is_node<F: Copy>(entered: Result<Peer, (F, CappedStore)>, no: u64, id: u128) -> bool {
+fn is_node<F: Copy>(entered: Result<Peer, (F, CappedStore)>, number: u64, id: u128) -> bool {
     let is_node = match &entered {
-        Ok(peer) => peer.no == no && peer.id == Id::new(id),
+        Ok(peer) => peer.number == number && peer.id == Id::new(id),
         Err(_) => false,
     };
     drop(entered);
@@ -175,19 +183,19 @@ fn fills_its_slots<J: Naming, R: Wait + Clock>(
 fn knows_its_nodes<J: Naming, R: Wait + Clock>(rt: &R, ring: &Ring<J, CappedStore>) -> bool {
     let ticked = ring.tick(rt, 0) == Ok(());
     let left = ring.leave(rt, 2) == Err(LeaveFault::NoSuchNode);
-    let retired = ring.retire(rt, 2) == Err(RetireFault::NoSuchNode);
+    let retired = ring.retire(rt, 2) == Err(RingRetireFault::NoSuchNode);
     ticked & left & retired
 }
 
 /// Checks that a node that holds nothing leaves and retires, and that one that holds the circle
 /// leaves but does not retire.
 fn departures<J: Naming, R: Wait + Clock>(rt: &R, ring: &Ring<J, CappedStore>) -> bool {
-    let staying = ring.retire(rt, 0) == Err(RetireFault::NotLeaving);
+    let staying = ring.retire(rt, 0) == Err(RingRetireFault::NotLeaving);
     let leaves = ring.leave(rt, 1) == Ok(());
     let left = ring.leave(rt, 1) == Err(LeaveFault::NotStaying);
     let retires = ring.retire(rt, 1) == Ok(());
     let holder_leaves = ring.leave(rt, 0) == Ok(());
-    let holder_stays = ring.retire(rt, 0) == Err(RetireFault::NotEmpty);
+    let holder_stays = ring.retire(rt, 0) == Err(RingRetireFault::NotEmpty);
     [staying, leaves, left, retires, holder_leaves, holder_stays] == [true; 6]
 }
 
@@ -207,8 +215,8 @@ fn is_stopped<J: Naming, R: Wait + Clock>(
 
 #[test]
 fn a_caller_refuses(rt: HostRuntime) {
-    let refused = match Blank::new(rt.alloc(), settings(1, 1, 1, 1)) {
-        Ok(blank) => caller_refusals::<Brand, _>(&rt, rt.alloc(), blank),
+    let refused = match RingParts::new(rt.alloc(), settings(1, 1, 1, 1)) {
+        Ok(parts) => caller_refusals::<Brand, _>(&rt, rt.alloc(), parts),
         Err(_) => None,
     };
     assert!(rt; refused == Some([true; 6]));
@@ -219,11 +227,11 @@ fn a_caller_refuses(rt: HostRuntime) {
 fn caller_refusals<J: Naming, R: Wait + Clock>(
     rt: &R,
     alloc: Global,
-    blank: Blank,
+    parts: RingParts,
 ) -> Option<[bool; 6]>
-    requires { blank ≡ J.name }
+    requires { parts ≡ J.name }
 {
-    let ring = founded::<J, CappedStore, R>(rt, blank, CappedStore::new(alloc, 1))?;
+    let ring = founded::<J, CappedStore, R>(rt, parts, CappedStore::new(alloc, 1))?;
     let Ok(mut caller) = ring.open_caller(rt, 1) else {
         ring.close();
         return None;
@@ -299,8 +307,8 @@ fn no_answers<J: Naming, R: Wait + Clock>(rt: &R, caller: &mut Caller<'_, J, Cap
 
 #[test]
 fn a_stopped_ring_does_not_answer(rt: HostRuntime) {
-    let unheard = match Blank::new(rt.alloc(), settings(1, 1, 1_000, 60_000)) {
-        Ok(blank) => stopped::<Brand, _>(&rt, rt.alloc(), blank),
+    let unheard = match RingParts::new(rt.alloc(), settings(1, 1, 1_000, 60_000)) {
+        Ok(parts) => stopped::<Brand, _>(&rt, rt.alloc(), parts),
         Err(_) => None,
     };
     assert!(rt; unheard == Some((true, Some(AskFault::NoAnswer), true)));
@@ -311,11 +319,11 @@ fn a_stopped_ring_does_not_answer(rt: HostRuntime) {
 fn stopped<J: Naming, R: Wait + Clock>(
     rt: &R,
     alloc: Global,
-    blank: Blank,
+    parts: RingParts,
 ) -> Option<(bool, Option<AskFault>, bool)>
-    requires { blank ≡ J.name }
+    requires { parts ≡ J.name }
 {
-    let ring = founded::<J, CappedStore, R>(rt, blank, CappedStore::new(alloc, 1))?;
+    let ring = founded::<J, CappedStore, R>(rt, parts, CappedStore::new(alloc, 1))?;
     let Ok(mut caller) = ring.open_caller(rt, 2) else {
         ring.close();
         return None;

@@ -5,7 +5,8 @@ ghost use Rattle.chord_table.specs.Shown.{WitnessShown};
 use super::{call, founded, inserted, is_added, is_told, retrieved, settings, succeeds};
 use chord_ident::Id;
 use chord_links::Links;
-use chord_live::{Blank, Client, Gate, Open, OpenCaller, Ring};
+use chord_live::OpenCaller;
+use chord_live_ring::{NoProbe, Probe, Ring, RingClient, RingParts};
 use chord_map::Request;
 use chord_store::{CappedStore, EntryStore};
 use chord_table::{Naming, Witness};
@@ -45,9 +46,9 @@ struct Held<'a, R: Clock> {
     spent: AtomicBool,
 }
 
-impl<'a, R: Clock> Gate for Held<'a, R> {
-    fn pass(&self, no: u64) {
-        if no != 0 {
+impl<'a, R: Clock> Probe for Held<'a, R> {
+    fn pass(&self, number: u64) {
+        if number != 0 {
             return;
         }
         self.stands.store(true, Ordering::SeqCst);
@@ -88,8 +89,8 @@ fn a_client_asks_no_crashed_node(rt: HostRuntime) {
 
 /// Checks a ring of two nodes in which this is done once it is settled.
 fn is_kept<R: Threads + Wait + Clock + Sync>(rt: &R, alloc: Global, then: Then) -> bool {
-    match Blank::new(alloc, settings(2, 3, 20, 1_000)) {
-        Ok(blank) => two_nodes::<Brand, _>(rt, alloc, blank, then),
+    match RingParts::new(alloc, settings(2, 3, 20, 1_000)) {
+        Ok(parts) => two_nodes::<Brand, _>(rt, alloc, parts, then),
         Err(_) => false,
     }
 }
@@ -103,13 +104,13 @@ fn joined<J: Naming, R: Wait>(rt: &R, alloc: Global, ring: &Ring<J, CappedStore>
 fn two_nodes<J: Naming + Send + Sync, R: Threads + Wait + Clock + Sync>(
     rt: &R,
     alloc: Global,
-    blank: Blank,
+    parts: RingParts,
     then: Then,
 ) -> bool
-    requires { blank ≡ J.name }
+    requires { parts ≡ J.name }
 {
     let store = CappedStore::new(alloc, 4);
-    let Some(ring) = founded::<J, CappedStore, R>(rt, blank, store) else {
+    let Some(ring) = founded::<J, CappedStore, R>(rt, parts, store) else {
         return false;
     };
     let done = joined_and_worked(rt, alloc, &ring, then);
@@ -127,22 +128,22 @@ fn joined_and_worked<J: Naming + Send + Sync, R: Threads + Wait + Clock + Sync>(
     if !joined(rt, alloc, ring) {
         return false;
     }
-    let gate = Held {
+    let probe = Held {
         rt,
         stands: AtomicBool::new(false),
         opened: AtomicBool::new(true),
         spent: AtomicBool::new(false),
     };
-    let gate = &gate;
+    let probe = &probe;
     let (ended, (other, done)) = thread::join(
         rt,
-        move || ring.work(rt, 0, gate).is_ok(),
+        move || ring.work(rt, 0, probe).is_ok(),
         move || {
             thread::join(
                 rt,
-                move || ring.work(rt, 1, &Open).is_ok(),
+                move || ring.work(rt, 1, &NoProbe).is_ok(),
                 move || {
-                    let done = settle_and_then(rt, alloc, ring, gate, then);
+                    let done = settle_and_then(rt, alloc, ring, probe, then);
                     ring.stop();
                     done
                 },
@@ -163,7 +164,7 @@ fn settle_and_then<J: Naming + Send + Sync, S: EntryStore + Send, R: Threads + W
     rt: &R,
     alloc: Global,
     ring: &Ring<J, S>,
-    gate: &Held<'_, R>,
+    probe: &Held<'_, R>,
     then: Then,
 ) -> bool {
     for _ in 0..8u64 {
@@ -173,7 +174,7 @@ fn settle_and_then<J: Naming + Send + Sync, S: EntryStore + Send, R: Threads + W
         thread::sleep(rt, Duration::from_millis(5));
     }
     match then {
-        Then::TwoLocks => two_locks(rt, alloc, ring, gate),
+        Then::TwoLocks => two_locks(rt, alloc, ring, probe),
         Then::Crash => crash(rt, alloc, ring),
         Then::Leave => leave(rt, alloc, ring),
         Then::Guess => guess(rt, alloc, ring),
@@ -203,23 +204,23 @@ fn two_locks<J: Naming + Send + Sync, S: EntryStore + Send, R: Threads + Wait + 
     rt: &R,
     alloc: Global,
     ring: &Ring<J, S>,
-    gate: &Held<'_, R>,
+    probe: &Held<'_, R>,
 ) -> bool {
-    gate.stands.store(false, Ordering::SeqCst);
-    gate.opened.store(false, Ordering::SeqCst);
+    probe.stands.store(false, Ordering::SeqCst);
+    probe.opened.store(false, Ordering::SeqCst);
     let (zero, one) = thread::join(
         rt,
         move || adds_alone(rt, alloc, ring, 0, (b"b", b"y")),
         move || {
             for _ in 0..10_000u64 {
-                if !gate.stands.load(Ordering::SeqCst) {
+                if !probe.stands.load(Ordering::SeqCst) {
                     thread::sleep(rt, Duration::from_millis(1));
                 }
             }
-            let answered = gate.stands.load(Ordering::SeqCst)
+            let answered = probe.stands.load(Ordering::SeqCst)
                 && adds_alone(rt, alloc, ring, 1, (b"abc", b"x"));
-            let held = !gate.spent.load(Ordering::SeqCst);
-            gate.opened.store(true, Ordering::SeqCst);
+            let held = !probe.spent.load(Ordering::SeqCst);
+            probe.opened.store(true, Ordering::SeqCst);
             answered && held
         },
     );
@@ -268,7 +269,7 @@ fn leave<J: Naming, S: EntryStore, R: Wait + Clock>(
 fn client_adds<J: Naming, S: EntryStore, R: Wait + Clock>(
     rt: &R,
     alloc: Global,
-    client: &mut Client<'_, J, S>,
+    client: &mut RingClient<'_, J, S>,
     (key, value): (&[u8], &[u8]),
 ) -> bool {
     match Request::insert(alloc, key, value) {
@@ -281,7 +282,7 @@ fn client_adds<J: Naming, S: EntryStore, R: Wait + Clock>(
 fn client_sees<J: Naming, S: EntryStore, R: Wait + Clock>(
     rt: &R,
     alloc: Global,
-    client: &mut Client<'_, J, S>,
+    client: &mut RingClient<'_, J, S>,
 ) -> bool {
     match Request::retrieve(alloc, b"abc") {
         Ok(request) => is_told(client.call(rt, 0, request), b"x"),
@@ -310,7 +311,10 @@ fn guess<J: Naming, S: EntryStore, R: Wait + Clock>(
 }
 
 /// Proves that what the client was handed out is in one history of one world.
-fn stands_in_one_world<J: Naming, S: EntryStore>(ring: &Ring<J, S>, client: &mut Client<'_, J, S>)
+fn stands_in_one_world<J: Naming, S: EntryStore>(
+    ring: &Ring<J, S>,
+    client: &mut RingClient<'_, J, S>,
+)
     ensures { WitnessShown (client.old.caller ∷ []) }
 {
     let mut all = Witness::open(ring.table());
@@ -366,7 +370,7 @@ fn forgets<J: Naming, S: EntryStore, R: Wait + Clock>(rt: &R, ring: &Ring<J, S>)
 
 fn has_no_finger_at_1(links: &Links) -> bool {
     for finger in 1..129 {
-        if matches!(links.fingers().get(finger), Some(peer) if peer.no == 1) {
+        if matches!(links.fingers().get(finger), Some(peer) if peer.number == 1) {
             return false;
         }
     }

@@ -9,8 +9,8 @@ ghost use Rattle.chord_node.specs.Asked.{AnswersIn, done_with};
 use crate::asks::answered::Answered;
 use crate::asks::apply::{apply, is_full};
 use chord_caller::{Ask, Told};
-use chord_map::{Reply, Request};
-use chord_segment::{Done, Past, Segment};
+use chord_map::{Done, Reply, Request};
+use chord_segment::{Past, Segment};
 use chord_store::{EntryStore, StoreFault};
 use std::alloc::{AllocError, Global};
 
@@ -47,13 +47,13 @@ fn two_copies(reply: &Reply) -> Result<(Reply, Reply), AllocError>
 fn copies_of(
     ask: &Ask,
     reply: &Reply,
-    noted: Option<Request>,
+    buffered: Option<Request>,
 ) -> Result<(Reply, Option<Done>), AllocError>
     ensures kept { IfOk result (λ both. both.0 ≡ reply.now) }
-    ensures note { IfOk result (λ both. both.1 ≡ done_with ask.now noted reply.now) }
+    ensures note { IfOk result (λ both. both.1 ≡ done_with ask.now buffered reply.now) }
     ensures memory { OnErr result (IsValues reply.now) }
 {
-    let Some(request) = noted else {
+    let Some(request) = buffered else {
         return Ok((reply.try_copy()?, None));
     };
     match two_copies(reply) {
@@ -81,27 +81,27 @@ pub(crate) fn execute_ready<S: EntryStore>(
     segment: &mut Segment,
     store: &mut S,
     ask: Ask,
-    noted: Option<Request>,
+    buffered: Option<Request>,
 ) -> Result<(Answered, Option<Done>), AllocError>
     requires key { in_span segment.old.segment.span (id_of ask.request) ≡ true }
     requires new { past_at ask.caller ask.number segment.old.segment ≡ New }
     requires room { segment.old.room ≡ Some ask.caller }
-    requires noted { IfSome noted (λ request. request ≡ ask.request) }
-    ensures answers { AnswersIn ask (is_some noted) segment.old.segment (S.content store.old) (S.limit store.old) result segment.new.segment (S.content store.new) }
+    requires buffered { IfSome buffered (λ request. request ≡ ask.request) }
+    ensures answers { AnswersIn ask (is_some buffered) segment.old.segment (S.content store.old) (S.limit store.old) result segment.new.segment (S.content store.new) }
     ensures limit { S.limit store.new ≡ S.limit store.old }
 {
     let reply = match apply(alloc, store, &ask.request) {
         Ok(reply) => reply,
         Err(fault) => {
             drop(ask);
-            drop(noted);
+            drop(buffered);
             return match fault {
                 StoreFault::Full => Ok((Answered::Full, None)),
                 StoreFault::Memory => Err(AllocError),
             };
         }
     };
-    let Ok((kept, note)) = copies_of(&ask, &reply, noted) else {
+    let Ok((kept, note)) = copies_of(&ask, &reply, buffered) else {
         drop(ask);
         drop(reply);
         return Err(AllocError);
@@ -133,7 +133,7 @@ fn prepare(segment: &mut Segment, ask: &Ask) -> Result<(Ask, Request), AllocErro
     segment.reserve(ask.caller)?;
     let copy = copy_of(ask)?;
     match ask.request.try_copy() {
-        Ok(noted) => Ok((copy, noted)),
+        Ok(buffered) => Ok((copy, buffered)),
         Err(refused) => {
             drop(copy);
             Err(refused)
@@ -153,14 +153,14 @@ fn execute_in<S: EntryStore>(
     ensures answers { AnswersIn ask.now true segment.old.segment (S.content store.old) (S.limit store.old) result segment.new.segment (S.content store.new) }
     ensures limit { S.limit store.new ≡ S.limit store.old }
 {
-    let Ok((copy, noted)) = prepare(segment, ask) else {
+    let Ok((copy, buffered)) = prepare(segment, ask) else {
         return if is_full(store, &ask.request) {
             Ok((Answered::Full, None))
         } else {
             Err(AllocError)
         };
     };
-    execute_ready(alloc, segment, store, copy, Some(noted))
+    execute_ready(alloc, segment, store, copy, Some(buffered))
 }
 
 /// Answers a call whose key lies in the segment's span;

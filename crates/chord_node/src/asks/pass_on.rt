@@ -30,7 +30,7 @@ pub(crate) fn pass_on(links: &Links, ask: &Ask, target: Id) -> Result<Answered, 
     ensures memory { OnErr result ((answered : AnsweredType) × PassesOn links.now ask.now answered × TakesMemory answered) }
 {
     let peer = peer_of_hop(next_hop(links, target));
-    if ask.hops == 0 || peer.no == links.me().no {
+    if ask.hops == 0 || peer.number == links.me().number {
         return Ok(Answered::Dropped);
     }
     let Ok(request) = ask.request.try_copy() else {
@@ -43,5 +43,5 @@ pub(crate) fn pass_on(links: &Links, ask: &Ask, target: Id) -> Result<Answered, 
         request,
         hops: ask.hops - 1,
     };
-    Ok(Answered::Forward(peer.no, passed))
+    Ok(Answered::Forward(peer.number, passed))
 }

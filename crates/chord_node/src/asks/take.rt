@@ -13,8 +13,9 @@ use crate::asks::pass_on::peer_of_hop;
 use chord_caller::{Ask, Told};
 use chord_ident::Id;
 use chord_links::Links;
+use chord_map::Done;
 use chord_route::next_hop;
-use chord_segment::{Done, Past, Segment};
+use chord_segment::{Past, Segment};
 use chord_store::EntryStore;
 use std::alloc::{AllocError, Global};
 
@@ -79,10 +80,10 @@ pub(crate) fn pass_taken(links: &Links, mut ask: Ask, target: Id) -> Answered
     ensures { PassesOn links.now ask result }
 {
     let peer = peer_of_hop(next_hop(links, target));
-    if ask.hops == 0 || peer.no == links.me().no {
+    if ask.hops == 0 || peer.number == links.me().number {
         drop(ask);
         return Answered::Dropped;
     }
     ask.hops -= 1;
-    Answered::Forward(peer.no, ask)
+    Answered::Forward(peer.number, ask)
 }

@@ -1,7 +1,7 @@
 //! Beginning a handover.
 ghost use Rattle.std.specs.Prelude.{◌≡◌, IfOk};
 ghost use Rattle.chord_handover.specs.Handover.{part_at};
-ghost use Rattle.chord_handover.specs.Parcelled.{handed};
+ghost use Rattle.chord_handover.specs.Payload.{handover_of_payload};
 ghost use Rattle.chord_model.specs.Stock.{IsStocked};
 ghost use Rattle.chord_store.specs.Inside.{pairs_inside};
 
@@ -19,7 +19,7 @@ pub(crate) fn prepare_give<S: EntryStore>(
     ticket: Ticket,
 ) -> Result<(Part, Vec<Pair>), AllocError>
     ensures pairs { IfOk result (λ both. both.1.items ≡ pairs_inside segment.now.segment.span (S.content store.now)) }
-    ensures part { IfOk result (λ both. both.0 ≡ part_at (handed ticket (record { segment = segment.now.segment; pairs = pairs_inside segment.now.segment.span (S.content store.now) })) 1) }
+    ensures part { IfOk result (λ both. both.0 ≡ part_at (handover_of_payload ticket (record { segment = segment.now.segment; pairs = pairs_inside segment.now.segment.span (S.content store.now) })) 1) }
 {
     let pairs = store.copy_span(alloc, &segment.span())?;
     let first = copy_chunk(alloc, &pairs, 1)?;

@@ -8,7 +8,7 @@ ghost use Rattle.chord_node.specs.View.{segments_of};
 
 use crate::fault::{CutAtFault, MergeFault};
 use chord_ident::{Id, Span};
-use chord_segment::{CutFault, JoinFault, Segment};
+use chord_segment::{CutFault, Segment, SegmentJoinFault};
 use std::alloc::Global;
 use std::mem::replace;
 
@@ -39,14 +39,14 @@ pub(crate) fn cut_segment(held: &mut Vec<Segment>, place: usize, at: Id) -> Resu
 }
 
 /// Why a merge is refused.
-fn merge_fault(fault: JoinFault) -> MergeFault
+fn merge_fault(fault: SegmentJoinFault) -> MergeFault
     ensures { result ≡ merge_fault_of fault }
 {
     match fault {
-        JoinFault::NotAdjacent => MergeFault::NotAdjacent,
-        JoinFault::Overlap => MergeFault::Overlap,
-        JoinFault::Twice => MergeFault::Twice,
-        JoinFault::Memory => MergeFault::Memory,
+        SegmentJoinFault::NotAdjacent => MergeFault::NotAdjacent,
+        SegmentJoinFault::Overlap => MergeFault::Overlap,
+        SegmentJoinFault::Twice => MergeFault::Twice,
+        SegmentJoinFault::Memory => MergeFault::Memory,
     }
 }
 

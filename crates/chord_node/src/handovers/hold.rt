@@ -1,13 +1,13 @@
 //! Putting payloads into a node's store.
 ghost use Rattle.std.specs.Prelude.{◌≡◌, ◌<◌, OnOk};
 ghost use Rattle.std.specs.Vec.{vec_len, vec_capacity};
-ghost use Rattle.chord_handover.specs.Parcelled.{IsParcelled};
+ghost use Rattle.chord_handover.specs.Payload.{IsPayload};
 ghost use Rattle.chord_model.specs.Stock.{IsStocked};
 ghost use Rattle.chord_node.specs.Received.{PutIs};
 ghost use Rattle.chord_node.specs.View.{segments_of};
 
 use crate::handovers::held::meets_any;
-use chord_handover::Parcelled;
+use chord_handover::Payload;
 use chord_segment::Segment;
 use chord_store::{EntryStore, StoreFault};
 
@@ -23,15 +23,15 @@ pub enum PutFault {
 pub(crate) fn put_pairs<S: EntryStore>(
     held: &[Segment],
     store: &mut S,
-    parcelled: &Parcelled,
+    payload: &Payload,
 ) -> Result<(), PutFault>
     requires { IsStocked (segments_of held.now) (S.content store.old) }
-    ensures answer { PutIs parcelled.now (segments_of held.now) (S.content store.old) (S.limit store.old) result (S.content store.new) }
+    ensures answer { PutIs payload.now (segments_of held.now) (S.content store.old) (S.limit store.old) result (S.content store.new) }
     ensures limit { S.limit store.new ≡ S.limit store.old }
-    ensures parcel { IsParcelled parcelled.now }
+    ensures payload { IsPayload payload.now }
 {
-    let span = parcelled.segment().span();
-    let pairs = parcelled.pairs();
+    let span = payload.segment().span();
+    let pairs = payload.pairs();
     if meets_any(held, span) {
         return Err(PutFault::Clash);
     }
@@ -46,18 +46,18 @@ pub(crate) fn put_pairs<S: EntryStore>(
 pub(crate) fn make_held<S: EntryStore>(
     held: &mut Vec<Segment>,
     store: &mut S,
-    parcelled: &Parcelled,
+    payload: &Payload,
 ) -> Result<(), PutFault>
     requires { IsStocked (segments_of held.old.items) (S.content store.old) }
-    ensures answer { PutIs parcelled.now (segments_of held.old.items) (S.content store.old) (S.limit store.old) result (S.content store.new) }
+    ensures answer { PutIs payload.now (segments_of held.old.items) (S.content store.old) (S.limit store.old) result (S.content store.new) }
     ensures limit { S.limit store.new ≡ S.limit store.old }
-    ensures parcel { IsParcelled parcelled.now }
+    ensures payload { IsPayload payload.now }
     ensures held { held.new.items ≡ held.old.items }
     ensures room { OnOk result (vec_len held.new < vec_capacity held.new) }
 {
-    put_pairs(held, store, parcelled)?;
+    put_pairs(held, store, payload)?;
     if held.reserve(1).is_err() {
-        let span = parcelled.segment().span();
+        let span = payload.segment().span();
         store.take_out(&span);
         return Err(PutFault::Memory);
     }

@@ -5,19 +5,18 @@ use super::{A, C, answered, ask, found, inserted, newborn};
 use chord_caller::Ask;
 use chord_ident::Id;
 use chord_links::{Links, Peer, SuccList};
-use chord_map::{Bytes, Reply, Request, Values};
+use chord_map::{Bytes, Done, Reply, Request, Values};
 use chord_node::{Answered, Node, Phase};
-use chord_segment::Done;
 use chord_store::CappedStore;
 use std::alloc::Global;
 
 const ME: Peer = Peer {
-    no: 1,
+    number: 1,
     id: Id { number: C },
 };
 
 const OTHER: Peer = Peer {
-    no: 0,
+    number: 0,
     id: Id { number: A },
 };
 

@@ -9,7 +9,9 @@ use chord_caller::Ask;
 use chord_handover::Part;
 use chord_ident::{Id, Span};
 use chord_map::{Reply, Request};
-use chord_node::{Answered, Back, CutAtFault, GiveFault, Given, MergeFault, Node, ResendFault};
+use chord_node::{
+    Answered, Back, CutAtFault, GiveFault, MergeFault, Node, PartAnswer, ResendPartFault,
+};
 use chord_store::CappedStore;
 use std::alloc::{AllocError, Global};
 
@@ -107,7 +109,7 @@ fn a_refused_cut_and_a_refused_merge(rt: HostRuntime) {
 
 /// Whether the node holds the whole circle and its outbox is empty.
 fn holds_all(node: &Node<CappedStore>) -> bool {
-    node.span(0) == Some(span(A, A)) && node.kept_count() == 0
+    node.span(0) == Some(span(A, A)) && node.outbox_len() == 0
 }
 
 /// Gives the node's segment to node 1, again if memory
@@ -131,7 +133,7 @@ fn given_number(node: &mut Node<CappedStore>) -> Option<u64> {
 fn gives(alloc: Global) -> Option<(Option<u64>, Option<(u64, u64, Span)>)> {
     let mut node = founder(alloc)?;
     let number = given_number(&mut node);
-    let kept = node.kept(0);
+    let kept = node.outbox_item(0);
     drop(node);
     Some((number, kept))
 }
@@ -142,9 +144,9 @@ fn a_refused_give_keeps_the_segment(rt: HostRuntime) {
 }
 
 /// The part that was given to node 1, sent again; tried again if memory was refused.
-fn resent(node: &Node<CappedStore>) -> Result<Part, ResendFault> {
+fn resent(node: &Node<CappedStore>) -> Result<Part, ResendPartFault> {
     match node.resend_part(1, 1, 1) {
-        Err(ResendFault::Memory) => node.resend_part(1, 1, 1),
+        Err(ResendPartFault::Memory) => node.resend_part(1, 1, 1),
         part => part,
     }
 }
@@ -173,7 +175,7 @@ fn a_refused_resend(rt: HostRuntime) {
 
 /// What node 1 answers to a part, which comes again if memory
 /// was refused: it must hold and have taken nothing then.
-fn taken(node: &mut Node<CappedStore>, part: &Part) -> Option<Given> {
+fn taken(node: &mut Node<CappedStore>, part: &Part) -> Option<PartAnswer> {
     match handed(node, part) {
         Ok(given) => given,
         Err(_) if (node.last_taken(0), node.held_count()) == (0, 0) => given(node, part),
@@ -182,7 +184,7 @@ fn taken(node: &mut Node<CappedStore>, part: &Part) -> Option<Given> {
 }
 
 /// What node 1 answers to a handover, and what it then holds.
-fn holds(alloc: Global) -> Option<(Option<Given>, Option<Span>)> {
+fn holds(alloc: Global) -> Option<(Option<PartAnswer>, Option<Span>)> {
     let (node, part) = giver(alloc)?;
     drop(node);
     let mut next = newborn(alloc, 1);
@@ -195,12 +197,12 @@ fn holds(alloc: Global) -> Option<(Option<Given>, Option<Span>)> {
 
 #[test]
 fn a_refused_handover_is_not_held(rt: HostRuntime) {
-    let got = (Some(Given::Got), Some(span(A, C)));
+    let got = (Some(PartAnswer::Got), Some(span(A, C)));
     assert!(rt; holds(rt.alloc()) == Some(got));
 }
 
 /// What node 1 answers to a part of two, and how many segments it then holds.
-fn notes(alloc: Global) -> (Option<Given>, usize) {
+fn notes(alloc: Global) -> (Option<PartAnswer>, usize) {
     let part = first_part(alloc, ticket(0, 1, 1), span(A, C), 2);
     let mut node = newborn(alloc, 1);
     let given = taken(&mut node, &part);
@@ -212,12 +214,12 @@ fn notes(alloc: Global) -> (Option<Given>, usize) {
 
 #[test]
 fn a_refused_part_is_not_noted(rt: HostRuntime) {
-    assert!(rt; notes(rt.alloc()) == (Some(Given::Part), 0));
+    assert!(rt; notes(rt.alloc()) == (Some(PartAnswer::Part), 0));
 }
 
 /// Whether the item for node 1 is in the node's outbox, and the node holds the rest.
 fn keeps(node: &Node<CappedStore>) -> bool {
-    node.kept(0) == Some((1, 1, span(A, C))) && node.held_count() == 1
+    node.outbox_item(0) == Some((1, 1, span(A, C))) && node.held_count() == 1
 }
 
 /// What the node answers to node 1's Declined, again if memory
@@ -235,7 +237,7 @@ fn takes_back(alloc: Global) -> Option<(Option<Back>, usize)> {
     let (mut node, part) = giver(alloc)?;
     drop(part);
     let back = returned(&mut node);
-    let kept = node.kept_count();
+    let kept = node.outbox_len();
     drop(node);
     Some((back, kept))
 }

@@ -4,7 +4,9 @@ use super::{A, B, C, back, found, given_away, given_empty, newborn, put, span, t
 use chord_handover::Part;
 use chord_ident::{Id, Span};
 use chord_map::Bytes;
-use chord_node::{Back, CutAtFault, GiveFault, Given, MergeFault, Node, Phase, ResendFault};
+use chord_node::{
+    Back, CutAtFault, GiveFault, MergeFault, Node, PartAnswer, Phase, ResendPartFault,
+};
 use chord_store::{CappedStore, EntryStore, Inserted, StoreFault};
 use std::alloc::Global;
 
@@ -177,7 +179,7 @@ fn gives_what_it_holds(rt: HostRuntime) {
 /// The first item in the outbox, and the second.
 fn kept(alloc: Global) -> Option<(Option<(u64, u64, Span)>, Option<(u64, u64, Span)>)> {
     let node = giver(alloc)?;
-    let kept = (node.kept(0), node.kept(1));
+    let kept = (node.outbox_item(0), node.outbox_item(1));
     drop(node);
     Some(kept)
 }
@@ -221,7 +223,7 @@ fn a_part_goes_again(rt: HostRuntime) {
 }
 
 /// Why sending again a part that was not given is refused.
-fn unsent(alloc: Global, to: u64, number: u64, part: u64) -> Option<ResendFault> {
+fn unsent(alloc: Global, to: u64, number: u64, part: u64) -> Option<ResendPartFault> {
     let node = giver(alloc)?;
     let fault = node.resend_part(to, number, part).err();
     drop(node);
@@ -232,13 +234,13 @@ fn unsent(alloc: Global, to: u64, number: u64, part: u64) -> Option<ResendFault>
 fn no_other_part_goes_again(rt: HostRuntime) {
     for (to, number, part) in [(1, 1, 0), (1, 1, 2), (1, 2, 1), (2, 1, 1)] {
         let fault = unsent(rt.alloc(), to, number, part);
-        assert!(rt; fault == Some(ResendFault::NoPart));
+        assert!(rt; fault == Some(ResendPartFault::NoPart));
     }
 }
 
 /// How many segments a node holds, and how many items its outbox has.
 fn counts(node: &Node<CappedStore>) -> (usize, usize) {
-    (node.held_count(), node.kept_count())
+    (node.held_count(), node.outbox_len())
 }
 
 /// The counts, and what the node answers to a Declined for an item that was not given.
@@ -251,7 +253,7 @@ fn held_again(alloc: Global) -> Option<(Unknown, Option<Back>, Option<Span>, usi
     let before = counts(&node);
     let unknown = back(&mut node, ticket(0, 1, 2));
     let held = back(&mut node, ticket(0, 1, 1));
-    let (place, kept) = (node.span(1), node.kept_count());
+    let (place, kept) = (node.span(1), node.outbox_len());
     drop(node);
     Some(((before, unknown), held, place, kept))
 }
@@ -274,7 +276,7 @@ fn back_after_b(alloc: Global, node: &mut Node<CappedStore>) -> Option<Back> {
 fn back_to_a_full_store(alloc: Global) -> Option<(Option<Back>, Option<(u64, u64, Span)>, usize)> {
     let mut node = giver(alloc)?;
     let full = back_after_b(alloc, &mut node);
-    let (kept, held) = (node.kept(0), node.held_count());
+    let (kept, held) = (node.outbox_item(0), node.held_count());
     drop(node);
     Some((full, kept, held))
 }
@@ -290,11 +292,11 @@ fn a_full_store_takes_nothing_back(rt: HostRuntime) {
 /// what it answers to the Declined, and its outbox's item.
 fn back_to_another(
     alloc: Global,
-) -> Option<(Option<Given>, Option<Back>, Option<(u64, u64, Span)>)> {
+) -> Option<(Option<PartAnswer>, Option<Back>, Option<(u64, u64, Span)>)> {
     let mut node = giver(alloc)?;
     let got = given_empty(alloc, &mut node, ticket(2, 0, 1), span(A, B));
     let clash = back(&mut node, ticket(0, 1, 1));
-    let kept = node.kept(0);
+    let kept = node.outbox_item(0);
     drop(node);
     Some((got, clash, kept))
 }
@@ -302,7 +304,7 @@ fn back_to_another(
 /// A handover made by hand overlaps what was given away.
 #[test]
 fn what_is_held_again_meets_nothing(rt: HostRuntime) {
-    let (got, clash) = (Some(Given::Got), Some(Back::Clash));
+    let (got, clash) = (Some(PartAnswer::Got), Some(Back::Clash));
     let kept = Some((1, 1, span(A, C)));
     assert!(rt; back_to_another(rt.alloc()) == Some((got, clash, kept)));
 }

@@ -1,7 +1,7 @@
 //! Nodes that leave.
 
 use super::{A, B, C, found, freed, given_empty, newborn, put, span, ticket};
-use chord_node::{Given, Node, NotStaying, Phase, RetireFault};
+use chord_node::{Node, NotStaying, PartAnswer, Phase, RetireFault};
 use chord_store::{CappedStore, NotedStore};
 use std::alloc::{AllocError, Global};
 use std::sync::{Arc, OnceLock};
@@ -117,7 +117,7 @@ fn phase_when_left(node: &mut Node<CappedStore>) -> Option<Phase> {
 }
 
 /// What a node answers to three handovers.
-type Answers = (Option<Given>, Option<Given>, Option<Given>);
+type Answers = (Option<PartAnswer>, Option<PartAnswer>, Option<PartAnswer>);
 
 /// Whether node 1 gave on its segment, its phase after
 /// it left, and then what it answers to three handovers.
@@ -135,8 +135,8 @@ fn answers(alloc: Global) -> (Option<bool>, Option<Phase>, Answers) {
 /// A gone node answers Got to what it took, and Declined to the rest.
 #[test]
 fn a_gone_node_answers_parts(rt: HostRuntime) {
-    let declined = Some(Given::Declined);
-    let answered = (Some(Given::Got), declined, declined);
+    let declined = Some(PartAnswer::Declined);
+    let answered = (Some(PartAnswer::Got), declined, declined);
     let gone = (Some(true), Some(Phase::Gone), answered);
     assert!(rt; answers(rt.alloc()) == gone);
 }

@@ -7,7 +7,7 @@ use super::{
 };
 use chord_handover::{Part, Ticket};
 use chord_ident::Span;
-use chord_node::{Given, Node};
+use chord_node::{Node, PartAnswer};
 use chord_store::CappedStore;
 use std::alloc::Global;
 
@@ -25,7 +25,7 @@ fn one_pair(alloc: Global) -> Option<Part> {
 }
 
 /// What a node answers to two parts, with memory for each.
-type Answers = (Option<Given>, Option<Given>);
+type Answers = (Option<PartAnswer>, Option<PartAnswer>);
 
 /// What a node answers to two parts, what it took, and then the span that it holds.
 type Taking = (Answers, (u64, usize), Option<Span>);
@@ -49,7 +49,7 @@ fn twice(alloc: Global, limit: u64) -> Option<Taking> {
 
 #[test]
 fn takes_what_is_given(rt: HostRuntime) {
-    let got = (Some(Given::Got), Some(Given::Got));
+    let got = (Some(PartAnswer::Got), Some(PartAnswer::Got));
     let held = Some(span(A, C));
     assert!(rt; twice(rt.alloc(), 1) == Some((got, (1, 1), held)));
 }
@@ -57,13 +57,13 @@ fn takes_what_is_given(rt: HostRuntime) {
 /// A store with too little room takes nothing, however often the part comes.
 #[test]
 fn a_full_store_takes_no_handover(rt: HostRuntime) {
-    let full = (Some(Given::Full), Some(Given::Full));
+    let full = (Some(PartAnswer::Full), Some(PartAnswer::Full));
     assert!(rt; twice(rt.alloc(), 0) == Some((full, (0, 0), None)));
 }
 
 /// What a node answers to a second handover, to the first,
 /// and to the second again, and the last number taken.
-fn in_order(alloc: Global) -> (Option<Given>, Answers, u64) {
+fn in_order(alloc: Global) -> (Option<PartAnswer>, Answers, u64) {
     let mut node = newborn(alloc, 1);
     let early = given_empty(alloc, &mut node, ticket(0, 1, 2), span(B, C));
     let first = given_empty(alloc, &mut node, ticket(0, 1, 1), span(A, B));
@@ -75,13 +75,13 @@ fn in_order(alloc: Global) -> (Option<Given>, Answers, u64) {
 
 #[test]
 fn handovers_come_in_order(rt: HostRuntime) {
-    let got = (Some(Given::Got), Some(Given::Got));
-    assert!(rt; in_order(rt.alloc()) == (Some(Given::Early), got, 2));
+    let got = (Some(PartAnswer::Got), Some(PartAnswer::Got));
+    assert!(rt; in_order(rt.alloc()) == (Some(PartAnswer::Early), got, 2));
 }
 
 /// What node 0 answers to a handover that it already holds,
 /// the last number taken, and how many segments it holds.
-fn meets(alloc: Global) -> Option<(Option<Given>, u64, usize)> {
+fn meets(alloc: Global) -> Option<(Option<PartAnswer>, u64, usize)> {
     let mut node = found(alloc, CappedStore::new(alloc, 1))?;
     let given = given_empty(alloc, &mut node, ticket(1, 0, 1), span(A, B));
     let (last, held) = (node.last_taken(1), node.held_count());
@@ -91,7 +91,7 @@ fn meets(alloc: Global) -> Option<(Option<Given>, u64, usize)> {
 
 #[test]
 fn a_handover_meets_nothing_held(rt: HostRuntime) {
-    assert!(rt; meets(rt.alloc()) == Some((Some(Given::Clash), 0, 1)));
+    assert!(rt; meets(rt.alloc()) == Some((Some(PartAnswer::Clash), 0, 1)));
 }
 
 /// A later one of `of` parts, with no pairs.
@@ -111,12 +111,12 @@ fn later_part(alloc: Global, ticket: Ticket, part: u64, of: u64) -> Part
 }
 
 /// What a node answers to the first part of two.
-fn given_first(alloc: Global, node: &mut Node<CappedStore>) -> Option<Given> {
+fn given_first(alloc: Global, node: &mut Node<CappedStore>) -> Option<PartAnswer> {
     given_once(node, first_part(alloc, ticket(0, 1, 1), span(A, B), 2))
 }
 
 /// What a node answers to the second of `of` parts.
-fn given_second(alloc: Global, node: &mut Node<CappedStore>, of: u64) -> Option<Given>
+fn given_second(alloc: Global, node: &mut Node<CappedStore>, of: u64) -> Option<PartAnswer>
     requires { 2 ≤ of }
 {
     given_once(node, later_part(alloc, ticket(0, 1, 1), 2, of))
@@ -138,7 +138,7 @@ fn unfit(alloc: Global) -> (Answers, Answers, (u64, usize)) {
 /// Parts that make no handover together are not taken, and the buffered parts stay.
 #[test]
 fn parts_that_do_not_fit(rt: HostRuntime) {
-    let clash = Some(Given::Clash);
-    let first = (Some(Given::Part), clash);
+    let clash = Some(PartAnswer::Clash);
+    let first = (Some(PartAnswer::Part), clash);
     assert!(rt; unfit(rt.alloc()) == (first, (clash, clash), (0, 0)));
 }

@@ -3,7 +3,8 @@
 
 use super::{A, B, added, equals, keep, keeps, kept, one, span};
 use chord_ident::Id;
-use chord_segment::{CutFault, Done, JoinFault, Segment, Uncut, Unjoined};
+use chord_map::Done;
+use chord_segment::{CutFault, Segment, SegmentJoinFault, Uncut, Unjoined};
 use std::alloc::{AllocError, Global};
 use std::test::Fail;
 
@@ -104,7 +105,7 @@ fn copies(parts: &Parts) -> Option<Parts> {
 /// Joins again, if a refused join gave both parts back unchanged.
 fn join_again(unjoined: Unjoined, parts: &Parts) -> Option<Segment> {
     let are_same = unjoined.first.equals(&parts.0) & unjoined.second.equals(&parts.1);
-    if (unjoined.fault != JoinFault::Memory) | !are_same {
+    if (unjoined.fault != SegmentJoinFault::Memory) | !are_same {
         drop(unjoined);
         return None;
     }

@@ -6,7 +6,7 @@ use super::askers::MapAsker;
 use super::in_flight::send;
 use super::sessions::{ADDED, Frames, INSERT, INSERT_2, begun, calls, insert, is_added, three};
 use chord_map::Request;
-use chord_serve::{CallFault, Client, SendFault, Served, serve};
+use chord_serve::{CallFault, SendFault, Served, WireClient, serve};
 use chord_wire::Answers;
 use std::alloc::{AllocError, Global};
 
@@ -109,7 +109,7 @@ fn a_call_made_again_is_answered(rt: HostRuntime) {
 }
 
 /// Sends a request; Memory if there is no memory to make it.
-fn sent(alloc: Global, client: &mut Client, written: &mut Vec<u8>) -> Result<u64, SendFault> {
+fn sent(alloc: Global, client: &mut WireClient, written: &mut Vec<u8>) -> Result<u64, SendFault> {
     match insert(alloc) {
         Ok(request) => send(client, written, request),
         Err(_) => Err(SendFault::Memory),
@@ -120,7 +120,7 @@ fn sent(alloc: Global, client: &mut Client, written: &mut Vec<u8>) -> Result<u64
 /// nothing was written; and whether the request is written.
 fn sent_again(alloc: Global) -> Option<(Result<u64, SendFault>, bool)> {
     let mut written = roomy(alloc).ok()?;
-    let mut client = Client::new(alloc, 2, 16)?;
+    let mut client = WireClient::new(alloc, 2, 16)?;
     let mut number = sent(alloc, &mut client, &mut written);
     if number == Err(SendFault::Memory) && written.is_empty() {
         number = sent(alloc, &mut client, &mut written);

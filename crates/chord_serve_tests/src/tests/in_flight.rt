@@ -4,7 +4,9 @@ use super::askers::{FullAtFirst, MapAsker};
 use super::devices::Limited;
 use super::sessions::{ADDED, INSERT, INSERT_2, fault, insert};
 use chord_map::{Reply, Request};
-use chord_serve::{AgainFault, Asker, CallFault, Client, ReceiveFault, SendFault, Served, serve};
+use chord_serve::{
+    AgainFault, Asker, CallFault, ReceiveFault, SendFault, Served, WireClient, serve,
+};
 use chord_wire::{Answer, FaultCode};
 use std::alloc::{AllocError, Global};
 use std::io::Write;
@@ -29,13 +31,13 @@ type Received = Result<(u64, Answer), ReceiveFault>;
 /// A client, and what it wrote.
 #[derive(Drop)]
 struct Flight {
-    client: Client,
+    client: WireClient,
     written: Vec<u8>,
 }
 
 impl Flight {
     fn new(alloc: Global, version: u8, window: u64) -> Option<Flight> {
-        let client = Client::new(alloc, version, window)?;
+        let client = WireClient::new(alloc, version, window)?;
         let written = Vec::new(alloc);
         Some(Flight { client, written })
     }
@@ -74,7 +76,7 @@ fn remove(alloc: Global) -> Result<Request, AllocError> {
 
 /// Sends a request that keeps the limits.
 pub fn send<W: Write>(
-    client: &mut Client,
+    client: &mut WireClient,
     writer: &mut W,
     request: Request,
 ) -> Result<u64, SendFault> {
@@ -142,7 +144,7 @@ fn full_at_first(alloc: Global, input: &[u8]) -> Vec<u8> {
 }
 
 fn is_window(alloc: Global, version: u8, window: u64) -> bool {
-    let client = Client::new(alloc, version, window);
+    let client = WireClient::new(alloc, version, window);
     let is_one = client.is_some();
     drop(client);
     is_one
@@ -198,7 +200,7 @@ fn a_full_window_sends_nothing(rt: HostRuntime) {
 }
 
 /// Whether the replies to sixteen requests come in order, and each raises the floor to its number.
-fn is_raised(client: &mut Client, mut answers: &[u8]) -> bool {
+fn is_raised(client: &mut WireClient, mut answers: &[u8]) -> bool {
     for number in 1..=16u64 {
         let is_told = is_reply(client.receive(&mut answers, 10), number);
         if !is_told || client.floor() != number {
@@ -317,7 +319,7 @@ fn a_full_store_is_asked_again(rt: HostRuntime) {
 }
 
 /// Whether the reply to this number comes, and the floor after it.
-fn floor_after(client: &mut Client, reader: &mut &[u8], number: u64) -> (bool, u64) {
+fn floor_after(client: &mut WireClient, reader: &mut &[u8], number: u64) -> (bool, u64) {
     let is_told = is_reply(client.receive(reader, 10), number);
     (is_told, client.floor())
 }
@@ -466,8 +468,8 @@ fn slow_and_failing_readers(rt: HostRuntime) {
 }
 
 /// A client whose writer failed after 7 bytes of its request, and the writer.
-fn half_written(alloc: Global) -> Option<(Client, Limited<Vec<u8>>)> {
-    let mut client = Client::new(alloc, 2, 16)?;
+fn half_written(alloc: Global) -> Option<(WireClient, Limited<Vec<u8>>)> {
+    let mut client = WireClient::new(alloc, 2, 16)?;
     let mut writer = Limited::new(Vec::new(alloc), (7, 1));
     let Ok(request) = insert(alloc) else {
         drop(client);
@@ -547,7 +549,7 @@ fn is_x(received: Received) -> bool {
 }
 
 /// Whether the next answer is this reply to this number.
-fn tells(client: &mut Client, reader: &mut &[u8], wanted: u64, told: &Reply) -> bool {
+fn tells(client: &mut WireClient, reader: &mut &[u8], wanted: u64, told: &Reply) -> bool {
     let received = client.receive(reader, 10);
     let is_told = match &received {
         Ok((number, Answer::Reply { reply, .. })) => *number == wanted && reply == told,

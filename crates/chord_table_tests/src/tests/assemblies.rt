@@ -5,7 +5,7 @@ ghost use Rattle.chord_table.specs.Shown.{WholeShown};
 
 use super::founded;
 use chord_store::CappedStore;
-use chord_table::{Assembly, BlankTable, CallerSeat, Naming, NodeSeat, Registrar, Shared};
+use chord_table::{Assembly, CallerSeat, Naming, NodeSeat, Registrar, Shared, TableParts};
 use std::alloc::Global;
 use std::marker::Brand;
 use std::test::Fail;
@@ -30,13 +30,13 @@ fn are_a_world<J: Naming>(
 }
 
 /// Admits a node and a caller, and proves that they are a reachable world.
-fn two_are_a_world<J: Naming>(alloc: Global, blank: BlankTable) -> Result<(), Fail>
-    requires name { blank ≡ J.name }
-    requires slots { blank.slots ≡ 1 }
-    requires callers { blank.callers ≡ 1 }
+fn two_are_a_world<J: Naming>(alloc: Global, parts: TableParts) -> Result<(), Fail>
+    requires name { parts ≡ J.name }
+    requires slots { parts.slots ≡ 1 }
+    requires callers { parts.callers ≡ 1 }
 {
     let node = founded(alloc, 0, CappedStore::new(alloc, 4))?;
-    let (table, mut registrar) = blank.open::<J>();
+    let (table, mut registrar) = parts.assemble::<J>();
     let first = registrar.admit_node(&table, 0, &node);
     let second = registrar.open_caller(&table, 0, 1);
     drop(are_a_world(&table, registrar, first, second));
@@ -47,6 +47,6 @@ fn two_are_a_world<J: Naming>(alloc: Global, blank: BlankTable) -> Result<(), Fa
 
 #[test]
 fn a_node_and_a_caller_are_a_world(rt: HostRuntime) -> Result<(), Fail> {
-    let blank = Registrar::open(rt.alloc(), 1, 1)?;
-    two_are_a_world::<Brand>(rt.alloc(), blank)
+    let parts = Registrar::open(rt.alloc(), 1, 1)?;
+    two_are_a_world::<Brand>(rt.alloc(), parts)
 }

@@ -3,11 +3,11 @@ ghost use Rattle.std.specs.Prelude.{◌≡◌, IfOk, OnOk};
 ghost use Rattle.chord_caller.specs.Client.{IsCoreOf};
 
 use super::{founded, insert, is_first_call, reply};
-use chord_caller::{ClientCore, Outcome};
+use chord_caller::{ClientCore, TakeOutcome};
 use chord_map::{Reply, Request};
 use chord_node::{Message, Node};
 use chord_store::CappedStore;
-use chord_table::{BlankTable, CallerSeat, Naming, NodeSeat, Parcel, Registrar, Shared};
+use chord_table::{CallerSeat, Envelope, Naming, NodeSeat, Registrar, Shared, TableParts};
 use std::alloc::Global;
 use std::marker::Brand;
 use std::test::Fail;
@@ -18,7 +18,7 @@ fn submits<J: Naming>(
     core: &mut ClientCore,
     seat: &mut CallerSeat<J>,
     request: Request,
-) -> Result<Parcel<J>, Fail>
+) -> Result<Envelope<J>, Fail>
     requires { IsCoreOf core.old seat.old.caller }
     ensures { OnOk result (IsCoreOf core.new seat.new.caller) }
 {
@@ -31,7 +31,7 @@ fn sends_again<J: Naming>(
     table: &Shared<J>,
     core: &ClientCore,
     seat: &mut CallerSeat<J>,
-) -> Result<Parcel<J>, Fail>
+) -> Result<Envelope<J>, Fail>
     requires { IsCoreOf core.now seat.old.caller }
     ensures { seat.new ≡ seat.old }
 {
@@ -44,12 +44,12 @@ fn hears<J: Naming>(
     table: &Shared<J>,
     core: &mut ClientCore,
     seat: &mut CallerSeat<J>,
-    parcel: Parcel<J>,
-) -> Result<Outcome, Fail>
+    envelope: Envelope<J>,
+) -> Result<TakeOutcome, Fail>
     requires { IsCoreOf core.old seat.old.caller }
     ensures { OnOk result (IsCoreOf core.new seat.new.caller) }
 {
-    let Message::Told(told) = seat.receive(table, parcel) else {
+    let Message::Told(told) = seat.receive(table, envelope) else {
         return Err(Fail::from("no reply"));
     };
     seat.hear(table, &told);
@@ -96,16 +96,16 @@ fn hears_once<J: Naming>(
     let told = reply(table, node, seat, call)?;
     let outcome = hears(table, core, caller, told)?;
     caller.look(table);
-    let is_fresh = matches!(&outcome, Outcome::Fresh(Reply::Added));
+    let is_fresh = matches!(&outcome, TakeOutcome::Fresh(Reply::Added));
     drop(outcome);
     Ok(is_first && is_again && is_fresh && core.floor() == 1)
 }
 
 /// Admits a node and a client for that check, and gives its result.
-fn hands_out<J: Naming>(alloc: Global, blank: BlankTable) -> Result<bool, Fail>
-    requires name { blank ≡ J.name }
-    requires slots { blank.slots ≡ 2 }
-    requires callers { blank.callers ≡ 1 }
+fn hands_out<J: Naming>(alloc: Global, parts: TableParts) -> Result<bool, Fail>
+    requires name { parts ≡ J.name }
+    requires slots { parts.slots ≡ 2 }
+    requires callers { parts.callers ≡ 1 }
 {
     let mut core = ClientCore::new(alloc, 0, 1)?;
     let mut node = match founded(alloc, 0, CappedStore::new(alloc, 4)) {
@@ -115,7 +115,7 @@ fn hands_out<J: Naming>(alloc: Global, blank: BlankTable) -> Result<bool, Fail>
             return Err(fail);
         }
     };
-    let (table, mut registrar) = blank.open::<J>();
+    let (table, mut registrar) = parts.assemble::<J>();
     let mut seat = registrar.admit_node(&table, 0, &node);
     let mut caller = registrar.open_caller(&table, 0, 1);
     let heard = hears_once(alloc, &table, &mut node, &mut seat, &mut core, &mut caller);
@@ -130,7 +130,7 @@ fn hands_out<J: Naming>(alloc: Global, blank: BlankTable) -> Result<bool, Fail>
 
 #[test]
 fn a_reply_is_handed_out(rt: HostRuntime) -> Result<(), Fail> {
-    let blank = Registrar::open(rt.alloc(), 2, 1)?;
-    assert!(rt; hands_out::<Brand>(rt.alloc(), blank)?);
+    let parts = Registrar::open(rt.alloc(), 2, 1)?;
+    assert!(rt; hands_out::<Brand>(rt.alloc(), parts)?);
     Ok(())
 }

@@ -5,7 +5,7 @@ ghost use Rattle.chord_table.specs.Shown.{WitnessShown};
 use super::{founded, hears};
 use chord_caller::{CallerCore, Heard};
 use chord_store::CappedStore;
-use chord_table::{BlankTable, CallerSeat, Naming, Registrar, Shared, Witness};
+use chord_table::{CallerSeat, Naming, Registrar, Shared, TableParts, Witness};
 use std::alloc::Global;
 use std::marker::Brand;
 use std::test::Fail;
@@ -30,14 +30,14 @@ fn share_a_world<J: Naming>(
 /// `hears` gives.
 fn two_share_a_world<J: Naming>(
     alloc: Global,
-    blank: BlankTable,
+    parts: TableParts,
 ) -> Result<(bool, Heard, usize), Fail>
-    requires name { blank ≡ J.name }
-    requires slots { blank.slots ≡ 2 }
-    requires callers { blank.callers ≡ 2 }
+    requires name { parts ≡ J.name }
+    requires slots { parts.slots ≡ 2 }
+    requires callers { parts.callers ≡ 2 }
 {
     let mut node = founded(alloc, 0, CappedStore::new(alloc, 4))?;
-    let (table, mut registrar) = blank.open::<J>();
+    let (table, mut registrar) = parts.assemble::<J>();
     let mut seat = registrar.admit_node(&table, 0, &node);
     let mut core = CallerCore::new(alloc, 0, 1);
     let mut first = registrar.admit_caller(&table, 0, &core);
@@ -56,8 +56,8 @@ fn two_share_a_world<J: Naming>(
 
 #[test]
 fn two_callers_share_a_world(rt: HostRuntime) -> Result<(), Fail> {
-    let blank = Registrar::open(rt.alloc(), 2, 2)?;
-    let heard = two_share_a_world::<Brand>(rt.alloc(), blank)?;
+    let parts = Registrar::open(rt.alloc(), 2, 2)?;
+    let heard = two_share_a_world::<Brand>(rt.alloc(), parts)?;
     assert!(rt; heard == (true, Heard::Fresh, 1));
     Ok(())
 }

@@ -1,7 +1,7 @@
 //! The body of an answer.
 ghost use Rattle.std.specs.Prelude.{◌≡◌, ◌==◌, if◌then◌else◌};
 ghost use Rattle.chord_wire.specs.Reading.{Reads};
-ghost use Rattle.chord_wire.specs.ReadingReplies.{answer_in, answer_fields, values_from, status_at, code_at, status_of, ended, CopiesLast};
+ghost use Rattle.chord_wire.specs.ReadingReplies.{answer_in, answer_fields, values_from, status_at, code_at, status_of, answer_at_end, CopiesLast};
 
 use crate::answer::Answer;
 use crate::codes::{CHANGED, FAULT, INSERTED, REMOVED, RETRIEVED, SET_FULL, UNCHANGED, VERSION_1};
@@ -68,7 +68,7 @@ fn code_at(number: u64, bytes: &[u8]) -> Result<(Answer, &[u8]), WireFault>
 
 #[tactic(auto, unfolding(crate::specs::ReadingReplies::values_from))]
 fn values_answer(alloc: Global, number: u64, bytes: &[u8]) -> Result<Answer, WireFault>
-    ensures { CopiesLast result (ended number (values_from number bytes.now)) }
+    ensures { CopiesLast result (answer_at_end number (values_from number bytes.now)) }
 {
     let fault = WireFault {
         code: FaultCode::BadValue,

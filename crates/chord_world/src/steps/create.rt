@@ -74,7 +74,7 @@ impl<S: EntryStore> World<S> {
             return Err(Refusal::Memory);
         }
         let store = stores.remove(0);
-        match Node::found(self.alloc, Peer { no: 0, id }, self.r, store) {
+        match Node::found(self.alloc, Peer { number: 0, id }, self.r, store) {
             Ok(node) => {
                 add_node(&mut self.nodes, &mut self.crashed, node);
                 Ok(Outcome::Node(0))

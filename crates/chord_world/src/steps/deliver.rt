@@ -17,8 +17,8 @@ use crate::sent::Sent;
 use crate::steps::outgoing::push_message;
 use crate::world::World;
 use chord_caller::{Ask, CallerCore, Heard, TakeFault, Told};
+use chord_map::Done;
 use chord_node::{Answered, Message, Node};
-use chord_segment::Done;
 use chord_store::EntryStore;
 use std::alloc::AllocError;
 

@@ -33,8 +33,8 @@ impl<S: EntryStore> World<S> {
         if stores.is_empty() {
             return Err(Refusal::NoStore);
         }
-        let no = self.nodes.len() as u64;
-        let Ok(links) = join_behind(Peer { no, id }, &pred) else {
+        let number = self.nodes.len() as u64;
+        let Ok(links) = join_behind(Peer { number, id }, &pred) else {
             return Err(Refusal::Step(StepFault::NotBetween));
         };
         Ok(links)
@@ -54,13 +54,13 @@ impl<S: EntryStore> World<S> {
         ensures stores { CreateLeaves result stores.old.items stores.new.items }
     {
         let links = self.links_to_join(stores, id, behind)?;
-        let no = self.nodes.len() as u64;
+        let number = self.nodes.len() as u64;
         if room_for_node(&mut self.nodes, &mut self.crashed).is_err() {
             return Err(Refusal::Memory);
         }
         let store = stores.remove(0);
         let node = Node::newborn(self.alloc, links, store);
         add_node(&mut self.nodes, &mut self.crashed, node);
-        Ok(Outcome::Node(no))
+        Ok(Outcome::Node(number))
     }
 }

@@ -2,8 +2,8 @@
 ghost use Rattle.std.specs.Prelude.{◌≡◌, ◌≢◌, ◌<◌, Some, [], length, slice_get};
 ghost use Rattle.std.specs.Vec.{vec_len, vec_capacity};
 ghost use Rattle.chord_handover.specs.Handover.{Part as PartOf};
-ghost use Rattle.chord_node.specs.declared.handovers.given.Given.TheVariants.{Clash};
-ghost use Rattle.chord_node.specs.declared.handovers.given.Back.TheVariants.{Clash as BackClash};
+ghost use Rattle.chord_node.specs.declared.handovers.part_answer.PartAnswer.TheVariants.{Clash};
+ghost use Rattle.chord_node.specs.declared.handovers.part_answer.Back.TheVariants.{Clash as BackClash};
 ghost use Rattle.chord_model.specs.declared.message.Message.TheVariants.{Part as PartMessage, Got as GotMessage, Declined as DeclinedMessage};
 ghost use Rattle.chord_node.specs.Received.{PartIs, PartSteps, GotIs, BackIs, BackSteps};
 ghost use Rattle.chord_model.specs.World.{with_one};
@@ -20,7 +20,7 @@ use crate::sent::Sent;
 use crate::steps::outgoing::push_message;
 use crate::world::World;
 use chord_handover::{Declined, Got, Part, Ticket};
-use chord_node::{Back, Given, Message, Node};
+use chord_node::{Back, Message, Node, PartAnswer};
 use chord_store::EntryStore;
 use std::alloc::AllocError;
 
@@ -29,7 +29,7 @@ fn take_in<S: EntryStore>(
     nodes: &mut Vec<Node<S>>,
     number: usize,
     part: &Part,
-) -> Result<Given, AllocError>
+) -> Result<PartAnswer, AllocError>
     requires place { number < length nodes.old.items }
     requires numbered { IsNumbered number nodes.old.items }
     requires to { part.now.to ≡ number }
@@ -66,7 +66,7 @@ fn take_back_in<S: EntryStore>(
 }
 
 /// Sends the message of an answer to a part of this handover, and gives the outcome.
-fn confirm(sent: &mut Vec<Sent>, ticket: Ticket, given: Given) -> Outcome
+fn confirm(sent: &mut Vec<Sent>, ticket: Ticket, given: PartAnswer) -> Outcome
     requires fits { given ≢ Clash }
     requires room { vec_len sent.old < vec_capacity sent.old }
     ensures sent { messages_of sent.new.items ≡ with_one (messages_of sent.old.items) (confirmation ticket given) }
@@ -74,12 +74,16 @@ fn confirm(sent: &mut Vec<Sent>, ticket: Ticket, given: Given) -> Outcome
     ensures outcome { outcome_of_given given (length (messages_of sent.old.items)) ≡ Some result }
 {
     match given {
-        Given::Got => Outcome::Got(push_message(sent, Message::Got(ticket), None)),
-        Given::Declined => Outcome::Declined(push_message(sent, Message::Declined(ticket), None)),
-        Given::Early => Outcome::Early,
-        Given::Clash => unreachable!(),
-        Given::Full => Outcome::NoRoom,
-        Given::Part => Outcome::Noted,
+        PartAnswer::Got => Outcome::Got(push_message(sent, Message::Got(ticket), None)),
+        PartAnswer::Declined => Outcome::Declined(push_message(
+            sent,
+            Message::Declined(ticket),
+            None,
+        )),
+        PartAnswer::Early => Outcome::Early,
+        PartAnswer::Clash => unreachable!(),
+        PartAnswer::Full => Outcome::NoRoom,
+        PartAnswer::Part => Outcome::Noted,
     }
 }
 

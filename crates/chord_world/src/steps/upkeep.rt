@@ -29,7 +29,7 @@ fn outcome_of_candidate(candidate: Option<Peer>) -> Outcome
     ensures { result ≡ outcome_of_ring (ring.Candidate candidate) }
 {
     match candidate {
-        Some(peer) => Outcome::Candidate(Some(peer.no)),
+        Some(peer) => Outcome::Candidate(Some(peer.number)),
         None => Outcome::Candidate(None),
     }
 }

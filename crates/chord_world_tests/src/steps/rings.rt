@@ -6,7 +6,7 @@ ghost use Rattle.chord_map.specs.declared.pair.Pair.{Pair};
 
 use crate::steps::deeds::{A, B, C, Deed, new_world, steps_of};
 use chord_store::ListStore;
-use chord_world::{Answer, Outcome, Refusal, StepFault, World, run};
+use chord_world::{Outcome, Refusal, StepFault, StepResult, World, run};
 use std::alloc::{AllocError, Global};
 use std::test::Fail;
 
@@ -41,24 +41,24 @@ const TWO_NODES: &[Deed] = &[
     Deed::Stabilise(0, 0),
 ];
 
-const ANSWERS_OF_TWO: &[Answer] = &[
-    Answer::Refused(Refusal::NotCreated),
-    Answer::Did(Outcome::Node(0)),
-    Answer::Refused(Refusal::NoSuchNode),
-    Answer::Did(Outcome::Node(1)),
-    Answer::Refused(Refusal::IdTaken),
-    Answer::Refused(Refusal::NoStore),
-    Answer::Did(Outcome::Done),
-    Answer::Did(Outcome::Candidate(Some(1))),
-    Answer::Did(Outcome::Done),
-    Answer::Refused(Refusal::Step(StepFault::HeadLive)),
-    Answer::Refused(Refusal::Unsafe),
-    Answer::Did(Outcome::Done),
-    Answer::Refused(Refusal::NoSuchNode),
-    Answer::Refused(Refusal::Step(StepFault::Crashed)),
-    Answer::Refused(Refusal::Step(StepFault::HeadDead)),
-    Answer::Did(Outcome::Done),
-    Answer::Did(Outcome::Candidate(Some(1))),
+const ANSWERS_OF_TWO: &[StepResult] = &[
+    StepResult::Refused(Refusal::NotCreated),
+    StepResult::Did(Outcome::Node(0)),
+    StepResult::Refused(Refusal::NoSuchNode),
+    StepResult::Did(Outcome::Node(1)),
+    StepResult::Refused(Refusal::IdTaken),
+    StepResult::Refused(Refusal::NoStore),
+    StepResult::Did(Outcome::Done),
+    StepResult::Did(Outcome::Candidate(Some(1))),
+    StepResult::Did(Outcome::Done),
+    StepResult::Refused(Refusal::Step(StepFault::HeadLive)),
+    StepResult::Refused(Refusal::Unsafe),
+    StepResult::Did(Outcome::Done),
+    StepResult::Refused(Refusal::NoSuchNode),
+    StepResult::Refused(Refusal::Step(StepFault::Crashed)),
+    StepResult::Refused(Refusal::Step(StepFault::HeadDead)),
+    StepResult::Did(Outcome::Done),
+    StepResult::Did(Outcome::Candidate(Some(1))),
 ];
 
 #[test]

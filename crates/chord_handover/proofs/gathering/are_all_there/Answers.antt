@@ -2,18 +2,18 @@ use Rattle.std.proofs.Common.{◌≡◌, ◌+◌, inl, inr, sym, ◌∙◌, ap, 
 use Rattle.std.proofs.lemmas.Bool.{cases_lt}
 use Rattle.std.proofs.lemmas.Option.{none-some}
 use Rattle.chord_handover.specs.Gather.{part_in}
-use Rattle.chord_handover.specs.Handover.{Part, gathered}
+use Rattle.chord_handover.specs.Handover.{Part, gathered_parts}
 use Rattle.chord_handover.proofs.GatherRules.{enough_parts, none_there, some_there, at_place, place_there}
 use Rattle.chord_handover.proofs.gathering.are_all_there.Goals as goal
 
-pub returns-then-count_noted-saturating_sub : goal.returns-then-count_noted-saturating_sub
-returns-then-count_noted-saturating_sub c = (
+pub returns-then-count_buffered-saturating_sub : goal.returns-then-count_buffered-saturating_sub
+returns-then-count_buffered-saturating_sub c = (
   λ h. absurd (cc),
   λ there.
       let of = ap (λ (p : Part). p.of) c.part.view_is in
-      let enough = enough_parts c.args.part.now c.args.noted.now there in
-      let few = c.if-count_noted-saturating_sub.true in
-      let count = c.count_noted.ensures in
+      let enough = enough_parts c.args.part.now c.args.buffered.now there in
+      let few = c.if-count_buffered-saturating_sub.true in
+      let count = c.count_buffered.ensures in
       let less = c.saturating_sub.ensures in
       absurd (omega arith),
 )
@@ -22,7 +22,7 @@ pub returns-then-is_none : goal.returns-then-is_none
 returns-then-is_none c = (
   λ h. absurd (cc),
   λ there.
-      let all = gathered c.args.part.now c.args.noted.now in
+      let all = gathered_parts c.args.part.now c.args.buffered.now in
       let of = ap (λ (p : Part). p.of) c.part.view_is in
       let i = c.loop-i.i in
       let within = c.loop-i-test.true in
@@ -33,7 +33,7 @@ returns-then-is_none c = (
 
 pub loop-i-preserved : goal.loop-i-preserved
 loop-i-preserved c = λ place from upto.
-    let all = gathered c.args.part.now c.args.noted.now in
+    let all = gathered_parts c.args.part.now c.args.buffered.now in
     let i = c.loop-i.i in
     elim (cases_lt i place) [
       | inl last ↦

@@ -1,16 +1,16 @@
 use Rattle.std.proofs.Common.{◌≡◌, ◌++◌, Some, ◌∙◌, ap}
 use Rattle.chord_handover.specs.Gather.{pairs_of}
-use Rattle.chord_handover.specs.Handover.{Part, gathered}
+use Rattle.chord_handover.specs.Handover.{Part, gathered_parts}
 use Rattle.chord_handover.proofs.GatherRules.{more_pairs, no_more_pairs, no_pairs_yet}
 use Rattle.chord_handover.proofs.gathering.join_pairs.Goals as goal
 use Rattle.chord_handover.proofs.gathering.join_pairs.Goals.{in-Some+in_ok-push_copies, in_default}
 
 pub loop-i-init : goal.loop-i-init
-loop-i-init c = c.new-pairs.ensures.items ∙ no_pairs_yet (gathered c.args.part.now c.args.noted.now)
+loop-i-init c = c.new-pairs.ensures.items ∙ no_pairs_yet (gathered_parts c.args.part.now c.args.buffered.now)
 
 pub loop-i-preserved : goal.loop-i-preserved
 loop-i-preserved c =
-    let all = gathered c.args.part.now c.args.noted.now in
+    let all = gathered_parts c.args.part.now c.args.buffered.now in
     let i = c.loop-i.i in
     elim c.match-find_part.branch [
       | in-Some+in_ok-push_copies w ↦

@@ -1,14 +1,14 @@
 use Rattle.std.proofs.Common.{◌≡◌, ◌-◌, ◌+◌, Some, List, sym, ◌∙◌, ap, subst, arith}
 use Rattle.chord_map.specs.declared.pair.Pair.{Pair}
 use Rattle.chord_handover.specs.Gather.{pairs_of, pairs_upto, part_in}
-use Rattle.chord_handover.specs.Handover.{Part, gathered}
+use Rattle.chord_handover.specs.Handover.{Part, gathered_parts}
 use Rattle.chord_handover.specs.Passed.{HasPassed, Goes}
 use Rattle.chord_handover.proofs.GatherRules.{more_pairs, no_more_pairs}
 use Rattle.chord_handover.proofs.gathering.pass_place.Goals as goal
 
 pub returns-in-Some : goal.returns-in-Some
 returns-in-Some c = λ has.
-    let all = gathered c.args.part.now c.args.noted.now in
+    let all = gathered_parts c.args.part.now c.args.buffered.now in
     let low = c.requires in
     let before = c.args.place - 1 in
     let next : before + 1 ≡ c.args.place = omega arith in
@@ -20,7 +20,7 @@ returns-in-Some c = λ has.
 
 pub returns-in-None : goal.returns-in-None
 returns-in-None c = λ has.
-    let all = gathered c.args.part.now c.args.noted.now in
+    let all = gathered_parts c.args.part.now c.args.buffered.now in
     let low = c.requires in
     let before = c.args.place - 1 in
     let next : before + 1 ≡ c.args.place = omega arith in

@@ -1,5 +1,5 @@
 use Rattle.std.proofs.Common.{◌-◌, ◌*◌, ◌∙◌, ap, take, drop, arith}
-use Rattle.chord_handover.proofs.ParcelRules.{chunk_at, none_behind}
+use Rattle.chord_handover.proofs.PayloadRules.{chunk_at, none_behind}
 use Rattle.chord_handover.proofs.part.chunk_of.Goals as goal
 
 pub returns-then-before-count_parts : goal.returns-then-before-count_parts

@@ -1,5 +1,5 @@
 use Rattle.std.proofs.lemmas.Slice.Eq.{slice_eq-Decides}
-use Rattle.chord_handover.proofs.ParcelRules.{pairs_same}
+use Rattle.chord_handover.proofs.PayloadRules.{pairs_same}
 use Rattle.chord_handover.proofs.part.same_pairs.Goals as goal
 
 pub returns : goal.returns

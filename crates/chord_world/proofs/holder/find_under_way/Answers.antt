@@ -7,5 +7,5 @@ returns-in-Some-clause-found g c = under_way_found c.args.id.number c.args.nodes
 
 pub returns-clause-none : goal.returns-clause-none
 returns-clause-none g c =
-    let all = c.kept_count-place-end.ensures in
+    let all = c.outbox_len-place-end.ensures in
     under_way_none c.args.id.number c.args.nodes.now c.args.node.now c.loop-place.place (omega arith) c.loop-place.invariant

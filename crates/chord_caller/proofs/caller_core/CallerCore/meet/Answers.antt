@@ -1,6 +1,6 @@
 use Rattle.std.proofs.Common.{◌≡◌, List, ◌++◌, ap, ◌∙◌, subst}
 use Rattle.chord_map.specs.declared.done.Done.{Done}
-use Rattle.chord_caller.specs.Caller.{Note, Caller, unknown}
+use Rattle.chord_caller.specs.Caller.{Note, Caller, unknown_calls}
 use Rattle.chord_caller.specs.Submitted.{caller_of}
 use Rattle.chord_caller.specs.Unknown.{not_in}
 use Rattle.chord_caller.proofs.Steps.{meet_steps}
@@ -13,7 +13,7 @@ returns-clause-ok c =
     ∙ ap (λ (dones : List Done). not_in (dones ++ c.deref-3.result.now) c.args.note.now.done) c.deref-2.ensures.value
     ∙ ap (λ (dones : List Done). not_in (core.mine.items ++ dones) c.args.note.now.done) c.deref-3.ensures.value in
     let items = c.in_ok-append.ensures.items ∙ ap (λ (dones : List Done). core.told.items ++ dones) listed in
-    subst (λ (caller : Caller). caller_of core.number core.window core.submitted.items core.mine.items c.append.new.self.items ≡ record caller { told = caller.told ++ unknown caller c.args.note.now.done }) c.self.view_is
+    subst (λ (caller : Caller). caller_of core.number core.window core.submitted.items core.mine.items c.append.new.self.items ≡ record caller { told = caller.told ++ unknown_calls caller c.args.note.now.done }) c.self.view_is
     (ap (λ (dones : List Done). caller_of core.number core.window core.submitted.items core.mine.items dones) items)
 
 pub returns-clause-step : goal.returns-clause-step

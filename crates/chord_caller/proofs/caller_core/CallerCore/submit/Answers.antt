@@ -1,7 +1,7 @@
 use Rattle.std.proofs.Common.{rules, ◌≡◌, List, [], ◌∷◌, ◌++◌, Err, length, refl, sym, ap, ◌∙◌, subst, arith}
 use Rattle.std.proofs.lemmas.Result.{err_from_is_err_and}
 use Rattle.chord_caller.specs.declared.fault.SubmitFault.TheVariants.{Memory}
-use Rattle.chord_caller.specs.declared.submitted.Progress.TheVariants.{Pending}
+use Rattle.chord_caller.specs.declared.submitted.RequestProgress.TheVariants.{Pending}
 use Rattle.chord_caller.specs.declared.submitted.Submitted.{Submitted}
 use Rattle.chord_caller.specs.Answers.{SubmitIs}
 use Rattle.chord_caller.specs.Caller.{with_request}

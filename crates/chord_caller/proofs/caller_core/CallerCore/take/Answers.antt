@@ -3,7 +3,7 @@ use Rattle.std.proofs.lemmas.Option.{same_Some}
 use Rattle.std.proofs.lemmas.Result.{err_from_is_err_and}
 use Rattle.chord_map.specs.Map.{fits}
 use Rattle.chord_map.specs.declared.done.Done.{Done}
-use Rattle.chord_caller.specs.declared.submitted.Progress.TheVariants.{Pending}
+use Rattle.chord_caller.specs.declared.submitted.RequestProgress.TheVariants.{Pending}
 use Rattle.chord_caller.specs.declared.submitted.Submitted.{Submitted}
 use Rattle.chord_caller.specs.Caller.{Caller, with_reply}
 use Rattle.chord_caller.specs.Submitted.{submitted_at, is_over, AreTaken, IsFloor, Settles, request_of, submission_of, caller_of}

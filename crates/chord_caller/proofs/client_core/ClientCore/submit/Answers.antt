@@ -10,7 +10,7 @@ returns-clause-answer c = search rules
 pub returns-clause-callers : goal.returns-clause-callers
 returns-clause-callers c =
     submit_alike c.args.request c.args.self.now (Ok _) _
-    (ap (λ (client : Client). is_over (slice_get client.slots 0)) (sym c.self.view_is) ∙ c.self.invariant.next)
+    (ap (λ (client : Client). is_over (slice_get client.states 0)) (sym c.self.view_is) ∙ c.self.invariant.next)
     (returns-clause-answer c)
 
 pub returns-clause-step : goal.returns-clause-step

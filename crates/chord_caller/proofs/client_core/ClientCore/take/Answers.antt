@@ -43,33 +43,33 @@ returns-then-not-fits-clause-callers c = strange_alike c.args.told c.args.self.n
 pub returns-then-not-fits-clause-step : goal.returns-then-not-fits-clause-step
 returns-then-not-fits-clause-step c = take_simulates c.args.told c.args.self.now _ (λ (caller : Caller) (core : IsCoreOf c.args.self.now caller). (returns-then-not-fits-clause-callers c caller core).0)
 
-pub settle_slot-self-inside-requires-clause-above : goal.settle_slot-self-inside-requires-clause-above
-settle_slot-self-inside-requires-clause-above c =
+pub settle_state-self-inside-requires-clause-above : goal.settle_state-self-inside-requires-clause-above
+settle_state-self-inside-requires-clause-above c =
     let core = c.self.inside in
-    (waits_above core.floor core.slots.items c.args.told.number c.in-Some.request.now (sym c.in-Some.ensures)).0
+    (waits_above core.floor core.states.items c.args.told.number c.in-Some.request.now (sym c.in-Some.ensures)).0
 
-pub settle_slot-self-inside-requires-clause-within : goal.settle_slot-self-inside-requires-clause-within
-settle_slot-self-inside-requires-clause-within c =
+pub settle_state-self-inside-requires-clause-within : goal.settle_state-self-inside-requires-clause-within
+settle_state-self-inside-requires-clause-within c =
     let core = c.self.inside in
-    (waits_above core.floor core.slots.items c.args.told.number c.in-Some.request.now (sym c.in-Some.ensures)).1
+    (waits_above core.floor core.states.items c.args.told.number c.in-Some.request.now (sym c.in-Some.ensures)).1
 
 pub invariant_of-self : goal.invariant_of-self
 invariant_of-self c =
     let core = c.self.inside in
-    let after = c.settle_slot-self-inside in
-    settled_keeps core.window core.floor (deque_capacity core.slots) core.slots.items _ after.result (deque_capacity after.new.slots) after.new.slots.items c.self.invariant after.ensures.raised after.ensures.capacity
+    let after = c.settle_state-self-inside in
+    settled_keeps core.window core.floor (deque_capacity core.states) core.states.items _ after.result (deque_capacity after.new.states) after.new.states.items c.self.invariant after.ensures.raised after.ensures.capacity
 
 pub returns-clause-answer : goal.returns-clause-answer
 returns-clause-answer c =
     let core = c.self.inside in
-    let after = c.settle_slot-self-inside in
-    let settled = settled_from core.number core.window core.floor core.slots.items c.args.told.number c.in-Some.request.now after.result after.new.slots.items (sym c.in-Some.ensures) after.ensures.raised in
+    let after = c.settle_state-self-inside in
+    let settled = settled_from core.number core.window core.floor core.states.items c.args.told.number c.in-Some.request.now after.result after.new.states.items (sym c.in-Some.ensures) after.ensures.raised in
     let fit : fits c.args.told.reply c.in-Some.request.now ≡ true = search rules in (
       c.in-Some.request.now,
       c.if-told-self.false ∙ ap (λ (client : Client). client.number) c.self.view_is,
       fit,
       refl,
-      subst (λ (client : Client). IsEnded c.args.told.number c.in-Some.request.now client (client_of core.number core.window after.result after.new.slots.items)) c.self.view_is settled,
+      subst (λ (client : Client). IsEnded c.args.told.number c.in-Some.request.now client (client_of core.number core.window after.result after.new.states.items)) c.self.view_is settled,
     )
 
 pub returns-clause-callers : goal.returns-clause-callers

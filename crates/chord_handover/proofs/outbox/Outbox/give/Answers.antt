@@ -10,7 +10,7 @@ pub invariant_of-self-2 : goal.invariant_of-self-2
 invariant_of-self-2 c =
     let outbox = c.self.inside in
     let number = c.number_of-last.result + 1 in
-    let item : Item = record { to = c.args.to; number = number; segment = c.args.parcelled.segment; pairs = c.args.parcelled.pairs } in
+    let item : Item = record { to = c.args.to; number = number; segment = c.args.payload.segment; pairs = c.args.payload.pairs } in
     let marks = c.raise_mark.ensures.items ∙ ap (raise c.args.to number) c.reserve.ensures.items in
     let items = c.push_reserved.ensures.items ∙ ap (λ (all : List Item). all ++ item ∷ []) c.reserve-else-is_err.ensures.items in
     let last = c.number_of-last.ensures ∙ ap (mark_of c.args.to) c.deref.ensures.value in

@@ -7,13 +7,13 @@ use Rattle.chord_handover.proofs.taken.Taken.whole_with.Goals as goal
 
 pub returns-clause-made : goal.returns-clause-made
 returns-clause-made c =
-    subst (λ (noted : List Part). GatherIs c.args.part.now noted c.in_ok-made.made)
-    (c.deref.ensures.value ∙ ap (λ (taken : RoomyTaken). taken.taken.noted) c.self.view_is)
+    subst (λ (buffered : List Part). GatherIs c.args.part.now buffered c.in_ok-made.made)
+    (c.deref.ensures.value ∙ ap (λ (taken : RoomyTaken). taken.taken.buffered) c.self.view_is)
     c.in_ok-made.ensures.made
 
 pub returns-in_err-made-clause-whole : goal.returns-in_err-made-clause-whole
 returns-in_err-made-clause-whole c =
-    on_err c.from_residual.result (AreWhole c.args.part.now c.args.self.now.taken.noted)
-    (subst (λ (noted : List Part). AreWhole c.args.part.now noted)
-    (c.deref.ensures.value ∙ ap (λ (taken : RoomyTaken). taken.taken.noted) c.self.view_is)
+    on_err c.from_residual.result (AreWhole c.args.part.now c.args.self.now.taken.buffered)
+    (subst (λ (buffered : List Part). AreWhole c.args.part.now buffered)
+    (c.deref.ensures.value ∙ ap (λ (taken : RoomyTaken). taken.taken.buffered) c.self.view_is)
     c.in_err-made.ensures.whole)

@@ -1,7 +1,7 @@
 use Rattle.std.proofs.Common.{◌≡◌, subst}
 use Rattle.chord_live.proofs.Messages.{heard_full, heard_other}
-use Rattle.chord_running.specs.Begun.{WasNotToldFull, WasToldFull}
-use Rattle.chord_live.specs.declared.heard.Heard.TheVariants as heard
+use Rattle.chord_live_ring.specs.Begun.{WasNotToldFull, WasToldFull}
+use Rattle.chord_live.specs.declared.wait_event.WaitEvent.TheVariants as heard
 use Rattle.chord_table.specs.Views.{CallerSight}
 use Rattle.chord_live.proofs.caller.Caller.hear.Goals as goal
 
@@ -9,9 +9,9 @@ pub returns-in-Some-clause-full : goal.returns-in-Some-clause-full
 returns-in-Some-clause-full g c = λ some.
     let full : c.take.result ≡ heard.Full = cc in
     subst (λ (old : CallerSight). WasToldFull c.args.number old c.take.new.self) c.self.view_is
-    (heard_full c.args.number c.take.result c.in-Some.parcel c.self.inside.own c.take.new.self c.take.ensures.messages c.take.ensures.heard c.take.ensures.full full)
+    (heard_full c.args.number c.take.result c.in-Some.envelope c.self.inside.own c.take.new.self c.take.ensures.messages c.take.ensures.heard c.take.ensures.full full)
 
 pub returns-in-Some-clause-not_full : goal.returns-in-Some-clause-not_full
 returns-in-Some-clause-not_full g c = λ other.
     subst (λ (old : CallerSight). WasNotToldFull c.args.number old c.take.new.self) c.self.view_is
-    (heard_other c.args.number c.take.result c.in-Some.parcel c.self.inside.own c.take.new.self c.take.ensures.messages c.take.ensures.heard c.take.ensures.full (λ full. other (cc)))
+    (heard_other c.args.number c.take.result c.in-Some.envelope c.self.inside.own c.take.new.self c.take.ensures.messages c.take.ensures.heard c.take.ensures.full (λ full. other (cc)))

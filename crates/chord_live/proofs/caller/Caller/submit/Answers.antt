@@ -1,7 +1,7 @@
 use Rattle.std.proofs.Common.{subst}
 use Rattle.chord_caller.specs.Caller.{next_number}
-use Rattle.chord_running.proofs.Messages.{same_nothing, submitted_nothing}
-use Rattle.chord_running.specs.Begun.{WasNotToldFull}
+use Rattle.chord_live_ring.proofs.Messages.{same_nothing, submitted_nothing}
+use Rattle.chord_live_ring.specs.Begun.{WasNotToldFull}
 use Rattle.chord_table.specs.Views.{CallerSight}
 use Rattle.chord_live.proofs.caller.Caller.submit.Goals.{in-Ok, in-Err}
 use Rattle.chord_live.proofs.caller.Caller.submit.Goals as goal

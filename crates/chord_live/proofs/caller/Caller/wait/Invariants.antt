@@ -1,5 +1,5 @@
 use Rattle.chord_live.specs.Asking.{WaitsStill}
-use Rattle.chord_running.specs.Begun.{TookMessages, WasNotToldFull}
+use Rattle.chord_live_ring.specs.Begun.{TookMessages, WasNotToldFull}
 use Rattle.chord_live.proofs.caller.Caller.wait.Given as goal
 
 -- the request is pending as before; messages came, but no Full for it

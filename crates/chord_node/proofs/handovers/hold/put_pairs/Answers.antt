@@ -5,7 +5,7 @@ use Rattle.chord_model.specs.Stock.{IsClash}
 use Rattle.chord_node.specs.View.{segments_of}
 use Rattle.chord_node.proofs.Clear.{clash_is, clear_is}
 use Rattle.chord_node.proofs.Putting.{put_ok, put_full, put_memory}
-use Rattle.chord_model.proofs.Stocking.{vacant, parcel_inside, all_inside}
+use Rattle.chord_model.proofs.Stocking.{vacant, payload_inside, all_inside}
 use Rattle.chord_segment.specs.Segment.{Segment}
 use Rattle.chord_node.proofs.handovers.hold.put_pairs.Goals as goal
 
@@ -22,20 +22,20 @@ put_all-requires-clause-vacant g c =
 pub put_all-requires-clause-within : goal.put_all-requires-clause-within
 put_all-requires-clause-within g c =
     let at = c.span-span.ensures.value ∙ ap (λ (segment : Segment). segment.span) c.segment.ensures in
-    let parcelled = c.args.parcelled.now in
-    rw (at, c.pairs-pairs.ensures.value) (all_inside parcelled.segment.span parcelled.pairs (parcel_inside parcelled c.pairs-pairs.ensures.rules))
+    let payload = c.args.payload.now in
+    rw (at, c.pairs-pairs.ensures.value) (all_inside payload.segment.span payload.pairs (payload_inside payload c.pairs-pairs.ensures.rules))
 
 pub returns-in-Ok-clause-answer : goal.returns-in-Ok-clause-answer
 returns-in-Ok-clause-answer g c =
-    put_ok c.args.parcelled.now c.span-span.result c.pairs-pairs.result.now (segments_of c.args.held.now) _ _ _ (c.span-span.ensures.value ∙ ap (λ (segment : Segment). segment.span) c.segment.ensures) c.pairs-pairs.ensures.value
+    put_ok c.args.payload.now c.span-span.result c.pairs-pairs.result.now (segments_of c.args.held.now) _ _ _ (c.span-span.ensures.value ∙ ap (λ (segment : Segment). segment.span) c.segment.ensures) c.pairs-pairs.ensures.value
     (clear_is c.span-span.result c.args.held.now (λ any. not_both c.meets_any.result (c.meets_any.ensures.1 any) c.if-meets_any.false)) c.in-Ok.ensures.answer
 
 pub returns-in-Err-Full-clause-answer : goal.returns-in-Err-Full-clause-answer
 returns-in-Err-Full-clause-answer g c =
-    put_full c.args.parcelled.now c.span-span.result c.pairs-pairs.result.now (segments_of c.args.held.now) _ _ _ (c.span-span.ensures.value ∙ ap (λ (segment : Segment). segment.span) c.segment.ensures) c.pairs-pairs.ensures.value
+    put_full c.args.payload.now c.span-span.result c.pairs-pairs.result.now (segments_of c.args.held.now) _ _ _ (c.span-span.ensures.value ∙ ap (λ (segment : Segment). segment.span) c.segment.ensures) c.pairs-pairs.ensures.value
     (clear_is c.span-span.result c.args.held.now (λ any. not_both c.meets_any.result (c.meets_any.ensures.1 any) c.if-meets_any.false)) (rw c.in-Err-Full.field-0-is at c.in-Err-Full.ensures.answer)
 
 pub returns-in-Err-Memory-clause-answer : goal.returns-in-Err-Memory-clause-answer
 returns-in-Err-Memory-clause-answer g c =
-    put_memory c.args.parcelled.now c.span-span.result c.pairs-pairs.result.now (segments_of c.args.held.now) _ _ _ (c.span-span.ensures.value ∙ ap (λ (segment : Segment). segment.span) c.segment.ensures) c.pairs-pairs.ensures.value
+    put_memory c.args.payload.now c.span-span.result c.pairs-pairs.result.now (segments_of c.args.held.now) _ _ _ (c.span-span.ensures.value ∙ ap (λ (segment : Segment). segment.span) c.segment.ensures) c.pairs-pairs.ensures.value
     (clear_is c.span-span.result c.args.held.now (λ any. not_both c.meets_any.result (c.meets_any.ensures.1 any) c.if-meets_any.false)) (rw c.in-Err-Memory.field-0-is at c.in-Err-Memory.ensures.answer)

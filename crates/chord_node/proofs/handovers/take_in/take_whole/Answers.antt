@@ -23,6 +23,6 @@ pub returns-clause-stocked : goal.returns-clause-stocked
 returns-clause-stocked g c =
     let held = c.args.held.now.items in
     let put = c.in-Ok.ensures.answer in
-    let more = held_more held _ c.push_reserved.new.self.items _ c.args.parcelled.segment c.push_reserved.ensures.items c.in-Ok.ensures.held c.into_parts-segment.ensures.segment in
-    let stock = stocked_more (segments_of held) c.args.parcelled (g.S.EntryStore.content c.args.store.now) c.in-Ok.ensures.parcel put.0 c.requires.stocked in
-    subst (λ (hs : List Segment). IsStocked hs (g.S.EntryStore.content c.make_held.new.store)) (sym more) (subst (λ (ps : List Pair). IsStocked (segments_of held ++ c.args.parcelled.segment ∷ []) ps) (sym put.2) stock)
+    let more = held_more held _ c.push_reserved.new.self.items _ c.args.payload.segment c.push_reserved.ensures.items c.in-Ok.ensures.held c.into_parts-segment.ensures.segment in
+    let stock = stocked_more (segments_of held) c.args.payload (g.S.EntryStore.content c.args.store.now) c.in-Ok.ensures.payload put.0 c.requires.stocked in
+    subst (λ (hs : List Segment). IsStocked hs (g.S.EntryStore.content c.make_held.new.store)) (sym more) (subst (λ (ps : List Pair). IsStocked (segments_of held ++ c.args.payload.segment ∷ []) ps) (sym put.2) stock)

@@ -3,7 +3,7 @@ use Rattle.std.specs.Prelude.{position}
 use Rattle.chord_segment.specs.Segment.{id_of}
 use Rattle.std.specs.Option.{option_copied_mut}
 use Rattle.chord_node.specs.View.{entries_in, limit_in}
-use Rattle.chord_node.proofs.Asking.{has, asked_at, asked_past, asked_steps_noting, holds_here, place_from, find_from}
+use Rattle.chord_node.proofs.Asking.{has, asked_at, asked_past, asked_steps_recording, holds_here, place_from, find_from}
 use Rattle.chord_model.specs.Node.{Node}
 use Rattle.chord_model.specs.Stock.{IsStocked}
 use Rattle.chord_node.proofs.StockedAsks.{asked_stocked}
@@ -16,7 +16,7 @@ returns-in_default-clause-answer g c =
     asked_past c.args.ask false _ _ c.self.view_is held c.pass_taken.result refl (find_from (id_of c.args.ask.request) held (sym at ∙ c.in_default.is)) c.pass_taken.ensures
 
 pub returns-in_default-clause-step : goal.returns-in_default-clause-step
-returns-in_default-clause-step g c = asked_steps_noting c.args.ask false c.args.self.now (Ok (c.pass_taken.result, None)) c.args.self.now (returns-in_default-clause-answer g c)
+returns-in_default-clause-step g c = asked_steps_recording c.args.ask false c.args.self.now (Ok (c.pass_taken.result, None)) c.args.self.now (returns-in_default-clause-answer g c)
 
 pub answer_taken-requires : goal.answer_taken-requires
 answer_taken-requires g c =
@@ -49,7 +49,7 @@ invariant_of-self g c =
     }
 
 pub returns-clause-step : goal.returns-clause-step
-returns-clause-step g c = asked_steps_noting c.args.ask false c.args.self.now c.answer_taken.result _ (returns-clause-answer g c)
+returns-clause-step g c = asked_steps_recording c.args.ask false c.args.self.now c.answer_taken.result _ (returns-clause-answer g c)
 
 pub returns-clause-holds : goal.returns-clause-holds
 returns-clause-holds g c =

@@ -8,5 +8,5 @@ pub invariant_of-result : goal.invariant_of-result
 invariant_of-result g c = record {
   stocked = stocked_vacant _ _ c.requires.vacant;
   stored = tt;
-  own = ap (λ (outbox : Outbox). outbox.owner) c.new-outbox.ensures ∙ ap (λ (links : NodeLinks). links.me.no) (sym c.alone.ensures);
+  own = ap (λ (outbox : Outbox). outbox.owner) c.new-outbox.ensures ∙ ap (λ (links : NodeLinks). links.me.number) (sym c.alone.ensures);
 }

@@ -8,5 +8,5 @@ pub invariant_of-result : goal.invariant_of-result
 invariant_of-result g c = record {
   stocked = stocked_vacant _ _ c.requires;
   stored = tt;
-  own = ap (λ (outbox : Outbox). outbox.owner) c.new-outbox.ensures ∙ ap (λ (peer : Peer). peer.no) c.me.ensures;
+  own = ap (λ (outbox : Outbox). outbox.owner) c.new-outbox.ensures ∙ ap (λ (peer : Peer). peer.number) c.me.ensures;
 }

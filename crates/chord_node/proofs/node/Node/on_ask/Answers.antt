@@ -4,7 +4,7 @@ use Rattle.chord_ident.specs.Circle.{key_id}
 use Rattle.chord_segment.specs.Segment.{id_of}
 use Rattle.std.specs.Option.{option_copied_mut}
 use Rattle.chord_node.specs.View.{entries_in, limit_in}
-use Rattle.chord_node.proofs.Asking.{has, asked_at, asked_no_further, asked_past, asked_steps_noting, place_from, find_from}
+use Rattle.chord_node.proofs.Asking.{has, asked_at, asked_no_further, asked_past, asked_steps_recording, place_from, find_from}
 use Rattle.chord_model.specs.Node.{Node}
 use Rattle.chord_model.specs.Stock.{IsStocked}
 use Rattle.chord_node.proofs.StockedAsks.{asked_stocked}
@@ -21,7 +21,7 @@ returns-in-Ok-clause-answer g c =
     asked_past c.args.ask.now true _ _ c.self.view_is held c.in-Ok.passed refl (find_from (id_of c.args.ask.now.request) held (sym at ∙ c.in_default.is)) c.in-Ok.ensures.passed
 
 pub returns-in-Ok-clause-step : goal.returns-in-Ok-clause-step
-returns-in-Ok-clause-step g c = asked_steps_noting c.args.ask.now true c.args.self.now (Ok (c.in-Ok.passed, None)) c.args.self.now (returns-in-Ok-clause-answer g c)
+returns-in-Ok-clause-step g c = asked_steps_recording c.args.ask.now true c.args.self.now (Ok (c.in-Ok.passed, None)) c.args.self.now (returns-in-Ok-clause-answer g c)
 
 pub returns-in-Err-clause-answer : goal.returns-in-Err-clause-answer
 returns-in-Err-clause-answer g c =
@@ -64,4 +64,4 @@ invariant_of-self g c =
     }
 
 pub returns-clause-step : goal.returns-clause-step
-returns-clause-step g c = asked_steps_noting c.args.ask.now true c.args.self.now c.answer_in.result _ (returns-clause-answer g c)
+returns-clause-step g c = asked_steps_recording c.args.ask.now true c.args.self.now c.answer_in.result _ (returns-clause-answer g c)

@@ -1,7 +1,7 @@
 use Rattle.std.proofs.Common.{◌≡◌, ◌≢◌, ◌+◌, Some, Ok, ap, ◌∙◌, subst, rules}
 use Rattle.std.specs.Option.{option_copied_mut}
 use Rattle.chord_segment.specs.Marks.{mark_of}
-use Rattle.chord_node.specs.declared.handovers.given.Given.TheVariants.{Got, Declined, Early}
+use Rattle.chord_node.specs.declared.handovers.part_answer.PartAnswer.TheVariants.{Got, Declined, Early}
 use Rattle.chord_model.specs.declared.phase.Phase.TheVariants.{Gone}
 use Rattle.chord_node.specs.Received.{NextIs}
 use Rattle.chord_node.specs.View.{segments_of, entries_in, limit_in}

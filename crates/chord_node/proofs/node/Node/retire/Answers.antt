@@ -20,7 +20,7 @@ returns-clause-answer g c =
     let none : c.self.inside.held.items ≡ [] = nil_by c.self.inside.held.items (grind (arith, nat_tests)) in
     let gives : c.self.inside.outbox.outbox.items ≡ [] = search rules in
     let entries = nothing_stocked (entries_in g.S.EntryStore.content c.self.inside.store) (subst (λ (held : List Segment). IsStocked held (entries_in g.S.EntryStore.content c.self.inside.store)) (ap segments_of none) c.self.invariant.stocked) in
-    retired _ c.args.self.now c.self.view_is c.forget_noted.new.self.taken leaving (ap segments_of none) gives entries c.forget_noted.ensures
+    retired _ c.args.self.now c.self.view_is c.forget_buffered.new.self.taken leaving (ap segments_of none) gives entries c.forget_buffered.ensures
 
 pub returns-clause-step : goal.returns-clause-step
 returns-clause-step g c = retire_steps c.args.self.now (Ok tt) _ (returns-clause-answer g c)

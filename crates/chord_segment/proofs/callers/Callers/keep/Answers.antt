@@ -1,6 +1,6 @@
 use Rattle.std.proofs.Common.{◌≤◌, List, [], ◌∷◌, refl, ap, sym, subst, ◌∙◌}
 use Rattle.chord_segment.specs.Marks.{lift}
-use Rattle.chord_segment.specs.Segment.{placed, placed_all, above}
+use Rattle.chord_segment.specs.Segment.{insert_call, insert_calls, calls_above}
 use Rattle.chord_segment.specs.Callers.{OfCaller, IsOwnAt, HasRoom, AreAbove, marks_in, calls_in}
 use Rattle.chord_segment.proofs.Keeping.{took_at}
 use Rattle.chord_segment.proofs.Rooms.{no_room, room_at}
@@ -31,9 +31,9 @@ returns-clause-floors c =
     ∙ ap (λ (ys : List OfCaller). lift c.args.done.caller c.args.floor (marks_in ys)) c.self.view_is
 
 pub returns-clause-calls : goal.returns-clause-calls
-unfolding placed_all
+unfolding insert_calls
 returns-clause-calls c =
     let at = subst (λ (ys : List OfCaller). IsOwnAt c.args.done.caller ys c.in-Ok.place) (sym c.self.view_is) c.in-Ok.ensures.found in
     (took_at c.args.done.caller c.args.floor (c.args.done ∷ []) c.self.inside.entries.items c.in-Ok.place c.index_mut.result.now c.keep.new.self c.self.invariant at
     c.index_mut.ensures.value (refl, tt) (subst AreAbove (sym c.self.view_is) c.requires.above) c.keep.ensures.caller c.keep.ensures.floor c.keep.ensures.shown c.keep.ensures.kept).calls
-    ∙ ap (λ (ys : List OfCaller). above (lift c.args.done.caller c.args.floor (marks_in ys)) (placed c.args.done (calls_in ys))) c.self.view_is
+    ∙ ap (λ (ys : List OfCaller). calls_above (lift c.args.done.caller c.args.floor (marks_in ys)) (insert_call c.args.done (calls_in ys))) c.self.view_is

@@ -1,5 +1,5 @@
 use Rattle.std.proofs.Common.{◌≡◌, ℕ, ◌≤◌, List, get_or, ap, sym, subst, ◌∙◌, arith}
-use Rattle.chord_segment.specs.Callers.{OfCaller, IsOwn, IsOwnAt, HasRoom, mark_in, marks_in, calls_in, bare}
+use Rattle.chord_segment.specs.Callers.{OfCaller, IsOwn, IsOwnAt, HasRoom, mark_in, marks_in, calls_in, without_room}
 use Rattle.chord_segment.proofs.Bare.{own_same}
 use Rattle.chord_segment.proofs.Grouped.{each_at, owned, grouped-set, marks_set_same, calls_set_same}
 use Rattle.chord_segment.proofs.Rooms.{no_room, room_at, room_set, keeps_set, on_ok}
@@ -17,7 +17,7 @@ invariant_of-self c =
     let here : OfCaller = get_or xs c.in-Ok.place own in
     let o : IsOwn here = each_at IsOwn xs c.in-Ok.place own (owned xs c.self.invariant) at.in_range in
     grouped-set xs c.in-Ok.place own new c.self.invariant at.in_range (sym (f.caller ∙ ap (λ (k : OfCaller). k.caller) is))
-    (own_same new here (bare_is new own f.caller f.floor f.kept f.shown ∙ ap bare is) o)
+    (own_same new here (bare_is new own f.caller f.floor f.kept f.shown ∙ ap without_room is) o)
 
 pub returns-in-Ok-clause-floors : goal.returns-in-Ok-clause-floors
 returns-in-Ok-clause-floors c =

@@ -1,7 +1,7 @@
 use Rattle.std.proofs.Common.{◌≡◌, ◌≤◌, ℕ, true, List, get_or, set, length, ap, sym, subst, ◌∙◌}
 use Rattle.chord_segment.specs.declared.mark.Mark.{Mark}
 use Rattle.chord_segment.specs.Marks.{lift}
-use Rattle.chord_segment.specs.Segment.{placed_all, above}
+use Rattle.chord_segment.specs.Segment.{insert_calls, calls_above}
 use Rattle.chord_segment.specs.Callers.{OfCaller, IsOwnAt, HasRoom, AreAbove, marks_in, calls_in}
 use Rattle.chord_segment.proofs.Keeping.{Took, took_at}
 use Rattle.chord_segment.proofs.Merging.{lift_shown, marks_hidden, calls_hidden}
@@ -17,7 +17,7 @@ returns-then-not-is_shown-clause-calls c =
     let calls = calls_in c.args.self.now in
     let e = sym c.is_shown.ensures ∙ c.if-not-is_shown.true in
     calls_hidden c.args.other marks calls c.requires.own e c.requires.above
-    ∙ ap (λ (ms : List Mark). above ms (placed_all c.args.other.kept calls)) (sym (marks_hidden c.args.other marks e))
+    ∙ ap (λ (ms : List Mark). calls_above ms (insert_calls c.args.other.kept calls)) (sym (marks_hidden c.args.other marks e))
 
 pub take-requires : goal.take-requires
 take-requires c =
@@ -57,8 +57,8 @@ returns-clause-calls c =
     let took : Took c.args.other.caller c.args.other.floor c.args.other.kept c.self.inside.entries.items _ =
     (took_at c.args.other.caller c.args.other.floor c.args.other.kept c.self.inside.entries.items c.in-Ok.place c.index_mut.result.now c.take.new.self c.self.invariant at
     c.index_mut.ensures.value c.requires.own.own_calls (subst AreAbove (sym c.self.view_is) c.requires.above) c.take.ensures.caller c.take.ensures.floor c.take.ensures.shown c.take.ensures.kept) in
-    took.calls ∙ ap (λ (ms : List Mark). above ms (placed_all c.args.other.kept (calls_in c.self.inside.entries.items))) (sym took.floors)
-    ∙ ap (λ (ys : List OfCaller). above (marks_in (set c.self.inside.entries.items c.in-Ok.place c.take.new.self)) (placed_all c.args.other.kept (calls_in ys))) c.self.view_is
+    took.calls ∙ ap (λ (ms : List Mark). calls_above ms (insert_calls c.args.other.kept (calls_in c.self.inside.entries.items))) (sym took.floors)
+    ∙ ap (λ (ys : List OfCaller). calls_above (marks_in (set c.self.inside.entries.items c.in-Ok.place c.take.new.self)) (insert_calls c.args.other.kept (calls_in ys))) c.self.view_is
 
 pub returns-clause-room : goal.returns-clause-room
 returns-clause-room c = λ (caller room : ℕ) apart h.

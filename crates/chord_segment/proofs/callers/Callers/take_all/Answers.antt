@@ -4,7 +4,7 @@ use Rattle.chord_map.specs.declared.done.Done.{Done}
 use Rattle.chord_map.proofs.Each.{Each}
 use Rattle.chord_segment.specs.declared.mark.Mark.{Mark}
 use Rattle.chord_segment.specs.Marks.{mark_of, lift_all}
-use Rattle.chord_segment.specs.Segment.{placed_all}
+use Rattle.chord_segment.specs.Segment.{insert_calls}
 use Rattle.chord_segment.specs.Callers.{OfCaller, IsGrouped, HasRoomFor, mark_in, marks_in, calls_in}
 use Rattle.chord_segment.proofs.Lifting.{lift_all_grows}
 use Rattle.chord_segment.proofs.Merging.{rising, marks_more, calls_more, are_above, all_above}
@@ -12,7 +12,7 @@ use Rattle.chord_segment.proofs.Rooms.{room_rest}
 use Rattle.chord_segment.proofs.callers.Callers.take_all.Goals as goal
 
 pub loop-own-init : goal.loop-own-init
-unfolding lift_all placed_all
+unfolding lift_all insert_calls
 loop-own-init c =
     let it = c.into_iter-own-iterator.result in
     let is : into_iter_items it ≡ c.other.inside.entries.items = search rules in
@@ -44,6 +44,6 @@ loop-own-preserved c =
       calls = calls_more (calls_in c.args.self.now) at.yielded x (marks_in at.self) (marks_in new) (calls_in at.self) (calls_in new) (rising c.args.self.now first)
           (λ (owner : ℕ). subst (λ (ms : List Mark). mark_of owner (marks_in at.self) ≤ mark_of owner ms) (sym c.take.ensures.floors) (lift_all_grows owner (mark_in x) (marks_in at.self)))
           at.invariant.calls c.take.ensures.calls;
-      above = subst (λ (ds : List Done). Each (λ (done : Done). mark_of done.caller (marks_in new) < done.number) ds) (sym c.take.ensures.calls) (are_above (marks_in new) (placed_all x.kept (calls_in at.self)));
+      above = subst (λ (ds : List Done). Each (λ (done : Done). mark_of done.caller (marks_in new) < done.number) ds) (sym c.take.ensures.calls) (are_above (marks_in new) (insert_calls x.kept (calls_in at.self)));
       room = room_rest x.caller rest at.self new grouped.1 c.take.ensures.room room.1;
     }

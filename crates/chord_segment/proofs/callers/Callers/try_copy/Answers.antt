@@ -1,6 +1,6 @@
 use Rattle.std.proofs.Common.{List, ◌+◌, take, ap, sym, subst, ◌∙◌}
 use Rattle.std.proofs.lemmas.List.{take_all}
-use Rattle.chord_segment.specs.Callers.{OfCaller, bare, marks_in, calls_in}
+use Rattle.chord_segment.specs.Callers.{OfCaller, without_room, marks_in, calls_in}
 use Rattle.chord_segment.proofs.Bare.{AreSame, same_next, same_marks, same_calls, same_grouped}
 use Rattle.chord_segment.proofs.callers.Callers.try_copy.Goals as goal
 
@@ -10,7 +10,7 @@ loop-own-preserved c =
     let i = c.loop-own.own-index in
     let own = c.own-item.result in
     subst (λ (zs : List OfCaller). AreSame zs (take (i + 1) ys)) (sym c.in_ok-push.ensures.items)
-    (same_next c.loop-own.entries.items ys i own c.in_ok-try_copy.field-0 c.loop-own.invariant c.loop-own-test.true (c.in_ok-try_copy.ensures ∙ ap bare c.own-item.is))
+    (same_next c.loop-own.entries.items ys i own c.in_ok-try_copy.field-0 c.loop-own.invariant c.loop-own-test.true (c.in_ok-try_copy.ensures ∙ ap without_room c.own-item.is))
 
 pub invariant_of-result : goal.invariant_of-result
 invariant_of-result c =

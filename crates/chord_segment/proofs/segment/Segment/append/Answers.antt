@@ -3,7 +3,7 @@ use Rattle.chord_map.specs.declared.done.Done.{Done}
 use Rattle.chord_segment.specs.declared.mark.Mark.{Mark}
 use Rattle.chord_segment.specs.Marks.{lift}
 use Rattle.chord_segment.specs.Rules.{IsSegment}
-use Rattle.chord_segment.specs.Segment.{Segment, RoomySegment, append, above, placed}
+use Rattle.chord_segment.specs.Segment.{Segment, RoomySegment, append, calls_above, insert_call}
 use Rattle.chord_segment.specs.Callers.{marks_in, calls_in}
 use Rattle.chord_segment.proofs.SegmentRules.{append-rules}
 use Rattle.chord_segment.proofs.Parting.{segment_is}
@@ -35,8 +35,8 @@ invariant_of-self-2 c =
     let done = c.args.done in
     let floor = c.args.floor in
     let floors : marks_in new ≡ lift done.caller floor (marks_in old) = c.keep.ensures.floors ∙ ap (lift done.caller floor) c.reserve.ensures.floors in
-    let calls : calls_in new ≡ above (lift done.caller floor (marks_in old)) (placed done (calls_in old)) =
-    c.keep.ensures.calls ∙ ap₂ (λ (ms : List Mark) (ds : List Done). above (lift done.caller floor ms) (placed done ds)) c.reserve.ensures.floors c.reserve.ensures.calls in
+    let calls : calls_in new ≡ calls_above (lift done.caller floor (marks_in old)) (insert_call done (calls_in old)) =
+    c.keep.ensures.calls ∙ ap₂ (λ (ms : List Mark) (ds : List Done). calls_above (lift done.caller floor ms) (insert_call done ds)) c.reserve.ensures.floors c.reserve.ensures.calls in
     let was : Segment = record { span = span; floors = marks_in old; kept = calls_in old } in
     let is : ◌≡◌ {A = Segment} (record { span = span; floors = marks_in new; kept = calls_in new }) (append done floor was) = segment_is span span _ _ _ _ refl floors calls in
     let known : was ≡ c.args.self.now.segment = ap (λ (s : RoomySegment). s.segment) c.self.view_is in
@@ -56,8 +56,8 @@ returns-clause-ok c =
     let done = c.args.done in
     let floor = c.args.floor in
     let floors : marks_in new ≡ lift done.caller floor (marks_in old) = c.keep.ensures.floors ∙ ap (lift done.caller floor) c.reserve.ensures.floors in
-    let calls : calls_in new ≡ above (lift done.caller floor (marks_in old)) (placed done (calls_in old)) =
-    c.keep.ensures.calls ∙ ap₂ (λ (ms : List Mark) (ds : List Done). above (lift done.caller floor ms) (placed done ds)) c.reserve.ensures.floors c.reserve.ensures.calls in
+    let calls : calls_in new ≡ calls_above (lift done.caller floor (marks_in old)) (insert_call done (calls_in old)) =
+    c.keep.ensures.calls ∙ ap₂ (λ (ms : List Mark) (ds : List Done). calls_above (lift done.caller floor ms) (insert_call done ds)) c.reserve.ensures.floors c.reserve.ensures.calls in
     let was : Segment = record { span = span; floors = marks_in old; kept = calls_in old } in
     let is : ◌≡◌ {A = Segment} (record { span = span; floors = marks_in new; kept = calls_in new }) (append done floor was) = segment_is span span _ _ _ _ refl floors calls in
     let known : was ≡ c.args.self.now.segment = ap (λ (s : RoomySegment). s.segment) c.self.view_is in

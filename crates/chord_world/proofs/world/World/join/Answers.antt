@@ -34,14 +34,14 @@ invariant_of-self-2 g c =
     let view : WorldState = state_of c.self.inside in
     let pushed = c.add_node.ensures.nodes ∙ ap (λ ns. ns ++ c.newborn-node.result ∷ []) c.room_for_node.ensures.nodes ∙ ap (λ n. view.world.nodes ++ n ∷ []) c.newborn-node.ensures in
     let flagged = c.add_node.ensures.crashed ∙ ap (λ fs. fs ++ false ∷ []) c.room_for_node.ensures.crashed in
-    (can_join_at c.args.id c.args.behind _ (map g.S.EntryStore.limit c.args.stores.now.items) c.len-no.result c.in_ok-links.links view c.args.self.now _ _ c.self.view_is c.self.invariant c.in_ok-links.ensures (omega arith) pushed flagged).after.world
+    (can_join_at c.args.id c.args.behind _ (map g.S.EntryStore.limit c.args.stores.now.items) c.len-number.result c.in_ok-links.links view c.args.self.now _ _ c.self.view_is c.self.invariant c.in_ok-links.ensures (omega arith) pushed flagged).after.world
 
 pub returns : goal.returns
 returns g c =
     let view : WorldState = state_of c.self.inside in
     let pushed = c.add_node.ensures.nodes ∙ ap (λ ns. ns ++ c.newborn-node.result ∷ []) c.room_for_node.ensures.nodes ∙ ap (λ n. view.world.nodes ++ n ∷ []) c.newborn-node.ensures in
     let flagged = c.add_node.ensures.crashed ∙ ap (λ fs. fs ++ false ∷ []) c.room_for_node.ensures.crashed in
-    let after = can_join_at c.args.id c.args.behind _ (map g.S.EntryStore.limit c.args.stores.now.items) c.len-no.result c.in_ok-links.links view c.args.self.now _ _ c.self.view_is c.self.invariant c.in_ok-links.ensures (omega arith) pushed flagged in
+    let after = can_join_at c.args.id c.args.behind _ (map g.S.EntryStore.limit c.args.stores.now.items) c.len-number.result c.in_ok-links.links view c.args.self.now _ _ c.self.view_is c.self.invariant c.in_ok-links.ensures (omega arith) pushed flagged in
     let some = some_first g.S.EntryStore.limit c.args.stores.now.items c.in_ok-links.ensures.stocked in record {
       answer = (g.S.EntryStore.limit c.remove-store.result, limit_first g.S.EntryStore.limit c.args.stores.now.items c.remove-store.result some c.remove-store.ensures.value, after.joins);
       step = after.after.step;

@@ -22,24 +22,24 @@ pub returns-then-is_empty-2 : goal.returns-then-is_empty-2
 returns-then-is_empty-2 g c =
     let view : WorldState = state_of c.self.inside in
     let empty = none_in c.args.stores.now.items (let zero = is_zero _ c.if-is_empty-2.ensures in omega arith) in
-    (ap is_some (sym c.in-Some.ensures), unused_is c.args.id.number view c.args.self.now _ _ c.self.view_is c.deref.ensures.value c.is_used.ensures.no c.if-is_used.false, ap (map g.S.EntryStore.limit) empty)
+    (ap is_some (sym c.in-Some.ensures), unused_is c.args.id.number view c.args.self.now _ _ c.self.view_is c.deref.ensures.value c.is_used.ensures.number c.if-is_used.false, ap (map g.S.EntryStore.limit) empty)
 
 pub returns-in_default-join_behind : goal.returns-in_default-join_behind
 returns-in_default-join_behind g c =
     let view : WorldState = state_of c.self.inside in
     let some : 0 < length c.args.stores.now.items = (let many = not_zero _ c.if-is_empty-2.ensures in omega arith) in
     let apart : ¬ (IsBetween c.in-Some.pred.me.id.number c.args.id.number (first_entry c.in-Some.pred).id.number) = search rules in
-    ((c.in-Some.pred, sym c.in-Some.ensures, unused_is c.args.id.number view c.args.self.now _ _ c.self.view_is c.deref.ensures.value c.is_used.ensures.no c.if-is_used.false, apart), map_some g.S.EntryStore.limit c.args.stores.now.items some)
+    ((c.in-Some.pred, sym c.in-Some.ensures, unused_is c.args.id.number view c.args.self.now _ _ c.self.view_is c.deref.ensures.value c.is_used.ensures.number c.if-is_used.false, apart), map_some g.S.EntryStore.limit c.args.stores.now.items some)
 
 pub returns : goal.returns
 returns g c =
     let view : WorldState = state_of c.self.inside in
     let some : 0 < length c.args.stores.now.items = (let many = not_zero _ c.if-is_empty-2.ensures in omega arith) in
-    can_join c.args.id c.args.behind (map g.S.EntryStore.limit c.args.stores.now.items) c.len-no.result c.in-Some.pred c.in-Ok.links view c.args.self.now c.self.view_is
+    can_join c.args.id c.args.behind (map g.S.EntryStore.limit c.args.stores.now.items) c.len-number.result c.in-Some.pred c.in-Ok.links view c.args.self.now c.self.view_is
     (record {
       is_its = sym c.in-Some.ensures;
       is_id = omega arith;
-      is_unused = unused_is c.args.id.number view c.args.self.now _ _ c.self.view_is c.deref.ensures.value c.is_used.ensures.no c.if-is_used.false;
+      is_unused = unused_is c.args.id.number view c.args.self.now _ _ c.self.view_is c.deref.ensures.value c.is_used.ensures.number c.if-is_used.false;
       is_between = c.in-Ok.ensures.variant.0 refl;
     })
     (omega arith) c.in-Ok.ensures.ok (map_some g.S.EntryStore.limit c.args.stores.now.items some)

@@ -1,6 +1,6 @@
 use Rattle.std.proofs.Common.{None, ◌<◌, inl, inr, length, refl, sym, ◌∙◌, ap, arith}
 use Rattle.std.specs.Prelude.{is_some}
-use Rattle.chord_node.specs.declared.fault.ResendFault.TheVariants.{Memory}
+use Rattle.chord_node.specs.declared.fault.ResendPartFault.TheVariants.{Memory}
 use Rattle.chord_model.specs.declared.message.Message.TheVariants.{Part as PartMessage}
 use Rattle.chord_world.specs.Handing.{Resends}
 use Rattle.chord_world.specs.View.{state_of}

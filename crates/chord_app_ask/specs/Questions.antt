@@ -1,0 +1,27 @@
+-- Requests that may change something, and how often they are sent. Source: our own.
+use Rattle.std.specs.Prelude.{◌≡◌, ℕ, Bool, true, false, not, ◌&&◌, ◌||◌, ◌==◌, nat_le, if◌then◌else◌, Option, Some, None}
+use Rattle.chord_map.specs.declared.request.Request.{Request}
+use Rattle.chord_map.specs.declared.request.Request.TheVariants.{Insert, Retrieve, Remove}
+use Rattle.chord_app_ask.specs.declared.ask.outcome.AskOutcome.{AskOutcome}
+use Rattle.chord_app_ask.specs.declared.ask.outcome.AskOutcome.TheVariants.{Lost}
+
+-- inserts and removes
+abbrev pub may_change : Request → Bool
+may_change (Insert key value) = true
+may_change (Retrieve key) = false
+may_change (Remove key value) = true
+
+-- An insert or a remove with no outcome was never sent, or has its number on the connection that is
+-- open now.
+abbrev pub IsSentOnce : Request → Option ℕ → ℕ → Option AskOutcome → Type 0
+IsSentOnce request number times outcome = may_change request ≡ true → outcome ≡ None → number ≡ None → times ≡ 0
+
+-- Once its connection ended, a request with no answer is given up if it has no tries left, or if it
+-- was sent and may have changed something.
+abbrev pub is_lost : Request → ℕ → ℕ → Bool
+is_lost request times tries = nat_le tries times || (not (times == 0) && may_change request)
+
+-- the outcome once the connection ended
+abbrev pub outcome_after_loss : Request → ℕ → ℕ → Option AskOutcome → Option AskOutcome
+outcome_after_loss request times tries None = if is_lost request times tries then Some Lost else None
+outcome_after_loss request times tries (Some outcome) = Some outcome

@@ -1,0 +1,19 @@
+//! Clients of a server over loopback: the command `ask`, which asks requests one after another, and
+//! the command `load`, which asks many over several connections and reports how long they took.
+#![tactic(auto)]
+
+mod ask;
+mod load;
+mod telling;
+
+pub use ask::command::{ask_command, client_options_of, start_ask};
+pub use ask::input::{ask_lines, ask_one};
+pub use ask::line::{read_line, read_words};
+pub use ask::link::ClientOptions;
+pub use ask::outcome::AskOutcome;
+pub use load::bounds::{Kind, Load, Until};
+pub use load::command::{load_command, load_of, start_load};
+pub use load::histogram::{Bucket, Histogram};
+pub use load::report::Report;
+pub use load::running::run_load;
+pub use telling::{fault_of, print_fault};

@@ -1,0 +1,128 @@
+//! How long requests took, counted in a fixed number of buckets.
+ghost use Rattle.std.specs.Prelude.{◌≡◌, ◌≤◌, ◌<◌, ◌+◌, ◌*◌, ◌/◌, ◌%◌, ◌^◌, IfOk, IfSome, None, length};
+ghost use Rattle.chord_app_ask.specs.Recorded.{value_count};
+ghost use Rattle.chord_app_ask.specs.Histogram.{bound, bucket_of, rank_of, IsNew, IsLeast, RecordIs, PercentileIs};
+
+use std::alloc::{AllocError, Global};
+use std::marker::Model;
+
+/// 32 buckets of one value each, and then 16 for each doubling up to 2^64.
+const BUCKETS: usize = 976;
+
+/// How many values are at or below its bound, and above the bound before.
+#[derive(Clone, Copy, Debug)]
+pub struct Bucket {
+    pub bound: u64,
+    pub count: u64,
+}
+
+#[derive(Debug, Drop)]
+pub struct Histogram {
+    buckets: Vec<Bucket>,
+    total: u64,
+}
+
+impl Model for Histogram {
+    ghost use Rattle.std.specs.Prelude.{◌≡◌, List};
+    ghost use Rattle.chord_app_ask.specs.declared.load.histogram.Bucket.{Bucket};
+    ghost use Rattle.chord_app_ask.specs.Recorded.{value_count};
+
+    ghost Value = { List Bucket };
+
+    ghost view = { λ h. h.buckets.items };
+
+    ghost invariant = { λ h. h.total ≡ value_count h.buckets.items };
+}
+
+// The greatest value in a bucket.
+fn bound(place: usize) -> u64
+    requires { place < 976 }
+    ensures { result ≡ bound place }
+{
+    if place < 32 {
+        return place as u64;
+    }
+    let scale = 2u64.pow((place / 16 - 1) as u32);
+    (place % 16 + 16) as u64 * scale + (scale - 1)
+}
+
+// The first bucket whose bound is not below the value.
+fn bucket_of(value: u64, buckets: &[Bucket]) -> Option<usize>
+    ensures place { result ≡ bucket_of value buckets.now }
+    ensures bound { IfSome result (λ place. place < length buckets.now) }
+{
+    buckets.iter().position(|bucket| value <= bucket.bound)
+}
+
+// The least bound with at least `rank_of` values at or below it.
+fn least_with(buckets: &[Bucket], wanted: u64) -> Option<u64>
+    requires some { 1 ≤ rank_of }
+    requires fits { value_count buckets.now < 2 ^ 64 }
+    ensures least { IfSome result (λ found. IsLeast rank_of found buckets.now) }
+    ensures none { result ≡ None → value_count buckets.now < rank_of }
+{
+    let mut seen = 0;
+    for bucket in buckets {
+        seen += bucket.count;
+        if wanted <= seen {
+            return Some(bucket.bound);
+        }
+    }
+    None
+}
+
+impl Histogram {
+    /// A histogram of no values.
+    pub fn new(alloc: Global) -> Result<Histogram, AllocError>
+        ensures { IfOk result (λ histogram. IsNew histogram) }
+    {
+        let mut buckets = Vec::with_capacity(alloc, BUCKETS)?;
+        for place in 0..BUCKETS {
+            let bound = bound(place);
+            buckets.push(Bucket { bound, count: 0 })?;
+        }
+        Ok(Histogram { buckets, total: 0 })
+    }
+
+    /// How many values were recorded.
+    pub fn total(&self) -> u64
+        ensures { result ≡ value_count self.now }
+    {
+        self.total
+    }
+
+    pub fn buckets(&self) -> &[Bucket]
+        ensures { result.now ≡ self.now }
+    {
+        self.buckets.as_slice()
+    }
+
+    /// Records a value `times` times. Says false and records nothing if the total would be 2^64 or
+    /// more.
+    pub fn record(&mut self, value: u64, times: u64) -> bool
+        ensures { RecordIs result value times self.old self.new }
+    {
+        let Some(total) = self.total.checked_add(times) else {
+            return false;
+        };
+        let Some(place) = bucket_of(value, &self.buckets) else {
+            return false;
+        };
+        self.buckets[place].count += times;
+        self.total = total;
+        true
+    }
+
+    /// The least bound with at least this many thousandths of all values at or below it.
+    pub fn percentile(&self, thousandths: u64) -> Option<u64>
+        requires least { 1 ≤ thousandths }
+        requires most { thousandths ≤ 1000 }
+        ensures { PercentileIs result thousandths self.now }
+    {
+        if self.total == 0 {
+            return None;
+        }
+        let wanted = (self.total as u128 * thousandths as u128 + 999) / 1000;
+        least_with(&self.buckets, wanted as u64)
+    }
+}

@@ -1,0 +1,367 @@
+//! The command `ask`, over loopback.
+
+use crate::tests::words;
+use chord_app_ask::{
+    AskOutcome, ClientOptions, ask_command, ask_lines, ask_one, client_options_of, read_line,
+    read_words,
+};
+use chord_app_text::{Fault, Finish, LineFault};
+use chord_map::{Reply, Request};
+use chord_wire::FaultCode;
+use std::alloc::{AllocError, Global};
+use std::io::{self, Read, Write};
+use std::net::{Net, TcpListener, TcpStream};
+use std::thread;
+use std::thread::Threads;
+
+fn client_options(port: u16, version: u8, window: u64, tries: u32) -> ClientOptions {
+    ClientOptions {
+        port,
+        version,
+        window,
+        tries,
+    }
+}
+
+/// How asking ended, and whether it wrote the right lines.
+type Asked = (Result<Finish, Finish>, bool);
+
+fn asks<R: Net<Stream = TcpStream>>(
+    rt: &R,
+    alloc: Global,
+    client_options: ClientOptions,
+    input: &str,
+    wanted: &str,
+) -> Asked {
+    let mut reader = input.as_bytes();
+    let mut written: Vec<u8> = Vec::new(alloc);
+    let finish = ask_lines(rt, alloc, client_options, &mut reader, &mut written);
+    let is_written = written.as_slice() == wanted.as_bytes();
+    drop(written);
+    (finish, is_written)
+}
+
+/// Asks the request in these words.
+fn asks_one<R: Net<Stream = TcpStream>>(
+    rt: &R,
+    alloc: Global,
+    client_options: ClientOptions,
+    words: &[&str],
+    wanted: &str,
+) -> Asked {
+    let Ok(request) = read_words(alloc, words) else {
+        return (Err(Finish::BadCommandLine), false);
+    };
+    let mut written: Vec<u8> = Vec::new(alloc);
+    let finish = ask_one(rt, alloc, client_options, request, &mut written);
+    let is_written = written.as_slice() == wanted.as_bytes();
+    drop(written);
+    (finish, is_written)
+}
+
+/// A port at which nobody listens.
+fn free_port<R: Net<Listener = TcpListener, Stream = TcpStream>>(rt: &R) -> io::Result<u16> {
+    let listener = TcpListener::bind(rt, "127.0.0.1:0")?;
+    let address = listener.local_addr();
+    drop(listener);
+    Ok(address?.port())
+}
+
+/// Asks at a port at which nobody listens.
+fn asks_nobody<R: Net<Listener = TcpListener, Stream = TcpStream>>(
+    rt: &R,
+    alloc: Global,
+) -> Option<Asked> {
+    let client_options = client_options(free_port(rt).ok()?, 2, 1, 3);
+    Some(asks(rt, alloc, client_options, "insert abc x\n", ""))
+}
+
+/// Asks the request in these words at a port at which nobody listens.
+fn asks_nobody_one<R: Net<Listener = TcpListener, Stream = TcpStream>>(
+    rt: &R,
+    alloc: Global,
+    words: &[&str],
+) -> Option<Asked> {
+    let client_options = client_options(free_port(rt).ok()?, 1, 1, 1);
+    Some(asks_one(rt, alloc, client_options, words, ""))
+}
+
+#[test]
+fn nobody_listens(rt: HostRuntime) {
+    let fault = Err(Finish::Fault(Fault::Connect));
+    assert!(rt; asks_nobody(&rt, rt.alloc()) == Some((fault, true)));
+}
+
+#[test]
+fn nobody_listens_to_one_request(rt: HostRuntime) {
+    let asked = asks_nobody_one(&rt, rt.alloc(), &["retrieve", "abc"]);
+    let fault = Err(Finish::Fault(Fault::Connect));
+    assert!(rt; asked == Some((fault, true)));
+}
+
+/// Answers the first bytes on a connection.
+fn answer_first<S: Read + Write>(stream: &mut S, answer: &[u8]) -> io::Result<()> {
+    let mut bytes = [0u8; 64];
+    stream.read(&mut bytes)?;
+    stream.write_all(answer)
+}
+
+/// Accepts `connections` connections, and ends each after its first bytes. The last one gets this
+/// answer first.
+fn ends_early(listener: &TcpListener, connections: usize, answer: &[u8]) -> io::Result<()> {
+    for (number, accepted) in listener.incoming().take(connections).enumerate() {
+        let mut stream = accepted?;
+        let is_last = number.saturating_add(1) == connections;
+        let ended = answer_first(&mut stream, if is_last { answer } else { [].as_slice() });
+        drop(stream);
+        ended?;
+    }
+    Ok(())
+}
+
+/// A listener, and its port.
+fn bound<R: Net<Listener = TcpListener, Stream = TcpStream>>(rt: &R) -> Option<(TcpListener, u16)> {
+    let listener = TcpListener::bind(rt, "127.0.0.1:0").ok()?;
+    let port = listener.local_addr().ok()?.port();
+    Some((listener, port))
+}
+
+/// Asks the request in these words of a server that answers Added.
+fn asks_one_of_one<R: Threads + Net<Listener = TcpListener, Stream = TcpStream> + Sync>(
+    rt: &R,
+    alloc: Global,
+    words: &[&str],
+) -> Option<Asked> {
+    let (listener, port) = bound(rt)?;
+    let client_options = client_options(port, 1, 1, 1);
+    let (server, asked) = thread::join(
+        rt,
+        || ends_early(&listener, 1, &ADDED),
+        || asks_one(rt, alloc, client_options, words, "added\n"),
+    );
+    drop(listener);
+    server.ok()?;
+    Some(asked)
+}
+
+#[test]
+fn one_request(rt: HostRuntime) {
+    let asked = asks_one_of_one(&rt, rt.alloc(), &["insert", "a b", ""]);
+    assert!(rt; asked == Some((Ok(Finish::Done), true)));
+}
+
+/// Asks, with `tries` tries, a server that ends each of `ended` connections, the last one after
+/// this answer.
+fn asks_one_that_ends<R: Threads + Net<Listener = TcpListener, Stream = TcpStream> + Sync>(
+    rt: &R,
+    alloc: Global,
+    tries: u32,
+    (input, wanted): (&str, &str),
+    ended: usize,
+    answer: &[u8],
+) -> Option<Asked> {
+    let (listener, port) = bound(rt)?;
+    let client_options = client_options(port, 2, 1, tries);
+    let (server, asked) = thread::join(
+        rt,
+        || ends_early(&listener, ended, answer),
+        || asks(rt, alloc, client_options, input, wanted),
+    );
+    drop(listener);
+    server.ok()?;
+    Some(asked)
+}
+
+// Added, number 1.
+const ADDED: [u8; 15] = [0, 0, 0, 0x0b, 1, 0x81, 0, 0, 0, 0, 0, 0, 0, 1, 1];
+
+/// An insert is lost if its connection ends, and not sent again. The next request goes over another
+/// connection.
+#[test]
+fn a_lost_connection(rt: HostRuntime) {
+    let unanswered = Finish::Fault(Fault::Unanswered(1));
+    for (lines, ended, answer) in [
+        (
+            ("insert abc x\ninsert abc y\n", "lost\nadded\n"),
+            2,
+            ADDED.as_slice(),
+        ),
+        (("remove abc x\n", "lost\n"), 1, [].as_slice()),
+    ] {
+        let asked = asks_one_that_ends(&rt, rt.alloc(), 3, lines, ended, answer);
+        assert!(rt; asked == Some((Ok(unanswered), true)));
+    }
+}
+
+/// A retrieve whose connection ended goes over another one, until it has no tries left.
+#[test]
+fn a_retrieve_is_asked_again(rt: HostRuntime) {
+    let empty = [0u8, 0, 0, 0x0e, 1, 0x82, 0, 0, 0, 0, 0, 0, 0, 1, 0, 0, 0, 0];
+    let bad_number = [0, 0, 0, 0x0b, 1, 0xff, 0, 0, 0, 0, 0, 0, 0, 1, 9];
+    let unanswered = Finish::Fault(Fault::Unanswered(1));
+    for (tries, answer, wanted, finish) in [
+        (3, empty.as_slice(), "values 0\n", Finish::Done),
+        (2, [].as_slice(), "lost\n", unanswered),
+        // A wrong kind of answer ends the connection, and so does a fault.
+        (1, ADDED.as_slice(), "lost\n", unanswered),
+        (1, bad_number.as_slice(), "fault 9\n", unanswered),
+    ] {
+        let lines = ("retrieve abc\n", wanted);
+        let ended = tries as usize;
+        let asked = asks_one_that_ends(&rt, rt.alloc(), tries, lines, ended, answer);
+        assert!(rt; asked == Some((Ok(finish), true)));
+    }
+}
+
+fn is_insert(read: Result<Request, LineFault>, wanted_key: &[u8], wanted: &[u8]) -> bool {
+    let is_insert = match &read {
+        Ok(Request::Insert { key, value }) => {
+            key.as_slice() == wanted_key && value.as_slice() == wanted
+        }
+        _ => false,
+    };
+    drop(read);
+    is_insert
+}
+
+#[test]
+fn words_of_requests(rt: HostRuntime) {
+    let alloc = rt.alloc();
+    let line = read_line(alloc, b"insert x:0aFF x:-");
+    assert!(rt; is_insert(line, &[10, 255], b""));
+    let words = read_words(alloc, &["insert", "a b", ""]);
+    assert!(rt; is_insert(words, b"a b", b""));
+    let read = read_line(alloc, b"insert a ");
+    assert!(rt; is_insert(read, b"a", b""));
+}
+
+fn is_no_request(read: Result<Request, LineFault>) -> bool {
+    let is_none = matches!(&read, Err(LineFault::Grammar));
+    drop(read);
+    is_none
+}
+
+#[test]
+fn words_that_are_no_request(rt: HostRuntime) {
+    for line in [
+        b"".as_slice(),
+        b"insert",
+        b"insert a",
+        b"insert a b c",
+        b"retrieve",
+        b"retrieve a b",
+        b"remove a",
+        b"Insert a b",
+        b"insert  a b",
+        b"retrieve x:-",
+        b"retrieve x:",
+        b"retrieve x:0",
+        b"retrieve x:0g",
+        b"retrieve ",
+        b"\xff ",
+    ] {
+        assert!(rt; is_no_request(read_line(rt.alloc(), line)));
+    }
+    assert!(rt; is_no_request(read_words(rt.alloc(), &[])));
+}
+
+fn add_lines(alloc: Global, text: &mut String, outcomes: &[AskOutcome]) -> Result<(), AllocError> {
+    for outcome in outcomes {
+        let line = format!(in alloc; "{outcome}\n")?;
+        let added = text.push_str(line.as_str());
+        drop(line);
+        added?;
+    }
+    Ok(())
+}
+
+fn are_lines_of(alloc: Global, outcomes: &[AskOutcome], wanted: &str) -> Option<bool> {
+    let mut text = String::new(alloc);
+    let added = add_lines(alloc, &mut text, outcomes);
+    let is_wanted = text.as_str() == wanted;
+    drop(text);
+    added.ok()?;
+    Some(is_wanted)
+}
+
+/// Checks that an outcome of each kind is written as its line.
+fn are_lines(alloc: Global, wanted: &str) -> Option<bool> {
+    let outcomes = [
+        AskOutcome::Reply(Reply::SetFull),
+        AskOutcome::Full,
+        AskOutcome::NoAnswer,
+        AskOutcome::Fault(FaultCode::NumberReused),
+        AskOutcome::Lost,
+    ];
+    let are_lines = are_lines_of(alloc, &outcomes, wanted);
+    drop(outcomes);
+    are_lines
+}
+
+#[test]
+fn outcomes_as_lines(rt: HostRuntime) {
+    let wanted = "setfull\nfull\nnoanswer\nfault 8\nlost\n";
+    assert!(rt; are_lines(rt.alloc(), wanted) == Some(true));
+}
+
+/// The port and version, the window and tries, and how many words the request has.
+type Options = ((u16, u8), (u64, u32), usize);
+
+fn options_of<'a>(alloc: Global, words: &'a [&'static str]) -> Option<Options> {
+    let found = ask_command(alloc).ok()?.try_get_matches_from(words).ok()?;
+    let client_options = client_options_of(&found);
+    let request = match found.get_strs("request") {
+        Some(words) => Some(words.len()),
+        None => None,
+    };
+    drop(found);
+    Some((
+        (client_options.port, client_options.version),
+        (client_options.window, client_options.tries),
+        request?,
+    ))
+}
+
+fn options(alloc: Global, line: &'static str) -> Option<Options> {
+    let words = words(alloc, line).ok()?;
+    let options = options_of(alloc, words.as_slice());
+    drop(words);
+    options
+}
+
+#[test]
+fn options_of_ask(rt: HostRuntime) {
+    let options = options(rt.alloc(), "ask --port 7001 insert a -b");
+    assert!(rt; options == Some(((7001, 2), (1, 3), 3)));
+}
+
+/// The exit status for words that are refused.
+fn status_of<'a>(alloc: Global, words: &'a [&'static str]) -> Option<i32> {
+    let error = ask_command(alloc).ok()?.try_get_matches_from(words).err()?;
+    let status = error.exit_code();
+    drop(error);
+    Some(status)
+}
+
+/// The exit status for a command line that is refused.
+fn refused(alloc: Global, line: &'static str) -> Option<i32> {
+    let words = words(alloc, line).ok()?;
+    let status = status_of(alloc, words.as_slice());
+    drop(words);
+    status
+}
+
+#[test]
+fn refused_options_of_ask(rt: HostRuntime) {
+    for line in [
+        "ask --port 0",
+        "ask --port 65536",
+        "ask --window 0",
+        "ask --window 17",
+        "ask --protocol 3",
+        "ask --tries 1001",
+        "ask --tries x",
+    ] {
+        assert!(rt; refused(rt.alloc(), line) == Some(2), "{line}");
+    }
+}

@@ -1,0 +1,319 @@
+//! The command `load`, over loopback, and its histogram.
+
+use crate::tests::words;
+use chord_app_ask::{Histogram, Kind, Load, Report, Until, load_command, load_of, run_load};
+use chord_app_text::{Fault, Finish};
+use std::alloc::Global;
+use std::net::{Net, TcpListener, TcpStream};
+use std::sync::Wait;
+use std::thread::Threads;
+use std::time::Clock;
+
+fn load(port: u16, kind: Kind, requests: u64) -> Load {
+    Load {
+        port,
+        connections: 2,
+        in_flight: 4,
+        keys: 3,
+        value_size: 5,
+        kind,
+        until: Until::Requests(requests),
+    }
+}
+
+/// How a load ends if nobody listens, and the length of its table.
+fn loaded_by_nobody<
+    R: Threads + Wait + Clock + Net<Listener = TcpListener, Stream = TcpStream> + Sync,
+>(rt: &R, alloc: Global) -> Option<(Result<Finish, Finish>, usize)> {
+    let listener = TcpListener::bind(rt, "127.0.0.1:0").ok()?;
+    let address = listener.local_addr();
+    drop(listener);
+    let load = load(address.ok()?.port(), Kind::Retrieve, 5);
+    let mut table: Vec<u8> = Vec::new(alloc);
+    let ended = run_load(rt, alloc, load, None::<Vec<u8>>, &mut table);
+    let length = table.len();
+    drop(table);
+    Some((ended, length))
+}
+
+#[test]
+fn a_load_of_nobody(rt: HostRuntime) {
+    let fault = Err(Finish::Fault(Fault::Connect));
+    assert!(rt; loaded_by_nobody(&rt, rt.alloc()) == Some((fault, 0)));
+}
+
+#[test]
+fn shares_of_connections(rt: HostRuntime) {
+    let load = Load {
+        connections: 4,
+        ..load(1, Kind::Insert, 10)
+    };
+    for (connection, share) in [(0, 3), (1, 3), (2, 2), (3, 2)] {
+        assert!(rt; load.share(connection) == share);
+    }
+}
+
+/// The load that these words ask for.
+fn load_of_words<'a>(alloc: Global, words: &'a [&'static str]) -> Option<Load> {
+    let found = load_command(alloc).ok()?.try_get_matches_from(words).ok()?;
+    let load = load_of(&found);
+    drop(found);
+    Some(load)
+}
+
+/// The load that a command line asks for.
+fn load_from(alloc: Global, line: &'static str) -> Option<Load> {
+    let words = words(alloc, line).ok()?;
+    let load = load_of_words(alloc, words.as_slice());
+    drop(words);
+    load
+}
+
+/// The load that the line asks for: port, connections and requests in flight; keys and value size;
+/// kind and end.
+fn options(
+    alloc: Global,
+    line: &'static str,
+) -> Option<((u16, u64, u64), (u64, usize), (Kind, Until))> {
+    let load = load_from(alloc, line)?;
+    Some((
+        (load.port, load.connections, load.in_flight),
+        (load.keys, load.value_size),
+        (load.kind, load.until),
+    ))
+}
+
+#[test]
+fn options_of_load(rt: HostRuntime) {
+    let options = options(rt.alloc(), "load --port 1 --kind insert --requests 7");
+    let wanted = ((1, 1, 1), (1000, 16), (Kind::Insert, Until::Requests(7)));
+    assert!(rt; options == Some(wanted));
+}
+
+#[test]
+fn a_load_of_its_own(rt: HostRuntime) {
+    let wanted = ((1, 1, 1), (1000, 16), (Kind::Retrieve, Until::Seconds(10)));
+    assert!(rt; options(rt.alloc(), "load --port 1") == Some(wanted));
+}
+
+/// The exit status for words that are refused.
+fn status_of<'a>(alloc: Global, words: &'a [&'static str]) -> Option<i32> {
+    let error = load_command(alloc).ok()?.try_get_matches_from(words).err()?;
+    let status = error.exit_code();
+    drop(error);
+    Some(status)
+}
+
+/// The exit status for a command line that is refused.
+fn refused(alloc: Global, line: &'static str) -> Option<i32> {
+    let words = words(alloc, line).ok()?;
+    let status = status_of(alloc, words.as_slice());
+    drop(words);
+    status
+}
+
+#[test]
+fn refused_options_of_load(rt: HostRuntime) {
+    for line in [
+        "load --port 1 --connections 65",
+        "load --port 1 --in-flight 17",
+        "load --port 1 --keys 0",
+        "load --port 1 --value-size 4097",
+        "load --port 1 --kind remove",
+        "load --port 1 --seconds 3601",
+        "load --port 1 --requests 0",
+    ] {
+        assert!(rt; refused(rt.alloc(), line) == Some(2), "{line}");
+    }
+}
+
+/// Checks that the report is written as this table.
+fn is_shown(alloc: Global, report: Option<Report>, wanted: &str) -> Option<bool> {
+    let report = report?;
+    let text = format!(in alloc; "{report}");
+    drop(report);
+    let text = text.ok()?;
+    let is_wanted = text.as_str() == wanted;
+    drop(text);
+    Some(is_wanted)
+}
+
+/// The report of no requests in half a second.
+fn nothing(alloc: Global) -> Option<Report> {
+    let mut report = Report::new(alloc).ok()?;
+    report.milliseconds = 500;
+    Some(report)
+}
+
+#[test]
+fn an_empty_table(rt: HostRuntime) {
+    let wanted =
+        "requests                0\nmilliseconds          500\na second                0\np50                     -\np90                     -\np99                     -\np99.9                   -\nfaults                  0";
+    let alloc = rt.alloc();
+    assert!(rt; is_shown(alloc, nothing(alloc), wanted) == Some(true));
+}
+
+/// A report with each value below 1,000 once.
+fn report_of_thousand(alloc: Global) -> Option<Report> {
+    let times = first_thousand(alloc)?;
+    Some(Report {
+        times,
+        faults: 0,
+        milliseconds: 500,
+    })
+}
+
+/// A report of one value a thousand times, with 3 faults.
+fn report_of_one(alloc: Global) -> Option<Report> {
+    let mut report = Report::new(alloc).ok()?;
+    report.faults = 3;
+    if report.times.record(70, 1000) {
+        Some(report)
+    } else {
+        drop(report);
+        None
+    }
+}
+
+/// The joined report of both.
+fn joined(alloc: Global) -> Option<Report> {
+    let mut report = report_of_thousand(alloc)?;
+    match report_of_one(alloc) {
+        Some(other) => {
+            report.join(&other);
+            drop(other);
+            Some(report)
+        }
+        None => {
+            drop(report);
+            None
+        }
+    }
+}
+
+/// The joined report as a table.
+#[test]
+fn tables(rt: HostRuntime) {
+    let wanted =
+        "requests             2000\nmilliseconds          500\na second             4000\np50                    71 us\np90                   799 us\np99                   991 us\np99.9                1023 us\nfaults                  3";
+    let alloc = rt.alloc();
+    assert!(rt; is_shown(alloc, joined(alloc), wanted) == Some(true));
+}
+
+fn record_thousand(histogram: &mut Histogram) -> bool {
+    for value in 0..1000 {
+        if !histogram.record(value, 1) {
+            return false;
+        }
+    }
+    true
+}
+
+/// A histogram with each value below 1,000 once.
+fn first_thousand(alloc: Global) -> Option<Histogram> {
+    let mut histogram = Histogram::new(alloc).ok()?;
+    if record_thousand(&mut histogram) {
+        Some(histogram)
+    } else {
+        drop(histogram);
+        None
+    }
+}
+
+/// The 50th percentile of a histogram of this value alone.
+fn half_of(alloc: Global, value: u64) -> Option<u64> {
+    let mut histogram = Histogram::new(alloc).ok()?;
+    let half = if histogram.record(value, 1) {
+        histogram.percentile(500)
+    } else {
+        None
+    };
+    drop(histogram);
+    half
+}
+
+#[test]
+fn buckets_of_values(rt: HostRuntime) {
+    for (value, found) in [
+        (0, 0),
+        (31, 31),
+        (32, 33),
+        (33, 33),
+        (34, 35),
+        (63, 63),
+        (64, 67),
+        (67, 67),
+        (68, 71),
+        (1000, 1023),
+        (1_000_000, 1_015_807),
+        (u64::MAX, u64::MAX),
+    ] {
+        assert!(rt; half_of(rt.alloc(), value) == Some(found), "{value}");
+    }
+}
+
+/// The 50th percentile of an empty histogram, how many values it has, and how many buckets.
+fn of_nothing(alloc: Global) -> Option<(Option<u64>, u64, usize)> {
+    let histogram = Histogram::new(alloc).ok()?;
+    let half = histogram.percentile(500);
+    let counts = (histogram.total(), histogram.buckets().len());
+    drop(histogram);
+    Some((half, counts.0, counts.1))
+}
+
+#[test]
+fn an_empty_histogram(rt: HostRuntime) {
+    assert!(rt; of_nothing(rt.alloc()) == Some((None, 0, 976)));
+}
+
+/// A percentile of the values below 1,000, in thousandths.
+fn percentile(alloc: Global, thousandths: u64) -> Option<u64> {
+    let histogram = first_thousand(alloc)?;
+    let found = if 1 <= thousandths && thousandths <= 1000 {
+        histogram.percentile(thousandths)
+    } else {
+        None
+    };
+    drop(histogram);
+    found
+}
+
+#[test]
+fn percentiles_of_a_thousand(rt: HostRuntime) {
+    for (thousandths, found) in [
+        (1, 0),
+        (10, 9),
+        (32, 31),
+        (33, 33),
+        (500, 511),
+        (999, 1023),
+        (1000, 1023),
+    ] {
+        let told = percentile(rt.alloc(), thousandths);
+        assert!(rt; told == Some(found), "{thousandths}");
+    }
+}
+
+/// Records a value `times` times. Gives whether it did, and how many values there are now.
+fn recorded(histogram: &mut Histogram, times: u64) -> (bool, u64) {
+    (histogram.record(5, times), histogram.total())
+}
+
+/// Records three times after 1,000 values. Gives how many values there were, the three results, and
+/// how many buckets there are.
+fn filled(alloc: Global) -> Option<(u64, [(bool, u64); 3], usize)> {
+    let mut histogram = first_thousand(alloc)?;
+    let total = histogram.total();
+    let first = recorded(&mut histogram, u64::MAX);
+    let second = recorded(&mut histogram, u64::MAX - 1000);
+    let third = recorded(&mut histogram, 1);
+    let buckets = histogram.buckets().len();
+    drop(histogram);
+    Some((total, [first, second, third], buckets))
+}
+
+#[test]
+fn the_most_values(rt: HostRuntime) {
+    let recorded = [(false, 1000), (true, u64::MAX), (false, u64::MAX)];
+    assert!(rt; filled(rt.alloc()) == Some((1000, recorded, 976)));
+}

@@ -1,0 +1,165 @@
+//! The command line of `serve`.
+
+use chord_app_options::{commands, no_number, small_number};
+use clap::ArgMatches;
+use std::alloc::{AllocError, Global};
+
+/// The words of a command line.
+pub fn words(alloc: Global, line: &'static str) -> Result<Vec<&'static str>, AllocError> {
+    line.split_whitespace().collect(alloc)
+}
+
+/// Gives whether the fault of a command line has this text, and its exit status.
+pub fn shows(
+    alloc: Global,
+    error: Result<clap::Error, AllocError>,
+    wanted: &str,
+) -> Option<(bool, i32)> {
+    let error = error.ok()?;
+    let text = error.to_string(alloc);
+    let status = error.exit_code();
+    drop(error);
+    Some((text.ok()?.as_str() == wanted, status))
+}
+
+/// Gives whether a command line prints this text, and its exit status.
+pub fn prints(alloc: Global, line: &'static str, wanted: &str) -> Option<(bool, i32)> {
+    let words = words(alloc, line).ok()?;
+    let commands = commands(alloc).ok()?;
+    match commands.try_get_matches_from(words.as_slice()) {
+        Ok(matches) => {
+            drop(matches);
+            None
+        }
+        Err(error) => shows(alloc, Ok(error), wanted),
+    }
+}
+
+const USAGE: &str =
+    "\n\nUsage: chord serve --plan <FILE> --port <N> <--connections <K>|--stay>\n\nFor more information, try '--help'.\n";
+
+/// Gives whether a command line prints this text and the usage, and its exit status.
+fn prints_usage(alloc: Global, line: &'static str, text: &str) -> Option<(bool, i32)> {
+    let wanted = format!(in alloc; "{text}{USAGE}").ok()?;
+    prints(alloc, line, wanted.as_str())
+}
+
+/// `serve` requires a plan, a port, and one of `--connections` and `--stay`.
+#[test]
+fn faults_of_serve(rt: HostRuntime) {
+    for (line, text) in [
+        (
+            "chord serve --port 7 --stay",
+            "error: the following required arguments were not provided:\n  --plan <FILE>",
+        ),
+        (
+            "chord serve --plan p --stay",
+            "error: the following required arguments were not provided:\n  --port <N>",
+        ),
+        (
+            "chord serve --plan p --port 7",
+            "error: the following required arguments were not provided:\n  <--connections <K>|--stay>",
+        ),
+        (
+            "chord serve --plan p --port 7 --connections 1 --stay",
+            "error: the argument '--connections <K>' cannot be used with '--stay'",
+        ),
+    ] {
+        assert!(rt; prints_usage(rt.alloc(), line, text) == Some((true, 2)));
+    }
+}
+
+/// Gives whether the command is `serve` with the plan `p` and port 7, whether `connections`
+/// matches, and whether `--notes` is there.
+fn matched(matches: &ArgMatches, connections: Option<&str>) -> Option<(bool, bool, bool)> {
+    let (name, found) = matches.subcommand()?;
+    let is_serve = name == "serve"
+        && found.get_str("plan") == Some("p")
+        && found.get_str("port") == Some("7");
+    Some((
+        is_serve,
+        found.get_str("connections") == connections,
+        found.get_flag("notes"),
+    ))
+}
+
+/// What `matched` gives for this command line, or None if it is refused.
+fn serves(
+    alloc: Global,
+    line: &'static str,
+    connections: Option<&str>,
+) -> Option<(bool, bool, bool)> {
+    let words = words(alloc, line).ok()?;
+    let commands = commands(alloc).ok()?;
+    match commands.try_get_matches_from(words.as_slice()) {
+        Ok(matches) => {
+            let serves = matched(&matches, connections);
+            drop(matches);
+            serves
+        }
+        Err(error) => {
+            drop(error);
+            None
+        }
+    }
+}
+
+/// `serve` takes `--connections` or `--stay`, with or without `--notes`.
+#[test]
+fn lines_of_serve(rt: HostRuntime) {
+    let line = "chord serve --plan p --port 7 --stay --notes";
+    assert!(rt; serves(rt.alloc(), line, None) == Some((true, true, true)));
+}
+
+#[test]
+fn options_of_serve(rt: HostRuntime) {
+    for (line, connections, notes) in [
+        ("chord serve --plan p --port 7 --stay --notes", None, true),
+        (
+            "chord serve --plan p --port 7 --connections 9",
+            Some("9"),
+            false,
+        ),
+    ] {
+        let serves = serves(rt.alloc(), line, connections);
+        assert!(rt; serves == Some((true, true, notes)));
+    }
+}
+
+/// Ports and connections are numbers from 1 to 65,535.
+#[test]
+fn numbers_of_serve(rt: HostRuntime) {
+    assert!(rt; small_number("1") == Some(1));
+    assert!(rt; small_number("65535") == Some(65_535));
+    for word in ["", "0", "65536", "-1", "x", "1 "] {
+        assert!(rt; small_number(word) == None, "{word}");
+    }
+}
+
+#[test]
+fn a_port_that_is_no_number(rt: HostRuntime) {
+    let wanted =
+        "error: invalid value '0' for '--port <N>': a number from 1 to 65535\n\nUsage: chord serve [OPTIONS] --plan <FILE> --port <N> <--connections <K>|--stay>\n\nFor more information, try '--help'.\n";
+    let shown = shows(rt.alloc(), no_number(rt.alloc(), "port <N>", "0"), wanted);
+    assert!(rt; shown == Some((true, 2)));
+}
+
+const SERVE_HELP: &str = concat!(
+    "Serves clients over loopback, and writes how each connection ended\n",
+    "\n",
+    "Usage: chord serve [OPTIONS] --plan <FILE> --port <N> <--connections <K>|--stay>\n",
+    "\n",
+    "Options:\n",
+    "      --plan <FILE>      The ring's numbers and nodes, as TOML\n",
+    "      --port <N>         The port on 127.0.0.1, 1 to 65535\n",
+    "      --connections <K>  How many connections are served, 1 to 65535\n",
+    "      --stay             Serves until standard input ends\n",
+    "      --notes            Notes on standard error how each connection ends, as it ends\n",
+    "  -h, --help             Print help\n",
+);
+
+#[test]
+fn help_of_serve(rt: HostRuntime) {
+    let printed = prints(rt.alloc(), "chord serve --help", SERVE_HELP);
+    assert!(rt; printed == Some((true, 0)));
+}

@@ -1,0 +1,123 @@
+-- Which plan a document is, and the limits of plans. Source: our own.
+use Rattle.std.specs.Prelude.{◌≡◌, ℕ, ℤ, pos, ◌^◌, ◌<◌, ◌≤◌, List, [], ◌∷◌, length, Option, Some, None, option_and_then, codes, IsUtf8}
+use Rattle.std.specs.List.{All}
+use Rattle.std.specs.Str.Parse.{digits_value, AllDigits}
+use Rattle.toml.specs.Data.{Data, Items, no_items, item, Members, as_array, as_integer, as_str, as_table, get_member}
+use Rattle.toml.specs.Parse.{parse_document}
+use Rattle.toml.specs.View.{table_view}
+use Rattle.chord_map.specs.Checked.{IsRequest}
+use Rattle.chord_map.specs.declared.request.Request.{Request}
+use Rattle.chord_map.specs.declared.request.Request.TheVariants as request
+use Rattle.chord_app_plan.specs.declared.plan.Plan.{Plan}
+use Rattle.chord_app_plan.specs.declared.ask.PlanAsk.{PlanAsk}
+use Rattle.chord_app_plan.specs.declared.entries.Entries.{Entries}
+use Rattle.chord_app_plan.specs.declared.node.PlanNode.{PlanNode}
+use Rattle.chord_app_plan.specs.declared.node.StoreKind.{StoreKind}
+use Rattle.chord_app_plan.specs.declared.node.StoreKind.TheVariants as store
+use Rattle.chord_app_plan.specs.declared.settings.PlanSettings.{PlanSettings}
+
+-- the members of a plan's table
+abbrev pub members_of : Entries → Members
+members_of entries = table_view entries.table.now
+
+-- the whole number under a key
+abbrev pub number_at : List ℕ → Members → Option ℤ
+number_at key members = option_and_then as_integer (get_member key members)
+
+-- the text under a key
+abbrev pub text_at : List ℕ → Members → Option (List ℕ)
+text_at key members = option_and_then as_str (get_member key members)
+
+-- the values of an array; none if the key is missing
+abbrev pub list_of : Option Data → Option Items
+list_of None = Some no_items
+list_of (Some value) = as_array value
+
+-- the values under a key
+abbrev pub list_at : List ℕ → Members → Option Items
+list_at key members = list_of (get_member key members)
+
+-- each value is a table that describes the thing at the same index
+abbrev pub AreTablesOf : {X : Type 0} → (Members → X → Type 0) → Items → List X → Type 0
+AreTablesOf Is no_items [] = Unit {0}
+AreTablesOf Is (item value items) (x ∷ xs) = (members : Members) × (as_table value ≡ Some members) × Is members x × AreTablesOf Is items xs
+AreTablesOf Is no_items (x ∷ xs) = ⊥
+AreTablesOf Is (item value items) [] = ⊥
+
+-- the tables under a key describe these things in order
+pub record AreListed {X : Type 0} (Is : Members → X → Type 0) (key : List ℕ) (members : Members) (xs : List X) : Type 0 where
+  pub items : Items
+  pub there : list_at key members ≡ Some items
+  pub each : AreTablesOf Is items xs
+
+-- the settings of a ring in a table
+pub record SettingsAre (members : Members) (s : PlanSettings) : Type 0 where
+  pub slots : number_at (codes "slots") members ≡ Some (pos s.slots)
+  pub callers : number_at (codes "callers") members ≡ Some (pos s.callers)
+  pub successors : number_at (codes "successors") members ≡ Some (pos s.successors)
+  pub tries : number_at (codes "tries") members ≡ Some (pos s.tries)
+  pub wait : number_at (codes "wait") members ≡ Some (pos s.wait_ms)
+
+-- the kind of store that a node's table names
+abbrev pub StoreIs : Members → StoreKind → Type 0
+StoreIs members store.Tree = text_at (codes "store") members ≡ Some (codes "tree")
+StoreIs members store.List = text_at (codes "store") members ≡ Some (codes "list")
+StoreIs members store.Noted = text_at (codes "store") members ≡ Some (codes "noted")
+StoreIs members (store.Capped limit) = (text_at (codes "store") members ≡ Some (codes "capped")) × (number_at (codes "limit") members ≡ Some (pos limit)) × (limit < 2 ^ 63)
+
+-- the node in a table; its identifier is 32 hexadecimal digits
+pub record NodeIs (members : Members) (n : PlanNode) : Type 0 where
+  pub digits : List ℕ
+  pub id : text_at (codes "id") members ≡ Some digits
+  pub count : length digits ≡ 32
+  pub all : AllDigits 16 digits
+  pub value : n.id.number ≡ digits_value 16 digits
+  pub store : StoreIs members n.store
+
+-- the request in an ask's table
+abbrev pub RequestIs : Members → Request → Type 0
+RequestIs members (request.Insert key value) =
+    (text_at (codes "do") members ≡ Some (codes "insert")) × (text_at (codes "key") members ≡ Some key) × (text_at (codes "value") members ≡ Some value)
+RequestIs members (request.Retrieve key) = (text_at (codes "do") members ≡ Some (codes "retrieve")) × (text_at (codes "key") members ≡ Some key)
+RequestIs members (request.Remove key value) =
+    (text_at (codes "do") members ≡ Some (codes "remove")) × (text_at (codes "key") members ≡ Some key) × (text_at (codes "value") members ≡ Some value)
+
+-- the ask in a table
+pub record AskIs (members : Members) (a : PlanAsk) : Type 0 where
+  pub caller : number_at (codes "caller") members ≡ Some (pos a.caller)
+  pub via : number_at (codes "via") members ≡ Some (pos a.via)
+  pub request : RequestIs members a.request
+
+-- the plan in a document
+pub record IsPlanOf (document : List ℕ) (p : Plan) : Type 0 where
+  pub members : Members
+  pub text : IsUtf8 document
+  pub parsed : parse_document document ≡ Some members
+  pub settings : SettingsAre members p.settings
+  pub nodes : AreListed NodeIs (codes "node") members p.nodes.items
+  pub asks : AreListed AskIs (codes "ask") members p.asks.items
+
+-- the settings of a ring are within their limits
+pub record AreSettings (s : PlanSettings) : Type 0 where
+  pub some_slots : 1 ≤ s.slots
+  pub slots : s.slots ≤ 64
+  pub callers : s.callers ≤ 64
+  pub some_successors : 2 ≤ s.successors
+  pub successors : s.successors ≤ 16
+  pub some_tries : 1 ≤ s.tries
+  pub tries : s.tries ≤ 1000
+  pub some_wait : 1 ≤ s.wait_ms
+  pub wait : s.wait_ms ≤ 60000
+
+-- an ask's caller is below `callers` and its node below `nodes`, and its request keeps the limits
+pub record IsAskOf (callers nodes : ℕ) (a : PlanAsk) : Type 0 where
+  pub caller : a.caller < callers
+  pub via : a.via < nodes
+  pub request : IsRequest a.request
+
+-- a plan keeps all its limits
+pub record IsPlan (p : Plan) : Type 0 where
+  pub settings : AreSettings p.settings
+  pub some_nodes : 1 ≤ length p.nodes.items
+  pub nodes : length p.nodes.items ≤ p.settings.slots
+  pub asks : All (IsAskOf p.settings.callers (length p.nodes.items)) p.asks.items

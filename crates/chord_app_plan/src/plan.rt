@@ -1,0 +1,122 @@
+//! The plan of a ring: its settings, its nodes, and what its callers ask.
+ghost use Rattle.std.specs.Prelude.{◌≡◌, ◌≤◌, ◌<◌, ◌⊎◌, Err, Some, List, IfOk, IsOkUnless, codes, length, vec_len};
+ghost use Rattle.std.specs.List.{All};
+ghost use Rattle.toml.specs.Errors.{IsMemory};
+ghost use Rattle.chord_app_plan.specs.declared.plan.Plan.{Plan};
+ghost use Rattle.chord_app_plan.specs.declared.ask.PlanAsk.{PlanAsk};
+ghost use Rattle.chord_app_plan.specs.declared.node.PlanNode.{PlanNode};
+ghost use Rattle.chord_app_plan.specs.Plan.{AskIs, AreListed, IsAskOf, IsPlan, IsPlanOf, NodeIs, members_of};
+
+use crate::ask::PlanAsk;
+use crate::entries::Entries;
+use crate::fault::{EntryFault, PlanFault, TableName};
+use crate::node::PlanNode;
+use crate::settings::PlanSettings;
+use std::alloc::Global;
+
+/// The most bytes of a plan.
+pub const PLAN_BYTES: usize = 1_048_576;
+
+#[derive(Debug, Drop)]
+pub struct Plan {
+    pub settings: PlanSettings,
+    /// In the order in which they join. The first creates the ring.
+    pub nodes: Vec<PlanNode>,
+    /// In the order of the file.
+    pub asks: Vec<PlanAsk>,
+}
+
+// Why a document is no TOML, and the line of that fault.
+fn fault_of(document: &[u8], fault: toml::de::Error) -> PlanFault
+    ensures { (result ≡ PlanFault.OutOfMemory) ⊎ (¬ IsMemory fault) }
+{
+    match fault.span() {
+        None => PlanFault::OutOfMemory,
+        Some(span) => {
+            let before = document.get(..span.start).unwrap_or(document);
+            let ends = before.iter().filter(|byte| **byte == b'\n').count();
+            PlanFault::NoToml {
+                line: ends.saturating_add(1),
+                fault,
+            }
+        }
+    }
+}
+
+// The tables of `node`.
+fn read_nodes(alloc: Global, top: &Entries, slots: usize) -> Result<Vec<PlanNode>, PlanFault>
+    ensures value { IfOk result (λ nodes. AreListed NodeIs (codes "node") (members_of top.now) nodes.items) }
+    ensures least { IfOk result (λ nodes. 1 ≤ vec_len nodes) }
+    ensures most { IfOk result (λ nodes. vec_len nodes ≤ slots) }
+    ensures accepts { (nodes : List PlanNode) → AreListed NodeIs (codes "node") (members_of top.now) nodes → 1 ≤ length nodes → length nodes ≤ slots
+        → IsOkUnless result PlanFault.OutOfMemory }
+{
+    let tables = top.list("node")?;
+    if tables.is_empty() || slots < tables.len() {
+        let fault = EntryFault::NotSoManyTables {
+            least: 1,
+            most: slots,
+        };
+        return Err(top.fault("node", fault));
+    }
+    let mut nodes = Vec::new(alloc);
+    for (number, table) in tables.iter().enumerate() {
+        let Some(table) = Entries::of(table, TableName::Node(number)) else {
+            return Err(top.fault("node", EntryFault::NoTables));
+        };
+        nodes.push(PlanNode::read(alloc, &table)?)?;
+    }
+    Ok(nodes)
+}
+
+// The tables of `ask`, for a plan with this many callers and nodes.
+fn read_asks(
+    alloc: Global,
+    top: &Entries,
+    callers: usize,
+    nodes: usize,
+) -> Result<Vec<PlanAsk>, PlanFault>
+    ensures value { IfOk result (λ asks. AreListed AskIs (codes "ask") (members_of top.now) asks.items) }
+    ensures limits { IfOk result (λ asks. All (IsAskOf callers nodes) asks.items) }
+    ensures accepts { (asks : List PlanAsk) → AreListed AskIs (codes "ask") (members_of top.now) asks → All (IsAskOf callers nodes) asks
+        → IsOkUnless result PlanFault.OutOfMemory }
+{
+    let tables = top.list("ask")?;
+    let mut asks = Vec::new(alloc);
+    for (number, table) in tables.iter().enumerate() {
+        let Some(table) = Entries::of(table, TableName::Ask(number)) else {
+            return Err(top.fault("ask", EntryFault::NoTables));
+        };
+        asks.push(PlanAsk::read(alloc, &table, callers, nodes)?)?;
+    }
+    Ok(asks)
+}
+
+impl Plan {
+    /// The plan in a TOML document in UTF-8.
+    pub fn parse(alloc: Global, document: &[u8]) -> Result<Plan, PlanFault>
+        ensures value { IfOk result (IsPlanOf document.now) }
+        ensures limits { IfOk result IsPlan }
+
+        // A plan that keeps the limits is refused for memory only.
+        ensures accepts { (plan : Plan) → IsPlanOf document.now plan → IsPlan plan → length document.now ≤ PLAN_BYTES → IsOkUnless result PlanFault.OutOfMemory }
+        ensures long { PLAN_BYTES < length document.now → result ≡ Err PlanFault.TooLong }
+    {
+        if document.len() > PLAN_BYTES {
+            return Err(PlanFault::TooLong);
+        }
+        let table = match toml::table_from_slice(alloc, document) {
+            Ok(table) => table,
+            Err(fault) => return Err(fault_of(document, fault)),
+        };
+        let top = Entries::new(&table, TableName::Top);
+        let settings = PlanSettings::read(&top)?;
+        let nodes = read_nodes(alloc, &top, settings.slots)?;
+        let asks = read_asks(alloc, &top, settings.callers, nodes.len())?;
+        Ok(Plan {
+            settings,
+            nodes,
+            asks,
+        })
+    }
+}

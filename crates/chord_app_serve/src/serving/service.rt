@@ -1,0 +1,94 @@
+//! A running ring, shared by the connections of a server.
+ghost use Rattle.std.specs.Prelude.{◌≡◌, ◌%◌};
+
+use crate::nodes::{start_nodes, tick_in_turn};
+use crate::serving::asker::RingAsker;
+use crate::serving::idle::IdleCaller;
+use chord_app_plan::PlanNode;
+use chord_app_sockets::{Ended, ServerSetup};
+use chord_app_text::Finish;
+use chord_live_ring::{Ring, RingClient};
+use chord_serve::{Served, serve};
+use chord_store::EntryStore;
+use chord_table::Naming;
+use log::{Log, info};
+use std::alloc::Global;
+use std::net::TcpStream;
+use std::sync::Wait;
+use std::thread::{Scope, Threads};
+use std::time::Clock;
+
+/// A ring, how many nodes it has, and where to log how connections end.
+#[derive(Drop)]
+pub struct Service<'r, J: Naming, S: EntryStore, R, L> {
+    pub rt: &'r R,
+    pub alloc: Global,
+    pub ring: &'r Ring<J, S>,
+    pub nodes: u64,
+    pub notes: &'r L,
+}
+
+/// The node at which a connection asks: its number modulo the number of nodes.
+pub fn node_of(number: u64, nodes: u64) -> u64
+    ensures { result ≡ number % nodes }
+{
+    if nodes == 0 { number } else { number % nodes }
+}
+
+impl<'r, J: Naming, S: EntryStore, R: Wait + Clock, L: Log> Service<'r, J, S, R, L> {
+    /// A ring that serves the plan of this front.
+    pub fn new(
+        rt: &'r R,
+        ring: &'r Ring<J, S>,
+        setup: &'r ServerSetup<'r, L>,
+    ) -> Service<'r, J, S, R, L> {
+        Service {
+            rt,
+            alloc: setup.alloc,
+            ring,
+            nodes: setup.plan.nodes.len() as u64,
+            notes: setup.notes,
+        }
+    }
+
+    /// Starts the nodes of a plan, and the thread of their upkeep.
+    pub fn start<'s, E: 's>(
+        &'s self,
+        scope: &'s Scope<'s, E>,
+        nodes: &[PlanNode],
+        stores: Vec<S>,
+    ) -> Result<(), Finish>
+    where
+        J: Send + Sync + 's,
+        S: Send + 's,
+        R: Threads + Sync + 's,
+    {
+        let (rt, ring, count) = (self.rt, self.ring, self.nodes);
+        start_nodes(rt, ring, scope, nodes, stores)?;
+        match scope.spawn(move || tick_in_turn(rt, ring, count)) {
+            Ok(_) => Ok(()),
+            Err(_) => Err(Finish::OutOfMemory),
+        }
+    }
+
+    /// Serves a client by this caller, with at most `turns` reads. Gives the caller back.
+    pub fn serve_by(
+        &self,
+        idle: IdleCaller<'r, J, S>,
+        via: u64,
+        stream: &TcpStream,
+        turns: u64,
+    ) -> (Served, RingClient<'r, J, S>) {
+        let _ = stream.set_nodelay(true).is_ok();
+        let mut asker = RingAsker::new(self.rt, idle, via);
+        let mut reader = stream;
+        let mut writer = stream;
+        let served = serve(self.alloc, &mut reader, &mut writer, &mut asker, turns);
+        (served, asker.into_caller())
+    }
+
+    /// Logs how a connection ended.
+    pub fn log_end(&self, number: u64, ended: &Ended) {
+        info!(self.notes; target: "chord", "connection {number} {ended}");
+    }
+}

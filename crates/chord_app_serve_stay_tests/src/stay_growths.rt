@@ -1,0 +1,135 @@
+//! The server of `serve --stay` while a growth is refused: at most one connection ends for it, and
+//! the others are answered. With ample memory nothing is refused; the toolchain's failing
+//! allocations refuse one.
+
+use chord_app_plan::Plan;
+use chord_app_serve::stay;
+use chord_app_serve_testkit::{bound, plan_with, two_stores};
+use chord_app_sockets::ServerSetup;
+use chord_app_text::Finish;
+use log::sink::Discard;
+use std::alloc::Global;
+use std::io::{self, PipeReader, PipeWriter, Read, Write};
+use std::net::{Net, OpenStream, Shutdown, SocketAddr, TcpListener, TcpStream};
+use std::sync::Wait;
+use std::test::Fail;
+use std::thread;
+use std::thread::Threads;
+use std::time::Clock;
+
+// Inserts `x` under `a`, with number 1. Clients take no memory, so that a refused growth is the
+// server's.
+const INSERT: &[u8] = b"\x00\x00\x00\x0f\x01\x01\x00\x00\x00\x00\x00\x00\x00\x01\x01a\x00\x01x";
+
+/// Serves until the input ends, writing into these bytes, and then frees the port.
+fn stays<
+    R: Threads
+        + Wait
+        + Clock
+        + Net<Listener = TcpListener, Stream = TcpStream>
+        + Copy
+        + Send
+        + Sync
+        + 'static,
+>(
+    rt: &R,
+    alloc: Global,
+    plan: &Plan,
+    listener: TcpListener,
+    input: PipeReader,
+    written: &mut [u8],
+) -> Result<(), Finish> {
+    let stores = two_stores(alloc, 4)?;
+    let setup = ServerSetup {
+        alloc,
+        plan,
+        listener: &listener,
+        notes: &Discard,
+    };
+    stay(rt, &setup, stores, input, written)
+}
+
+/// Checks that the server answers an insert, and then closes the connection.
+fn is_answered<S: Read + Write + OpenStream>(stream: &mut S) -> bool {
+    let mut answer = [0u8; 15];
+    stream.write_all(INSERT).is_ok()
+        && stream.read_exact(&mut answer).is_ok()
+        && answer[5] == 0x81
+        && stream.shutdown(Shutdown::Write).is_ok()
+        && stream.read(&mut answer).is_ok_and(|count| count == 0)
+}
+
+/// Opens three connections at once, asks over each, and ends the input. Gives how many were
+/// answered.
+fn three_clients<R: Net>(rt: &R, address: SocketAddr, input: PipeWriter) -> io::Result<usize> {
+    let mut first = TcpStream::connect(rt, address)?;
+    let mut second = TcpStream::connect(rt, address)?;
+    let mut third = TcpStream::connect(rt, address)?;
+    let answered = [
+        is_answered(&mut second),
+        is_answered(&mut first),
+        is_answered(&mut third),
+    ];
+    drop(input);
+    Ok(answered.iter().filter(|is| **is).count())
+}
+
+/// How a server of three clients ended.
+#[derive(Debug, Drop)]
+struct Ended {
+    stayed: Result<(), Finish>,
+    answered: usize,
+    /// How many lines it wrote.
+    lines: usize,
+    /// How many of them say that memory ran out.
+    refused: usize,
+}
+
+/// How many times a byte occurs.
+fn count_of(bytes: &[u8], wanted: u8) -> usize {
+    bytes.iter().filter(|byte| **byte == wanted).count()
+}
+
+/// Serves three clients, and gives how that ended.
+fn served<
+    R: Threads
+        + Wait
+        + Clock
+        + Net<Listener = TcpListener, Stream = TcpStream>
+        + Copy
+        + Send
+        + Sync
+        + 'static,
+>(rt: &R, alloc: Global, (reader, writer): (PipeReader, PipeWriter)) -> Option<Ended> {
+    let plan = plan_with(alloc, 3)?;
+    let (listener, address) = bound(rt)?;
+    let mut room = [0u8; 256];
+    let written = room.as_mut_slice();
+    let (stayed, answered) = thread::join(
+        rt,
+        move || stays(rt, alloc, &plan, listener, reader, written),
+        move || three_clients(rt, address, writer),
+    );
+    Some(Ended {
+        stayed,
+        answered: answered.unwrap_or(0),
+        lines: count_of(&room, b'\n'),
+        // No other result has this letter: only `memory`.
+        refused: count_of(&room, b'y'),
+    })
+}
+
+/// A refused growth ends at most one connection, with `memory`, unless the server needed it to
+/// start.
+#[test]
+fn a_refused_growth_ends_one_connection(rt: HostRuntime) -> Result<(), Fail> {
+    let ended = served(&rt, rt.alloc(), io::pipe(&rt)?).ok_or("not served")?;
+    if ended.stayed.is_ok() {
+        let cut_off = 3usize.saturating_sub(ended.answered);
+        assert!(rt; (ended.lines, ended.refused) == (4, cut_off));
+        assert!(rt; cut_off <= 1);
+    } else {
+        assert!(rt; ended.stayed == Err(Finish::OutOfMemory));
+    }
+    Ok(())
+}

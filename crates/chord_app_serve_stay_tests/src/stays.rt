@@ -1,0 +1,317 @@
+//! The command `serve --stay` over loopback.
+
+use chord_app_plan::Plan;
+use chord_app_serve::stay;
+use chord_app_serve_testkit::{
+    Act, Acts, Answer, Ask, bound, do_acts, is_served, leave, plan_with, two_stores,
+};
+use chord_app_sockets::ServerSetup;
+use chord_app_text::{Fault, Finish};
+use chord_wire::FaultCode;
+use log::Log;
+use log::sink::{Discard, Locked};
+use std::alloc::Global;
+use std::io::{self, PipeReader, PipeWriter, Write};
+use std::net::{Net, SocketAddr, TcpListener, TcpStream};
+use std::sync::Wait;
+use std::test::Fail;
+use std::thread;
+use std::thread::Threads;
+use std::time::Clock;
+
+/// Serves until the input ends, over two stores with room for `limit` pairs.
+fn stay_over<
+    R: Threads
+        + Wait
+        + Clock
+        + Net<Listener = TcpListener, Stream = TcpStream>
+        + Copy
+        + Send
+        + Sync
+        + 'static,
+    L: Log + Sync,
+    W: Write + Send + Drop,
+>(
+    rt: &R,
+    alloc: Global,
+    plan: &Plan,
+    listener: &TcpListener,
+    limit: u64,
+    input: PipeReader,
+    notes: &L,
+    writer: W,
+) -> Result<(), Finish> {
+    let stores = two_stores(alloc, limit)?;
+    let setup = ServerSetup {
+        alloc,
+        plan,
+        listener,
+        notes,
+    };
+    stay(rt, &setup, stores, input, writer)
+}
+
+/// Serves until the input ends, and gives what was written.
+fn stayed_and_noted<
+    R: Threads
+        + Wait
+        + Clock
+        + Net<Listener = TcpListener, Stream = TcpStream>
+        + Copy
+        + Send
+        + Sync
+        + 'static,
+    L: Log + Sync,
+>(
+    rt: &R,
+    alloc: Global,
+    plan: &Plan,
+    listener: &TcpListener,
+    limit: u64,
+    input: PipeReader,
+    notes: &L,
+) -> Result<Vec<u8>, Finish> {
+    let mut written: Vec<u8> = Vec::new(alloc);
+    stay_over(rt, alloc, plan, listener, limit, input, notes, &mut written)?;
+    Ok(written)
+}
+
+/// Serves until the input ends, and writes into 32 bytes, which have room for the address only.
+fn stayed_in_32_bytes<
+    R: Threads
+        + Wait
+        + Clock
+        + Net<Listener = TcpListener, Stream = TcpStream>
+        + Copy
+        + Send
+        + Sync
+        + 'static,
+>(
+    rt: &R,
+    alloc: Global,
+    plan: &Plan,
+    listener: &TcpListener,
+    input: PipeReader,
+) -> Result<(), Finish> {
+    let mut room = [0u8; 32];
+    let written = room.as_mut_slice();
+    stay_over(rt, alloc, plan, listener, 4, input, &Discard, written)
+}
+
+/// What the clients do before the server's input ends, and afterwards.
+#[derive(Clone, Copy)]
+struct Script {
+    before: Acts,
+    after: Acts,
+}
+
+impl Script {
+    fn play<R: Net>(
+        self,
+        rt: &R,
+        alloc: Global,
+        address: SocketAddr,
+        input: PipeWriter,
+    ) -> io::Result<()> {
+        let mut streams = Vec::new(alloc);
+        do_acts(rt, alloc, address, &mut streams, self.before)?;
+        drop(input);
+        do_acts(rt, alloc, address, &mut streams, self.after)
+    }
+}
+
+/// Checks that the clients are answered, and these lines written, by a server with this many
+/// callers and room for this many pairs.
+fn writes<
+    R: Threads
+        + Wait
+        + Clock
+        + Net<Listener = TcpListener, Stream = TcpStream>
+        + Copy
+        + Send
+        + Sync
+        + 'static,
+    L: Log + Sync,
+>(
+    rt: &R,
+    alloc: Global,
+    (callers, limit): (u64, u64),
+    (reader, writer): (PipeReader, PipeWriter),
+    notes: &L,
+    script: Script,
+    wanted: &str,
+) -> Option<bool> {
+    let plan = plan_with(alloc, callers)?;
+    let (listener, address) = bound(rt)?;
+    let (written, answered) = thread::join(
+        rt,
+        || stayed_and_noted(rt, alloc, &plan, &listener, limit, reader, notes),
+        || script.play(rt, alloc, address, writer),
+    );
+    drop(listener);
+    drop(plan);
+    Some(is_served(alloc, address, answered, written, wanted))
+}
+
+/// Four clients, one after another, each with numbers from 1 on. The first adds a value twice, the
+/// second retrieves it and skips a number, the third removes it, twice under one number. The fourth
+/// is there when the input ends.
+const IN_TURN: Script = Script {
+    before: &[
+        (0, Act::Connect),
+        (0, Act::Ask(1, Ask::Insert(b"x"))),
+        (0, Act::Hear(1, Answer::Added)),
+        (0, Act::Ask(2, Ask::Insert(b"x"))),
+        (0, Act::Hear(2, Answer::Present)),
+        (0, Act::Leave),
+        (1, Act::Connect),
+        (1, Act::Ask(1, Ask::Retrieve)),
+        (1, Act::Hear(1, Answer::Values(&[b"x"]))),
+        (1, Act::Ask(3, Ask::Insert(b"x"))),
+        (1, Act::Hear(3, Answer::Fault(FaultCode::BadNumber))),
+        (1, Act::Leave),
+        (2, Act::Connect),
+        (2, Act::Ask(1, Ask::Remove(b"x"))),
+        (2, Act::Hear(1, Answer::Removed)),
+        (2, Act::Ask(1, Ask::Remove(b"x"))),
+        (2, Act::Hear(1, Answer::Removed)),
+        (2, Act::Leave),
+        (3, Act::Connect),
+        (3, Act::Ask(1, Ask::Remove(b"x"))),
+        (3, Act::Hear(1, Answer::Absent)),
+    ],
+    after: &[(3, Act::End)],
+};
+
+/// One caller serves all connections in order. The one that is open at the end is closed.
+#[test]
+fn one_caller_for_all(rt: HostRuntime) -> Result<(), Fail> {
+    let wanted = "connection 0 ended\nconnection 1 ended\nconnection 2 ended\nconnection 3 ended\n";
+    let pipe = io::pipe(&rt)?;
+    let is_written = writes(&rt, rt.alloc(), (1, 4), pipe, &Discard, IN_TURN, wanted);
+    assert!(rt; is_written == Some(true));
+    Ok(())
+}
+
+/// While the one caller serves, another client is closed. Afterwards the caller serves the next
+/// one.
+const CROWDED: Script = Script {
+    before: &[
+        (0, Act::Connect),
+        (0, Act::Ask(1, Ask::Insert(b"x"))),
+        (0, Act::Hear(1, Answer::Added)),
+        (1, Act::Connect),
+        (1, Act::End),
+        (0, Act::Leave),
+        (2, Act::Connect),
+        (2, Act::Ask(1, Ask::Insert(b"x"))),
+        (2, Act::Hear(1, Answer::Present)),
+        (2, Act::Leave),
+    ],
+    after: &[],
+};
+
+/// Connections are written and logged in the order in which they end.
+#[test]
+fn a_caller_that_is_taken(rt: HostRuntime) -> Result<(), Fail> {
+    let alloc = rt.alloc();
+    let notes = Locked::new(rt, Vec::new(alloc));
+    let wanted = "connection 1 callersspent\nconnection 0 ended\nconnection 2 ended\n";
+    let pipe = io::pipe(&rt)?;
+    let is_written = writes(&rt, alloc, (1, 4), pipe, &notes, CROWDED, wanted);
+    assert!(rt; is_written == Some(true));
+    let noted: Vec<u8> = notes.into_inner();
+    let wanted =
+        "[INFO  chord] connection 1 callersspent\n[INFO  chord] connection 0 ended\n[INFO  chord] connection 2 ended\n";
+    assert!(rt; noted.as_slice() == wanted.as_bytes());
+    Ok(())
+}
+
+/// A client leaves with a request that found the store full, so its caller stays pending; while the
+/// second client is served, a third is closed. Once there is room that caller serves again: a
+/// fourth client sees that the request was executed, and finds the store full, twice, until there
+/// is room again.
+const FULL_AND_AGAIN: Script = Script {
+    before: &[
+        (0, Act::Connect),
+        (0, Act::Ask(1, Ask::Insert(b"x"))),
+        (0, Act::Hear(1, Answer::Added)),
+        (0, Act::Ask(2, Ask::Insert(b"y"))),
+        (0, Act::Hear(2, Answer::Fault(FaultCode::Full))),
+        (0, Act::Leave),
+        (1, Act::Connect),
+        (1, Act::Ask(1, Ask::Insert(b"x"))),
+        (1, Act::Hear(1, Answer::Present)),
+        (2, Act::Connect),
+        (2, Act::End),
+        (1, Act::Ask(2, Ask::Remove(b"x"))),
+        (1, Act::Hear(2, Answer::Removed)),
+        (3, Act::Connect),
+        (3, Act::Ask(1, Ask::Retrieve)),
+        (3, Act::Hear(1, Answer::Values(&[b"y"]))),
+        (3, Act::Ask(2, Ask::Insert(b"z"))),
+        (3, Act::Hear(2, Answer::Fault(FaultCode::Full))),
+        (3, Act::Ask(2, Ask::Insert(b"z"))),
+        (3, Act::Hear(2, Answer::Fault(FaultCode::Full))),
+        (1, Act::Ask(3, Ask::Remove(b"y"))),
+        (1, Act::Hear(3, Answer::Removed)),
+        (3, Act::Ask(2, Ask::Insert(b"z"))),
+        (3, Act::Hear(2, Answer::Added)),
+        (3, Act::Leave),
+        (1, Act::Leave),
+    ],
+    after: &[],
+};
+
+/// A caller with a pending request serves again only once that is answered.
+#[test]
+fn a_pending_request(rt: HostRuntime) -> Result<(), Fail> {
+    let wanted =
+        "connection 0 ended\nconnection 2 callersspent\nconnection 3 ended\nconnection 1 ended\n";
+    let pipe = io::pipe(&rt)?;
+    let script = FULL_AND_AGAIN;
+    let is_written = writes(&rt, rt.alloc(), (2, 1), pipe, &Discard, script, wanted);
+    assert!(rt; is_written == Some(true));
+    Ok(())
+}
+
+/// Opens a connection, and leaves.
+fn one_end<R: Net>(rt: &R, address: SocketAddr) -> io::Result<()> {
+    let mut first = TcpStream::connect(rt, address)?;
+    leave(&mut first)
+}
+
+/// How a server ends whose writer has room for the address only, while its input is open.
+fn stays_without_room<
+    R: Threads
+        + Wait
+        + Clock
+        + Net<Listener = TcpListener, Stream = TcpStream>
+        + Copy
+        + Send
+        + Sync
+        + 'static,
+>(
+    rt: &R,
+    alloc: Global,
+    (reader, _writer): (PipeReader, PipeWriter),
+) -> Option<Result<(), Finish>> {
+    let plan = plan_with(alloc, 1)?;
+    let (listener, address) = bound(rt)?;
+    let (stayed, answered) = thread::join(
+        rt,
+        || stayed_in_32_bytes(rt, alloc, &plan, &listener, reader),
+        || one_end(rt, address),
+    );
+    drop(listener);
+    drop(plan);
+    answered.ok()?;
+    Some(stayed)
+}
+
+#[test]
+fn a_line_that_is_not_written(rt: HostRuntime) -> Result<(), Fail> {
+    let stayed = stays_without_room(&rt, rt.alloc(), io::pipe(&rt)?);
+    assert!(rt; stayed == Some(Err(Finish::Fault(Fault::Write))));
+    Ok(())
+}

@@ -1,0 +1,404 @@
+//! The command `serve --connections` over loopback.
+
+use chord_app_plan::Plan;
+use chord_app_serve::serve;
+use chord_app_serve_testkit::{
+    Act, Acts, Answer, Ask, ask, ask_insert, bound, changed, do_acts, expect, insert, is_served,
+    leave, plan_of, plan_with, request_frame, retrieve, two_stores,
+};
+use chord_app_sockets::{ServerSetup, listen};
+use chord_app_text::{Fault, Finish};
+use chord_map::{Bytes, Reply, Request, Values};
+use chord_wire::FaultCode;
+use log::Log;
+use log::sink::{Discard, Locked};
+use std::alloc::{AllocError, Global};
+use std::fmt::Write as _;
+use std::io::{self, Read, Write};
+use std::net::{Net, OpenStream, SocketAddr, TcpListener, TcpStream};
+use std::sync::Wait;
+use std::thread;
+use std::thread::Threads;
+use std::time::Clock;
+
+/// Four clients, one after another, each of which closes its sending side before it reads and is
+/// answered all the same.
+const FOUR: Acts = &[
+    (0, Act::Connect),
+    (0, Act::Ask(1, Ask::Insert(b"x"))),
+    (0, Act::Hush),
+    (0, Act::Hear(1, Answer::Added)),
+    (0, Act::End),
+    (1, Act::Connect),
+    (1, Act::Say(b"abc")),
+    (1, Act::Leave),
+    (2, Act::Connect),
+    (2, Act::Say(b"\x00\x00\x00\x00")),
+    (2, Act::Hush),
+    (2, Act::Hear(0, Answer::Fault(FaultCode::BadLength))),
+    (2, Act::End),
+    (3, Act::Connect),
+    (3, Act::Leave),
+];
+
+/// What the clients of a server do.
+#[derive(Clone, Copy)]
+enum Clients {
+    Acting(Acts),
+    SixtyFour,
+    NeverReads,
+}
+
+impl Clients {
+    fn ask<R: Net>(self, rt: &R, alloc: Global, address: SocketAddr) -> io::Result<()> {
+        match self {
+            Clients::Acting(acts) => do_acts(rt, alloc, address, &mut Vec::new(alloc), acts),
+            Clients::SixtyFour => many_clients(rt, alloc, address, 64),
+            Clients::NeverReads => never_reads(rt, alloc, address),
+        }
+    }
+}
+
+/// Serves `connections` connections over two stores with room, and gives what was written.
+fn served<R: Threads + Wait + Clock + Sync, L: Log + Sync>(
+    rt: &R,
+    alloc: Global,
+    plan: &Plan,
+    listener: &TcpListener,
+    connections: usize,
+    notes: &L,
+) -> Result<Vec<u8>, Finish> {
+    let stores = two_stores(alloc, 1_000)?;
+    let setup = ServerSetup {
+        alloc,
+        plan,
+        listener,
+        notes,
+    };
+    let mut written: Vec<u8> = Vec::new(alloc);
+    serve(rt, &setup, stores, connections, &mut written)?;
+    Ok(written)
+}
+
+/// Checks that the clients are answered, and these lines written, by a server with this many
+/// callers and connections.
+fn writes<
+    R: Threads + Wait + Clock + Net<Listener = TcpListener, Stream = TcpStream> + Sync,
+    L: Log + Sync,
+>(
+    rt: &R,
+    alloc: Global,
+    (callers, connections): (u64, usize),
+    notes: &L,
+    clients: Clients,
+    wanted: &str,
+) -> Option<bool> {
+    let plan = plan_with(alloc, callers)?;
+    let (listener, address) = bound(rt)?;
+    let (written, answered) = thread::join(
+        rt,
+        || served(rt, alloc, &plan, &listener, connections, notes),
+        || clients.ask(rt, alloc, address),
+    );
+    drop(listener);
+    drop(plan);
+    Some(is_served(alloc, address, answered, written, wanted))
+}
+
+/// Checks the lines that are logged, too.
+#[test]
+fn loopback_server(rt: HostRuntime) {
+    let alloc = rt.alloc();
+    let notes = Locked::new(rt, Vec::new(alloc));
+    let wanted =
+        "connection 0 ended\nconnection 1 truncated\nconnection 2 malformed 1\nconnection 3 callersspent\n";
+    let is_written = writes(&rt, alloc, (3, 4), &notes, Clients::Acting(FOUR), wanted);
+    assert!(rt; is_written == Some(true));
+    let noted: Vec<u8> = notes.into_inner();
+    let wanted =
+        "[INFO  chord] connection 0 ended\n[INFO  chord] connection 1 truncated\n[INFO  chord] connection 2 malformed 1\n[INFO  chord] connection 3 callersspent\n";
+    assert!(rt; noted.as_slice() == wanted.as_bytes());
+}
+
+/// Refused bytes, another version, half of a frame, and a client that never reads.
+#[test]
+fn faulty_clients(rt: HostRuntime) {
+    for (counts, clients, wanted) in [
+        (
+            (8, 8),
+            Clients::Acting(HOSTILE),
+            "connection 0 ended\nconnection 1 malformed 1\nconnection 2 malformed 2\nconnection 3 malformed 3\nconnection 4 malformed 12\nconnection 5 malformed 4\nconnection 6 malformed 5\nconnection 7 malformed 6\n",
+        ),
+        (
+            (1, 1),
+            Clients::Acting(TWO_VERSIONS),
+            "connection 0 malformed 2\n",
+        ),
+        (
+            (2, 2),
+            Clients::Acting(HALF_A_FRAME),
+            "connection 0 truncated\nconnection 1 ended\n",
+        ),
+        (
+            (2, 2),
+            Clients::NeverReads,
+            "connection 0 write\nconnection 1 ended\n",
+        ),
+    ] {
+        let is_written = writes(&rt, rt.alloc(), counts, &Discard, clients, wanted);
+        assert!(rt; is_written == Some(true), "{wanted}");
+    }
+}
+
+/// One client is served while others, one after another, send frames that are refused.
+const HOSTILE: Acts = &[
+    (0, Act::Connect),
+    (0, Act::Ask(1, Ask::Insert(b"x"))),
+    (0, Act::Hear(1, Answer::Added)),
+    (1, Act::Connect),
+    (1, Act::Say(b"\x00\x00\x00\x0b")),
+    (1, Act::Hear(0, Answer::Fault(FaultCode::BadLength))),
+    (1, Act::End),
+    (2, Act::Connect),
+    (
+        2,
+        Act::Say(b"\x00\x00\x00\x0c\x03\x02\x00\x00\x00\x00\x00\x00\x00\x01\x01a"),
+    ),
+    (2, Act::Hear(0, Answer::Fault(FaultCode::BadVersion))),
+    (2, Act::End),
+    (3, Act::Connect),
+    (
+        3,
+        Act::Say(b"\x00\x00\x00\x0c\x01\x04\x00\x00\x00\x00\x00\x00\x00\x01\x01a"),
+    ),
+    (3, Act::Hear(0, Answer::Fault(FaultCode::BadOperation))),
+    (3, Act::End),
+    (4, Act::Connect),
+    (
+        4,
+        Act::Say(
+            b"\x00\x00\x00\x14\x02\x02\x00\x00\x00\x00\x00\x00\x00\x01\x00\x00\x00\x00\x00\x00\x00\x01\x01a",
+        ),
+    ),
+    (4, Act::Hear(1, Answer::Fault(FaultCode::BadFloor))),
+    (4, Act::End),
+    (5, Act::Connect),
+    (
+        5,
+        Act::Say(b"\x00\x00\x00\x0c\x01\x02\x00\x00\x00\x00\x00\x00\x00\x01\x00a"),
+    ),
+    (5, Act::Hear(1, Answer::Fault(FaultCode::BadKey))),
+    (5, Act::End),
+    (6, Act::Connect),
+    (
+        6,
+        Act::Say(b"\x00\x00\x00\x0c\x01\x01\x00\x00\x00\x00\x00\x00\x00\x01\x01a"),
+    ),
+    (6, Act::Hear(1, Answer::Fault(FaultCode::BadValue))),
+    (6, Act::End),
+    (7, Act::Connect),
+    (
+        7,
+        Act::Say(b"\x00\x00\x00\x0d\x01\x02\x00\x00\x00\x00\x00\x00\x00\x01\x01aa"),
+    ),
+    (7, Act::Hear(1, Answer::Fault(FaultCode::Trailing))),
+    (7, Act::End),
+    (0, Act::Ask(2, Ask::Insert(b"x"))),
+    (0, Act::Hear(2, Answer::Present)),
+    (0, Act::Leave),
+];
+
+/// A client changes the version: its request 2, with floor 1, retrieves the set of `a`.
+const TWO_VERSIONS: Acts = &[
+    (0, Act::Connect),
+    (0, Act::Ask(1, Ask::Insert(b"x"))),
+    (0, Act::Hear(1, Answer::Added)),
+    (
+        0,
+        Act::Say(
+            b"\x00\x00\x00\x14\x02\x02\x00\x00\x00\x00\x00\x00\x00\x02\x00\x00\x00\x00\x00\x00\x00\x01\x01a",
+        ),
+    ),
+    (0, Act::Hear(0, Answer::Fault(FaultCode::BadVersion))),
+    (0, Act::End),
+];
+
+/// A number as two digits.
+fn two_digits(alloc: Global, number: u64) -> Result<String, AllocError> {
+    format!(in alloc; "{number:02}")
+}
+
+/// A reply of `count` values of two digits, from 00 on.
+fn values(alloc: Global, count: u64) -> Result<Reply, AllocError> {
+    let mut values = Values::new(alloc);
+    for number in 0..count {
+        let text = two_digits(alloc, number)?;
+        values.push(Bytes::from_slice(alloc, text.as_bytes())?)?;
+    }
+    Ok(Reply::Values(values))
+}
+
+/// The frame of request 1, which inserts this number as a value.
+fn insert_frame(alloc: Global, number: u64) -> io::Result<Vec<u8>> {
+    let text = two_digits(alloc, number)?;
+    let request = insert(alloc, text.as_bytes());
+    drop(text);
+    request_frame(alloc, 1, &*request?)
+}
+
+/// A connection over which request 1 was sent, to insert this number.
+fn open_connection<R: Net>(
+    rt: &R,
+    alloc: Global,
+    address: SocketAddr,
+    number: u64,
+) -> io::Result<R::Stream> {
+    let frame = insert_frame(alloc, number)?;
+    let mut stream = TcpStream::connect(rt, address)?;
+    let sent = stream.write_all(&frame);
+    drop(frame);
+    sent?;
+    Ok(stream)
+}
+
+/// Expects these bytes on each connection.
+fn each_hears<S: Read>(alloc: Global, streams: &mut [S], wanted: &[u8]) -> io::Result<()> {
+    for stream in streams.iter_mut() {
+        expect(alloc, stream, wanted)?;
+    }
+    Ok(())
+}
+
+/// Sends request 2 on each connection, expects this reply, and leaves.
+fn each_sees<S: Read + Write + OpenStream>(
+    alloc: Global,
+    streams: &mut [S],
+    request: &Request,
+    reply: &Reply,
+) -> io::Result<()> {
+    for stream in streams.iter_mut() {
+        ask(alloc, stream, 2, request, reply)?;
+        leave(stream)?;
+    }
+    Ok(())
+}
+
+/// Expects Added on each connection, and then all values.
+fn add_and_see<S: Read + Write + OpenStream>(alloc: Global, streams: &mut [S]) -> io::Result<()> {
+    let added = Answer::Added.frame(alloc, 1)?;
+    each_hears(alloc, streams, &added)?;
+    drop(added);
+    let request = retrieve(alloc)?;
+    let all = values(alloc, streams.len() as u64)?;
+    let seen = each_sees(alloc, streams, &request, &all);
+    drop(all);
+    seen
+}
+
+/// Opens `count` connections at once, and uses all of them.
+fn many_clients<R: Net>(rt: &R, alloc: Global, address: SocketAddr, count: u64) -> io::Result<()> {
+    let mut streams = Vec::new(alloc);
+    for number in 0..count {
+        streams.push(open_connection(rt, alloc, address, number)?)?;
+    }
+    add_and_see(alloc, &mut streams)
+}
+
+/// The lines of 64 connections that end in the order of their numbers.
+fn sixty_four_ends(alloc: Global) -> Option<String> {
+    let mut ends = String::new(alloc);
+    for number in 0..64u32 {
+        writeln!(ends, "connection {number} ended").ok()?;
+    }
+    Some(ends)
+}
+
+/// Checks that 64 clients are answered at once, and their lines written.
+fn writes_sixty_four<
+    R: Threads + Wait + Clock + Net<Listener = TcpListener, Stream = TcpStream> + Sync,
+>(rt: &R, alloc: Global) -> Option<bool> {
+    let ends = sixty_four_ends(alloc)?;
+    let clients = Clients::SixtyFour;
+    writes(rt, alloc, (64, 64), &Discard, clients, ends.as_str())
+}
+
+#[test]
+fn sixty_four_at_once(rt: HostRuntime) {
+    assert!(rt; writes_sixty_four(&rt, rt.alloc()) == Some(true));
+}
+
+/// A client sends half of a frame that inserts `x` under `abc`, and another client is served
+/// meanwhile.
+const HALF_A_FRAME: Acts = &[
+    (0, Act::Connect),
+    (0, Act::Say(b"\x00\x00\x00\x11\x01\x01\x00\x00\x00\x00")),
+    (1, Act::Connect),
+    (1, Act::Ask(1, Ask::Insert(b"x"))),
+    (1, Act::Hear(1, Answer::Added)),
+    (1, Act::Leave),
+    (0, Act::Leave),
+];
+
+/// Adds 32 values of 4,096 bytes, 128 KiB together.
+fn fill<S: Read + Write>(alloc: Global, stream: &mut S) -> io::Result<()> {
+    for number in 0..32u8 {
+        let value = vec![in alloc; number; 4_096]?;
+        ask_insert(alloc, stream, number as u64 + 1, &value, &Reply::Added)?;
+    }
+    Ok(())
+}
+
+/// A client that is served.
+const ANOTHER: Acts = &[
+    (0, Act::Connect),
+    (0, Act::Ask(1, Ask::Remove(b"x"))),
+    (0, Act::Hear(1, Answer::Absent)),
+    (0, Act::Leave),
+];
+
+/// A client sends 4,096 retrieves of 128 KiB each and never reads. Checks that another client is
+/// served.
+fn never_reads<R: Net>(rt: &R, alloc: Global, address: SocketAddr) -> io::Result<()> {
+    let mut greedy = TcpStream::connect(rt, address)?;
+    fill(alloc, &mut greedy)?;
+    let request = retrieve(alloc)?;
+    for number in 33..4_129u64 {
+        greedy.write_all(&request_frame(alloc, number, &request)?)?;
+    }
+    do_acts(rt, alloc, address, &mut Vec::new(alloc), ANOTHER)
+}
+
+/// Why a plan is not served whose second node the ring refuses.
+fn not_served<R: Threads + Wait + Clock + Net<Listener = TcpListener, Stream = TcpStream> + Sync>(
+    rt: &R,
+    alloc: Global,
+) -> Option<Finish> {
+    let twice = changed(alloc, "id = \"c0", "id = \"40").ok()?;
+    let plan = plan_of(alloc, twice.as_str());
+    drop(twice);
+    let plan = plan?;
+    let (listener, _) = bound(rt)?;
+    let fault = served(rt, alloc, &plan, &listener, 1, &Discard).err();
+    drop(plan);
+    fault
+}
+
+/// A node that the ring refuses ends the command before it listens.
+#[test]
+fn served_refused_node(rt: HostRuntime) {
+    let fault = Finish::Fault(Fault::Node(1));
+    assert!(rt; not_served(&rt, rt.alloc()) == Some(fault));
+}
+
+/// Why listening at a taken port fails, and whether it succeeds once the port is free.
+fn listens<R: Net<Listener = TcpListener, Stream = TcpStream>>(rt: &R) -> Option<(Finish, bool)> {
+    let (listener, address) = bound(rt)?;
+    let refused = listen(rt, address.port()).err();
+    drop(listener);
+    Some((refused?, listen(rt, address.port()).is_ok()))
+}
+
+#[test]
+fn a_port_that_is_taken(rt: HostRuntime) {
+    assert!(rt; listens(&rt) == Some((Finish::Fault(Fault::Listen), true)));
+}

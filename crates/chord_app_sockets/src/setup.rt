@@ -1,0 +1,26 @@
+//! What a server is started with.
+ghost use Rattle.std.specs.Prelude.{◌≡◌, IfErr};
+
+use chord_app_plan::Plan;
+use chord_app_text::{Fault, Finish};
+use std::alloc::Global;
+use std::net::{Ipv4Addr, Net, TcpListener};
+
+/// A plan, where clients connect, and where to log how connections end.
+#[derive_where(Clone, Copy)]
+pub struct ServerSetup<'a, L> {
+    pub alloc: Global,
+    pub plan: &'a Plan,
+    pub listener: &'a TcpListener,
+    pub notes: &'a L,
+}
+
+/// Listens at a port of 127.0.0.1, if it is free.
+pub fn listen<R: Net>(rt: &R, port: u16) -> Result<R::Listener, Finish>
+    ensures { IfErr result (λ finish. finish ≡ Finish.Fault Fault.Listen) }
+{
+    match TcpListener::bind(rt, (Ipv4Addr::LOCALHOST, port)) {
+        Ok(listener) => Ok(listener),
+        Err(_) => Err(Finish::Fault(Fault::Listen)),
+    }
+}

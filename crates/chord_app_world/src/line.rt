@@ -1,0 +1,214 @@
+//! Lines of the console.
+
+use chord_app_text::{LineFault, Words};
+use chord_ident::Id;
+use chord_map::Request;
+use chord_world::Step;
+use std::alloc::Global;
+
+/// What a line of the console asks for.
+#[derive(Debug, Drop)]
+pub enum Line {
+    Step(Step),
+    /// How many calls were executed.
+    History,
+    /// Who holds this identifier.
+    Holder(Id),
+    /// The successors that this node lists.
+    List(u64),
+    /// A node copies the list of its first entry, whichever that is.
+    Stabilise(u64),
+}
+
+impl Line {
+    /// Reads a line without its end.
+    pub fn read(alloc: Global, line: &str) -> Result<Line, LineFault> {
+        let mut words = Words::new(line);
+        let word = words.word()?;
+        let line = line_of(alloc, word, &mut words)?;
+        match words.end() {
+            Ok(()) => Ok(line),
+            Err(fault) => {
+                drop(line);
+                Err(fault)
+            }
+        }
+    }
+}
+
+/// The line that begins with this word.
+fn line_of(alloc: Global, word: &str, words: &mut Words) -> Result<Line, LineFault> {
+    match word {
+        "history" => Ok(Line::History),
+        "holder" => Ok(Line::Holder(words.id()?)),
+        "list" => Ok(Line::List(words.number()?)),
+        "stabilise" => Ok(Line::Stabilise(words.number()?)),
+        _ => Ok(Line::Step(step_of(alloc, word, words)?)),
+    }
+}
+
+/// The step of a line that begins with this word.
+fn step_of(alloc: Global, word: &str, words: &mut Words) -> Result<Step, LineFault> {
+    match word {
+        "insert" => insert(alloc, words),
+        "retrieve" => retrieve(alloc, words),
+        "remove" => remove(alloc, words),
+        "create" => create(words),
+        "caller" => caller(words),
+        "resend" => resend(words),
+        "meet" => meet(words),
+        "join" => join(words),
+        "cut" => cut(words),
+        "merge" => merge(words),
+        "give" => give(words),
+        "part" => part(words),
+        "candidate" => candidate(words),
+        "rectify" => rectify(words),
+        "finger" => finger(words),
+        _ => step_of_one(word, words.number()?),
+    }
+}
+
+/// The step of a line that has this word and one number.
+fn step_of_one(word: &str, number: u64) -> Result<Step, LineFault> {
+    match word {
+        "deliver" => Ok(Step::Deliver { message: number }),
+        "show" => Ok(Step::Show { caller: number }),
+        "drop" => Ok(Step::DropDead { node: number }),
+        "leave" => Ok(Step::Leave { node: number }),
+        "retire" => Ok(Step::Retire { node: number }),
+        "crash" => Ok(Step::Crash { node: number }),
+        _ => Err(LineFault::Grammar),
+    }
+}
+
+fn create(words: &mut Words) -> Result<Step, LineFault> {
+    Ok(Step::Create { id: words.id()? })
+}
+
+/// A caller with the window on the line, or else with window 1.
+fn caller(words: &mut Words) -> Result<Step, LineFault> {
+    let window = if words.has_more() { words.number()? } else { 1 };
+    Ok(Step::OpenCaller { window })
+}
+
+fn insert(alloc: Global, words: &mut Words) -> Result<Step, LineFault> {
+    let caller = words.number()?;
+    let via = words.number()?;
+    let key = words.bytes(alloc)?;
+    let value = words.bytes(alloc)?;
+    Ok(Step::Submit {
+        caller,
+        via,
+        request: Request::Insert { key, value },
+    })
+}
+
+fn retrieve(alloc: Global, words: &mut Words) -> Result<Step, LineFault> {
+    let caller = words.number()?;
+    let via = words.number()?;
+    let key = words.bytes(alloc)?;
+    Ok(Step::Submit {
+        caller,
+        via,
+        request: Request::Retrieve { key },
+    })
+}
+
+fn remove(alloc: Global, words: &mut Words) -> Result<Step, LineFault> {
+    let caller = words.number()?;
+    let via = words.number()?;
+    let key = words.bytes(alloc)?;
+    let value = words.bytes(alloc)?;
+    Ok(Step::Submit {
+        caller,
+        via,
+        request: Request::Remove { key, value },
+    })
+}
+
+/// Sends a request again: that of the number on the line, or else the least pending one.
+fn resend(words: &mut Words) -> Result<Step, LineFault> {
+    let caller = words.number()?;
+    let via = words.number()?;
+    let number = if words.has_more() {
+        Some(words.number()?)
+    } else {
+        None
+    };
+    Ok(Step::Resend {
+        caller,
+        via,
+        number,
+    })
+}
+
+fn meet(words: &mut Words) -> Result<Step, LineFault> {
+    let caller = words.number()?;
+    let message = words.number()?;
+    Ok(Step::Meet { caller, message })
+}
+
+fn join(words: &mut Words) -> Result<Step, LineFault> {
+    let id = words.id()?;
+    let behind = words.number()?;
+    Ok(Step::Join { id, behind })
+}
+
+fn cut(words: &mut Words) -> Result<Step, LineFault> {
+    let node = words.number()?;
+    let place = words.number()?;
+    let at = words.id()?;
+    Ok(Step::Cut { node, place, at })
+}
+
+fn merge(words: &mut Words) -> Result<Step, LineFault> {
+    let node = words.number()?;
+    let place = words.number()?;
+    let behind = words.number()?;
+    Ok(Step::Merge {
+        node,
+        place,
+        behind,
+    })
+}
+
+fn give(words: &mut Words) -> Result<Step, LineFault> {
+    let node = words.number()?;
+    let place = words.number()?;
+    let to = words.number()?;
+    Ok(Step::Give { node, place, to })
+}
+
+/// Sends a part of a handover again.
+fn part(words: &mut Words) -> Result<Step, LineFault> {
+    let node = words.number()?;
+    let to = words.number()?;
+    let number = words.number()?;
+    let part = words.number()?;
+    Ok(Step::SendPart {
+        node,
+        to,
+        number,
+        part,
+    })
+}
+
+fn candidate(words: &mut Words) -> Result<Step, LineFault> {
+    let node = words.number()?;
+    let peer = words.number()?;
+    Ok(Step::Candidate { node, peer })
+}
+
+fn rectify(words: &mut Words) -> Result<Step, LineFault> {
+    let node = words.number()?;
+    let notifier = words.number()?;
+    Ok(Step::Rectify { node, notifier })
+}
+
+fn finger(words: &mut Words) -> Result<Step, LineFault> {
+    let node = words.number()?;
+    let finger = words.number()?;
+    let to = words.number()?;
+    Ok(Step::Finger { node, finger, to })
+}

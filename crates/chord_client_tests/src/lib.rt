@@ -1,5 +1,0 @@
-//! The tests of `chord_client`.
-#![tactic(auto)]
-
-#[cfg(test)]
-mod tests;

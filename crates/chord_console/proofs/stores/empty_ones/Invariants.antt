@@ -1,6 +1,0 @@
-use Rattle.std.proofs.Common.{◌≡◌, []}
-use Rattle.std.specs.Prelude.{All}
-use Rattle.chord_console.proofs.stores.empty_ones.Given as goal
-
-abbrev pub invariant-loop-store : goal.invariant-loop-store
-invariant-loop-store g l = All (λ s. g.S.EntryStore.content s ≡ []) l.kept.items

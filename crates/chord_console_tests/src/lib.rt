@@ -1,5 +1,0 @@
-//! The tests of `chord_console`.
-#![tactic(auto)]
-
-#[cfg(test)]
-mod tests;

@@ -1,6 +1,0 @@
-use Rattle.std.proofs.Common.{[], refl}
-use Rattle.chord_handover.proofs.Parcels.{no_pairs}
-use Rattle.chord_handover.proofs.run.Run.new.Goals as goal
-
-pub returns : goal.returns
-returns c = λ segment. record { rules = no_pairs segment [] refl; last = refl; count = refl }

@@ -1,8 +1,0 @@
-//! The command `serve`: a ring of a plan's nodes, which clients ask over loopback.
-
-pub mod asker;
-pub mod idle;
-pub mod pool;
-pub mod server;
-pub mod service;
-pub mod stay;

@@ -1,0 +1,293 @@
+//! Slots for nodes and inboxes for callers, over one table.
+ghost use Rattle.std.specs.Prelude.{◌≡◌, ◌<◌, ◌≤◌, [], true, IfOk, IfErr, IfSome, vec_len};
+ghost use Rattle.chord_caller.specs.Answers.{new_caller};
+ghost use Rattle.chord_live_ring.specs.Counts.{AreWithin};
+ghost use Rattle.chord_table.specs.Shown.{CallerShown};
+
+use crate::numbers::Numbers;
+use crate::reader::RingReader;
+use crate::ring_client::RingClient;
+use crate::seated_client::SeatedClient;
+use crate::seated_node::SeatedNode;
+use crate::settings::Settings;
+use crate::slot::{Inbox, Slot, SlotState};
+use chord_caller::CallerCore;
+use chord_ident::Id;
+use chord_links::{Links, Peer};
+use chord_live_types::{
+    CreateFault, JoinFault, LeaveFault, NoSuchNode, OpenClientFault, OpenFault,
+};
+use chord_node::Phase;
+use chord_ring::join_behind;
+use chord_route::find_predecessor;
+use chord_store::EntryStore;
+use chord_table::{CallerSeat, Naming, Shared};
+use std::alloc::Global;
+use std::sync::atomic::{AtomicBool, AtomicU64, Ordering};
+use std::sync::{Mutex, Wait};
+
+/// Nodes, inboxes and their table.
+#[derive(Drop)]
+pub struct Ring<J: Naming, S: EntryStore> {
+    pub(crate) alloc: Global,
+    pub(crate) settings: Settings,
+    pub(crate) table: Shared<J>,
+    pub(crate) numbers: Mutex<Numbers<J>>,
+    /// The links of all members, filled while a node retires.
+    pub(crate) board: Mutex<Vec<Option<Links>>>,
+    /// How many nodes were admitted.
+    pub(crate) nodes: AtomicU64,
+    pub(crate) slots: Vec<Slot<J, S>>,
+    pub(crate) inboxes: Vec<Inbox<J>>,
+    /// How many of the next waits skip polling.
+    pub(crate) polls_to_skip: AtomicU64,
+    pub(crate) stopped: AtomicBool,
+    ghost within: { AreWithin settings },
+    ghost counted: { vec_len slots ≡ J.name.slots },
+    ghost listed: { vec_len inboxes ≡ J.name.callers },
+}
+
+impl<J: Naming, S: EntryStore> Ring<J, S> {
+    /// Whether a node of this number was admitted.
+    pub fn was_admitted(&self, number: u64) -> bool
+        ensures { result ≡ true → number < J.name.slots }
+    {
+        number < self.nodes.load(Ordering::SeqCst) && number < self.slots.len() as u64
+    }
+
+    /// Whether the node of this number is a member.
+    pub(crate) fn is_live(&self, number: u64) -> bool {
+        match self.slots.get(number as usize) {
+            Some(slot) => slot.live.load(Ordering::SeqCst),
+            None => false,
+        }
+    }
+
+    /// Whether the ring was stopped.
+    pub fn is_stopped(&self) -> bool {
+        self.stopped.load(Ordering::SeqCst)
+    }
+
+    /// The table on which all actors of the ring have their seats.
+    pub fn table(&self) -> &Shared<J> {
+        &self.table
+    }
+
+    /// How many times a request is sent at most.
+    pub fn tries(&self) -> u64
+        ensures { (1 ≤ result) × (result ≤ 1000) }
+    {
+        self.settings.tries
+    }
+
+    /// Ends all work.
+    pub fn stop(&self) {
+        self.stopped.store(true, Ordering::SeqCst);
+    }
+
+    /// Drops the ring, with its nodes, their stores and the envelopes under way.
+    pub fn close(self) {
+        drop(self);
+    }
+
+    /// The links of a node, as its upkeep knows them now. None if there is no such node, or if it
+    /// crashed.
+    pub fn links_of(&self, rt: &impl Wait, number: u64) -> Option<Links>
+        ensures { IfSome result (λ links. links.me.number ≡ number) }
+    {
+        let slot = self.slots.get(number as usize)?;
+        match &*slot.state.lock(rt) {
+            SlotState::Here(seated) if seated.links().me().number == number => Some(
+                *seated.links(),
+            ),
+            _ => None,
+        }
+    }
+
+    /// The phase of a node. None if there is no such node, or if it crashed.
+    pub(crate) fn phase_of(&self, rt: &impl Wait, number: u64) -> Option<Phase> {
+        let slot = self.slots.get(number as usize)?;
+        match &*slot.state.lock(rt) {
+            SlotState::Here(seated) => Some(seated.phase()),
+            _ => None,
+        }
+    }
+
+    /// Puts a node into its slot.
+    fn fill_slot(&self, rt: &impl Wait, number: usize, seated: SeatedNode<J, S>)
+        requires { number < J.name.slots }
+    {
+        let slot = &self.slots[number];
+        drop(std::mem::replace(&mut *slot.state.lock(rt), SlotState::Here(seated)));
+        slot.live.store(true, Ordering::SeqCst);
+        self.nodes.store(number as u64 + 1, Ordering::SeqCst);
+    }
+
+    /// Admits the first node, or gives the store back.
+    pub fn create(&self, rt: &impl Wait, id: Id, store: S) -> Result<Peer, (CreateFault, S)>
+        requires vacant { S.content store ≡ [] }
+        ensures peer { IfOk result (λ peer. peer ≡ record { number = 0; id = id }) }
+        ensures back { IfErr result (λ refused. refused.1 ≡ store) }
+    {
+        let mut numbers = self.numbers.lock(rt);
+        if self.is_stopped() {
+            return Err((CreateFault::Stopped, store));
+        }
+        if numbers.nodes() != 0 || !numbers.has_slot() {
+            return Err((CreateFault::AlreadyCreated, store));
+        }
+        match numbers.create(&self.table, self.alloc, id, self.settings.successors, store) {
+            Ok(seated) => {
+                self.fill_slot(rt, 0, seated);
+                Ok(Peer { number: 0, id })
+            }
+            Err(store) => Err((CreateFault::Memory, store)),
+        }
+    }
+
+    /// The links of a new node, after the node that comes before it on the circle.
+    fn links_behind(&self, rt: &impl Wait, me: Peer, via: u64) -> Result<Links, JoinFault>
+        ensures { IfOk result (λ links. links.me ≡ me) }
+    {
+        if !self.was_admitted(via) {
+            return Err(JoinFault::NoSuchNode);
+        }
+        let reader = RingReader { ring: self, rt };
+        let Ok(before) = find_predecessor(&reader, via, me.id) else {
+            return Err(JoinFault::Unsettled);
+        };
+        if !self.is_live(before.number) {
+            return Err(JoinFault::Unsettled);
+        }
+        let Some(links) = self.links_of(rt, before.number) else {
+            return Err(JoinFault::Unsettled);
+        };
+        match join_behind(me, &links) {
+            Ok(links) => Ok(links),
+            Err(_) => Err(JoinFault::Unsettled),
+        }
+    }
+
+    /// Admits a later node, after the one that a lookup from `via` finds before it, or gives the
+    /// store back.
+    pub fn join(&self, rt: &impl Wait, id: Id, via: u64, store: S) -> Result<Peer, (JoinFault, S)>
+        requires vacant { S.content store ≡ [] }
+        ensures back { IfErr result (λ refused. refused.1 ≡ store) }
+        ensures named { IfOk result (λ peer. peer.id ≡ id) }
+    {
+        let mut numbers = self.numbers.lock(rt);
+        if self.is_stopped() {
+            return Err((JoinFault::Stopped, store));
+        }
+        if !numbers.has_slot() {
+            return Err((JoinFault::NoSlot, store));
+        }
+        if numbers.is_taken(id) {
+            return Err((JoinFault::IdTaken, store));
+        }
+        let number = numbers.nodes();
+        if number == 0 {
+            return Err((JoinFault::NoSuchNode, store));
+        }
+        let me = Peer {
+            number: number as u64,
+            id,
+        };
+        let links = match self.links_behind(rt, me, via) {
+            Ok(links) => links,
+            Err(fault) => return Err((fault, store)),
+        };
+        match numbers.join(&self.table, self.alloc, links, store) {
+            Ok(seated) => {
+                self.fill_slot(rt, number, seated);
+                Ok(me)
+            }
+            Err(store) => Err((JoinFault::Memory, store)),
+        }
+    }
+
+    /// Makes a node begin to leave.
+    pub fn leave(&self, rt: &impl Wait, number: u64) -> Result<(), LeaveFault> {
+        if !self.was_admitted(number) {
+            return Err(LeaveFault::NoSuchNode);
+        }
+        let Some(slot) = self.slots.get(number as usize) else {
+            return Err(LeaveFault::NoSuchNode);
+        };
+        match &mut *slot.state.lock(rt) {
+            SlotState::Here(seated) => seated
+                .begin_leave(&self.table)
+                .map_err(|_| LeaveFault::NotStaying),
+            _ => Err(LeaveFault::NotStaying),
+        }
+    }
+
+    /// Crashes a node: it takes no further step, others find it dead, and its store stays as it is.
+    pub fn crash(&self, rt: &impl Wait, number: u64) -> Result<(), NoSuchNode> {
+        if !self.was_admitted(number) {
+            return Err(NoSuchNode);
+        }
+        let Some(slot) = self.slots.get(number as usize) else {
+            return Err(NoSuchNode);
+        };
+        let mut guard = slot.state.lock(rt);
+        slot.live.store(false, Ordering::SeqCst);
+        let place = std::mem::replace(&mut *guard, SlotState::Vacant);
+        drop(std::mem::replace(&mut *guard, place.crashed()));
+        Ok(())
+    }
+
+    /// A caller under the next free number, with a window of 1 to 16 requests, and the seat that
+    /// shows it.
+    pub fn admit_caller(
+        &self,
+        rt: &impl Wait,
+        window: u64,
+    ) -> Result<(CallerCore, CallerSeat<J>), OpenFault>
+        requires some { 1 ≤ window }
+        requires small { window ≤ 16 }
+        ensures number { IfOk result (λ admitted. admitted.0.number < J.name.callers) }
+        ensures shown { IfOk result (λ admitted. (admitted.0 ≡ new_caller admitted.0.number window) × (admitted.0 ≡ admitted.1.caller)) }
+    {
+        let mut numbers = self.numbers.lock(rt);
+        if self.is_stopped() {
+            return Err(OpenFault::Stopped);
+        }
+        match numbers.admit_caller(&self.table, self.alloc, window) {
+            Some(admitted) => Ok(admitted),
+            None => Err(OpenFault::CallersSpent),
+        }
+    }
+
+    /// A client under the next free number, with a window of 1 to 16 requests. It has room for
+    /// those, and holds no more.
+    pub fn open_client(
+        &self,
+        rt: &impl Wait,
+        window: u64,
+    ) -> Result<RingClient<'_, J, S>, OpenClientFault>
+        requires some { 1 ≤ window }
+        requires small { window ≤ 16 }
+        ensures opened { IfOk result (λ client. client.caller ≡ new_caller client.caller.number window) }
+        ensures shown { IfOk result (λ client. CallerShown client) }
+    {
+        RingClient::open(self, rt, window)
+    }
+
+    /// The core and the seat of the next client.
+    pub(crate) fn open_client_seat(
+        &self,
+        rt: &impl Wait,
+        window: u64,
+    ) -> Result<(u64, SeatedClient<J>), OpenClientFault>
+        requires some { 1 ≤ window }
+        requires small { window ≤ 16 }
+        ensures { IfOk result (λ opened. (opened.0 < J.name.callers) × (opened.1.caller ≡ new_caller opened.0 window)) }
+    {
+        let mut numbers = self.numbers.lock(rt);
+        if self.is_stopped() {
+            return Err(OpenClientFault::Stopped);
+        }
+        numbers.open_client(&self.table, self.alloc, window)
+    }
+}

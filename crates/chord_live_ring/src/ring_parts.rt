@@ -1,0 +1,125 @@
+//! Rings before they have their name.
+ghost use Rattle.std.specs.Prelude.{◌≡◌, ◌↔◌, Err, IfOk, vec_len};
+ghost use Rattle.chord_live_ring.specs.Counts.{AreWithin};
+ghost use Rattle.chord_live_types.specs.declared.ring.NewFault.TheVariants as NewFault;
+
+use crate::numbers::Numbers;
+use crate::ring::Ring;
+use crate::settings::Settings;
+use crate::slot::{Inbox, Slot, SlotState};
+use chord_links::Links;
+use chord_live_types::NewFault;
+use chord_store::EntryStore;
+use chord_table::{Naming, Registrar, TableParts};
+use std::alloc::{AllocError, Global};
+use std::marker::Model;
+use std::sync::Mutex;
+use std::sync::atomic::{AtomicBool, AtomicU64};
+
+/// A ring that has no name yet. Contracts see the name that it will get.
+#[derive(Drop)]
+pub struct RingParts {
+    alloc: Global,
+    settings: Settings,
+    table: TableParts,
+    ghost within: { AreWithin settings },
+    ghost slots: { table.slots ≡ settings.slots },
+    ghost callers: { table.callers ≡ settings.callers },
+}
+
+impl Model for RingParts {
+    ghost use Rattle.chord_table.specs.Views.{Name};
+
+    ghost Value = { Name };
+
+    ghost view = { λ parts. parts.table };
+}
+
+impl RingParts {
+    /// A ring of this size with no node.
+    pub fn new(alloc: Global, settings: Settings) -> Result<RingParts, NewFault>
+        ensures bad { (result ≡ Err NewFault.BadSettings) ↔ (¬ AreWithin settings) }
+    {
+        if !settings.are_within() {
+            return Err(NewFault::BadSettings);
+        }
+        match Registrar::open(alloc, settings.slots, settings.callers) {
+            Ok(table) => Ok(RingParts {
+                alloc,
+                settings,
+                table,
+            }),
+            Err(_) => Err(NewFault::Memory),
+        }
+    }
+
+    /// Gives the ring its name.
+    pub fn assemble<J: Naming, S: EntryStore>(self) -> Result<Ring<J, S>, AllocError>
+        requires { self ≡ J.name }
+    {
+        let RingParts {
+            alloc,
+            settings,
+            table,
+        } = self;
+        let slots = vacant_slots(alloc, settings.slots)?;
+        let inboxes = empty_inboxes(alloc, settings.callers)?;
+        let board = empty_board(alloc, settings.slots)?;
+        let (table, registrar) = table.assemble::<J>();
+        let numbers = Numbers::new(alloc, registrar, settings.slots, settings.callers);
+        Ok(Ring {
+            alloc,
+            settings,
+            table,
+            numbers: Mutex::new(numbers),
+            board: Mutex::new(board),
+            nodes: AtomicU64::new(0),
+            slots,
+            inboxes,
+            polls_to_skip: AtomicU64::new(0),
+            stopped: AtomicBool::new(false),
+        })
+    }
+}
+
+/// `count` slots with no node.
+fn vacant_slots<J: Naming, S: EntryStore>(
+    alloc: Global,
+    count: usize,
+) -> Result<Vec<Slot<J, S>>, AllocError>
+    ensures { IfOk result (λ slots. vec_len slots ≡ count) }
+{
+    let mut slots = Vec::with_capacity(alloc, count)?;
+    for _ in 0..count {
+        let (inbox, envelopes) = crossbeam_channel::unbounded(alloc)?;
+        slots.push(Slot {
+            state: Mutex::new(SlotState::Vacant),
+            live: AtomicBool::new(false),
+            ticks: AtomicU64::new(0),
+            inbox,
+            envelopes,
+        })?;
+    }
+    Ok(slots)
+}
+
+/// `count` inboxes with no envelope.
+fn empty_inboxes<J: Naming>(alloc: Global, count: usize) -> Result<Vec<Inbox<J>>, AllocError>
+    ensures { IfOk result (λ inboxes. vec_len inboxes ≡ count) }
+{
+    let mut inboxes = Vec::with_capacity(alloc, count)?;
+    for _ in 0..count {
+        let (inbox, envelopes) = crossbeam_channel::unbounded(alloc)?;
+        inboxes.push(Inbox { inbox, envelopes })?;
+    }
+    Ok(inboxes)
+}
+
+/// `count` rows with no links.
+fn empty_board(alloc: Global, count: usize) -> Result<Vec<Option<Links>>, AllocError> {
+    let mut board = Vec::with_capacity(alloc, count)?;
+    for _ in 0..count {
+        board.push(None)?;
+    }
+    Ok(board)
+}

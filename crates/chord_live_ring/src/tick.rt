@@ -1,0 +1,349 @@
+//! The upkeep of nodes.
+ghost use Rattle.std.specs.Prelude.{◌≤◌};
+
+use crate::reader::RingReader;
+use crate::ring::Ring;
+use crate::seated_node::SeatedNode;
+use crate::slot::SlotState;
+use crate::target::Target;
+use crate::tidying::Tidied;
+use chord_ident::Id;
+use chord_links::{Links, Peer};
+use chord_live_types::TickFault;
+use chord_node::{GiveFault, Phase, ResendPartFault};
+use chord_route::find_successor;
+use chord_store::EntryStore;
+use chord_table::{Envelope, Naming};
+use std::alloc::AllocError;
+use std::sync::Wait;
+use std::sync::atomic::Ordering;
+
+/// How many fingers a node has.
+const FINGERS: u64 = 128;
+
+/// What a tick does next at a node after looking under its lock.
+#[derive(Clone, Copy)]
+enum NextMove {
+    Done,
+    /// To give the held segment at this index, which ends here, to another node.
+    Give(usize, Id),
+}
+
+impl<J: Naming, S: EntryStore> Ring<J, S> {
+    /// Drops the first entry of a node, which is dead.
+    fn drop_head(&self, rt: &impl Wait, number: u64) {
+        let Some(slot) = self.slots.get(number as usize) else {
+            return;
+        };
+        if let SlotState::Here(seated) = &mut *slot.state.lock(rt) {
+            let _ = seated.drop_dead(&self.table, false).is_ok();
+        }
+    }
+
+    /// Stabilises a node with its first entry's links, and gives the candidate found.
+    fn stabilise(&self, rt: &impl Wait, number: u64, head: &Links) -> Option<Peer> {
+        let slot = self.slots.get(number as usize)?;
+        let live = self.is_live(head.me().number);
+        match &mut *slot.state.lock(rt) {
+            SlotState::Here(seated) => match seated.stabilise(&self.table, head, live) {
+                Ok(candidate) => candidate,
+                Err(_) => None,
+            },
+            _ => None,
+        }
+    }
+
+    /// Takes a candidate as the first entry of a node, if it is live.
+    fn take_candidate(&self, rt: &impl Wait, number: u64, candidate: Peer) {
+        let Some(theirs) = self.links_of(rt, candidate.number) else {
+            return;
+        };
+        let Some(slot) = self.slots.get(number as usize) else {
+            return;
+        };
+        let live = self.is_live(candidate.number);
+        if let SlotState::Here(seated) = &mut *slot.state.lock(rt) {
+            let _ = seated.take_candidate(&self.table, &theirs, live).is_ok();
+        }
+    }
+
+    /// A node rectifies its predecessor, given a notifier.
+    fn rectify(&self, rt: &impl Wait, number: u64, notifier: Peer) {
+        let Some(slot) = self.slots.get(number as usize) else {
+            return;
+        };
+        if let SlotState::Here(seated) = &mut *slot.state.lock(rt) {
+            let predecessor = seated.links().predecessor();
+            let live = match predecessor {
+                Some(peer) => self.is_live(peer.number),
+                None => false,
+            };
+            seated.rectify(&self.table, notifier, live);
+        }
+    }
+
+    /// The ring steps of a tick: drop a dead first entry, stabilise, rectify.
+    fn maintain_links(&self, rt: &impl Wait, links: &Links) {
+        let me = links.me();
+        let head = links.first();
+        if !self.is_live(head.number) {
+            self.drop_head(rt, me.number);
+            return;
+        }
+        if let Some(theirs) = self.links_of(rt, head.number) {
+            if let Some(candidate) = self.stabilise(rt, me.number, &theirs) {
+                self.take_candidate(rt, me.number, candidate);
+            }
+        }
+        if let Some(now) = self.links_of(rt, me.number) {
+            let first = now.first();
+            self.rectify(rt, first.number, me);
+        }
+    }
+
+    /// Updates the next finger; a node has one updated at each tick.
+    fn maintain_finger(&self, rt: &impl Wait, links: &Links) {
+        let me = links.me();
+        let Some(slot) = self.slots.get(me.number as usize) else {
+            return;
+        };
+        let earlier = slot.ticks.load(Ordering::SeqCst) % FINGERS;
+        slot.ticks.store((earlier + 1) % FINGERS, Ordering::SeqCst);
+        let finger = 1 + earlier as usize;
+        let reader = RingReader { ring: self, rt };
+        if let Ok(peer) = find_successor(&reader, me.number, links.fingers().start(finger)) {
+            self.set_finger(rt, me.number, finger, peer);
+        }
+    }
+
+    /// Points a finger of a node at another node.
+    fn set_finger(&self, rt: &impl Wait, number: u64, finger: usize, to: Peer)
+        requires low { 1 ≤ finger }
+        requires high { finger ≤ 128 }
+    {
+        let Some(slot) = self.slots.get(number as usize) else {
+            return;
+        };
+        if let SlotState::Here(seated) = &mut *slot.state.lock(rt) {
+            seated.set_finger(&self.table, finger, to);
+        }
+    }
+
+    /// Points fingers that lead to dead nodes at the node itself, so that no lookup follows them.
+    fn drop_dead_fingers(&self, rt: &impl Wait, links: &Links) {
+        let me = links.me();
+        for finger in 1..129 {
+            if let Some(peer) = links.fingers().get(finger) {
+                if !self.is_live(peer.number) {
+                    self.set_finger(rt, me.number, finger, me);
+                }
+            }
+        }
+    }
+
+    /// Cuts a held segment that is not the node's own, or finds one to give. Under the node's lock.
+    fn tidy_seated(&self, seated: &mut SeatedNode<J, S>) -> Result<NextMove, AllocError> {
+        let predecessor = seated.links().predecessor();
+        let Some(peer) = predecessor else {
+            return Ok(NextMove::Done);
+        };
+        if !self.is_live(peer.number) {
+            return Ok(NextMove::Done);
+        }
+        match seated.tidy(&self.table, peer.id)? {
+            Tidied::Give(place) => match seated.end_of(place) {
+                Some(end) => Ok(NextMove::Give(place, end)),
+                None => Ok(NextMove::Done),
+            },
+            _ => Ok(NextMove::Done),
+        }
+    }
+
+    fn tidy_at(&self, rt: &impl Wait, number: u64) -> Result<NextMove, AllocError> {
+        let Some(slot) = self.slots.get(number as usize) else {
+            return Ok(NextMove::Done);
+        };
+        match &mut *slot.state.lock(rt) {
+            SlotState::Here(seated) => self.tidy_seated(seated),
+            _ => Ok(NextMove::Done),
+        }
+    }
+
+    /// Cuts at a node, or gives away a held segment that is another node's.
+    fn maintain_segments(&self, rt: &impl Wait, number: u64) -> Result<(), AllocError> {
+        let NextMove::Give(place, end) = self.tidy_at(rt, number)? else {
+            return Ok(());
+        };
+        let reader = RingReader { ring: self, rt };
+        let Ok(peer) = find_successor(&reader, number, end) else {
+            return Ok(());
+        };
+        if peer.number == number || self.phase_of(rt, peer.number) != Some(Phase::Staying) {
+            return Ok(());
+        }
+        self.give(rt, number, place, end, peer.number)
+    }
+
+    /// Gives the held segment at this index, if it still ends here, and sends all its parts.
+    fn give(
+        &self,
+        rt: &impl Wait,
+        number: u64,
+        place: usize,
+        end: Id,
+        to: u64,
+    ) -> Result<(), AllocError> {
+        match self.give_first(rt, number, place, end, to) {
+            Ok((item, envelope)) => {
+                self.post(rt, Target::Node(to), envelope);
+                self.send_parts(rt, number, to, item, 2)
+            }
+            Err(GiveFault::Memory) => Err(AllocError),
+            Err(_) => Ok(()),
+        }
+    }
+
+    fn give_first(
+        &self,
+        rt: &impl Wait,
+        number: u64,
+        place: usize,
+        end: Id,
+        to: u64,
+    ) -> Result<(u64, Envelope<J>), GiveFault> {
+        let Some(slot) = self.slots.get(number as usize) else {
+            return Err(GiveFault::NoSegment);
+        };
+        match &mut *slot.state.lock(rt) {
+            SlotState::Here(seated) => {
+                if seated.end_of(place) != Some(end) {
+                    return Err(GiveFault::NoSegment);
+                }
+                seated.give(&self.table, place, to)
+            }
+            _ => Err(GiveFault::NoSegment),
+        }
+    }
+
+    /// Sends the parts of an outbox item, from this part on.
+    fn send_parts(
+        &self,
+        rt: &impl Wait,
+        number: u64,
+        to: u64,
+        item: u64,
+        first: u64,
+    ) -> Result<(), AllocError> {
+        for part in first..u64::MAX {
+            match self.resend(rt, number, to, item, part) {
+                Ok(envelope) => self.post(rt, Target::Node(to), envelope),
+                Err(ResendPartFault::NoPart) => return Ok(()),
+                Err(ResendPartFault::Memory) => return Err(AllocError),
+            }
+        }
+        Ok(())
+    }
+
+    fn resend(
+        &self,
+        rt: &impl Wait,
+        number: u64,
+        to: u64,
+        item: u64,
+        part: u64,
+    ) -> Result<Envelope<J>, ResendPartFault> {
+        let Some(slot) = self.slots.get(number as usize) else {
+            return Err(ResendPartFault::NoPart);
+        };
+        match &mut *slot.state.lock(rt) {
+            SlotState::Here(seated) => seated.resend_part(&self.table, to, item, part),
+            _ => Err(ResendPartFault::NoPart),
+        }
+    }
+
+    /// The end of a leaving node's first held segment.
+    fn end_at_leaving(&self, rt: &impl Wait, number: u64) -> Option<Id> {
+        let slot = self.slots.get(number as usize)?;
+        match &*slot.state.lock(rt) {
+            SlotState::Here(seated) => {
+                if seated.phase() == Phase::Leaving {
+                    seated.end_of(0)
+                } else {
+                    None
+                }
+            }
+            _ => None,
+        }
+    }
+
+    /// The first entry of a list that is another node, and stays.
+    fn heir(&self, rt: &impl Wait, links: &Links) -> Option<u64> {
+        let me = links.me();
+        for peer in links.list().entries() {
+            if peer.number != me.number && self.phase_of(rt, peer.number) == Some(Phase::Staying) {
+                return Some(peer.number);
+            }
+        }
+        None
+    }
+
+    /// Gives away the first held segment of a leaving node.
+    fn maintain_leaving(&self, rt: &impl Wait, number: u64) -> Result<(), AllocError> {
+        let Some(end) = self.end_at_leaving(rt, number) else {
+            return Ok(());
+        };
+        let Some(links) = self.links_of(rt, number) else {
+            return Ok(());
+        };
+        match self.heir(rt, &links) {
+            Some(to) => self.give(rt, number, 0, end, to),
+            None => Ok(()),
+        }
+    }
+
+    fn outbox_item(&self, rt: &impl Wait, number: u64, place: u64) -> Option<(u64, u64)> {
+        let slot = self.slots.get(number as usize)?;
+        match &*slot.state.lock(rt) {
+            SlotState::Here(seated) => seated.outbox_item(place),
+            _ => None,
+        }
+    }
+
+    /// Sends all parts of all outbox items again.
+    fn maintain_outbox(&self, rt: &impl Wait, number: u64) -> Result<(), AllocError> {
+        for place in 0..u64::MAX {
+            let Some((to, item)) = self.outbox_item(rt, number, place) else {
+                return Ok(());
+            };
+            self.send_parts(rt, number, to, item, 1)?;
+        }
+        Ok(())
+    }
+
+    /// Does one round of upkeep of a node. Out of memory ends it early; the steps done so far stay.
+    pub fn tick(&self, rt: &impl Wait, number: u64) -> Result<(), TickFault> {
+        if !self.was_admitted(number) {
+            return Err(TickFault::NoSuchNode);
+        }
+        if self.is_stopped() {
+            return Err(TickFault::Stopped);
+        }
+        if !self.is_live(number) {
+            return Ok(());
+        }
+        let Some(links) = self.links_of(rt, number) else {
+            return Ok(());
+        };
+        self.maintain_links(rt, &links);
+        self.drop_dead_fingers(rt, &links);
+        self.maintain_finger(rt, &links);
+        let done = match self.maintain_segments(rt, number) {
+            Ok(()) => match self.maintain_leaving(rt, number) {
+                Ok(()) => self.maintain_outbox(rt, number),
+                refused => refused,
+            },
+            refused => refused,
+        };
+        done.map_err(|_| TickFault::Memory)
+    }
+}

@@ -1,0 +1,106 @@
+//! Waiting for envelopes.
+ghost use Rattle.std.specs.Prelude.{◌<◌};
+
+use crate::ring::Ring;
+use chord_store::EntryStore;
+use chord_table::{Envelope, Naming};
+use crossbeam_channel::Receiver;
+use std::alloc::Global;
+use std::sync::atomic::Ordering;
+use std::sync::{Mutex, MutexGuard, Wait};
+use std::time::{Clock, Duration, Instant};
+
+/// How many microseconds a thread polls before it sleeps.
+const POLL_US: u64 = 40;
+
+/// A poll that took longer than this many microseconds: the machine is overloaded.
+const OVERLOADED_US: u64 = 1_000;
+
+/// Then this many waits skip polling.
+const POLLS_SKIPPED: u64 = 5_000;
+
+/// The most rounds of one poll.
+const MAX_POLLS: u64 = 200;
+
+/// How often a thread tries a lock, yielding in between, before it sleeps.
+const LOCK_TRIES: u64 = 64;
+
+/// Takes a lock that others hold only briefly.
+pub(crate) fn lock_soon<'l, T>(rt: &impl Wait, lock: &'l Mutex<T>) -> MutexGuard<'l, T> {
+    for _ in 0..LOCK_TRIES {
+        if let Some(guard) = lock.try_lock() {
+            return guard;
+        }
+        std::thread::yield_now();
+    }
+    lock.lock(rt)
+}
+
+impl<J: Naming, S: EntryStore> Ring<J, S> {
+    /// How long a wait that began at `start` may still last.
+    pub fn time_left<R: Wait + Clock>(&self, rt: &R, start: &Option<Instant>) -> Duration {
+        if self.is_stopped() {
+            return Duration::from_millis(0);
+        }
+        let limit = Duration::from_millis(self.settings.wait_ms);
+        match start {
+            Some(start) => match start.elapsed(rt) {
+                Ok(passed) => limit.saturating_sub(passed),
+                Err(_) => Duration::from_millis(0),
+            },
+            None => limit,
+        }
+    }
+
+    /// Waits for an envelope: polls briefly, then sleeps.
+    pub(crate) fn receive<R: Wait + Clock>(
+        &self,
+        rt: &R,
+        from: &Receiver<Envelope<J>, Global>,
+        limit: Duration,
+    ) -> Option<Envelope<J>> {
+        if let Some(envelope) = self.poll(rt, from) {
+            return Some(envelope);
+        }
+        from.recv_timeout(rt, limit).ok()
+    }
+
+    /// Waits for an envelope for a caller.
+    pub fn hear<R: Wait + Clock>(&self, rt: &R, caller: u64, limit: Duration) -> Option<Envelope<J>>
+        requires { caller < J.name.callers }
+    {
+        self.receive(rt, &self.inboxes[caller as usize].envelopes, limit)
+    }
+
+    /// Polls briefly, yielding in between. If that takes too long, the next waits skip polling.
+    fn poll<R: Wait + Clock>(
+        &self,
+        rt: &R,
+        from: &Receiver<Envelope<J>, Global>,
+    ) -> Option<Envelope<J>> {
+        if let Ok(envelope) = from.try_recv(rt) {
+            return Some(envelope);
+        }
+        let polls_to_skip = self.polls_to_skip.load(Ordering::SeqCst);
+        if polls_to_skip > 0 {
+            self.polls_to_skip
+                .store(polls_to_skip - 1, Ordering::SeqCst);
+            return None;
+        }
+        let start = Instant::now(rt).ok()?;
+        for _ in 0..MAX_POLLS {
+            std::thread::yield_now();
+            if let Ok(envelope) = from.try_recv(rt) {
+                return Some(envelope);
+            }
+            let passed = start.elapsed(rt).ok()?;
+            if passed > Duration::from_micros(POLL_US) {
+                if passed > Duration::from_micros(OVERLOADED_US) {
+                    self.polls_to_skip.store(POLLS_SKIPPED, Ordering::SeqCst);
+                }
+                return None;
+            }
+        }
+        None
+    }
+}

@@ -1,0 +1,136 @@
+//! Envelopes for nodes, taken in by workers or by the callers themselves.
+
+use crate::carried::Carried;
+use crate::keyed::Keyed;
+use crate::probe::{NoProbe, Probe};
+use crate::ring::Ring;
+use crate::slot::SlotState;
+use crate::target::Target;
+use crate::waiting::lock_soon;
+use chord_live_types::NoSuchNode;
+use chord_store::EntryStore;
+use chord_table::{Envelope, Naming};
+use crossbeam_channel::Sender;
+use std::alloc::Global;
+use std::sync::Wait;
+use std::time::{Clock, Duration};
+
+/// How many milliseconds a worker sleeps before it checks whether the ring was stopped.
+const IDLE: u64 = 50;
+
+/// How many nodes a request goes through at most.
+const HOPS: u64 = 256;
+
+impl<J: Naming, S: EntryStore> Ring<J, S> {
+    /// A node takes in an envelope: one event under its lock. What it sends is given back, to be
+    /// posted once the lock is free.
+    pub(crate) fn answer(
+        &self,
+        rt: &impl Wait,
+        number: u64,
+        probe: &impl Probe,
+        keyed: Keyed<J>,
+    ) -> Option<(Target, Keyed<J>)> {
+        let Some(slot) = self.slots.get(number as usize) else {
+            drop(keyed);
+            return None;
+        };
+        match &mut *lock_soon(rt, &slot.state) {
+            SlotState::Here(seated) => {
+                let sent = seated.answer(&self.table, keyed);
+                probe.pass(number);
+                sent
+            }
+            _ => {
+                drop(keyed);
+                None
+            }
+        }
+    }
+
+    /// The inbox of the target, if there is such a node or caller.
+    fn inbox_of(&self, target: Target) -> Option<&Sender<Envelope<J>, Global>> {
+        match target {
+            Target::Node(number) => match self.slots.get(number as usize) {
+                Some(slot) => Some(&slot.inbox),
+                None => None,
+            },
+            Target::Caller(number) => match self.inboxes.get(number as usize) {
+                Some(inbox) => Some(&inbox.inbox),
+                None => None,
+            },
+        }
+    }
+
+    /// Puts an envelope into an inbox; it is lost if there is none.
+    pub fn post(&self, rt: &impl Wait, target: Target, envelope: Envelope<J>) {
+        match self.inbox_of(target) {
+            Some(inbox) => drop(inbox.send(rt, envelope)),
+            None => drop(envelope),
+        }
+    }
+
+    /// A node takes in an envelope, and what it sends is posted.
+    fn take_in(&self, rt: &impl Wait, number: u64, probe: &impl Probe, envelope: Envelope<J>) {
+        if let Some((target, sent)) = self.answer(rt, number, probe, Keyed::new(envelope)) {
+            self.post(rt, target, sent.envelope);
+        }
+    }
+
+    /// Takes in a node's envelopes and posts what it sends, until the ring is stopped.
+    pub fn work<R: Wait + Clock, G: Probe>(
+        &self,
+        rt: &R,
+        number: u64,
+        probe: &G,
+    ) -> Result<(), NoSuchNode> {
+        if !self.was_admitted(number) {
+            return Err(NoSuchNode);
+        }
+        let Some(slot) = self.slots.get(number as usize) else {
+            return Err(NoSuchNode);
+        };
+        for _ in rt.forever() {
+            if self.is_stopped() {
+                return Ok(());
+            }
+            if let Some(envelope) = self.receive(rt, &slot.envelopes, Duration::from_millis(IDLE)) {
+                self.take_in(rt, number, probe, envelope);
+            }
+        }
+        unreachable!()
+    }
+
+    /// Carries an envelope and its key's identifier from node to node, each event under that node's
+    /// lock, until a node answers a caller.
+    pub(crate) fn carry_keyed(
+        &self,
+        rt: &impl Wait,
+        via: u64,
+        keyed: Keyed<J>,
+    ) -> Option<Carried<J>> {
+        let mut to = via;
+        let mut passed = keyed;
+        for _ in 0..HOPS {
+            let (target, sent) = self.answer(rt, to, &NoProbe, passed)?;
+            passed = sent;
+            match target {
+                Target::Node(next) => to = next,
+                Target::Caller(caller) => {
+                    return Some(Carried {
+                        from: to,
+                        caller,
+                        envelope: passed.envelope,
+                    });
+                }
+            }
+        }
+        drop(passed);
+        None
+    }
+    /// Carries an envelope from node to node, on the caller's thread in place of workers, until a
+    /// node answers a caller.
+    pub fn carry(&self, rt: &impl Wait, via: u64, envelope: Envelope<J>) -> Option<Carried<J>> {
+        self.carry_keyed(rt, via, Keyed::new(envelope))
+    }
+}

@@ -1,5 +1,0 @@
-//! The tests of `chord_plan`.
-#![tactic(auto)]
-
-#[cfg(test)]
-mod tests;
