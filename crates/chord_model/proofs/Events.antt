@@ -197,7 +197,7 @@ give_change nodes sent node place segment to channels at =
       gone_stays = λ h. h;
       items_stay = λ other number here above given. item_at_push_other other number node.outbox item
           (not_item other number item (λ (same : to ≡ other) (e : mark_of to node.given + 1 ≡ number). let g = ap (λ o. mark_of o node.given) same in omega arith));
-      part_behind = λ from. rw (ap (λ o. taken_by o from) at) at (channels.behind node.number from);
+      behind = λ from. rw (ap (λ o. taken_by o from) at) at (channels.behind node.number from);
       numbered = λ other number found e.
           let old : item_at other number node.outbox ≡ Some found → number ≤ mark_of other node.given =
           λ e'. rw (ap (λ o. given_by o other) at) at (channels.numbered node.number other number found (ap (λ o. item_by o other number) at ∙ e')) in
@@ -301,7 +301,7 @@ drop_change nodes sent node held entries to number channels at settled = record 
       (same_or_not other_number number))
       (λ (apart : other ≢ to). inl apart)
       (same_or_not other to));
-  part_behind = λ from. rw (ap (λ o. taken_by o from) at) at (channels.behind node.number from);
+  behind = λ from. rw (ap (λ o. taken_by o from) at) at (channels.behind node.number from);
   numbered = λ other other_number item e.
       ⊎_elim
       (λ (apart : (other ≢ to) ⊎ (other_number ≢ number)).
@@ -377,7 +377,7 @@ take_change nodes sent node handover channels at here next stays ok =
       given_grows = λ to. omega arith;
       gone_stays = λ h. h;
       items_stay = λ to number here above given. refl;
-      part_behind = λ from. ⊎_elim
+      behind = λ from. ⊎_elim
           (λ (same : from ≡ handover.from). rw same (let g : handover.number ≤ given_in nodes handover.from node.number = rw here at ok.given in omega arith))
           (λ (apart : from ≢ handover.from).
           let e = mark_of-raise_other from handover.from handover.number node.taken apart in

@@ -152,7 +152,7 @@ module _ (old : World) (good : Good old) (facts : HolderFacts old) (number : ℕ
         messages = each_with_one (MessageGood old.callers longer_history) old.sent (Some (ToldMessage told))
             (λ message h. message_grown old.callers old.callers old.history longer_history (all_grown_itself old.callers) longer message (good.messages message h))
             (λ message e. subst (MessageGood old.callers longer_history) (same_Some (ToldMessage told) message e) (record { request = ask.request; stands = stands_now }));
-        with_executed = λ done stands. ⊎_elim (λ there. good.executed done there)
+        executed = λ done stands. ⊎_elim (λ there. good.executed done there)
             (λ e. subst (DoneGood old.callers) e (record { submitted = ask_good.submitted; kind = fits_reply ask.request node.entries }))
             (stands_pushed old.history last done stands);
         legal = legal_pushed old.history last good.legal same_reply unexecuted;

@@ -10,7 +10,7 @@
 
 mod asked_request;
 mod asker;
-mod call;
+mod calls;
 mod connection;
 mod due;
 pub mod laws;
@@ -22,7 +22,7 @@ mod wire_client;
 mod write_bytes;
 
 pub use asker::{Asked, Asker};
-pub use call::{CallFault, call, call_2};
+pub use calls::{CallFault, call, call_2};
 pub use served::Served;
 pub use server::serve;
 pub use wire_client::{AgainFault, ReceiveFault, SendFault, WireClient};

@@ -8,7 +8,7 @@ ghost use Rattle.chord_serve.specs.BytesRead.{ReadsBetween};
 ghost use Rattle.chord_serve.specs.HasWindow.{HasWindow};
 ghost use Rattle.chord_serve.specs.InFlight.{new_client, floor_under, floor_of, number_in, is_for, is_full, next_of, place_of, with_sent, SendIs, AgainIs, JudgedIs, ReceiveIs};
 
-use crate::call::{CallFault, await_answer};
+use crate::calls::{CallFault, await_answer};
 use crate::write_bytes::write_bytes;
 use chord_map::Request;
 use chord_wire::{Answer, Answers, WireRequest, write_request, write_request_2};

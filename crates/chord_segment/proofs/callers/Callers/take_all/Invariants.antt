@@ -12,6 +12,6 @@ invariant-loop-own l = record {
   grouped : IsGrouped (into_iter_items l.own-iterator);
   floors : marks_in l.self ≡ lift_all (marks_in l.yielded) (marks_in l.initial.self);
   calls : calls_in l.self ≡ calls_above (marks_in l.self) (insert_calls (calls_in l.yielded) (calls_in l.initial.self));
-  calls_above : AreAbove l.self;
+  above : AreAbove l.self;
   room : HasRoomFor (into_iter_items l.own-iterator) l.self;
 }

@@ -1,7 +1,7 @@
 use Rattle.std.proofs.Common.{Ok, None, ◌*◌}
 use Rattle.chord_serve.specs.BytesRead.{ReadsBetween}
 use Rattle.chord_serve.specs.Calls.{ReadsMore}
-use Rattle.chord_serve.proofs.call.await_answer.Given as goal
+use Rattle.chord_serve.proofs.calls.await_answer.Given as goal
 
 abbrev pub invariant-loop : goal.invariant-loop
 invariant-loop g l = record {
