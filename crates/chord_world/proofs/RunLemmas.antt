@@ -8,8 +8,8 @@ use Rattle.chord_model.specs.World.{World, Run}
 use Rattle.chord_model.specs.World.Run.{Stays, Goes_on}
 use Rattle.chord_world.specs.declared.outcome.Outcome.{Outcome}
 use Rattle.chord_world.specs.declared.refusal.Refusal.{Refusal}
-use Rattle.chord_world.specs.declared.run.StepResult.{StepResult}
-use Rattle.chord_world.specs.declared.run.StepResult.TheVariants.{Did, Refused}
+use Rattle.chord_world.specs.declared.runs.StepResult.{StepResult}
+use Rattle.chord_world.specs.declared.runs.StepResult.TheVariants.{Did, Refused}
 use Rattle.chord_world.specs.declared.step.Step.{Step}
 use Rattle.chord_world.specs.declared.step.Step.TheVariants.{Create, Join, OpenCaller, Submit, Resend, Deliver, Show, Meet, Cut, Merge, Give, SendPart, Leave, Retire, Stabilise, Candidate, DropDead, Rectify, Crash, Finger}
 use Rattle.chord_world.specs.State.{WorldState}

@@ -6,8 +6,8 @@ use Rattle.chord_caller.specs.Caller.{Caller}
 use Rattle.chord_model.specs.World.{caller_at}
 use Rattle.chord_world.specs.declared.outcome.Outcome.{Outcome}
 use Rattle.chord_world.specs.declared.refusal.Refusal.{Refusal}
-use Rattle.chord_world.specs.declared.run.StepResult.{StepResult}
-use Rattle.chord_world.specs.declared.run.StepResult.TheVariants.{Did, Refused}
+use Rattle.chord_world.specs.declared.runs.StepResult.{StepResult}
+use Rattle.chord_world.specs.declared.runs.StepResult.TheVariants.{Did, Refused}
 use Rattle.chord_world.specs.declared.step.Step.{Step}
 use Rattle.chord_world.specs.declared.step.Step.TheVariants.{Create, Join}
 use Rattle.chord_ring.specs.Ring.{IsSafe, IsOneRing}

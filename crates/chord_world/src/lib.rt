@@ -9,7 +9,7 @@ mod holder;
 mod members;
 mod outcome;
 mod refusal;
-mod run;
+mod runs;
 mod sent;
 mod step;
 mod steps;
@@ -17,6 +17,6 @@ mod world;
 
 pub use outcome::Outcome;
 pub use refusal::{Refusal, StepFault};
-pub use run::{StepResult, run};
+pub use runs::{StepResult, run};
 pub use step::Step;
 pub use world::World;

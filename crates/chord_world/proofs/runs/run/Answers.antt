@@ -1,10 +1,10 @@
 use Rattle.std.proofs.Common.{◌≡◌, List, [], ◌∷◌, ◌++◌, map, take, sym, ◌∙◌, ap, subst, arith}
 use Rattle.std.proofs.lemmas.List.{take_more}
-use Rattle.chord_world.specs.declared.run.StepResult.{StepResult}
+use Rattle.chord_world.specs.declared.runs.StepResult.{StepResult}
 use Rattle.chord_world.specs.Runs.{Ran}
 use Rattle.chord_world.specs.Runs.Ran.{Nothing}
 use Rattle.chord_world.proofs.RunLemmas.{ran_more, limits_after, run_more, run_none, vacant_after}
-use Rattle.chord_world.proofs.run.run.Goals as goal
+use Rattle.chord_world.proofs.runs.run.Goals as goal
 
 pub returns-in_err-answers-clause-seen : goal.returns-in_err-answers-clause-seen
 returns-in_err-answers-clause-seen g c = c.seen_first.ensures c.args.world.now.world c.args.world.now.world c.headline.ensures.reached (run_none c.args.world.now.world)

@@ -3,7 +3,7 @@ use Rattle.std.specs.Prelude.{All}
 use Rattle.std.specs.Vec.{vec_capacity}
 use Rattle.chord_model.specs.World.{Run}
 use Rattle.chord_world.specs.Runs.{Ran}
-use Rattle.chord_world.proofs.run.run.Given as goal
+use Rattle.chord_world.proofs.runs.run.Given as goal
 
 abbrev pub invariant-loop-step : goal.invariant-loop-step
 invariant-loop-step g l = record {
