@@ -97,7 +97,7 @@ module _ (world : World) (good : Good world) where
         let good_one : CallerGood world.history caller = good.callers caller (caller_has number world.callers caller here) in
         all_each (λ done. (done.caller ≡ number) × StandsIn world.history done) caller.mine
         (λ done h. ((good_one.own done h).is_caller ∙ caller_number number world.callers caller here, good_one.mine_stand done h));
-    buffered = λ note was. all_each (StandsIn world.history) note.done (good.messages (NoteMessage note) (has_contained world.sent (NoteMessage note) was));
+    noted = λ note was. all_each (StandsIn world.history) note.done (good.messages (NoteMessage note) (has_contained world.sent (NoteMessage note) was));
     told = λ number caller here. all_each (StandsIn world.history) caller.told (good.callers caller (caller_has number world.callers caller here)).told_stand;
     once = λ number caller here. (good.callers caller (caller_has number world.callers caller here)).once;
     in_order = good.in_order;

@@ -142,7 +142,7 @@ seen_first earlier later reached run number caller seen done before behind here 
     let s = (good.executed done (once_stands later.history done good.legal.once there)).submitted in
     let is : s.caller ≡ new = same_Some s.caller new (sym s.is_caller ∙ ap (λ n. caller_at n later.callers) is_caller ∙ since.is_caller) in
     let submission : submission_at done.number new.submitted ≡ Some s.submission = ap (λ (c : Caller). submission_at done.number c.submitted) (sym is) ∙ s.is_submission in
-    let buffered = since.notes done.number s.submission above submission in
+    let seen_before = since.notes done.number s.submission above submission in
     let own_number : new.number ≡ number = caller_number number later.callers new since.is_caller in
     let grown : Grown caller new = since.grown in
     each_all (StandsIn before) (seen_at new s.submission)
@@ -150,7 +150,7 @@ seen_first earlier later reached run number caller seen done before behind here 
     seen
     (⊎_elim
     (λ a. has_left (take s.submission.mine_seen new.mine) (take s.submission.told_seen new.told) seen
-    (subst (λ ds. Has (take s.submission.mine_seen ds) seen) (sym (grown.mine).1) (has_front s.submission.mine_seen caller.mine (grown.mine).0 seen buffered.0 a)))
+    (subst (λ ds. Has (take s.submission.mine_seen ds) seen) (sym (grown.mine).1) (has_front s.submission.mine_seen caller.mine (grown.mine).0 seen seen_before.0 a)))
     (λ b. has_right (take s.submission.mine_seen new.mine) (take s.submission.told_seen new.told) seen
-    (subst (λ ds. Has (take s.submission.told_seen ds) seen) (sym (grown.told).1) (has_front s.submission.told_seen caller.told (grown.told).0 seen buffered.1 b)))
+    (subst (λ ds. Has (take s.submission.told_seen ds) seen) (sym (grown.told).1) (has_front s.submission.told_seen caller.told (grown.told).0 seen seen_before.1 b)))
     (has_cases caller.mine caller.told seen (has_contained (known_calls caller) seen knows)))

@@ -64,7 +64,7 @@ pub record OneHistory (world : World) : Type 0 where
   pub once : (number : ℕ) (caller : Caller) → caller_at number world.callers ≡ Some caller → EachOnce caller.mine
   pub told : (number : ℕ) (caller : Caller) → caller_at number world.callers ≡ Some caller → All (StandsIn world.history) caller.told
   -- each call in a note is in the history
-  pub buffered : (note : Note) → Contains world.sent (NoteMessage note) → All (StandsIn world.history) note.done
+  pub noted : (note : Note) → Contains world.sent (NoteMessage note) → All (StandsIn world.history) note.done
   -- each request comes in the history after all that its caller had seen
   pub in_order : InOrder world
   -- No reply is foreign: it answers a submitted request; and its caller takes it, or took it before
