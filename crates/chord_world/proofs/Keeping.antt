@@ -33,9 +33,9 @@ new_is_world r low high = record { reached = ∣ Stays ∣₁; nodes = tt; calle
 pub founds : (id : Id) (limit : ℕ) (old : WorldState) → id.number < 2 ^ 128 → old.world.nodes ≡ [] → WorldStep old.world (with_founder id limit old).world
 founds id limit old circle none = Creates (alone (record { number = 0; id = id }) old.r) limit circle none
 
-founded_ring : (id : Id) (r limit : ℕ) → ring_with (founder (alone (record { number = 0; id = id }) r) limit ∷ []) (false ∷ []) ≡ founded_ring id.number r
+founded_ring_is : (id : Id) (r limit : ℕ) → ring_with (founder (alone (record { number = 0; id = id }) r) limit ∷ []) (false ∷ []) ≡ founded_ring id.number r
 unfolding members_of ids_of
-founded_ring id r limit = refl
+founded_ring_is id r limit = refl
 
 pub founded_is_world : (id : Id) (limit : ℕ) (old : WorldState) → id.number < 2 ^ 128 → old.world.nodes ≡ [] → IsWorld old → IsWorld (with_founder id limit old)
 founded_is_world id limit old circle none kept = record {
@@ -46,7 +46,7 @@ founded_is_world id limit old circle none kept = record {
   calls = calls_of_more (length old.world.nodes) 1 (length old.world.callers) (length old.world.callers) old.world.sent
       (let empty = ap (λ (ns : List Node). length ns) none in omega arith) (omega arith) kept.calls;
   crashed = refl;
-  ring = λ _. subst IsSound (sym (founded_ring id old.r limit)) (IsSound-founded id.number old.r circle (let low = kept.low in omega arith));
+  ring = λ _. subst IsSound (sym (founded_ring_is id old.r limit)) (IsSound-founded id.number old.r circle (let low = kept.low in omega arith));
   low = kept.low;
   high = kept.high;
 }

@@ -148,7 +148,7 @@ crashes place view old flags same kept created can is =
 -- ---- a node that is gone
 
 abbrev pub retired : Node → Node
-retired node = record node { phase = phase.Gone; limit = 0; noted = [] }
+retired node = record node { phase = phase.Gone; limit = 0; buffered = [] }
 
 -- a member that is leaving, holds nothing and can depart
 pub record MayRetire (place : ℕ) (node : Node) (old : WorldState) : Type 0 where
