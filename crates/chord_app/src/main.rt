@@ -12,17 +12,15 @@ use chord_app_options::{
 };
 use chord_app_plan::{Plan, PlanFault, StoreKind, read_plan};
 use chord_app_serve::{run, serve, stay};
-use chord_app_sockets::{ServerSetup, listen};
+use chord_app_sockets::{Host, ServerSetup, listen};
 use chord_app_text::Finish;
 use chord_app_world::{empty_ones, world};
 use chord_store::{CappedStore, EntryStore, ListStore, NotedStore, TreeStore};
 use clap::ArgMatches;
 use std::alloc::Global;
-use std::net::{Net, TcpListener, TcpStream};
+use std::net::TcpListener;
 use std::process::ExitCode;
-use std::sync::{Arc, OnceLock, Wait};
-use std::thread::Threads;
-use std::time::Clock;
+use std::sync::{Arc, OnceLock};
 use std::{env, io};
 
 /// Does the command `world`.
@@ -70,16 +68,7 @@ struct ServeOptions<'a> {
 
 /// Does the command `run`, or `serve` if there is a listener, with a store for each node of the
 /// plan.
-fn start_ring<
-    T: Threads
-        + Wait
-        + Clock
-        + Net<Listener = TcpListener, Stream = TcpStream>
-        + Copy
-        + Send
-        + Sync
-        + 'static,
->(
+fn start_ring<T: Host>(
     rt: &HostRuntime,
     threads: &T,
     plan: &Plan,
@@ -116,16 +105,11 @@ fn start_ring<
 }
 
 /// Does the command `serve`.
-fn start_serve<
-    T: Threads
-        + Wait
-        + Clock
-        + Net<Listener = TcpListener, Stream = TcpStream>
-        + Copy
-        + Send
-        + Sync
-        + 'static,
->(rt: &HostRuntime, threads: &T, found: &ArgMatches) -> Result<Finish, Finish> {
+fn start_serve<T: Host>(
+    rt: &HostRuntime,
+    threads: &T,
+    found: &ArgMatches,
+) -> Result<Finish, Finish> {
     let alloc = rt.alloc();
     let port = found.get_str("port").unwrap_or("");
     let Some(port) = small_number(port) else {
@@ -154,16 +138,7 @@ fn start_serve<
 }
 
 /// Does the command `run`.
-fn start_run<
-    T: Threads
-        + Wait
-        + Clock
-        + Net<Listener = TcpListener, Stream = TcpStream>
-        + Copy
-        + Send
-        + Sync
-        + 'static,
->(rt: &HostRuntime, threads: &T, found: &ArgMatches) -> Result<Finish, Finish> {
+fn start_run<T: Host>(rt: &HostRuntime, threads: &T, found: &ArgMatches) -> Result<Finish, Finish> {
     let plan = plan_of(rt, found.get_str("plan").unwrap_or(""))?;
     start_ring(rt, threads, &plan, None)
 }
@@ -198,16 +173,11 @@ fn matched<'a>(rt: &HostRuntime, words: &'a [String]) -> Result<ArgMatches<'a>, 
 }
 
 /// Does the command that was matched.
-fn do_command<
-    T: Threads
-        + Wait
-        + Clock
-        + Net<Listener = TcpListener, Stream = TcpStream>
-        + Copy
-        + Send
-        + Sync
-        + 'static,
->(rt: &HostRuntime, threads: &T, matches: &ArgMatches) -> Result<Finish, Finish> {
+fn do_command<T: Host>(
+    rt: &HostRuntime,
+    threads: &T,
+    matches: &ArgMatches,
+) -> Result<Finish, Finish> {
     match matches.subcommand() {
         Some((name, found)) if name == "run" => start_run(rt, threads, found),
         Some((name, found)) if name == "serve" => start_serve(rt, threads, found),
@@ -222,16 +192,7 @@ fn do_command<
 }
 
 /// Reads the command line and does the command.
-fn start<
-    T: Threads
-        + Wait
-        + Clock
-        + Net<Listener = TcpListener, Stream = TcpStream>
-        + Copy
-        + Send
-        + Sync
-        + 'static,
->(rt: &HostRuntime, threads: &T) -> Result<Finish, Finish> {
+fn start<T: Host>(rt: &HostRuntime, threads: &T) -> Result<Finish, Finish> {
     let words = words_of(rt)?;
     let matches = matched(rt, words.as_slice())?;
     do_command(rt, threads, &matches)

@@ -4,7 +4,7 @@ ghost use Rattle.std.specs.Prelude.{◌≡◌};
 use crate::plan_run::blank_of;
 use crate::serving::caller_pool::CallerPool;
 use crate::serving::service::{Service, node_of};
-use chord_app_sockets::{Clients, Ended, Lines, ServerSetup, Stop};
+use chord_app_sockets::{Clients, Ended, Host, Lines, ServerSetup, Stop};
 use chord_app_text::Finish;
 use chord_live_ring::{Ring, RingParts};
 use chord_serve::Served;
@@ -65,7 +65,9 @@ impl<
         self.clients.forget(self.service.rt, number);
         drop(stream);
     }
+}
 
+impl<'r, J: Naming, S: EntryStore, R: Host, L: Log, W: Write> StayingServer<'r, J, S, R, L, W> {
     /// Serves a connection on a thread of its own. Says false if there was no memory for that.
     fn run_beside<'s, E: 's>(
         &'s self,
@@ -76,7 +78,6 @@ impl<
     where
         J: Send + Sync + 's,
         S: Send + 's,
-        R: Threads + Sync + 's,
         L: Sync + 's,
         W: Send + 's,
     {
@@ -95,7 +96,6 @@ impl<
     where
         J: Send + Sync + 's,
         S: Send + 's,
-        R: Threads + Sync + 's,
         L: Sync + 's,
         W: Send + 's,
     {
@@ -115,7 +115,6 @@ impl<
     where
         J: Send + Sync + 's,
         S: Send + 's,
-        R: Threads + Sync + 's,
         L: Sync + 's,
         W: Send + 's,
     {
@@ -134,7 +133,6 @@ impl<
     where
         J: Send + Sync + 's,
         S: Send + 's,
-        R: Threads + Sync + 's,
         L: Sync + 's,
         W: Send + 's,
     {
@@ -174,7 +172,7 @@ fn start_and_accept<
     E: 's,
     J: Naming + Send + Sync + 's,
     S: EntryStore + Send + 's,
-    R: Threads + Wait + Clock + Net<Listener = TcpListener, Stream = TcpStream> + Sync + 's,
+    R: Host,
     L: Log + Sync + 's,
     W: Write + Send + 's,
 >(
@@ -197,7 +195,7 @@ fn stay_open<
     'r: 'x,
     J: Naming + Send + Sync,
     S: EntryStore + Send,
-    R: Threads + Wait + Clock + Net<Listener = TcpListener, Stream = TcpStream> + Sync,
+    R: Host,
     L: Log + Sync,
     W: Write + Send,
 >(
@@ -217,7 +215,7 @@ fn stay_open<
 fn stay_with<
     J: Naming + Send + Sync,
     S: EntryStore + Send,
-    R: Threads + Wait + Clock + Net<Listener = TcpListener, Stream = TcpStream> + Sync,
+    R: Host,
     L: Log + Sync,
     W: Write + Send + Drop,
 >(
@@ -247,7 +245,7 @@ fn stay_with<
 fn stay_named<
     J: Naming + Send + Sync,
     S: EntryStore + Send,
-    R: Threads + Wait + Clock + Net<Listener = TcpListener, Stream = TcpStream> + Sync,
+    R: Host,
     L: Log + Sync,
     W: Write + Send + Drop,
 >(
@@ -302,14 +300,7 @@ fn stop_at_end<
 /// until the input ends.
 pub fn stay<
     S: EntryStore + Send,
-    R: Threads
-        + Wait
-        + Clock
-        + Net<Listener = TcpListener, Stream = TcpStream>
-        + Copy
-        + Send
-        + Sync
-        + 'static,
+    R: Host,
     L: Log + Sync,
     W: Write + Send + Drop,
     I: Read + Send + Drop + 'static,
