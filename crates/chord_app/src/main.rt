@@ -6,9 +6,8 @@
 //! `chord_app_options` says what a command line has, and [`Finish`] how the program ends.
 #![tactic(auto)]
 
-use chord_app_ask::{print_fault, start_ask, start_load};
 use chord_app_options::{
-    DEFAULT_STORES, commands, names_stores, no_number, no_stores, small_number,
+    commands, plan_path_of, print_fault, serve_line_of, start_ask, start_load, stores_of,
 };
 use chord_app_plan::{Plan, PlanFault, StoreKind, read_plan};
 use chord_app_serve::{run, serve, stay};
@@ -17,17 +16,18 @@ use chord_app_text::Finish;
 use chord_app_world::{empty_ones, world};
 use chord_store::{CappedStore, EntryStore, ListStore, NotedStore, TreeStore};
 use clap::ArgMatches;
-use std::alloc::Global;
 use std::net::TcpListener;
 use std::process::ExitCode;
 use std::sync::{Arc, OnceLock};
 use std::{env, io};
 
 /// Does the command `world`.
-fn start_world(rt: &HostRuntime, alloc: Global, word: &str) -> Result<Finish, Finish> {
-    if !names_stores(word) {
-        return print_fault(rt, no_stores(alloc, word)?);
-    }
+fn start_world(rt: &HostRuntime, found: &ArgMatches) -> Result<Finish, Finish> {
+    let alloc = rt.alloc();
+    let word = match stores_of(alloc, found) {
+        Ok(word) => word,
+        Err(fault) => return print_fault(rt, fault),
+    };
     let mut stores: Vec<Box<dyn EntryStore + Send>> = Vec::new(alloc);
     for letter in word.bytes() {
         let store: Box<dyn EntryStore + Send> = match letter {
@@ -110,36 +110,23 @@ fn start_serve<T: Host>(
     threads: &T,
     found: &ArgMatches,
 ) -> Result<Finish, Finish> {
-    let alloc = rt.alloc();
-    let port = found.get_str("port").unwrap_or("");
-    let Some(port) = small_number(port) else {
-        return print_fault(rt, no_number(alloc, "port <N>", port)?);
+    let line = match serve_line_of(rt.alloc(), found) {
+        Ok(line) => line,
+        Err(fault) => return print_fault(rt, fault),
     };
-    let connections = match found.get_str("connections") {
-        None => None,
-        Some(word) => match small_number(word) {
-            Some(count) => Some(count as usize),
-            None => return print_fault(rt, no_number(alloc, "connections <K>", word)?),
-        },
-    };
-    let notes = if found.get_flag("notes") {
-        Some(rt)
-    } else {
-        None
-    };
-    let plan = plan_of(rt, found.get_str("plan").unwrap_or(""))?;
-    let listener = listen(threads, port)?;
+    let plan = plan_of(rt, line.plan)?;
+    let listener = listen(threads, line.port)?;
     let options = ServeOptions {
         listener,
-        connections,
-        notes,
+        connections: line.connections,
+        notes: if line.notes { Some(rt) } else { None },
     };
     start_ring(rt, threads, &plan, Some(options))
 }
 
 /// Does the command `run`.
 fn start_run<T: Host>(rt: &HostRuntime, threads: &T, found: &ArgMatches) -> Result<Finish, Finish> {
-    let plan = plan_of(rt, found.get_str("plan").unwrap_or(""))?;
+    let plan = plan_of(rt, plan_path_of(found))?;
     start_ring(rt, threads, &plan, None)
 }
 
@@ -172,7 +159,7 @@ fn matched<'a>(rt: &HostRuntime, words: &'a [String]) -> Result<ArgMatches<'a>, 
     }
 }
 
-/// Does the command that was matched.
+/// Does the command that was matched. `clap` refuses a line that has none.
 fn do_command<T: Host>(
     rt: &HostRuntime,
     threads: &T,
@@ -183,11 +170,8 @@ fn do_command<T: Host>(
         Some((name, found)) if name == "serve" => start_serve(rt, threads, found),
         Some((name, found)) if name == "ask" => start_ask(rt, threads, found),
         Some((name, found)) if name == "load" => start_load(rt, threads, found),
-        Some((_, found)) => {
-            let word = found.get_str("stores").unwrap_or(DEFAULT_STORES);
-            start_world(rt, rt.alloc(), word)
-        }
-        None => start_world(rt, rt.alloc(), DEFAULT_STORES),
+        Some((_, found)) => start_world(rt, found),
+        None => Err(Finish::BadCommandLine),
     }
 }
 

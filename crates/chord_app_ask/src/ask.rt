@@ -1,6 +1,5 @@
 //! The command `ask`: requests of one client, and one line out for each.
 
-pub mod command;
 pub mod group;
 pub mod input;
 pub mod line;

@@ -4,16 +4,12 @@
 
 mod ask;
 mod load;
-mod telling;
 
-pub use ask::command::{ask_command, client_options_of, start_ask};
 pub use ask::input::{ask_lines, ask_one};
 pub use ask::line::{read_line, read_words};
 pub use ask::link::ClientOptions;
 pub use ask::outcome::AskOutcome;
 pub use load::bounds::{Kind, Load, Until};
-pub use load::command::{load_command, load_of, start_load};
 pub use load::histogram::{Bucket, Histogram};
 pub use load::report::Report;
 pub use load::running::run_load;
-pub use telling::{fault_of, print_fault};

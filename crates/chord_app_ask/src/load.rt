@@ -1,7 +1,6 @@
 //! The command `load`: many requests over several connections, and how long they took.
 
 pub mod bounds;
-pub mod command;
 pub mod histogram;
 pub mod report;
 pub mod running;

@@ -3,7 +3,16 @@ use Rattle.std.specs.Prelude.{◌≡◌, ℕ, ◌≤◌, ◌<◌, ◌⊎◌, ◌
 use Rattle.std.specs.List.{All}
 use Rattle.std.specs.Str.Parse.{IsNumeral, digits_value, without_leading_plus}
 
--- a decimal numeral, with a plus before it or not, of a number from 1 to 65,535
+-- from the least to the most
+abbrev pub IsWithin : ℕ → ℕ → ℕ → Type 0
+IsWithin least most number = (least ≤ number) × (number ≤ most)
+
+-- a decimal numeral, with a plus before it or not, of a number from the least to the most
+abbrev pub IsNumberFrom : ℕ → ℕ → List ℕ → ℕ → Type 0
+IsNumberFrom least most word number =
+    IsNumeral 10 (without_leading_plus word) × (digits_value 10 (without_leading_plus word) ≡ number) × IsWithin least most number
+
+-- one of a number from 1 to 65,535
 abbrev pub IsSmall : List ℕ → ℕ → Type 0
 IsSmall word number =
     IsNumeral 10 (without_leading_plus word) × (digits_value 10 (without_leading_plus word) ≡ number) × (1 ≤ number) × (number < 2 ^ 16)

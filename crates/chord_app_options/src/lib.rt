@@ -1,12 +1,28 @@
-//! The command lines of the program `chord`.
+//! The command lines of the program `chord`: each command with its options, and the values that a
+//! line's words give them.
 //!
-//! [`commands`] has all of them, for `clap` to match a line's words with. [`names_stores`] and
-//! [`small_number`] check words that `clap` takes as plain text; [`no_stores`] and [`no_number`]
-//! are the faults.
+//! [`commands`] has all of them, for `clap` to match words with. From the matches [`stores_of`],
+//! [`plan_path_of`], [`serve_line_of`], [`client_options_of`] and [`load_of`] make values, or the
+//! fault of a wrong word, which [`print_fault`] prints. [`start_ask`] and [`start_load`] do their
+//! commands.
 #![tactic(auto)]
 
-mod command_lines;
+mod ask;
+mod faults;
+mod load;
+mod number;
+mod parts;
+mod program;
+mod run;
+mod serve;
+mod shared;
+mod world;
 
-pub use command_lines::{
-    DEFAULT_STORES, commands, names_stores, no_number, no_stores, small_number,
-};
+pub use ask::{client_options_of, start_ask};
+pub use faults::print_fault;
+pub use load::{load_of, start_load};
+pub use number::{number_from, small_number};
+pub use program::commands;
+pub use serve::{ServeLine, serve_line_of};
+pub use shared::plan_path_of;
+pub use world::{names_stores, stores_of};

@@ -1,9 +1,12 @@
 //! The command lines.
 
-use crate::tests::serve_lines::{prints, shows};
-use chord_app_options::{names_stores, no_stores};
+use crate::tests::lines::prints;
+use chord_app_options::names_stores;
 
+mod ask_lines;
 mod command;
+mod lines;
+mod load_lines;
 mod serve_lines;
 
 /// A command line without a command is refused, with this text and status.
@@ -25,8 +28,8 @@ fn the_version(rt: HostRuntime) {
 fn faults_of_words(rt: HostRuntime) {
     let wanted =
         "error: invalid value 'x' for '--stores <WORD>': 1 to 64 of the letters t, l, n and c\n\nUsage: chord world [OPTIONS]\n\nFor more information, try '--help'.\n";
-    let shown = shows(rt.alloc(), no_stores(rt.alloc(), "x"), wanted);
-    assert!(rt; shown == Some((true, 2)));
+    let printed = prints(rt.alloc(), "chord world --stores x", wanted);
+    assert!(rt; printed == Some((true, 2)));
 }
 
 #[test]

@@ -14,31 +14,28 @@ fn bytes_of(alloc: Global, word: &str) -> Result<Bytes, LineFault> {
     }
 }
 
-/// Both results, or the fault of the first that failed.
-fn both<A: Drop, B: Drop>(
-    one: Result<A, LineFault>,
-    other: Result<B, LineFault>,
-) -> Result<(A, B), LineFault> {
-    Ok((one?, other?))
+/// The key and the value of a pair.
+fn pair_of(alloc: Global, key: &str, value: &str) -> Result<(Bytes, Bytes), LineFault> {
+    let key = bytes_of(alloc, key)?;
+    let value = bytes_of(alloc, value)?;
+    Ok((key, value))
 }
 
 /// The request of these words.
 fn parse(alloc: Global, name: &str, key: &str, value: Option<&str>) -> Result<Request, LineFault> {
-    let key = bytes_of(alloc, key);
     match (name, value) {
-        ("retrieve", None) => Ok(Request::Retrieve { key: key? }),
+        ("retrieve", None) => Ok(Request::Retrieve {
+            key: bytes_of(alloc, key)?,
+        }),
         ("insert", Some(value)) => {
-            let (key, value) = both(key, bytes_of(alloc, value))?;
+            let (key, value) = pair_of(alloc, key, value)?;
             Ok(Request::Insert { key, value })
         }
         ("remove", Some(value)) => {
-            let (key, value) = both(key, bytes_of(alloc, value))?;
+            let (key, value) = pair_of(alloc, key, value)?;
             Ok(Request::Remove { key, value })
         }
-        _ => {
-            drop(key);
-            Err(LineFault::Grammar)
-        }
+        _ => Err(LineFault::Grammar),
     }
 }
 

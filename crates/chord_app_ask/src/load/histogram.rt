@@ -1,7 +1,7 @@
 //! How long requests took, counted in a fixed number of buckets.
 ghost use Rattle.std.specs.Prelude.{◌≡◌, ◌≤◌, ◌<◌, ◌+◌, ◌*◌, ◌/◌, ◌%◌, ◌^◌, IfOk, IfSome, None, length};
 ghost use Rattle.chord_app_ask.specs.Recorded.{value_count};
-ghost use Rattle.chord_app_ask.specs.Histogram.{bound, bucket_of, rank_of, IsNew, IsLeast, RecordIs, PercentileIs};
+ghost use Rattle.chord_app_ask.specs.Histogram.{bound, bucket_of, IsNew, IsLeast, RecordIs, PercentileIs};
 
 use std::alloc::{AllocError, Global};
 use std::marker::Model;
@@ -54,12 +54,12 @@ fn bucket_of(value: u64, buckets: &[Bucket]) -> Option<usize>
     buckets.iter().position(|bucket| value <= bucket.bound)
 }
 
-// The least bound with at least `rank_of` values at or below it.
+// The least bound with at least `wanted` values at or below it.
 fn least_with(buckets: &[Bucket], wanted: u64) -> Option<u64>
-    requires some { 1 ≤ rank_of }
+    requires some { 1 ≤ wanted }
     requires fits { value_count buckets.now < 2 ^ 64 }
-    ensures least { IfSome result (λ found. IsLeast rank_of found buckets.now) }
-    ensures none { result ≡ None → value_count buckets.now < rank_of }
+    ensures least { IfSome result (λ found. IsLeast wanted found buckets.now) }
+    ensures none { result ≡ None → value_count buckets.now < wanted }
 {
     let mut seen = 0;
     for bucket in buckets {

@@ -1,10 +1,6 @@
 //! The command `ask`, over loopback.
 
-use crate::tests::words;
-use chord_app_ask::{
-    AskOutcome, ClientOptions, ask_command, ask_lines, ask_one, client_options_of, read_line,
-    read_words,
-};
+use chord_app_ask::{AskOutcome, ClientOptions, ask_lines, ask_one, read_line, read_words};
 use chord_app_text::{Fault, Finish, LineFault};
 use chord_map::{Reply, Request};
 use chord_wire::FaultCode;
@@ -302,66 +298,4 @@ fn are_lines(alloc: Global, wanted: &str) -> Option<bool> {
 fn outcomes_as_lines(rt: HostRuntime) {
     let wanted = "setfull\nfull\nnoanswer\nfault 8\nlost\n";
     assert!(rt; are_lines(rt.alloc(), wanted) == Some(true));
-}
-
-/// The port and version, the window and tries, and how many words the request has.
-type Options = ((u16, u8), (u64, u32), usize);
-
-fn options_of<'a>(alloc: Global, words: &'a [&'static str]) -> Option<Options> {
-    let found = ask_command(alloc).ok()?.try_get_matches_from(words).ok()?;
-    let client_options = client_options_of(&found);
-    let request = match found.get_strs("request") {
-        Some(words) => Some(words.len()),
-        None => None,
-    };
-    drop(found);
-    Some((
-        (client_options.port, client_options.version),
-        (client_options.window, client_options.tries),
-        request?,
-    ))
-}
-
-fn options(alloc: Global, line: &'static str) -> Option<Options> {
-    let words = words(alloc, line).ok()?;
-    let options = options_of(alloc, words.as_slice());
-    drop(words);
-    options
-}
-
-#[test]
-fn options_of_ask(rt: HostRuntime) {
-    let options = options(rt.alloc(), "ask --port 7001 insert a -b");
-    assert!(rt; options == Some(((7001, 2), (1, 3), 3)));
-}
-
-/// The exit status for words that are refused.
-fn status_of<'a>(alloc: Global, words: &'a [&'static str]) -> Option<i32> {
-    let error = ask_command(alloc).ok()?.try_get_matches_from(words).err()?;
-    let status = error.exit_code();
-    drop(error);
-    Some(status)
-}
-
-/// The exit status for a command line that is refused.
-fn refused(alloc: Global, line: &'static str) -> Option<i32> {
-    let words = words(alloc, line).ok()?;
-    let status = status_of(alloc, words.as_slice());
-    drop(words);
-    status
-}
-
-#[test]
-fn refused_options_of_ask(rt: HostRuntime) {
-    for line in [
-        "ask --port 0",
-        "ask --port 65536",
-        "ask --window 0",
-        "ask --window 17",
-        "ask --protocol 3",
-        "ask --tries 1001",
-        "ask --tries x",
-    ] {
-        assert!(rt; refused(rt.alloc(), line) == Some(2), "{line}");
-    }
 }

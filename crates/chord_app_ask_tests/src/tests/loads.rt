@@ -1,7 +1,6 @@
 //! The command `load`, over loopback, and its histogram.
 
-use crate::tests::words;
-use chord_app_ask::{Histogram, Kind, Load, Report, Until, load_command, load_of, run_load};
+use chord_app_ask::{Histogram, Kind, Load, Report, Until, run_load};
 use chord_app_text::{Fault, Finish};
 use std::alloc::Global;
 use std::net::{Net, TcpListener, TcpStream};
@@ -50,80 +49,6 @@ fn shares_of_connections(rt: HostRuntime) {
     };
     for (connection, share) in [(0, 3), (1, 3), (2, 2), (3, 2)] {
         assert!(rt; load.share(connection) == share);
-    }
-}
-
-/// The load that these words ask for.
-fn load_of_words<'a>(alloc: Global, words: &'a [&'static str]) -> Option<Load> {
-    let found = load_command(alloc).ok()?.try_get_matches_from(words).ok()?;
-    let load = load_of(&found);
-    drop(found);
-    Some(load)
-}
-
-/// The load that a command line asks for.
-fn load_from(alloc: Global, line: &'static str) -> Option<Load> {
-    let words = words(alloc, line).ok()?;
-    let load = load_of_words(alloc, words.as_slice());
-    drop(words);
-    load
-}
-
-/// The load that the line asks for: port, connections and requests in flight; keys and value size;
-/// kind and end.
-fn options(
-    alloc: Global,
-    line: &'static str,
-) -> Option<((u16, u64, u64), (u64, usize), (Kind, Until))> {
-    let load = load_from(alloc, line)?;
-    Some((
-        (load.port, load.connections, load.in_flight),
-        (load.keys, load.value_size),
-        (load.kind, load.until),
-    ))
-}
-
-#[test]
-fn options_of_load(rt: HostRuntime) {
-    let options = options(rt.alloc(), "load --port 1 --kind insert --requests 7");
-    let wanted = ((1, 1, 1), (1000, 16), (Kind::Insert, Until::Requests(7)));
-    assert!(rt; options == Some(wanted));
-}
-
-#[test]
-fn a_load_of_its_own(rt: HostRuntime) {
-    let wanted = ((1, 1, 1), (1000, 16), (Kind::Retrieve, Until::Seconds(10)));
-    assert!(rt; options(rt.alloc(), "load --port 1") == Some(wanted));
-}
-
-/// The exit status for words that are refused.
-fn status_of<'a>(alloc: Global, words: &'a [&'static str]) -> Option<i32> {
-    let error = load_command(alloc).ok()?.try_get_matches_from(words).err()?;
-    let status = error.exit_code();
-    drop(error);
-    Some(status)
-}
-
-/// The exit status for a command line that is refused.
-fn refused(alloc: Global, line: &'static str) -> Option<i32> {
-    let words = words(alloc, line).ok()?;
-    let status = status_of(alloc, words.as_slice());
-    drop(words);
-    status
-}
-
-#[test]
-fn refused_options_of_load(rt: HostRuntime) {
-    for line in [
-        "load --port 1 --connections 65",
-        "load --port 1 --in-flight 17",
-        "load --port 1 --keys 0",
-        "load --port 1 --value-size 4097",
-        "load --port 1 --kind remove",
-        "load --port 1 --seconds 3601",
-        "load --port 1 --requests 0",
-    ] {
-        assert!(rt; refused(rt.alloc(), line) == Some(2), "{line}");
     }
 }
 

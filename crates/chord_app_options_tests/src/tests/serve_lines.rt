@@ -1,39 +1,9 @@
 //! The command line of `serve`.
 
-use chord_app_options::{commands, no_number, small_number};
+use crate::tests::lines::{prints, words};
+use chord_app_options::{commands, number_from, serve_line_of, small_number};
 use clap::ArgMatches;
-use std::alloc::{AllocError, Global};
-
-/// The words of a command line.
-pub fn words(alloc: Global, line: &'static str) -> Result<Vec<&'static str>, AllocError> {
-    line.split_whitespace().collect(alloc)
-}
-
-/// Gives whether the fault of a command line has this text, and its exit status.
-pub fn shows(
-    alloc: Global,
-    error: Result<clap::Error, AllocError>,
-    wanted: &str,
-) -> Option<(bool, i32)> {
-    let error = error.ok()?;
-    let text = error.to_string(alloc);
-    let status = error.exit_code();
-    drop(error);
-    Some((text.ok()?.as_str() == wanted, status))
-}
-
-/// Gives whether a command line prints this text, and its exit status.
-pub fn prints(alloc: Global, line: &'static str, wanted: &str) -> Option<(bool, i32)> {
-    let words = words(alloc, line).ok()?;
-    let commands = commands(alloc).ok()?;
-    match commands.try_get_matches_from(words.as_slice()) {
-        Ok(matches) => {
-            drop(matches);
-            None
-        }
-        Err(error) => shows(alloc, Ok(error), wanted),
-    }
-}
+use std::alloc::Global;
 
 const USAGE: &str =
     "\n\nUsage: chord serve --plan <FILE> --port <N> <--connections <K>|--stay>\n\nFor more information, try '--help'.\n";
@@ -69,31 +39,30 @@ fn faults_of_serve(rt: HostRuntime) {
     }
 }
 
-/// Gives whether the command is `serve` with the plan `p` and port 7, whether `connections`
-/// matches, and whether `--notes` is there.
-fn matched(matches: &ArgMatches, connections: Option<&str>) -> Option<(bool, bool, bool)> {
+/// Gives whether the command is `serve` with the plan `p` and port 7, whether it serves this many
+/// connections, and whether `--notes` is there.
+fn matched(
+    alloc: Global,
+    matches: &ArgMatches,
+    connections: Option<usize>,
+) -> Option<(bool, bool, bool)> {
     let (name, found) = matches.subcommand()?;
-    let is_serve = name == "serve"
-        && found.get_str("plan") == Some("p")
-        && found.get_str("port") == Some("7");
-    Some((
-        is_serve,
-        found.get_str("connections") == connections,
-        found.get_flag("notes"),
-    ))
+    let line = serve_line_of(alloc, found).ok()?;
+    let is_serve = name == "serve" && line.plan == "p" && line.port == 7;
+    Some((is_serve, line.connections == connections, line.notes))
 }
 
 /// What `matched` gives for this command line, or None if it is refused.
 fn serves(
     alloc: Global,
     line: &'static str,
-    connections: Option<&str>,
+    connections: Option<usize>,
 ) -> Option<(bool, bool, bool)> {
     let words = words(alloc, line).ok()?;
     let commands = commands(alloc).ok()?;
     match commands.try_get_matches_from(words.as_slice()) {
         Ok(matches) => {
-            let serves = matched(&matches, connections);
+            let serves = matched(alloc, &matches, connections);
             drop(matches);
             serves
         }
@@ -117,7 +86,7 @@ fn options_of_serve(rt: HostRuntime) {
         ("chord serve --plan p --port 7 --stay --notes", None, true),
         (
             "chord serve --plan p --port 7 --connections 9",
-            Some("9"),
+            Some(9),
             false,
         ),
     ] {
@@ -136,12 +105,28 @@ fn numbers_of_serve(rt: HostRuntime) {
     }
 }
 
+/// A number within limits is one of those between them, and each of them.
+#[test]
+fn numbers_within_limits(rt: HostRuntime) {
+    for (word, number) in [
+        ("2", None),
+        ("3", Some(3)),
+        ("+007", Some(7)),
+        ("9", Some(9)),
+        ("10", None),
+        ("18446744073709551616", None),
+    ] {
+        assert!(rt; number_from(word, 3, 9) == number, "{word}");
+    }
+    assert!(rt; number_from("18446744073709551615", 0, u64::MAX) == Some(u64::MAX));
+}
+
 #[test]
 fn a_port_that_is_no_number(rt: HostRuntime) {
     let wanted =
         "error: invalid value '0' for '--port <N>': a number from 1 to 65535\n\nUsage: chord serve [OPTIONS] --plan <FILE> --port <N> <--connections <K>|--stay>\n\nFor more information, try '--help'.\n";
-    let shown = shows(rt.alloc(), no_number(rt.alloc(), "port <N>", "0"), wanted);
-    assert!(rt; shown == Some((true, 2)));
+    let printed = prints(rt.alloc(), "chord serve --plan p --port 0 --stay", wanted);
+    assert!(rt; printed == Some((true, 2)));
 }
 
 const SERVE_HELP: &str = concat!(

@@ -1,0 +1,117 @@
+//! The command line of `ask`.
+
+use crate::faults::{fault_of, print_fault};
+use crate::number::{NumberOption, WrongNumber};
+use crate::parts::with_argument;
+use crate::shared::{port_of, port_option};
+use chord_app_ask::{ClientOptions, ask_lines, ask_one, read_words};
+use chord_app_text::{Finish, LineFault};
+use clap::{Arg, ArgMatches, Command};
+use std::alloc::{AllocError, Global};
+use std::fmt;
+use std::net::{Net, TcpStream};
+
+/// What `chord ask --help` ends with.
+const EXAMPLES: &str =
+    "REQUEST is one of\n  insert KEY VALUE\n  retrieve KEY\n  remove KEY VALUE\nA key or value is text as it stands, or hexadecimal digits behind x:, as x:616263.";
+
+/// The text printed for words that are no request.
+const NO_REQUEST: &str =
+    "the request is none: insert KEY VALUE, retrieve KEY or remove KEY VALUE, a key of 1 to 255 bytes, a value of at most 4096";
+
+/// The text printed for a window that version 1 of the protocol has not.
+const NO_WINDOW: &str = "in version 1 of the protocol the window is 1";
+
+const WINDOW: NumberOption = NumberOption {
+    name: "window",
+    value_name: "W",
+    least: 1,
+    most: 16,
+    default: Some("1"),
+    help: "How many requests are sent before their answers are read, 1 to 16",
+};
+
+const PROTOCOL: NumberOption = NumberOption {
+    name: "protocol",
+    value_name: "VERSION",
+    least: 1,
+    most: 2,
+    default: Some("2"),
+    help: "The version of the protocol, 1 or 2. In version 1 the window is 1",
+};
+
+const TRIES: NumberOption = NumberOption {
+    name: "tries",
+    value_name: "T",
+    least: 1,
+    most: 1000,
+    default: Some("3"),
+    help: "How often a request is sent at most, 1 to 1000",
+};
+
+fn words_argument<'a>(alloc: Global) -> Arg<'a> {
+    Arg::new(alloc, "request")
+        .value_name("REQUEST")
+        .num_args(0..)
+        .trailing_var_arg(true)
+        .help("One request. Without it they are read from standard input, one a line")
+}
+
+/// The command `ask` and its arguments.
+pub fn ask_command<'a>(alloc: Global) -> Result<Command<'a>, AllocError> {
+    let ask = Command::new(alloc, "ask")
+        .about("Asks a server, and writes one line for each request")
+        .after_help(EXAMPLES)
+        .arg(port_option(alloc));
+    let ask = with_argument(ask, WINDOW.argument(alloc));
+    let ask = with_argument(ask, PROTOCOL.argument(alloc));
+    let ask = with_argument(ask, TRIES.argument(alloc));
+    with_argument(ask, words_argument(alloc))
+}
+
+fn read<'a>(found: &ArgMatches<'a>) -> Result<ClientOptions, WrongNumber<'a>> {
+    Ok(ClientOptions {
+        port: port_of(found)?,
+        version: PROTOCOL.read(found)? as u8,
+        window: WINDOW.read(found)?,
+        tries: TRIES.read(found)? as u32,
+    })
+}
+
+/// The fault of a wrong value.
+fn wrong<T: fmt::Display>(alloc: Global, message: &T) -> clap::Error {
+    fault_of(alloc, ask_command(alloc), "chord ask", message)
+}
+
+/// What the command line says of the server and of how to ask it, or the fault of a wrong value.
+pub fn client_options_of(alloc: Global, found: &ArgMatches) -> Result<ClientOptions, clap::Error> {
+    match read(found) {
+        Ok(options) if options.version == 1 && options.window != 1 => {
+            Err(wrong(alloc, &NO_WINDOW))
+        }
+        Ok(options) => Ok(options),
+        Err(number) => Err(wrong(alloc, &number)),
+    }
+}
+
+/// Does the command `ask`.
+pub fn start_ask<R: Net<Stream = TcpStream>>(
+    rt: &HostRuntime,
+    net: &R,
+    found: &ArgMatches,
+) -> Result<Finish, Finish> {
+    let alloc = rt.alloc();
+    let client_options = match client_options_of(alloc, found) {
+        Ok(client_options) => client_options,
+        Err(fault) => return print_fault(rt, fault),
+    };
+    let mut writer = rt.stdout();
+    match found.get_strs("request") {
+        Some(words) if !words.is_empty() => match read_words(alloc, words) {
+            Ok(request) => ask_one(net, alloc, client_options, request, &mut writer),
+            Err(LineFault::OutOfMemory) => Err(Finish::OutOfMemory),
+            Err(LineFault::Grammar) => print_fault(rt, wrong(alloc, &NO_REQUEST)),
+        },
+        _ => ask_lines(net, alloc, client_options, &mut rt.stdin(), &mut writer),
+    }
+}

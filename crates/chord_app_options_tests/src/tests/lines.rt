@@ -1,0 +1,58 @@
+//! Command lines, and what is printed of those that are refused.
+
+use chord_app_options::{client_options_of, commands, load_of, serve_line_of, stores_of};
+use clap::ArgMatches;
+use std::alloc::{AllocError, Global};
+
+/// The words of a command line.
+pub fn words(alloc: Global, line: &'static str) -> Result<Vec<&'static str>, AllocError> {
+    line.split_whitespace().collect(alloc)
+}
+
+/// The fault of a value on a line whose words match, if there is one.
+fn fault_of_values(alloc: Global, matches: &ArgMatches) -> Option<clap::Error> {
+    let (name, found) = matches.subcommand()?;
+    match name {
+        "world" => stores_of(alloc, found).err(),
+        "serve" => serve_line_of(alloc, found).err(),
+        "ask" => client_options_of(alloc, found).err(),
+        "load" => load_of(alloc, found).err(),
+        _ => None,
+    }
+}
+
+fn fault_of_words<'a>(alloc: Global, words: &'a [&'static str]) -> Option<clap::Error> {
+    match commands(alloc).ok()?.try_get_matches_from(words) {
+        Ok(matches) => {
+            let fault = fault_of_values(alloc, &matches);
+            drop(matches);
+            fault
+        }
+        Err(fault) => Some(fault),
+    }
+}
+
+/// The fault of a command line, or its help, if there is one.
+fn fault_of(alloc: Global, line: &'static str) -> Option<clap::Error> {
+    let words = words(alloc, line).ok()?;
+    let fault = fault_of_words(alloc, words.as_slice());
+    drop(words);
+    fault
+}
+
+/// The exit status for a command line that is refused.
+pub fn refused(alloc: Global, line: &'static str) -> Option<i32> {
+    let fault = fault_of(alloc, line)?;
+    let status = fault.exit_code();
+    drop(fault);
+    Some(status)
+}
+
+/// Gives whether a command line prints this text, and its exit status.
+pub fn prints(alloc: Global, line: &'static str, wanted: &str) -> Option<(bool, i32)> {
+    let fault = fault_of(alloc, line)?;
+    let text = fault.to_string(alloc);
+    let status = fault.exit_code();
+    drop(fault);
+    Some((text.ok()?.as_str() == wanted, status))
+}
