@@ -4,7 +4,11 @@ ghost use Rattle.std.specs.Prelude.{◌≡◌};
 use crate::nodes::{start_nodes, tick_in_turn};
 use chord_app_plan::{Plan, PlanAsk};
 use chord_app_text::{Finish, ReplyText};
-use chord_live_ring::{AskFault, NewFault, OpenClientFault, Ring, RingClient, RingParts, Settings};
+use chord_caller::SubmitFault;
+use chord_live_ring::{
+    AskFault, BeginFault, NewFault, OpenClientFault, Ring, RingClient, RingParts, Settings,
+    WaitFault,
+};
 use chord_map::Reply;
 use chord_store::EntryStore;
 use chord_table::Naming;
@@ -36,8 +40,9 @@ fn ask_once<J: Naming, S: EntryStore, R: Wait + Clock>(
     let request = ask.request.try_copy()?;
     match client.call(rt, ask.via as u64, request) {
         Ok(reply) => Ok(AskResult::Reply(reply)),
-        Err(AskFault::Memory) => Err(Finish::OutOfMemory),
-        Err(AskFault::Full) => Ok(AskResult::Full),
+        Err(AskFault::Wait(WaitFault::Memory))
+        | Err(AskFault::Begin(BeginFault::Submit(SubmitFault::Memory))) => Err(Finish::OutOfMemory),
+        Err(AskFault::Wait(WaitFault::Full)) => Ok(AskResult::Full),
         Err(_) => Ok(AskResult::NoAnswer),
     }
 }

@@ -14,10 +14,8 @@ use Rattle.chord_caller.specs.declared.told.Told.{Told}
 use Rattle.chord_caller.proofs.Places.{either_is}
 use Rattle.chord_live.specs.Asking.{AskIs, IsTaken, TookReplies, WaitIs, WaitsStill, WasSubmitted}
 use Rattle.chord_live_ring.specs.Begun.{BeginIs}
-use Rattle.chord_live_types.specs.Refused.{waited_ask}
-use Rattle.chord_live_types.specs.declared.caller.AskFault.{AskFault}
+use Rattle.chord_live_types.specs.declared.caller.AskFault.TheVariants as ask
 use Rattle.chord_live_types.specs.declared.caller.WaitFault.{WaitFault}
-use Rattle.chord_live_types.specs.declared.caller.WaitFault.TheVariants as wait
 use Rattle.chord_map.specs.declared.reply.Reply.{Reply}
 use Rattle.chord_map.specs.declared.request.Request.{Request}
 use Rattle.chord_map.proofs.Lists.{by_option, by_test}
@@ -93,16 +91,8 @@ took_other number told old new (Ok Known) other is = waits_same number old new i
 took_other number told old new (Err Foreign) other is = waits_same number old new is.1
 took_other number told old new (Err Memory) other is = waits_same number old new is.2
 
-stays_asked : (request : Request) (old new : Caller) (fault : WaitFault) → WasSubmitted request old new → is_pending (next_number old) new ≡ true
-    → AskIs request old (Err (waited_ask fault)) new
-stays_asked request old new wait.Full sent still = (sent, still)
-stays_asked request old new wait.NoAnswer sent still = (sent, still)
-stays_asked request old new wait.Memory sent still = inr (sent, still)
-
 -- how a wait after a submission ended, as `ask` answers it
-pub ended_ask : (request : Request) (number : ℕ) (old middle new : Caller) (waited : WaitFault) (fault : AskFault) → BeginIs request old (Ok number) middle
-    → is_pending number middle ≡ true → WaitIs number middle (Err waited) new → fault ≡ waited_ask waited → AskIs request old (Err fault) new
-ended_ask request number old middle new waited fault (numbered, fit, window, small, is) waits ((rest, took), same) means =
-    subst (λ f. AskIs request old (Err f) new) (sym means)
-    (stays_asked request old new waited (fit, window, small, (rest, took ∙ ap (λ (c : Caller). record c { mine = c.mine ++ rest }) is))
-    (ap (λ n. is_pending n new) (sym numbered) ∙ same ∙ waits))
+pub ended_ask : (request : Request) (number : ℕ) (old middle new : Caller) (waited : WaitFault) → BeginIs request old (Ok number) middle → is_pending number middle ≡ true
+    → WaitIs number middle (Err waited) new → AskIs request old (Err (ask.Wait waited)) new
+ended_ask request number old middle new waited (numbered, fit, window, small, is) waits ((rest, took), same) =
+    ((fit, window, small, (rest, took ∙ ap (λ (c : Caller). record c { mine = c.mine ++ rest }) is)), ap (λ n. is_pending n new) (sym numbered) ∙ same ∙ waits)

@@ -1,9 +1,9 @@
 -- What a caller of a ring answers, and what it knows afterwards.
-use Rattle.std.specs.Prelude.{◌≡◌, ◌⊎◌, ℕ, ◌^◌, ◌<◌, true, false, None, Some, is_some, List, ◌++◌, Result, Ok, Err}
+use Rattle.std.specs.Prelude.{◌≡◌, ℕ, ◌^◌, ◌<◌, true, false, None, Some, is_some, List, ◌++◌, Result, Ok, Err}
 use Rattle.std.specs.declared.alloc.AllocError.{AllocError}
-use Rattle.chord_caller.specs.Answers.{SubmitIs, HasWindow, is_pending}
+use Rattle.chord_caller.specs.Answers.{HasWindow, is_pending}
 use Rattle.chord_caller.specs.Caller.{Caller, Note, next_number, submission_at, unknown_calls, with_request}
-use Rattle.chord_caller.specs.declared.fault.SubmitFault.TheVariants as submit
+use Rattle.chord_live_ring.specs.Begun.{BeginIs}
 use Rattle.chord_live_types.specs.declared.caller.CollectFault.{CollectFault}
 use Rattle.chord_live_types.specs.declared.caller.CollectFault.TheVariants as collect
 use Rattle.chord_live.specs.declared.wait_event.WaitEvent.{WaitEvent}
@@ -49,14 +49,8 @@ WasSubmitted request old new = IsRequest request × HasWindow old × (next_numbe
 -- the reply to the request is among the calls taken, or the first refusal that applies is answered
 abbrev pub AskIs : Request → Caller → Result Reply AskFault → Caller → Type 0
 AskIs request old (Ok reply) new = WasSubmitted request old new × IsTaken new (next_number old) reply
-AskIs request old (Err (ask.Bad fault)) new = SubmitIs request old (Err (submit.Bad fault)) new
-AskIs request old (Err ask.WindowFull) new = SubmitIs request old (Err submit.WindowFull) new
-AskIs request old (Err ask.NumbersSpent) new = SubmitIs request old (Err submit.NumbersSpent) new
-AskIs request old (Err ask.NoSuchNode) new = SubmitIs request old (Err submit.Memory) new
-AskIs request old (Err ask.Full) new = WasSubmitted request old new × (is_pending (next_number old) new ≡ true)
-AskIs request old (Err ask.NoAnswer) new = WasSubmitted request old new × (is_pending (next_number old) new ≡ true)
-AskIs request old (Err ask.Memory) new =
-    SubmitIs request old (Err submit.Memory) new ⊎ (WasSubmitted request old new × (is_pending (next_number old) new ≡ true))
+AskIs request old (Err (ask.Begin fault)) new = BeginIs request old (Err fault) new
+AskIs request old (Err (ask.Wait fault)) new = WasSubmitted request old new × (is_pending (next_number old) new ≡ true)
 
 -- the reply to the request of the number is among the calls taken, or the request is as it was
 abbrev pub CollectIs : ℕ → Caller → Result Reply CollectFault → Caller → Type 0

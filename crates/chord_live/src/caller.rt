@@ -149,7 +149,7 @@ impl<'a, J: Naming, S: EntryStore> Caller<'a, J, S> {
     {
         if let Some(fault) = self.own.refusal(&request) {
             drop(request);
-            return Err(BeginFault::from(fault));
+            return Err(BeginFault::Submit(fault));
         }
         if !self.ring.was_admitted(via) {
             drop(request);
@@ -157,7 +157,7 @@ impl<'a, J: Naming, S: EntryStore> Caller<'a, J, S> {
         }
         match self.own.submit(self.ring.table(), request) {
             Ok(sent) => Ok(sent),
-            Err(fault) => Err(BeginFault::from(fault)),
+            Err(fault) => Err(BeginFault::Submit(fault)),
         }
     }
 
@@ -283,19 +283,19 @@ impl<'a, J: Naming, S: EntryStore> Caller<'a, J, S> {
         request: Request,
     ) -> Result<Reply, AskFault>
         ensures answer { AskIs request self.old.caller result self.new.caller }
-        ensures placed { J.name.slots ≤ via → MaySubmit request self.old.caller → result ≡ Err AskFault.NoSuchNode }
+        ensures placed { J.name.slots ≤ via → MaySubmit request self.old.caller → result ≡ Err (AskFault.Begin BeginFault.NoSuchNode) }
         ensures came { TookMessages self.old self.new }
-        ensures full { result ≡ Err AskFault.Full → WasToldFull (next_number self.old.caller) self.old self.new }
-        ensures not_full { result ≢ Err AskFault.Full → WasNotToldFull (next_number self.old.caller) self.old self.new }
+        ensures full { result ≡ Err (AskFault.Wait WaitFault.Full) → WasToldFull (next_number self.old.caller) self.old self.new }
+        ensures not_full { result ≢ Err (AskFault.Wait WaitFault.Full) → WasNotToldFull (next_number self.old.caller) self.old self.new }
     {
         let (number, envelope) = match self.submit(via, request) {
             Ok(sent) => sent,
-            Err(fault) => return Err(AskFault::from(fault)),
+            Err(fault) => return Err(AskFault::Begin(fault)),
         };
         self.ring.post(rt, Target::Node(via), envelope);
         match self.wait_then_resend(rt, via, number) {
             Ok(reply) => Ok(reply),
-            Err(fault) => Err(AskFault::from(fault)),
+            Err(fault) => Err(AskFault::Wait(fault)),
         }
     }
 
@@ -308,10 +308,10 @@ impl<'a, J: Naming, S: EntryStore> Caller<'a, J, S> {
         request: Request,
     ) -> Result<Reply, AskFault>
         ensures answer { AskIs request self.old.caller result self.new.caller }
-        ensures placed { J.name.slots ≤ via → MaySubmit request self.old.caller → result ≡ Err AskFault.NoSuchNode }
+        ensures placed { J.name.slots ≤ via → MaySubmit request self.old.caller → result ≡ Err (AskFault.Begin BeginFault.NoSuchNode) }
         ensures came { TookMessages self.old self.new }
-        ensures full { result ≡ Err AskFault.Full → WasToldFull (next_number self.old.caller) self.old self.new }
-        ensures not_full { result ≢ Err AskFault.Full → WasNotToldFull (next_number self.old.caller) self.old self.new }
+        ensures full { result ≡ Err (AskFault.Wait WaitFault.Full) → WasToldFull (next_number self.old.caller) self.old self.new }
+        ensures not_full { result ≢ Err (AskFault.Wait WaitFault.Full) → WasNotToldFull (next_number self.old.caller) self.old self.new }
         ensures shown { CallerShown self.new }
     {
         let answered = self.submit_and_wait(rt, via, request);
@@ -339,8 +339,8 @@ impl<'a, J: Naming, S: EntryStore> Caller<'a, J, S> {
     fn find_or_wait<R: Wait + Clock>(&mut self, rt: &R, number: u64) -> Result<Reply, CollectFault>
         ensures answer { CollectIs number self.old.caller result self.new.caller }
         ensures came { TookMessages self.old self.new }
-        ensures full { result ≡ Err CollectFault.Full → WasToldFull number self.old self.new }
-        ensures not_full { result ≢ Err CollectFault.Full → WasNotToldFull number self.old self.new }
+        ensures full { result ≡ Err (CollectFault.Wait WaitFault.Full) → WasToldFull number self.old self.new }
+        ensures not_full { result ≢ Err (CollectFault.Wait WaitFault.Full) → WasNotToldFull number self.old self.new }
     {
         if !self.own.was_submitted(number) {
             return Err(CollectFault::NotBegun);
@@ -348,11 +348,11 @@ impl<'a, J: Naming, S: EntryStore> Caller<'a, J, S> {
         match self.own.reply_to(number) {
             Ok(Some(reply)) => return Ok(reply),
             Ok(None) => {}
-            Err(_) => return Err(CollectFault::Memory),
+            Err(_) => return Err(CollectFault::Wait(WaitFault::Memory)),
         }
         match self.wait_all_tries(rt, number) {
             Ok(reply) => Ok(reply),
-            Err(fault) => Err(CollectFault::from(fault)),
+            Err(fault) => Err(CollectFault::Wait(fault)),
         }
     }
 
@@ -361,8 +361,8 @@ impl<'a, J: Naming, S: EntryStore> Caller<'a, J, S> {
     pub fn collect<R: Wait + Clock>(&mut self, rt: &R, number: u64) -> Result<Reply, CollectFault>
         ensures answer { CollectIs number self.old.caller result self.new.caller }
         ensures came { TookMessages self.old self.new }
-        ensures full { result ≡ Err CollectFault.Full → WasToldFull number self.old self.new }
-        ensures not_full { result ≢ Err CollectFault.Full → WasNotToldFull number self.old self.new }
+        ensures full { result ≡ Err (CollectFault.Wait WaitFault.Full) → WasToldFull number self.old self.new }
+        ensures not_full { result ≢ Err (CollectFault.Wait WaitFault.Full) → WasNotToldFull number self.old self.new }
         ensures shown { CallerShown self.new }
     {
         let collected = self.find_or_wait(rt, number);
@@ -380,8 +380,8 @@ impl<'a, J: Naming, S: EntryStore> Caller<'a, J, S> {
         ensures answer { RetryIs number self.old.caller result self.new.caller }
         ensures placed { J.name.slots ≤ via → is_pending number self.old.caller ≡ true → result ≡ Err RetryFault.NoSuchNode }
         ensures came { TookMessages self.old self.new }
-        ensures full { result ≡ Err RetryFault.Full → WasToldFull number self.old self.new }
-        ensures not_full { result ≢ Err RetryFault.Full → WasNotToldFull number self.old self.new }
+        ensures full { result ≡ Err (RetryFault.Wait WaitFault.Full) → WasToldFull number self.old self.new }
+        ensures not_full { result ≢ Err (RetryFault.Wait WaitFault.Full) → WasNotToldFull number self.old self.new }
     {
         if !self.own.is_pending(number) {
             return Err(RetryFault::Idle);
@@ -392,7 +392,7 @@ impl<'a, J: Naming, S: EntryStore> Caller<'a, J, S> {
         let tries = self.ring.tries();
         match self.resend_until_answered(rt, via, number, tries) {
             Ok(reply) => Ok(reply),
-            Err(fault) => Err(RetryFault::from(fault)),
+            Err(fault) => Err(RetryFault::Wait(fault)),
         }
     }
 
@@ -406,8 +406,8 @@ impl<'a, J: Naming, S: EntryStore> Caller<'a, J, S> {
         ensures answer { RetryIs number self.old.caller result self.new.caller }
         ensures placed { J.name.slots ≤ via → is_pending number self.old.caller ≡ true → result ≡ Err RetryFault.NoSuchNode }
         ensures came { TookMessages self.old self.new }
-        ensures full { result ≡ Err RetryFault.Full → WasToldFull number self.old self.new }
-        ensures not_full { result ≢ Err RetryFault.Full → WasNotToldFull number self.old self.new }
+        ensures full { result ≡ Err (RetryFault.Wait WaitFault.Full) → WasToldFull number self.old self.new }
+        ensures not_full { result ≢ Err (RetryFault.Wait WaitFault.Full) → WasNotToldFull number self.old self.new }
         ensures shown { CallerShown self.new }
     {
         let answered = self.resend_pending(rt, via, number);
@@ -530,18 +530,18 @@ impl<'a, J: Naming, S: EntryStore> Caller<'a, J, S> {
         request: Request,
     ) -> Result<Reply, AskFault>
         ensures answer { AskIs request self.old.caller result self.new.caller }
-        ensures placed { J.name.slots ≤ via → MaySubmit request self.old.caller → result ≡ Err AskFault.NoSuchNode }
+        ensures placed { J.name.slots ≤ via → MaySubmit request self.old.caller → result ≡ Err (AskFault.Begin BeginFault.NoSuchNode) }
         ensures came { TookMessages self.old self.new }
-        ensures full { result ≡ Err AskFault.Full → WasToldFull (next_number self.old.caller) self.old self.new }
-        ensures not_full { result ≢ Err AskFault.Full → WasNotToldFull (next_number self.old.caller) self.old self.new }
+        ensures full { result ≡ Err (AskFault.Wait WaitFault.Full) → WasToldFull (next_number self.old.caller) self.old self.new }
+        ensures not_full { result ≢ Err (AskFault.Wait WaitFault.Full) → WasNotToldFull (next_number self.old.caller) self.old self.new }
     {
         let (number, envelope) = match self.submit(via, request) {
             Ok(sent) => sent,
-            Err(fault) => return Err(AskFault::from(fault)),
+            Err(fault) => return Err(AskFault::Begin(fault)),
         };
         match self.carry_until_answered(rt, via, envelope, number) {
             Ok(reply) => Ok(reply),
-            Err(fault) => Err(AskFault::from(fault)),
+            Err(fault) => Err(AskFault::Wait(fault)),
         }
     }
 
@@ -555,10 +555,10 @@ impl<'a, J: Naming, S: EntryStore> Caller<'a, J, S> {
         request: Request,
     ) -> Result<Reply, AskFault>
         ensures answer { AskIs request self.old.caller result self.new.caller }
-        ensures placed { J.name.slots ≤ via → MaySubmit request self.old.caller → result ≡ Err AskFault.NoSuchNode }
+        ensures placed { J.name.slots ≤ via → MaySubmit request self.old.caller → result ≡ Err (AskFault.Begin BeginFault.NoSuchNode) }
         ensures came { TookMessages self.old self.new }
-        ensures full { result ≡ Err AskFault.Full → WasToldFull (next_number self.old.caller) self.old self.new }
-        ensures not_full { result ≢ Err AskFault.Full → WasNotToldFull (next_number self.old.caller) self.old self.new }
+        ensures full { result ≡ Err (AskFault.Wait WaitFault.Full) → WasToldFull (next_number self.old.caller) self.old self.new }
+        ensures not_full { result ≢ Err (AskFault.Wait WaitFault.Full) → WasNotToldFull (next_number self.old.caller) self.old self.new }
         ensures shown { CallerShown self.new }
     {
         let answered = self.submit_and_carry(rt, via, request);

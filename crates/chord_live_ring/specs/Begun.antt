@@ -41,8 +41,5 @@ MaySubmit request caller = IsRequest request × HasWindow caller × (next_number
 abbrev pub BeginIs : Request → Caller → Result ℕ BeginFault → Caller → Type 0
 BeginIs request old (Ok number) new =
     (number ≡ next_number old) × IsRequest request × HasWindow old × (next_number old < 2 ^ 64) × (new ≡ with_request request old)
-BeginIs request old (Err (begin.Bad fault)) new = SubmitIs request old (Err (submit.Bad fault)) new
-BeginIs request old (Err begin.WindowFull) new = SubmitIs request old (Err submit.WindowFull) new
-BeginIs request old (Err begin.NumbersSpent) new = SubmitIs request old (Err submit.NumbersSpent) new
+BeginIs request old (Err (begin.Submit fault)) new = SubmitIs request old (Err fault) new
 BeginIs request old (Err begin.NoSuchNode) new = SubmitIs request old (Err submit.Memory) new
-BeginIs request old (Err begin.Memory) new = SubmitIs request old (Err submit.Memory) new

@@ -1,8 +1,7 @@
 -- What a client of a ring answers, and what its caller is afterwards.
-use Rattle.std.specs.Prelude.{◌≡◌, ◌⊎◌, ℕ, true, false, Some, Result, Ok, Err}
-use Rattle.chord_caller.specs.Answers.{SubmitIs, is_pending}
+use Rattle.std.specs.Prelude.{◌≡◌, ℕ, true, false, Some, Result, Ok, Err}
+use Rattle.chord_caller.specs.Answers.{is_pending}
 use Rattle.chord_caller.specs.Caller.{Caller, fresh_for, next_number, with_reply}
-use Rattle.chord_caller.specs.declared.fault.SubmitFault.TheVariants as submit
 use Rattle.chord_caller.specs.declared.told.Told.{Told}
 use Rattle.chord_live_ring.specs.Begun.{BeginIs}
 use Rattle.chord_live_types.specs.declared.caller.AskFault.{AskFault}
@@ -31,13 +30,8 @@ AwaitIs number old (Err fault) new = new ≡ old
 -- applies is answered; a request that was sent and has no reply stays pending
 abbrev pub CallIs : Request → Caller → Result Reply AskFault → Caller → Type 0
 CallIs request old (Ok reply) new = (asked : Caller) × BeginIs request old (Ok (next_number old)) asked × TookReply (next_number old) reply asked new
-CallIs request old (Err (ask.Bad fault)) new = SubmitIs request old (Err (submit.Bad fault)) new
-CallIs request old (Err ask.WindowFull) new = SubmitIs request old (Err submit.WindowFull) new
-CallIs request old (Err ask.NumbersSpent) new = SubmitIs request old (Err submit.NumbersSpent) new
-CallIs request old (Err ask.NoSuchNode) new = SubmitIs request old (Err submit.Memory) new
-CallIs request old (Err ask.Full) new = BeginIs request old (Ok (next_number old)) new
-CallIs request old (Err ask.NoAnswer) new = BeginIs request old (Ok (next_number old)) new
-CallIs request old (Err ask.Memory) new = SubmitIs request old (Err submit.Memory) new ⊎ BeginIs request old (Ok (next_number old)) new
+CallIs request old (Err (ask.Begin fault)) new = BeginIs request old (Err fault) new
+CallIs request old (Err (ask.Wait fault)) new = BeginIs request old (Ok (next_number old)) new
 
 -- the reply to the pending request of the number is taken, or nothing changed
 abbrev pub RecallIs : ℕ → Caller → Result Reply RetryFault → Caller → Type 0

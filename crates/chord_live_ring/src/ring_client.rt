@@ -120,7 +120,7 @@ impl<'a, J: Naming, S: EntryStore> RingClient<'a, J, S> {
     {
         if let Some(fault) = self.own.refusal(&request) {
             drop(request);
-            return Err(BeginFault::from(fault));
+            return Err(BeginFault::Submit(fault));
         }
         if !self.ring.was_admitted(via) {
             drop(request);
@@ -128,7 +128,7 @@ impl<'a, J: Naming, S: EntryStore> RingClient<'a, J, S> {
         }
         match self.own.submit(&self.ring.table, request) {
             Ok(sent) => Ok(sent),
-            Err(fault) => Err(BeginFault::from(fault)),
+            Err(fault) => Err(BeginFault::Submit(fault)),
         }
     }
 
@@ -365,18 +365,18 @@ impl<'a, J: Naming, S: EntryStore> RingClient<'a, J, S> {
         request: Request,
     ) -> Result<Reply, AskFault>
         ensures answer { CallIs request self.old.caller result self.new.caller }
-        ensures placed { J.name.slots ≤ via → MaySubmit request self.old.caller → result ≡ Err AskFault.NoSuchNode }
+        ensures placed { J.name.slots ≤ via → MaySubmit request self.old.caller → result ≡ Err (AskFault.Begin BeginFault.NoSuchNode) }
         ensures came { TookMessages self.old self.new }
-        ensures full { result ≡ Err AskFault.Full → WasToldFull (next_number self.old.caller) self.old self.new }
-        ensures not_full { result ≢ Err AskFault.Full → WasNotToldFull (next_number self.old.caller) self.old self.new }
+        ensures full { result ≡ Err (AskFault.Wait WaitFault.Full) → WasToldFull (next_number self.old.caller) self.old self.new }
+        ensures not_full { result ≢ Err (AskFault.Wait WaitFault.Full) → WasNotToldFull (next_number self.old.caller) self.old self.new }
     {
         let (number, envelope) = match self.submit(via, request) {
             Ok(sent) => sent,
-            Err(fault) => return Err(AskFault::from(fault)),
+            Err(fault) => return Err(AskFault::Begin(fault)),
         };
         match self.carry_until_answered(rt, via, envelope, number) {
             Ok(reply) => Ok(reply),
-            Err(fault) => Err(AskFault::from(fault)),
+            Err(fault) => Err(AskFault::Wait(fault)),
         }
     }
 
@@ -393,10 +393,10 @@ impl<'a, J: Naming, S: EntryStore> RingClient<'a, J, S> {
         request: Request,
     ) -> Result<Reply, AskFault>
         ensures answer { CallIs request self.old.caller result self.new.caller }
-        ensures placed { J.name.slots ≤ via → MaySubmit request self.old.caller → result ≡ Err AskFault.NoSuchNode }
+        ensures placed { J.name.slots ≤ via → MaySubmit request self.old.caller → result ≡ Err (AskFault.Begin BeginFault.NoSuchNode) }
         ensures came { TookMessages self.old self.new }
-        ensures full { result ≡ Err AskFault.Full → WasToldFull (next_number self.old.caller) self.old self.new }
-        ensures not_full { result ≢ Err AskFault.Full → WasNotToldFull (next_number self.old.caller) self.old self.new }
+        ensures full { result ≡ Err (AskFault.Wait WaitFault.Full) → WasToldFull (next_number self.old.caller) self.old self.new }
+        ensures not_full { result ≢ Err (AskFault.Wait WaitFault.Full) → WasNotToldFull (next_number self.old.caller) self.old self.new }
         ensures shown { CallerShown self.new }
     {
         let answered = self.submit_and_carry(rt, via, request);
@@ -414,8 +414,8 @@ impl<'a, J: Naming, S: EntryStore> RingClient<'a, J, S> {
         ensures answer { RecallIs number self.old.caller result self.new.caller }
         ensures placed { J.name.slots ≤ via → is_pending number self.old.caller ≡ true → result ≡ Err RetryFault.NoSuchNode }
         ensures came { TookMessages self.old self.new }
-        ensures full { result ≡ Err RetryFault.Full → WasToldFull number self.old self.new }
-        ensures not_full { result ≢ Err RetryFault.Full → WasNotToldFull number self.old self.new }
+        ensures full { result ≡ Err (RetryFault.Wait WaitFault.Full) → WasToldFull number self.old self.new }
+        ensures not_full { result ≢ Err (RetryFault.Wait WaitFault.Full) → WasNotToldFull number self.old self.new }
     {
         if !self.own.is_pending(number) {
             return Err(RetryFault::Idle);
@@ -426,7 +426,7 @@ impl<'a, J: Naming, S: EntryStore> RingClient<'a, J, S> {
         let tries = self.ring.tries();
         match self.carry_repeatedly(rt, via, number, tries) {
             Ok(reply) => Ok(reply),
-            Err(fault) => Err(RetryFault::from(fault)),
+            Err(fault) => Err(RetryFault::Wait(fault)),
         }
     }
 
@@ -442,8 +442,8 @@ impl<'a, J: Naming, S: EntryStore> RingClient<'a, J, S> {
         ensures answer { RecallIs number self.old.caller result self.new.caller }
         ensures placed { J.name.slots ≤ via → is_pending number self.old.caller ≡ true → result ≡ Err RetryFault.NoSuchNode }
         ensures came { TookMessages self.old self.new }
-        ensures full { result ≡ Err RetryFault.Full → WasToldFull number self.old self.new }
-        ensures not_full { result ≢ Err RetryFault.Full → WasNotToldFull number self.old self.new }
+        ensures full { result ≡ Err (RetryFault.Wait WaitFault.Full) → WasToldFull number self.old self.new }
+        ensures not_full { result ≢ Err (RetryFault.Wait WaitFault.Full) → WasNotToldFull number self.old self.new }
         ensures shown { CallerShown self.new }
     {
         let answered = self.carry_pending(rt, via, number);

@@ -2,10 +2,11 @@
 //! schedule.
 ghost use Rattle.std.specs.Prelude.{◌≡◌, ◌≤◌, []};
 
+use chord_caller::SubmitFault;
 use chord_ident::Id;
 use chord_live::Caller;
 use chord_live_ring::{Ring, RingParts, Settings};
-use chord_live_types::{AskFault, BeginFault};
+use chord_live_types::{AskFault, BeginFault, WaitFault};
 use chord_map::{Reply, Request};
 use chord_store::EntryStore;
 use chord_table::Naming;
@@ -101,7 +102,7 @@ pub fn inserted<J: Naming, S: EntryStore, R: Wait + Clock>(
 ) -> Result<Reply, AskFault> {
     match Request::insert(alloc, key, value) {
         Ok(request) => caller.ask(rt, via, request),
-        Err(_) => Err(AskFault::Memory),
+        Err(_) => Err(AskFault::Wait(WaitFault::Memory)),
     }
 }
 
@@ -115,7 +116,7 @@ pub fn retrieved<J: Naming, S: EntryStore, R: Wait + Clock>(
 ) -> Result<Reply, AskFault> {
     match Request::retrieve(alloc, key) {
         Ok(request) => caller.ask(rt, via, request),
-        Err(_) => Err(AskFault::Memory),
+        Err(_) => Err(AskFault::Wait(WaitFault::Memory)),
     }
 }
 
@@ -128,7 +129,7 @@ pub fn call<J: Naming, S: EntryStore, R: Wait + Clock>(
 ) -> Result<Reply, AskFault> {
     match request {
         Ok(request) => caller.call(rt, via, request),
-        Err(_) => Err(AskFault::Memory),
+        Err(_) => Err(AskFault::Wait(WaitFault::Memory)),
     }
 }
 
@@ -142,6 +143,6 @@ pub fn begin<J: Naming, S: EntryStore, R: Wait + Clock>(
 ) -> Result<u64, BeginFault> {
     match Request::retrieve(alloc, key) {
         Ok(request) => caller.begin(rt, via, request),
-        Err(_) => Err(BeginFault::Memory),
+        Err(_) => Err(BeginFault::Submit(SubmitFault::Memory)),
     }
 }

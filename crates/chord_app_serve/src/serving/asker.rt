@@ -5,7 +5,7 @@ ghost use Rattle.chord_serve.specs.Question.{IsAnswer, IsHeard};
 ghost use Rattle.chord_serve.specs.declared.asker.Asked.TheVariants as Asked;
 
 use crate::serving::idle::IdleCaller;
-use chord_live_ring::{AskFault, RetryFault, RingClient};
+use chord_live_ring::{AskFault, RetryFault, RingClient, WaitFault};
 use chord_map::{Reply, Request};
 use chord_serve::{Asked, Asker};
 use chord_store::EntryStore;
@@ -75,8 +75,8 @@ impl<'a, J: Naming, S: EntryStore, R: Wait + Clock> Asker for RingAsker<'a, J, S
         };
         match self.caller.call(self.rt, self.via, copy) {
             Ok(reply) if reply.fits(request) => to_answer(reply),
-            Ok(_) | Err(AskFault::NoAnswer) => Asked::NoAnswer,
-            Err(AskFault::Full) => Asked::Full,
+            Ok(_) | Err(AskFault::Wait(WaitFault::NoAnswer)) => Asked::NoAnswer,
+            Err(AskFault::Wait(WaitFault::Full)) => Asked::Full,
             Err(_) => Asked::Memory,
         }
     }
@@ -88,8 +88,8 @@ impl<'a, J: Naming, S: EntryStore, R: Wait + Clock> Asker for RingAsker<'a, J, S
         };
         match self.caller.retry(self.rt, self.via, submitted) {
             Ok(reply) => to_answer(reply),
-            Err(RetryFault::Full) => Asked::Full,
-            Err(RetryFault::Memory) => Asked::Memory,
+            Err(RetryFault::Wait(WaitFault::Full)) => Asked::Full,
+            Err(RetryFault::Wait(WaitFault::Memory)) => Asked::Memory,
             Err(_) => Asked::NoAnswer,
         }
     }

@@ -5,7 +5,7 @@ ghost use Rattle.chord_table.specs.Shown.{WitnessShown};
 use super::{Store, begin, call, founded, inserted, is_added, is_told, retrieved, settings};
 use chord_live::{Caller, OpenCaller};
 use chord_live_ring::{NoProbe, Ring, RingParts};
-use chord_live_types::{AskFault, CollectFault, LeaveFault};
+use chord_live_types::{AskFault, CollectFault, LeaveFault, WaitFault};
 use chord_map::{Reply, Request};
 use chord_store::{CappedStore, EntryStore};
 use chord_table::{Naming, Witness};
@@ -101,7 +101,7 @@ fn fill<J: Naming, S: EntryStore, R: Wait + Clock>(
 ) -> bool {
     let first = is_added(inserted(rt, alloc, zero, 0, (b"a", b"x")));
     let full = inserted(rt, alloc, one, 0, (b"a", b"y")).err();
-    first & (full == Some(AskFault::Full)) & one.is_pending(1)
+    first & (full == Some(AskFault::Wait(WaitFault::Full))) & one.is_pending(1)
 }
 
 /// Checks that the answer is Removed.
@@ -205,7 +205,7 @@ fn crash<J: Naming, S: EntryStore, R: Wait + Clock>(
     zero.look();
     let crashed = crashes(rt, ring);
     let unheard = retrieved(rt, alloc, zero, 0, b"a").err();
-    seen & crashed & (unheard == Some(AskFault::NoAnswer))
+    seen & crashed & (unheard == Some(AskFault::Wait(WaitFault::NoAnswer)))
 }
 
 /// Checks that a crashed node can crash again and be ticked, and does not leave.

@@ -3,11 +3,13 @@
 ghost use Rattle.std.specs.Prelude.{◌≡◌, []};
 
 use super::{A, C, begin, inserted, is_added, is_told, settings, succeeds};
+use chord_caller::SubmitFault;
 use chord_ident::Id;
 use chord_live::{Caller, OpenCaller};
 use chord_live_ring::{NoProbe, Ring, RingParts};
 use chord_live_types::{
     AskFault, BeginFault, CollectFault, CreateFault, JoinFault, NewFault, RetryFault, TickFault,
+    WaitFault,
 };
 use chord_store::{CappedStore, EntryStore};
 use chord_table::Naming;
@@ -140,7 +142,11 @@ fn adds<J: Naming, S: EntryStore, R: Wait + Clock>(
     caller: &mut Caller<'_, J, S>,
 ) -> bool {
     let answered = inserted(rt, alloc, caller, 0, (b"b", b"x"));
-    let is_refused = matches!(&answered, Err(AskFault::Memory));
+    let is_refused = matches!(
+        &answered,
+        Err(AskFault::Wait(WaitFault::Memory))
+            | Err(AskFault::Begin(BeginFault::Submit(SubmitFault::Memory)))
+    );
     let mut added = is_added(answered);
     if is_refused {
         added = adds_again(rt, alloc, caller);
@@ -166,7 +172,7 @@ fn is_retried<J: Naming, S: EntryStore, R: Wait + Clock>(
     caller: &mut Caller<'_, J, S>,
 ) -> bool {
     let answered = caller.retry(rt, 0, 1);
-    let is_refused = matches!(&answered, Err(RetryFault::Memory));
+    let is_refused = matches!(&answered, Err(RetryFault::Wait(WaitFault::Memory)));
     let added = is_added(answered);
     if is_refused {
         return is_added(caller.retry(rt, 0, 1));
@@ -181,7 +187,7 @@ fn sees<J: Naming, S: EntryStore, R: Wait + Clock>(
     caller: &mut Caller<'_, J, S>,
 ) -> bool {
     let mut begun = begin(rt, alloc, caller, 0, b"b");
-    if begun == Err(BeginFault::Memory) {
+    if begun == Err(BeginFault::Submit(SubmitFault::Memory)) {
         begun = begin(rt, alloc, caller, 0, b"b");
     }
     begun == Ok(1) && collects(rt, caller)
@@ -195,7 +201,7 @@ fn collects<J: Naming, S: EntryStore, R: Wait + Clock>(
     let told = caller.collect(rt, 1);
     let is_lost = matches!(
         &told,
-        Err(CollectFault::NoAnswer) | Err(CollectFault::Memory)
+        Err(CollectFault::Wait(WaitFault::NoAnswer)) | Err(CollectFault::Wait(WaitFault::Memory))
     );
     let seen = is_told(told, b"x");
     if is_lost {

@@ -2,13 +2,14 @@
 ghost use Rattle.std.specs.Prelude.{◌≡◌};
 
 use super::{A, B, C, begin, call, founded, is_added, retrieved, settings, succeeds};
+use chord_caller::SubmitFault;
 use chord_ident::Id;
 use chord_links::Peer;
 use chord_live::{Caller, OpenCaller};
 use chord_live_ring::{NoProbe, Ring, RingParts, RingRetireFault, Settings};
 use chord_live_types::{
     AskFault, BeginFault, CollectFault, CreateFault, JoinFault, LeaveFault, NewFault, NoSuchNode,
-    OpenFault, RetryFault, TickFault,
+    OpenFault, RetryFault, TickFault, WaitFault,
 };
 use chord_map::{Bytes, Request, RequestFault};
 use chord_store::{CappedStore, EntryStore, Inserted};
@@ -255,8 +256,10 @@ fn bad_requests<J: Naming, R: Wait + Clock>(
 ) -> bool {
     let begun = begin(rt, alloc, caller, 5, b"");
     let asked = retrieved(rt, alloc, caller, 5, b"").err();
-    let not_begun = begun == Err(BeginFault::Bad(RequestFault::KeyEmpty));
-    not_begun & (asked == Some(AskFault::Bad(RequestFault::KeyEmpty)))
+    let not_begun = begun == Err(BeginFault::Submit(SubmitFault::Bad(RequestFault::KeyEmpty)));
+    not_begun
+        & (asked
+            == Some(AskFault::Begin(BeginFault::Submit(SubmitFault::Bad(RequestFault::KeyEmpty)))))
 }
 
 /// Checks that requests at node 5, which does not exist, are refused.
@@ -267,7 +270,8 @@ fn unknown_nodes<J: Naming, R: Wait + Clock>(
 ) -> bool {
     let begun = begin(rt, alloc, caller, 5, b"a");
     let called = call(rt, caller, 5, Request::retrieve(alloc, b"a")).err();
-    (begun == Err(BeginFault::NoSuchNode)) & (called == Some(AskFault::NoSuchNode))
+    (begun == Err(BeginFault::NoSuchNode))
+        & (called == Some(AskFault::Begin(BeginFault::NoSuchNode)))
 }
 
 /// Checks that no request is pending, begun or idle before the first is sent.
@@ -292,16 +296,16 @@ fn a_full_window<J: Naming, R: Wait + Clock>(
     let stands = (caller.is_pending(1), caller.pending(), caller.floor());
     let more = begin(rt, alloc, caller, 5, b"a");
     let asked = retrieved(rt, alloc, caller, 5, b"a").err();
-    let is_begun = (begun, more) == (Ok(1), Err(BeginFault::WindowFull));
-    let is_asked = asked == Some(AskFault::WindowFull);
+    let is_begun = (begun, more) == (Ok(1), Err(BeginFault::Submit(SubmitFault::WindowFull)));
+    let is_asked = asked == Some(AskFault::Begin(BeginFault::Submit(SubmitFault::WindowFull)));
     is_begun & is_asked & (stands == (true, Some(1), 0))
 }
 
 /// Checks that the request gets no answer and stays pending, since node 0 has no worker.
 fn no_answers<J: Naming, R: Wait + Clock>(rt: &R, caller: &mut Caller<'_, J, CappedStore>) -> bool {
     let nowhere = caller.retry(rt, 5, 1).err() == Some(RetryFault::NoSuchNode);
-    let retried = caller.retry(rt, 0, 1).err() == Some(RetryFault::NoAnswer);
-    let collected = caller.collect(rt, 1).err() == Some(CollectFault::NoAnswer);
+    let retried = caller.retry(rt, 0, 1).err() == Some(RetryFault::Wait(WaitFault::NoAnswer));
+    let collected = caller.collect(rt, 1).err() == Some(CollectFault::Wait(WaitFault::NoAnswer));
     nowhere & retried & collected & caller.is_pending(1)
 }
 
@@ -311,7 +315,7 @@ fn a_stopped_ring_does_not_answer(rt: HostRuntime) {
         Ok(parts) => stopped::<Brand, _>(&rt, rt.alloc(), parts),
         Err(_) => None,
     };
-    assert!(rt; unheard == Some((true, Some(AskFault::NoAnswer), true)));
+    assert!(rt; unheard == Some((true, Some(AskFault::Wait(WaitFault::NoAnswer)), true)));
 }
 
 /// Asks once, then stops the ring twice and asks again. Gives whether the first is answered, why
