@@ -1,26 +1,44 @@
-//! A reader and writer that moves at most `step` bytes in a call and fails after `calls` calls.
+//! A reader and writer that moves few bytes in a call, and fails after some calls.
 use std::io::{self, Read, Write};
 
-#[derive(Drop)]
-pub struct Limited<T> {
-    pub inner: T,
+/// What a device lets through.
+#[derive(Clone, Copy)]
+pub struct Limits {
     /// The most bytes of one call.
     pub step: usize,
     /// The calls that do not fail.
     pub calls: u64,
 }
 
+/// Limits of a device that no test reaches.
+pub const FREE: Limits = Limits {
+    step: usize::MAX,
+    calls: 100,
+};
+
+#[derive(Drop)]
+pub struct Limited<T> {
+    pub inner: T,
+    limits: Limits,
+    /// The calls that did not fail.
+    pub calls: u64,
+}
+
 impl<T> Limited<T> {
-    pub fn new(inner: T, (step, calls): (usize, u64)) -> Limited<T> {
-        Limited { inner, step, calls }
+    pub fn new(inner: T, limits: Limits) -> Limited<T> {
+        Limited {
+            inner,
+            limits,
+            calls: 0,
+        }
     }
 
     fn turn(&mut self, len: usize) -> io::Result<usize> {
-        if self.calls == 0 {
+        if self.calls >= self.limits.calls {
             return Err(io::Error::from(io::ErrorKind::WouldBlock));
         }
-        self.calls -= 1;
-        Ok(len.min(self.step))
+        self.calls += 1;
+        Ok(len.min(self.limits.step))
     }
 }
 

@@ -1,7 +1,7 @@
 //! A client with several requests in flight, against the server, over memory.
 
 use super::askers::{FullAtFirst, MapAsker};
-use super::devices::Limited;
+use super::devices::{Limited, Limits};
 use super::sessions::{ADDED, INSERT, INSERT_2, fault, insert};
 use chord_map::{Reply, Request};
 use chord_serve::{
@@ -449,7 +449,7 @@ fn answers_that_are_none(rt: HostRuntime) {
 /// from a reader that gives one byte a call and then fails.
 fn read_slowly(alloc: Global, calls: u64, turns: u64) -> Option<Option<ReceiveFault>> {
     let mut flight = after_inserts(alloc, 4, 1)?;
-    let mut reader = Limited::new(ADDED.as_slice(), (1, calls));
+    let mut reader = Limited::new(ADDED.as_slice(), Limits { step: 1, calls });
     let why = flight.client.receive(&mut reader, turns).err();
     drop(flight);
     Some(why)
@@ -470,7 +470,7 @@ fn slow_and_failing_readers(rt: HostRuntime) {
 /// A client whose writer failed after 7 bytes of its request, and the writer.
 fn half_written(alloc: Global) -> Option<(WireClient, Limited<Vec<u8>>)> {
     let mut client = WireClient::new(alloc, 2, 16)?;
-    let mut writer = Limited::new(Vec::new(alloc), (7, 1));
+    let mut writer = Limited::new(Vec::new(alloc), Limits { step: 7, calls: 1 });
     let Ok(request) = insert(alloc) else {
         drop(client);
         return None;

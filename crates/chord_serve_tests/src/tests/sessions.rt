@@ -1,5 +1,5 @@
 use super::askers::{FullAtFirst, MapAsker};
-use super::devices::Limited;
+use super::devices::{FREE, Limited, Limits};
 use chord_map::{Reply, Request};
 use chord_serve::{Asker, CallFault, Served, call, call_2, laws, serve};
 use chord_wire::{Answer, Answers, FaultCode};
@@ -64,6 +64,11 @@ impl Frames {
     }
 }
 
+/// How many bytes the three frames have, and their answers.
+pub const THREE_FRAMES: usize = 54;
+
+pub const THREE_ANSWERS: usize = 51;
+
 /// The three frames and their answers.
 pub fn three(alloc: Global) -> Result<Frames, AllocError> {
     Frames::new(
@@ -82,65 +87,152 @@ pub fn begun(output: &[u8], written: &[u8]) -> Option<usize> {
     }
 }
 
-/// How a session over these frames ends, and whether it writes exactly the expected frames.
+/// The devices of a session, and the most reads that it may make.
+#[derive(Clone, Copy)]
+pub struct Conditions {
+    pub reads: Limits,
+    pub writes: Limits,
+    pub turns: u64,
+}
+
+/// Conditions that end no session of these tests before its input ends.
+const AMPLE: Conditions = Conditions {
+    reads: FREE,
+    writes: FREE,
+    turns: 10,
+};
+
+/// What a session did.
+#[derive(Clone, Copy, Debug, PartialEq, Eq)]
+pub struct Seen {
+    /// How it ended.
+    pub end: Served,
+    /// How many bytes it wrote.
+    pub len: usize,
+    /// The same, if these begin the expected output.
+    pub answered: Option<usize>,
+    /// Whether they are the expected output.
+    pub is_whole: bool,
+    /// How many of its reads and writes did not fail.
+    pub reads: u64,
+    pub writes: u64,
+}
+
+/// What a session did, and how many new requests its asker was asked.
+#[derive(Clone, Copy, Debug, PartialEq, Eq)]
+pub struct Talk {
+    pub seen: Seen,
+    pub asked: usize,
+}
+
+/// A session under these conditions.
+pub fn limited<A: Asker>(
+    alloc: Global,
+    (input, output): (&[u8], &[u8]),
+    conditions: Conditions,
+    asker: &mut A,
+) -> Seen {
+    let mut reader = Limited::new(input, conditions.reads);
+    let mut writer = Limited::new(Vec::new(alloc), conditions.writes);
+    let end = serve(alloc, &mut reader, &mut writer, asker, conditions.turns);
+    let seen = Seen {
+        end,
+        len: writer.inner.len(),
+        answered: begun(output, &writer.inner),
+        is_whole: writer.inner.as_slice() == output,
+        reads: reader.calls,
+        writes: writer.calls,
+    };
+    drop(writer);
+    seen
+}
+
+/// A session over these frames.
 fn session<A: Asker>(
     alloc: Global,
     asker: &mut A,
     input: &[&[u8]],
     output: &[&[u8]],
-) -> Option<(Served, bool)> {
+) -> Option<Seen> {
     let frames = Frames::new(alloc, input, output).ok()?;
-    let told = limited(alloc, frames.both(), (FREE, FREE), 10, asker);
-    let is_output = told.begun == Some(frames.output.len());
+    let seen = limited(alloc, frames.both(), AMPLE, asker);
     drop(frames);
-    Some((told.end, is_output))
+    Some(seen)
 }
 
-/// `session` over a plain map, and how many requests that was asked.
-fn mapped(alloc: Global, input: &[&[u8]], output: &[&[u8]]) -> (Option<(Served, bool)>, usize) {
+/// A session over a plain map.
+fn mapped(alloc: Global, input: &[&[u8]], output: &[&[u8]]) -> Option<Talk> {
     let mut asker = MapAsker::new(alloc);
-    let told = session(alloc, &mut asker, input, output);
+    let seen = session(alloc, &mut asker, input, output);
     let asked = asker.requests.len();
     drop(asker);
-    (told, asked)
+    Some(Talk { seen: seen?, asked })
 }
 
-/// `session` over a store that is full at first, how many
-/// requests that was asked, and how often it was asked again.
-fn full(alloc: Global, input: &[&[u8]], output: &[&[u8]]) -> (Option<(Served, bool)>, usize, u64) {
+/// A session over a store that is full at first, and how often that was asked again.
+#[derive(Clone, Copy)]
+struct FullTalk {
+    seen: Seen,
+    asked: usize,
+    retried: u64,
+}
+
+fn full(alloc: Global, input: &[&[u8]], output: &[&[u8]]) -> Option<FullTalk> {
     let mut asker = FullAtFirst::new(alloc);
-    let told = session(alloc, &mut asker, input, output);
+    let seen = session(alloc, &mut asker, input, output);
     let (asked, retried) = (asker.requests.len(), asker.retried);
     drop(asker);
-    (told, asked, retried)
+    Some(FullTalk {
+        seen: seen?,
+        asked,
+        retried,
+    })
 }
 
 #[test]
-fn session_repeats(rt: HostRuntime) {
+fn a_number_is_one_requests_and_is_asked_once(rt: HostRuntime) {
     let mut other = INSERT;
     other[18] = 0x79;
     let mut far = RETRIEVE;
     far[13] = 3;
-    let told = mapped(
-        rt.alloc(),
-        &[&INSERT, &INSERT, &other, &far],
-        &[&ADDED, &ADDED, &fault(1, 8), &fault(3, 9)],
+    let (reused, too_far) = (fault(1, 8), fault(3, 9));
+    let input = [INSERT.as_slice(), &INSERT, &other, &far];
+    let output = [ADDED.as_slice(), &ADDED, &reused, &too_far];
+    let talk = mapped(rt.alloc(), &input, &output).expect(&rt, "memory for four frames");
+    assert!(rt;
+        talk.seen.end == Served::Ended,
+        "the session goes on to the end of the input"
     );
-    assert!(rt; told == (Some((Served::Ended, true)), 1));
+    assert!(rt;
+        talk.seen.is_whole,
+        "a repeat gets its reply; others get 8 and 9"
+    );
+    assert!(rt;
+        talk.asked == 1,
+        "the repeat and the refused ones are not asked"
+    );
 }
 
 #[test]
-fn session_retry(rt: HostRuntime) {
-    let told = full(
-        rt.alloc(),
-        &[&INSERT, &INSERT, &INSERT],
-        &[&fault(1, 10), &ADDED, &ADDED],
+fn a_request_that_got_a_fault_is_asked_again(rt: HostRuntime) {
+    let input = [INSERT.as_slice(), &INSERT, &INSERT];
+    let full_store = fault(1, 10);
+    let output = [full_store.as_slice(), &ADDED, &ADDED];
+    let talk = full(rt.alloc(), &input, &output).expect(&rt, "memory for three frames");
+    assert!(rt;
+        talk.seen.end == Served::Ended,
+        "the session goes on to the end of the input"
     );
-    assert!(rt; told == (Some((Served::Ended, true)), 1, 1));
+    assert!(rt; talk.seen.is_whole, "full, then added, then the same reply");
+    assert!(rt; talk.asked == 1, "it is a new request once");
+    assert!(rt;
+        talk.retried == 1,
+        "it is asked again once, and not after its reply"
+    );
 }
 
 #[test]
-fn refused_numbers_and_floors(rt: HostRuntime) {
+fn no_floor_is_above_a_number_without_a_reply(rt: HostRuntime) {
     let mut second = INSERT_2;
     second[13] = 2;
     let mut above = second;
@@ -151,7 +243,7 @@ fn refused_numbers_and_floors(rt: HostRuntime) {
     let mut added = ADDED;
     added[13] = 2;
     // Requests 1 and 2 have no reply, so floor 1 is refused until 1 has one.
-    let told = full(
+    let talk = full(
         rt.alloc(),
         &[
             &INSERT_2, &second, &above, &third, &INSERT_2, &above, &INSERT_2,
@@ -166,38 +258,56 @@ fn refused_numbers_and_floors(rt: HostRuntime) {
             &fault(1, 9),
         ],
     );
-    assert!(rt; told == (Some((Served::Ended, true)), 2, 2));
+    let talk = talk.expect(&rt, "memory for seven frames");
+    assert!(rt;
+        talk.seen.end == Served::Ended,
+        "the session goes on to the end of the input"
+    );
+    assert!(rt;
+        talk.seen.is_whole,
+        "9 for a floor too high, and for a number at or below it"
+    );
+    assert!(rt; talk.asked == 2, "requests 1 and 2 are new once each");
+    assert!(rt; talk.retried == 2, "each is asked again once");
 }
 
 #[test]
-fn short_sessions(rt: HostRuntime) {
+fn a_session_ends_with_its_input(rt: HostRuntime) {
     for (input, end, output, asked) in [
         ([].as_slice(), Served::Ended, [].as_slice(), 0),
         ([0u8, 0, 0].as_slice(), Served::Truncated, [].as_slice(), 0),
         (INSERT.as_slice(), Served::Ended, ADDED.as_slice(), 1),
         (INSERT_2.as_slice(), Served::Ended, ADDED.as_slice(), 1),
     ] {
-        let told = mapped(rt.alloc(), &[input], &[output]);
-        assert!(rt; told == (Some((end, true)), asked));
+        let talk = mapped(rt.alloc(), &[input], &[output]).expect(&rt, "memory for a frame");
+        let seen = Seen {
+            end,
+            is_whole: true,
+            ..talk.seen
+        };
+        assert!(rt; talk == Talk { seen, asked }, "{input:?}: {talk:?}");
     }
 }
 
-/// `mapped` for the frame with `byte` at the index `place`.
-fn changed(
-    alloc: Global,
-    frame: &[u8],
-    (place, byte): (usize, u8),
-    output: &[u8],
-) -> (Option<(Served, bool)>, usize) {
-    let head = frame.get(..place).unwrap_or(&[]);
-    let tail = frame.get(place.saturating_add(1)..).unwrap_or(&[]);
-    mapped(alloc, &[head, &[byte], tail], &[output])
+/// A frame, and one byte of it that is changed.
+#[derive(Clone, Copy)]
+struct Change<'a> {
+    frame: &'a [u8],
+    place: usize,
+    byte: u8,
 }
 
-/// A frame with one byte changed ends the session with its fault.
+/// `mapped` for the frame with the byte changed.
+fn changed(alloc: Global, change: Change<'_>, output: &[u8]) -> Option<Talk> {
+    let frame = change.frame;
+    let head = frame.get(..change.place).unwrap_or(&[]);
+    let tail = frame.get(change.place.saturating_add(1)..).unwrap_or(&[]);
+    mapped(alloc, &[head, &[change.byte], tail], &[output])
+}
+
 #[test]
-fn faulty_sessions(rt: HostRuntime) {
-    for (frame, change, code, (number, told)) in [
+fn a_faulty_frame_ends_the_session_with_its_fault(rt: HostRuntime) {
+    for (frame, (place, byte), why, (number, code)) in [
         (RETRIEVE.as_slice(), (4, 9), FaultCode::BadVersion, (0, 2)),
         (RETRIEVE.as_slice(), (5, 4), FaultCode::BadOperation, (0, 3)),
         (RETRIEVE.as_slice(), (14, 0), FaultCode::BadKey, (2, 4)),
@@ -205,98 +315,58 @@ fn faulty_sessions(rt: HostRuntime) {
         (INSERT.as_slice(), (17, 0), FaultCode::Trailing, (1, 6)),
         (INSERT_2.as_slice(), (21, 1), FaultCode::BadFloor, (1, 12)),
     ] {
-        let ended = changed(rt.alloc(), frame, change, &fault(number, told));
-        assert!(rt; ended == (Some((Served::Malformed(code), true)), 0));
+        let change = Change { frame, place, byte };
+        let talk = changed(rt.alloc(), change, &fault(number, code));
+        let talk = talk.expect(&rt, "memory for a frame");
+        let seen = Seen {
+            end: Served::Malformed(why),
+            is_whole: true,
+            ..talk.seen
+        };
+        assert!(rt; talk == Talk { seen, asked: 0 }, "fault {code}: {talk:?}");
     }
 }
 
 #[test]
 fn a_bad_length_ends_a_session(rt: HostRuntime) {
-    let ended = mapped(rt.alloc(), &[&[0, 0, 0x11, 0x15]], &[&fault(0, 1)]);
+    let length = [0u8, 0, 0x11, 0x15];
+    let talk = mapped(rt.alloc(), &[&length], &[&fault(0, 1)]).expect(&rt, "memory for a frame");
     let malformed = Served::Malformed(FaultCode::BadLength);
-    assert!(rt; ended == (Some((malformed, true)), 0));
+    assert!(rt;
+        talk.seen.end == malformed,
+        "the length alone ends the session"
+    );
+    assert!(rt; talk.seen.is_whole, "fault 1 is written with number 0");
+    assert!(rt; talk.asked == 0, "nothing is asked");
 }
 
 #[test]
 fn a_session_keeps_its_version(rt: HostRuntime) {
-    let ended = mapped(rt.alloc(), &[&INSERT_2, &INSERT], &[&ADDED, &fault(0, 2)]);
+    let talk = mapped(rt.alloc(), &[&INSERT_2, &INSERT], &[&ADDED, &fault(0, 2)]);
+    let talk = talk.expect(&rt, "memory for two frames");
     let malformed = Served::Malformed(FaultCode::BadVersion);
-    assert!(rt; ended == (Some((malformed, true)), 1));
+    assert!(rt;
+        talk.seen.end == malformed,
+        "the frame of the other version ends the session"
+    );
+    assert!(rt; talk.seen.is_whole, "fault 2 is behind the first answer");
+    assert!(rt; talk.asked == 1, "only the first is asked");
 }
 
-/// The most bytes of one call of a device, and its calls that do not fail.
-pub type Limits = (usize, u64);
-
-/// Limits of a device that no test reaches.
-pub const FREE: Limits = (usize::MAX, 100);
-
-/// How a session ended, how many bytes it wrote (`begun`: if they are a prefix of the expected
-/// output), and how many reads and writes it made.
-#[derive(Clone, Copy)]
-pub struct Told {
-    pub end: Served,
-    pub len: usize,
-    pub begun: Option<usize>,
-    pub reads: u64,
-    pub writes: u64,
-}
-
-impl Told {
-    /// How it ended, how many bytes it wrote if they are a
-    /// prefix of the expected output, and in how many writes.
-    pub fn written(self) -> (Served, Option<usize>, u64) {
-        (self.end, self.begun, self.writes)
-    }
-}
-
-/// A session over devices that fail after some calls.
-pub fn limited<A: Asker>(
-    alloc: Global,
-    (input, output): (&[u8], &[u8]),
-    (reads, writes): (Limits, Limits),
-    turns: u64,
-    asker: &mut A,
-) -> Told {
-    let mut reader = Limited::new(input, reads);
-    let mut writer = Limited::new(Vec::new(alloc), writes);
-    let end = serve(alloc, &mut reader, &mut writer, asker, turns);
-    let told = Told {
-        end,
-        len: writer.inner.len(),
-        begun: begun(output, &writer.inner),
-        reads: reads.1.saturating_sub(reader.calls),
-        writes: writes.1.saturating_sub(writer.calls),
-    };
-    drop(writer);
-    told
-}
-
-/// A session over the first bytes of the three frames.
-pub fn three_frames(
-    alloc: Global,
-    cut: usize,
-    calls: (Limits, Limits),
-    turns: u64,
-) -> Option<Told> {
+/// A session over the first `cut` bytes of the three frames.
+pub fn three_frames(alloc: Global, cut: usize, conditions: Conditions) -> Option<Seen> {
     let frames = three(alloc).ok()?;
     let mut asker = MapAsker::new(alloc);
     let input = frames.input.get(..cut).unwrap_or(&[]);
-    let told = limited(alloc, (input, &frames.output), calls, turns, &mut asker);
+    let seen = limited(alloc, (input, &frames.output), conditions, &mut asker);
     drop(asker);
     drop(frames);
-    Some(told)
-}
-
-/// How a session over the first `cut` bytes of the three
-/// frames ends, and how much of their answers it writes.
-fn cut_at(alloc: Global, cut: usize) -> Option<(Served, Option<usize>)> {
-    let told = three_frames(alloc, cut, (FREE, FREE), 10)?;
-    Some((told.end, told.begun))
+    Some(seen)
 }
 
 #[test]
-fn three_frames_cut_anywhere(rt: HostRuntime) {
-    for cut in 0..=54 {
+fn frames_cut_anywhere_are_answered_as_far_as_they_are_whole(rt: HostRuntime) {
+    for cut in 0..=THREE_FRAMES {
         let (end, answered) = match cut {
             0 => (Served::Ended, 0),
             19 => (Served::Ended, 15),
@@ -306,24 +376,27 @@ fn three_frames_cut_anywhere(rt: HostRuntime) {
             20..35 => (Served::Truncated, 15),
             _ => (Served::Truncated, 36),
         };
-        let told = cut_at(rt.alloc(), cut);
-        assert!(rt; told == Some((end, Some(answered))), "at {cut}");
+        let seen = three_frames(rt.alloc(), cut, AMPLE).expect(&rt, "memory for three frames");
+        let wanted = Seen {
+            end,
+            answered: Some(answered),
+            ..seen
+        };
+        assert!(rt; seen == wanted, "{cut} bytes: {seen:?}");
     }
 }
 
-/// How a session over the three frames ends, how many
-/// bytes of the answers it writes, and how often it reads.
-fn read_in_pieces(
-    alloc: Global,
-    reads: Limits,
-    turns: u64,
-) -> Option<(Served, Option<usize>, u64)> {
-    let told = three_frames(alloc, 54, (reads, FREE), turns)?;
-    Some((told.end, told.begun, told.reads))
+/// The three frames are read by at most `calls` calls of at most `step` bytes.
+fn reading(step: usize, calls: u64, turns: u64) -> Conditions {
+    Conditions {
+        reads: Limits { step, calls },
+        writes: FREE,
+        turns,
+    }
 }
 
 #[test]
-fn a_reader_fails_at_each_call(rt: HostRuntime) {
+fn a_reader_that_fails_ends_the_session(rt: HostRuntime) {
     // Each call reads 7 bytes, and the ninth finds the end.
     for (calls, end, answered) in [
         (0, Served::Read, 0),
@@ -337,19 +410,29 @@ fn a_reader_fails_at_each_call(rt: HostRuntime) {
         (8, Served::Read, 51),
         (9, Served::Ended, 51),
     ] {
-        let told = read_in_pieces(rt.alloc(), (7, calls), 20);
-        assert!(rt; told == Some((end, Some(answered), calls)));
+        let seen = three_frames(rt.alloc(), THREE_FRAMES, reading(7, calls, 20));
+        let seen = seen.expect(&rt, "memory for three frames");
+        let wanted = Seen {
+            end,
+            answered: Some(answered),
+            reads: calls,
+            ..seen
+        };
+        assert!(rt; seen == wanted, "{calls} reads: {seen:?}");
     }
 }
 
-/// How a session over the three frames ends, and how many bytes of their answers it writes.
-fn written_in_pieces(alloc: Global, writes: Limits) -> Option<(Served, Option<usize>)> {
-    let told = three_frames(alloc, 54, (FREE, writes), 20)?;
-    Some((told.end, told.begun))
+/// The answers to the three frames are written by at most `calls` calls of at most `step` bytes.
+fn writing(step: usize, calls: u64) -> Conditions {
+    Conditions {
+        reads: FREE,
+        writes: Limits { step, calls },
+        turns: 20,
+    }
 }
 
 #[test]
-fn a_writer_fails_at_each_call(rt: HostRuntime) {
+fn a_writer_that_fails_ends_the_session(rt: HostRuntime) {
     // Each call takes 7 of the 51 bytes, which are written together.
     for (calls, end, written) in [
         (0, Served::Write, 0),
@@ -362,19 +445,30 @@ fn a_writer_fails_at_each_call(rt: HostRuntime) {
         (7, Served::Write, 49),
         (8, Served::Ended, 51),
     ] {
-        let told = written_in_pieces(rt.alloc(), (7, calls));
-        assert!(rt; told == Some((end, Some(written))), "at {calls}");
+        let seen = three_frames(rt.alloc(), THREE_FRAMES, writing(7, calls));
+        let seen = seen.expect(&rt, "memory for three frames");
+        let wanted = Seen {
+            end,
+            answered: Some(written),
+            ..seen
+        };
+        assert!(rt; seen == wanted, "{calls} writes: {seen:?}");
     }
 }
 
 #[test]
-fn a_writer_takes_no_byte(rt: HostRuntime) {
-    let told = written_in_pieces(rt.alloc(), (0, 20));
-    assert!(rt; told == Some((Served::Write, Some(0))));
+fn a_writer_that_takes_no_byte_ends_the_session(rt: HostRuntime) {
+    let seen = three_frames(rt.alloc(), THREE_FRAMES, writing(0, 20));
+    let seen = seen.expect(&rt, "memory for three frames");
+    assert!(rt;
+        seen.end == Served::Write,
+        "a write of no byte is a failed one"
+    );
+    assert!(rt; seen.answered == Some(0), "nothing was written");
 }
 
 #[test]
-fn turns_and_pieces(rt: HostRuntime) {
+fn a_session_makes_at_most_its_turns_of_reads(rt: HostRuntime) {
     for (step, turns, end, answered, reads) in [
         (30, 1, Served::TurnsSpent, 15, 1),
         (54, 1, Served::TurnsSpent, 51, 1),
@@ -383,8 +477,15 @@ fn turns_and_pieces(rt: HostRuntime) {
         (1, 40, Served::TurnsSpent, 36, 40),
         (54, 0, Served::TurnsSpent, 0, 0),
     ] {
-        let told = read_in_pieces(rt.alloc(), (step, 100), turns);
-        assert!(rt; told == Some((end, Some(answered), reads)));
+        let seen = three_frames(rt.alloc(), THREE_FRAMES, reading(step, 100, turns));
+        let seen = seen.expect(&rt, "memory for three frames");
+        let wanted = Seen {
+            end,
+            answered: Some(answered),
+            reads,
+            ..seen
+        };
+        assert!(rt; seen == wanted, "{turns} turns of {step} bytes: {seen:?}");
     }
 }
 
@@ -423,8 +524,15 @@ pub fn calls<R: Read, W: Write>(
     }
 }
 
-/// Whether a call in this version is answered, and writes exactly this frame.
-fn is_called(alloc: Global, answers: &mut Answers, version: u8, frame: &[u8]) -> Option<bool> {
+/// A call over memory: whether it is answered Added, and whether it writes exactly its frame.
+#[derive(Clone, Copy)]
+struct Called {
+    is_added: bool,
+    is_frame: bool,
+}
+
+/// A call in this version, whose answer is ready to be read.
+fn one_call(alloc: Global, answers: &mut Answers, version: u8, frame: &[u8]) -> Option<Called> {
     let request = insert(alloc).ok()?;
     let mut written: Vec<u8> = Vec::new(alloc);
     let mut reader = ADDED.as_slice();
@@ -432,73 +540,110 @@ fn is_called(alloc: Global, answers: &mut Answers, version: u8, frame: &[u8]) ->
     let answer = calls(alloc, devices, answers, version, &request, 10);
     drop(request);
     let is_frame = written.as_slice() == frame;
-    Some(is_added(answer) & is_frame)
+    let is_added = is_added(answer);
+    Some(Called { is_added, is_frame })
 }
 
-/// Whether two calls with one stream of answers are answered, in version 1 and then in version 2.
-fn both_are_called(alloc: Global) -> (Option<bool>, Option<bool>) {
+/// A call in version 1 and then one in version 2, with one stream of answers.
+fn both_called(alloc: Global) -> Option<(Called, Called)> {
     let mut answers = Answers::new(alloc);
-    let first = is_called(alloc, &mut answers, 1, &INSERT);
-    let second = is_called(alloc, &mut answers, 2, &INSERT_2);
+    let first = one_call(alloc, &mut answers, 1, &INSERT);
+    let second = one_call(alloc, &mut answers, 2, &INSERT_2);
     drop(answers);
-    (first, second)
+    first.zip(second)
 }
 
 #[test]
-fn one_call_over_memory(rt: HostRuntime) {
-    assert!(rt; both_are_called(rt.alloc()) == (Some(true), Some(true)));
+fn a_call_writes_its_frame_and_reads_its_answer(rt: HostRuntime) {
+    let (first, second) = both_called(rt.alloc()).expect(&rt, "memory for two calls");
+    assert!(rt; first.is_frame, "`call` writes the frame of version 1");
+    assert!(rt; first.is_added, "`call` gives the answer");
+    assert!(rt; second.is_frame, "`call_2` writes the frame of version 2");
+    assert!(rt; second.is_added, "`call_2` gives the answer");
 }
 
-/// Why a call gives no answer, and how many reads it
-/// made. Each read and each write moves at most 7 bytes.
-fn fault_of(
-    alloc: Global,
-    version: u8,
-    input: &[u8],
-    (reads, writes): (u64, u64),
+/// The devices of a call, which move at most 7 bytes a read or write: the reads and the writes that
+/// do not fail, and the reads that the call may make.
+#[derive(Clone, Copy)]
+struct Line {
+    reads: u64,
+    writes: u64,
     turns: u64,
-) -> Option<(Option<CallFault>, u64)> {
+}
+
+/// Why a call gave no answer, if it gave none, and the reads that it made.
+#[derive(Clone, Copy, Debug, PartialEq, Eq)]
+struct Unanswered {
+    why: Option<CallFault>,
+    reads: u64,
+}
+
+/// A call in this version over this input.
+fn called_over(alloc: Global, version: u8, input: &[u8], line: Line) -> Option<Unanswered> {
     let request = insert(alloc).ok()?;
-    let mut reader = Limited::new(input, (7, reads));
-    let mut writer = Limited::new(Vec::new(alloc), (7, writes));
+    let limits = |calls| Limits { step: 7, calls };
+    let mut reader = Limited::new(input, limits(line.reads));
+    let mut writer = Limited::new(Vec::new(alloc), limits(line.writes));
     let mut answers = Answers::new(alloc);
     let devices = (&mut reader, &mut writer);
-    let answer = calls(alloc, devices, &mut answers, version, &request, turns);
+    let answer = calls(alloc, devices, &mut answers, version, &request, line.turns);
     drop(request);
     drop(answers);
-    Some((answer.err(), reads.saturating_sub(reader.calls)))
+    let why = answer.err();
+    Some(Unanswered {
+        why,
+        reads: reader.calls,
+    })
 }
 
-// A request takes three writes in version 1 and four in version 2, and an answer three reads.
+/// A request takes three writes in version 1 and four in version 2, and an answer three reads.
 const VERSIONS: [(u8, u64); 2] = [(1, 3), (2, 4)];
 
 #[test]
-fn calls_without_an_answer(rt: HostRuntime) {
+fn a_call_says_why_it_has_no_answer(rt: HostRuntime) {
     let mut wrong = ADDED;
     wrong[4] = 2;
     let bad_version = CallFault::Malformed(FaultCode::BadVersion);
-    for (version, writes) in VERSIONS {
-        for (input, devices, turns, why, made) in [
-            ([].as_slice(), (9, writes), 9, CallFault::Ended, 1),
-            (ADDED.as_slice(), (1, writes), 9, CallFault::Read, 1),
-            (ADDED.as_slice(), (0, writes), 9, CallFault::Read, 0),
-            (ADDED.as_slice(), (9, writes - 1), 9, CallFault::Write, 0),
+    for (version, needed) in VERSIONS {
+        for (input, (reads, writes), turns, why, made) in [
+            ([].as_slice(), (9, needed), 9, CallFault::Ended, 1),
+            (ADDED.as_slice(), (1, needed), 9, CallFault::Read, 1),
+            (ADDED.as_slice(), (0, needed), 9, CallFault::Read, 0),
+            (ADDED.as_slice(), (9, needed - 1), 9, CallFault::Write, 0),
             (ADDED.as_slice(), (9, 0), 9, CallFault::Write, 0),
-            (ADDED.as_slice(), (9, writes), 2, CallFault::TurnsSpent, 2),
-            (ADDED.as_slice(), (9, writes), 0, CallFault::TurnsSpent, 0),
-            (wrong.as_slice(), (9, writes), 9, bad_version, 3),
+            (ADDED.as_slice(), (9, needed), 2, CallFault::TurnsSpent, 2),
+            (ADDED.as_slice(), (9, needed), 0, CallFault::TurnsSpent, 0),
+            (wrong.as_slice(), (9, needed), 9, bad_version, 3),
         ] {
-            let told = fault_of(rt.alloc(), version, input, devices, turns);
-            assert!(rt; told == Some((Some(why), made)));
+            let line = Line {
+                reads,
+                writes,
+                turns,
+            };
+            let seen = called_over(rt.alloc(), version, input, line);
+            let wanted = Unanswered {
+                why: Some(why),
+                reads: made,
+            };
+            assert!(rt; seen == Some(wanted), "version {version}: not {wanted:?}");
         }
     }
 }
 
 #[test]
-fn calls_with_the_least_turns(rt: HostRuntime) {
+fn a_call_makes_no_read_more_than_it_needs(rt: HostRuntime) {
     for (version, writes) in VERSIONS {
-        let told = fault_of(rt.alloc(), version, &ADDED, (9, writes), 3);
-        assert!(rt; told == Some((None, 3)));
+        let line = Line {
+            reads: 9,
+            writes,
+            turns: 3,
+        };
+        let seen = called_over(rt.alloc(), version, &ADDED, line);
+        let answered = Unanswered {
+            why: None,
+            reads: 3,
+        };
+        assert!(rt; seen == Some(answered), "version {version}: {seen:?}");
     }
 }
 

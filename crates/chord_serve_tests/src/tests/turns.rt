@@ -1,29 +1,55 @@
-//! The frames for one read are written together.
+//! The answers to the requests of one read are written together.
 
 use super::askers::{MapAsker, OutOfMemoryAt};
+use super::devices::{FREE, Limits};
 use super::sessions::{
-    ADDED, FREE, Frames, INSERT, RETRIEVE, fault, joined, limited, three_frames,
+    ADDED, Conditions, Frames, INSERT, RETRIEVE, Seen, THREE_ANSWERS, THREE_FRAMES, Talk, fault,
+    joined, limited, three_frames,
 };
 use chord_map::Request;
 use chord_serve::Served;
 use chord_wire::FaultCode;
 use std::alloc::{AllocError, Global};
 
-/// How a session over the three frames ends, how many bytes of their answers it writes, and in how
-/// many writes. A read gives at most `step` bytes; the writer fails after `writes` writes.
-fn in_turns(alloc: Global, step: usize, writes: u64) -> Option<(Served, Option<usize>, u64)> {
-    let calls = ((step, 100), (usize::MAX, writes));
-    let told = three_frames(alloc, 54, calls, 100)?;
-    Some(told.written())
+/// Conditions that end no session of these tests before its input ends.
+const AMPLE: Conditions = Conditions {
+    reads: FREE,
+    writes: FREE,
+    turns: 100,
+};
+
+/// A read has at most this many bytes.
+fn reads_of(step: usize) -> Conditions {
+    Conditions {
+        reads: Limits { step, calls: 100 },
+        ..AMPLE
+    }
+}
+
+/// This many writes succeed; the next one fails.
+fn with_writes(calls: u64) -> Conditions {
+    Conditions {
+        writes: Limits {
+            step: usize::MAX,
+            calls,
+        },
+        ..AMPLE
+    }
 }
 
 #[test]
-fn one_write_a_turn(rt: HostRuntime) {
+fn the_answers_to_one_read_are_one_write(rt: HostRuntime) {
     // Three frames in one read; two reads of one or two frames; one byte a read.
     for (step, writes) in [(4096, 1), (54, 1), (35, 2), (19, 3), (1, 3)] {
-        let told = in_turns(rt.alloc(), step, 100);
-        let wanted = (Served::Ended, Some(51), writes);
-        assert!(rt; told == Some(wanted), "at {step}");
+        let seen = three_frames(rt.alloc(), THREE_FRAMES, reads_of(step));
+        let seen = seen.expect(&rt, "memory for three frames");
+        let wanted = Seen {
+            end: Served::Ended,
+            answered: Some(THREE_ANSWERS),
+            writes,
+            ..seen
+        };
+        assert!(rt; seen == wanted, "reads of {step} bytes: {seen:?}");
     }
 }
 
@@ -31,50 +57,80 @@ fn one_write_a_turn(rt: HostRuntime) {
 fn half_a_frame_writes_nothing(rt: HostRuntime) {
     let alloc = rt.alloc();
     let mut asker = MapAsker::new(alloc);
-    let told = limited(alloc, (&INSERT[..18], &[]), (FREE, FREE), 100, &mut asker);
+    let seen = limited(alloc, (&INSERT[..18], &[]), AMPLE, &mut asker);
     drop(asker);
-    assert!(rt; told.written() == (Served::Truncated, Some(0), 0));
+    assert!(rt;
+        seen.end == Served::Truncated,
+        "the input ends within a frame"
+    );
+    assert!(rt; seen.answered == Some(0), "half a frame has no answer");
+    assert!(rt;
+        seen.writes == 0,
+        "nothing is written where no answer is due"
+    );
 }
 
 #[test]
-fn each_write_of_a_turn_fails(rt: HostRuntime) {
+fn a_failed_write_ends_the_session(rt: HostRuntime) {
     // Each of three reads has one frame.
     for (writes, end, answered) in [
         (0, Served::Write, 0),
         (1, Served::Write, 15),
         (2, Served::Write, 36),
-        (3, Served::Ended, 51),
+        (3, Served::Ended, THREE_ANSWERS),
     ] {
-        let told = in_turns(rt.alloc(), 19, writes);
-        assert!(rt; told == Some((end, Some(answered), writes)));
+        let conditions = Conditions {
+            reads: reads_of(19).reads,
+            ..with_writes(writes)
+        };
+        let seen = three_frames(rt.alloc(), THREE_FRAMES, conditions);
+        let seen = seen.expect(&rt, "memory for three frames");
+        let wanted = Seen {
+            end,
+            answered: Some(answered),
+            writes,
+            ..seen
+        };
+        assert!(rt; seen == wanted, "{writes} writes: {seen:?}");
     }
 }
 
-/// How a session over two equal inserts, a frame with no operation and an insert ends, how many
-/// bytes it writes, and in how many writes.
-fn with_a_bad_frame(alloc: Global, writes: u64) -> Option<(Served, Option<usize>, u64)> {
+/// A session over two equal inserts, a frame with no operation, and an insert.
+fn with_a_bad_frame(alloc: Global, conditions: Conditions) -> Option<Seen> {
     let mut bad = RETRIEVE;
     bad[5] = 4;
     let input = [INSERT.as_slice(), &INSERT, &bad, &INSERT];
     let output = [ADDED.as_slice(), &ADDED, &fault(0, 3)];
     let frames = Frames::new(alloc, &input, &output).ok()?;
     let mut asker = MapAsker::new(alloc);
-    let calls = (FREE, (usize::MAX, writes));
-    let told = limited(alloc, frames.both(), calls, 100, &mut asker);
+    let seen = limited(alloc, frames.both(), conditions, &mut asker);
     drop(asker);
     drop(frames);
-    Some(told.written())
+    Some(seen)
 }
 
 #[test]
-fn a_refused_frame_goes_out_with_those_before(rt: HostRuntime) {
+fn a_refused_frame_goes_out_with_the_answers_before_it(rt: HostRuntime) {
+    let seen = with_a_bad_frame(rt.alloc(), AMPLE).expect(&rt, "memory for four frames");
     let malformed = Served::Malformed(FaultCode::BadOperation);
-    assert!(rt; with_a_bad_frame(rt.alloc(), 100) == Some((malformed, Some(45), 1)));
+    assert!(rt; seen.end == malformed, "the refused frame ends the session");
+    assert!(rt;
+        seen.answered == Some(45),
+        "two answers and the fault are written, no fourth"
+    );
+    assert!(rt; seen.writes == 1, "they are one write");
 }
 
 #[test]
-fn a_refused_frame_is_not_written(rt: HostRuntime) {
-    assert!(rt; with_a_bad_frame(rt.alloc(), 0) == Some((Served::Write, Some(0), 0)));
+fn a_write_that_fails_is_the_end_though_a_frame_was_refused(rt: HostRuntime) {
+    let seen = with_a_bad_frame(rt.alloc(), with_writes(0));
+    let seen = seen.expect(&rt, "memory for four frames");
+    assert!(rt;
+        seen.end == Served::Write,
+        "the failed write ends the session"
+    );
+    assert!(rt; seen.answered == Some(0), "nothing was written");
+    assert!(rt; seen.writes == 0, "no write succeeded");
 }
 
 /// Inserts with the numbers 1, 2 and 3, and the first two answers.
@@ -86,36 +142,47 @@ fn three_inserts(alloc: Global) -> Result<Frames, AllocError> {
     Frames::new(alloc, &[&INSERT, &second, &third], &[&ADDED, &added])
 }
 
-/// How a session over the three inserts ends, what it writes, and in how many writes, if memory
-/// runs out at the insert with this number; and how many requests the asker was asked.
-fn out_of_memory_at(
-    alloc: Global,
-    number: usize,
-    writes: u64,
-) -> Option<((Served, Option<usize>, u64), usize)> {
+/// A session over the three inserts, in which memory runs out at the insert with this number.
+fn out_of_memory_at(alloc: Global, number: usize, conditions: Conditions) -> Option<Talk> {
     let frames = three_inserts(alloc).ok()?;
     let mut asker = OutOfMemoryAt::new(alloc, number);
-    let calls = (FREE, (usize::MAX, writes));
-    let told = limited(alloc, frames.both(), calls, 100, &mut asker);
+    let seen = limited(alloc, frames.both(), conditions, &mut asker);
     let asked = asker.requests.len();
     drop(asker);
     drop(frames);
-    Some((told.written(), asked))
+    Some(Talk { seen, asked })
 }
 
 #[test]
-fn what_is_due_is_written_before_memory_ends(rt: HostRuntime) {
+fn what_is_due_is_written_before_memory_ends_a_session(rt: HostRuntime) {
     for (number, answered, writes) in [(1, 0, 0), (2, 15, 1), (3, 30, 1)] {
-        let told = out_of_memory_at(rt.alloc(), number, 100);
-        let wanted = (Served::Memory, Some(answered), writes);
-        assert!(rt; told == Some((wanted, number)));
+        let talk = out_of_memory_at(rt.alloc(), number, AMPLE);
+        let talk = talk.expect(&rt, "memory for three frames");
+        let seen = Seen {
+            end: Served::Memory,
+            answered: Some(answered),
+            writes,
+            ..talk.seen
+        };
+        let wanted = Talk {
+            seen,
+            asked: number,
+        };
+        assert!(rt; talk == wanted, "at insert {number}: {talk:?}");
     }
 }
 
 #[test]
-fn memory_ends_and_a_write_fails(rt: HostRuntime) {
-    let told = out_of_memory_at(rt.alloc(), 3, 0);
-    assert!(rt; told == Some(((Served::Write, Some(0), 0), 3)));
+fn a_write_that_fails_is_the_end_though_memory_ran_out(rt: HostRuntime) {
+    let talk = out_of_memory_at(rt.alloc(), 3, with_writes(0));
+    let talk = talk.expect(&rt, "memory for three frames");
+    assert!(rt;
+        talk.seen.end == Served::Write,
+        "the failed write ends the session"
+    );
+    assert!(rt; talk.seen.answered == Some(0), "nothing was written");
+    assert!(rt; talk.seen.writes == 0, "no write succeeded");
+    assert!(rt; talk.asked == 3, "all three were asked before the write");
 }
 
 /// Insert a value of 4,096 bytes under a.
@@ -142,31 +209,39 @@ fn retrieves(alloc: Global) -> Result<Vec<u8>, AllocError> {
     joined(alloc, &[&first, &RETRIEVE, &third])
 }
 
-/// How a session over the three retrieves of `count` values ends, how many bytes it writes and in
-/// how many writes, and how many requests it asks.
-fn retrieved(alloc: Global, count: u8, writes: u64) -> Option<((Served, usize, u64), usize)> {
+/// A session over the three retrieves of `count` values.
+fn retrieved(alloc: Global, count: u8, conditions: Conditions) -> Option<Talk> {
     let input = retrieves(alloc).ok()?;
     let mut asker = map_of(alloc, count)?;
-    let calls = (FREE, (usize::MAX, writes));
-    let told = limited(alloc, (&input, &[]), calls, 100, &mut asker);
+    let seen = limited(alloc, (&input, &[]), conditions, &mut asker);
     let asked = asker.requests.len();
     drop(asker);
-    Some(((told.end, told.len, told.writes), asked))
+    Some(Talk { seen, asked })
 }
 
 #[test]
 fn more_than_64_kib_are_written_at_once(rt: HostRuntime) {
     // The frame of 15 values has 61,488 bytes, that of 16 values 65,586.
     for (count, reply, writes) in [(1, 4116, 1), (15, 61_488, 2), (16, 65_586, 3)] {
-        let told = retrieved(rt.alloc(), count, 100);
-        let wanted = ((Served::Ended, 3 * reply, writes), 3);
-        assert!(rt; told == Some(wanted), "of {count}");
+        let talk = retrieved(rt.alloc(), count, AMPLE).expect(&rt, "memory for the values");
+        let seen = Seen {
+            end: Served::Ended,
+            len: 3 * reply,
+            writes,
+            ..talk.seen
+        };
+        assert!(rt; talk == Talk { seen, asked: 3 }, "{count} values: {talk:?}");
     }
 }
 
-/// The second write fails: the first reply was written.
 #[test]
-fn the_second_of_two_writes_fails(rt: HostRuntime) {
-    let told = retrieved(rt.alloc(), 16, 1);
-    assert!(rt; told == Some(((Served::Write, 65_586, 1), 2)));
+fn a_second_write_that_fails_leaves_the_first(rt: HostRuntime) {
+    let talk = retrieved(rt.alloc(), 16, with_writes(1)).expect(&rt, "memory for the values");
+    assert!(rt;
+        talk.seen.end == Served::Write,
+        "the failed write ends the session"
+    );
+    assert!(rt; talk.seen.len == 65_586, "the first reply was written");
+    assert!(rt; talk.seen.writes == 1, "the second was not");
+    assert!(rt; talk.asked == 2, "the third retrieve was not asked");
 }
