@@ -98,7 +98,7 @@ fn start_ring<T: Host>(
         notes: &options.notes,
     };
     match options.connections {
-        Some(count) => serve(threads, &setup, stores, count, rt.stdout())?,
+        Some(count) => serve(threads, &setup, stores, count, &mut rt.stdout())?,
         None => stay(threads, &setup, stores, rt.stdin(), rt.stdout())?,
     }
     Ok(Finish::Done)

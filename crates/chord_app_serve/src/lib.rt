@@ -10,4 +10,5 @@ mod plan_run;
 mod serving;
 
 pub use plan_run::run;
-pub use serving::commands::{serve, stay};
+pub use serving::server::serve;
+pub use serving::stay::stay;

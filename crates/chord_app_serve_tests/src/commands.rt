@@ -10,10 +10,13 @@ use chord_store::EntryStore;
 use log::sink::Discard;
 use std::alloc::Global;
 use std::net::TcpListener;
+use std::sync::Wait;
 use std::thread;
+use std::thread::Threads;
+use std::time::Clock;
 
 /// Serves `connections` connections over these stores, without a log.
-fn served_by<R: Host, S: EntryStore + Send>(
+fn served_by<R: Threads + Wait + Clock + Sync, S: EntryStore + Send>(
     rt: &R,
     alloc: Global,
     plan: &Plan,

@@ -16,7 +16,10 @@ use std::alloc::{AllocError, Global};
 use std::fmt::Write as _;
 use std::io::{self, Read, Write};
 use std::net::{Net, OpenStream, SocketAddr, TcpListener, TcpStream};
+use std::sync::Wait;
 use std::thread;
+use std::thread::Threads;
+use std::time::Clock;
 
 /// Four clients, one after another, each of which closes its sending side before it reads and is
 /// answered all the same.
@@ -57,7 +60,7 @@ impl Clients {
 }
 
 /// Serves `connections` connections over two stores with room, and gives what was written.
-fn served<R: Host, L: Log + Sync>(
+fn served<R: Threads + Wait + Clock + Sync, L: Log + Sync>(
     rt: &R,
     alloc: Global,
     plan: &Plan,

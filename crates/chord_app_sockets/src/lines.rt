@@ -1,8 +1,7 @@
-//! What a server writes.
+//! What `serve --stay` writes.
 
 use crate::ended::Ended;
 use chord_app_text::Finish;
-use std::alloc::{AllocError, Global};
 use std::io::{self, Write};
 use std::net::TcpListener;
 use std::sync::{Mutex, Wait};
@@ -12,64 +11,36 @@ use std::sync::{Mutex, Wait};
 struct Out<W> {
     writer: W,
     failed: Option<Finish>,
-    /// How the connections ended whose lines are written at the end, by number.
-    kept: Vec<Option<Ended>>,
 }
 
-/// The lines of connections. After one that failed no more are written.
+/// The lines of connections, in the order in which they end. After one that failed no more are
+/// written.
 #[derive(Drop)]
 pub struct Lines<W> {
     out: Mutex<Out<W>>,
 }
 
 /// Writes the address at which clients are served.
-fn write_address<W: Write>(listener: &TcpListener, writer: &mut W) -> io::Result<()> {
+pub fn write_address<W: Write>(listener: &TcpListener, writer: &mut W) -> io::Result<()> {
     let address = listener.local_addr()?;
     writeln!(writer, "listening on {address}")?;
     writer.flush()
 }
 
 /// Writes how a connection ended.
-fn write_end<W: Write>(number: u64, ended: &Ended, writer: &mut W) -> io::Result<()> {
+pub fn write_end<W: Write>(number: u64, ended: &Ended, writer: &mut W) -> io::Result<()> {
     writeln!(writer, "connection {number} {ended}")?;
     writer.flush()
 }
 
-/// Writes how each connection ended that did, by number.
-fn write_ends<W: Write>(ends: &[Option<Ended>], writer: &mut W) -> io::Result<()> {
-    for (number, ended) in ends.iter().enumerate() {
-        if let Some(ended) = ended {
-            write_end(number as u64, ended, writer)?;
-        }
-    }
-    Ok(())
-}
-
 impl<W: Write> Lines<W> {
-    /// Each is written as its connection ends.
-    pub fn as_they_end(alloc: Global, writer: W) -> Lines<W> {
+    pub fn new(writer: W) -> Lines<W> {
         Lines {
             out: Mutex::new(Out {
                 writer,
                 failed: None,
-                kept: Vec::new(alloc),
             }),
         }
-    }
-
-    /// Those of the first `connections` connections are written at the end, by number.
-    pub fn by_number(alloc: Global, writer: W, connections: usize) -> Result<Lines<W>, AllocError>
-    where
-        W: Drop,
-    {
-        let kept = vec![in alloc; None; connections]?;
-        Ok(Lines {
-            out: Mutex::new(Out {
-                writer,
-                failed: None,
-                kept,
-            }),
-        })
     }
 
     /// Writes the address at which clients are served.
@@ -77,15 +48,11 @@ impl<W: Write> Lines<W> {
         write_address(listener, &mut self.out.lock(rt).writer)
     }
 
-    /// Writes how a connection ended, or keeps it for the end. Says false if writing failed.
+    /// Writes how a connection ended. Says whether it was written.
     pub fn tell(&self, rt: &impl Wait, number: u64, ended: &Ended) -> bool {
         let mut out = self.out.lock(rt);
         if out.failed.is_some() {
             return false;
-        }
-        if let Some(kept) = out.kept.get_mut(number as usize) {
-            *kept = Some(*ended);
-            return true;
         }
         match write_end(number, ended, &mut out.writer) {
             Ok(()) => true,
@@ -96,21 +63,16 @@ impl<W: Write> Lines<W> {
         }
     }
 
-    /// Writes the lines that were kept. Succeeds if all lines were written.
+    /// Succeeds if all lines were written.
     pub fn finish(self) -> Result<(), Finish>
     where
         W: Drop,
     {
         let Lines { out } = self;
-        let Out {
-            mut writer,
-            failed,
-            kept,
-        } = out.into_inner();
-        if let Some(finish) = failed {
-            return Err(finish);
+        let Out { writer: _, failed } = out.into_inner();
+        match failed {
+            None => Ok(()),
+            Some(finish) => Err(finish),
         }
-        write_ends(&kept, &mut writer)?;
-        Ok(())
     }
 }
