@@ -11,14 +11,16 @@ use chord_app_options::{
 };
 use chord_app_plan::{Plan, PlanFault, StoreKind, read_plan};
 use chord_app_serve::{run, serve, stay};
-use chord_app_sockets::{Host, ServerSetup, listen};
+use chord_app_sockets::{ServerSetup, listen};
 use chord_app_text::Finish;
 use chord_app_world::{empty_ones, world};
 use chord_store::{CappedStore, EntryStore, ListStore, NotedStore, TreeStore};
 use clap::ArgMatches;
-use std::net::TcpListener;
+use std::net::{Net, TcpListener, TcpStream};
 use std::process::ExitCode;
-use std::sync::{Arc, OnceLock};
+use std::sync::{Arc, OnceLock, Wait};
+use std::thread::Threads;
+use std::time::Clock;
 use std::{env, io};
 
 /// Does the command `world`.
@@ -68,7 +70,16 @@ struct ServeOptions<'a> {
 
 /// Does the command `run`, or `serve` if there is a listener, with a store for each node of the
 /// plan.
-fn start_ring<T: Host>(
+fn start_ring<
+    T: Threads
+        + Wait
+        + Clock
+        + Net<Listener = TcpListener, Stream = TcpStream>
+        + Copy
+        + Send
+        + Sync
+        + 'static,
+>(
     rt: &HostRuntime,
     threads: &T,
     plan: &Plan,
@@ -105,11 +116,16 @@ fn start_ring<T: Host>(
 }
 
 /// Does the command `serve`.
-fn start_serve<T: Host>(
-    rt: &HostRuntime,
-    threads: &T,
-    found: &ArgMatches,
-) -> Result<Finish, Finish> {
+fn start_serve<
+    T: Threads
+        + Wait
+        + Clock
+        + Net<Listener = TcpListener, Stream = TcpStream>
+        + Copy
+        + Send
+        + Sync
+        + 'static,
+>(rt: &HostRuntime, threads: &T, found: &ArgMatches) -> Result<Finish, Finish> {
     let line = match serve_line_of(rt.alloc(), found) {
         Ok(line) => line,
         Err(fault) => return print_fault(rt, fault),
@@ -125,7 +141,16 @@ fn start_serve<T: Host>(
 }
 
 /// Does the command `run`.
-fn start_run<T: Host>(rt: &HostRuntime, threads: &T, found: &ArgMatches) -> Result<Finish, Finish> {
+fn start_run<
+    T: Threads
+        + Wait
+        + Clock
+        + Net<Listener = TcpListener, Stream = TcpStream>
+        + Copy
+        + Send
+        + Sync
+        + 'static,
+>(rt: &HostRuntime, threads: &T, found: &ArgMatches) -> Result<Finish, Finish> {
     let plan = plan_of(rt, plan_path_of(found))?;
     start_ring(rt, threads, &plan, None)
 }
@@ -160,11 +185,16 @@ fn matched<'a>(rt: &HostRuntime, words: &'a [String]) -> Result<ArgMatches<'a>, 
 }
 
 /// Does the command that was matched. `clap` refuses a line that has none.
-fn do_command<T: Host>(
-    rt: &HostRuntime,
-    threads: &T,
-    matches: &ArgMatches,
-) -> Result<Finish, Finish> {
+fn do_command<
+    T: Threads
+        + Wait
+        + Clock
+        + Net<Listener = TcpListener, Stream = TcpStream>
+        + Copy
+        + Send
+        + Sync
+        + 'static,
+>(rt: &HostRuntime, threads: &T, matches: &ArgMatches) -> Result<Finish, Finish> {
     match matches.subcommand() {
         Some((name, found)) if name == "run" => start_run(rt, threads, found),
         Some((name, found)) if name == "serve" => start_serve(rt, threads, found),
@@ -176,7 +206,16 @@ fn do_command<T: Host>(
 }
 
 /// Reads the command line and does the command.
-fn start<T: Host>(rt: &HostRuntime, threads: &T) -> Result<Finish, Finish> {
+fn start<
+    T: Threads
+        + Wait
+        + Clock
+        + Net<Listener = TcpListener, Stream = TcpStream>
+        + Copy
+        + Send
+        + Sync
+        + 'static,
+>(rt: &HostRuntime, threads: &T) -> Result<Finish, Finish> {
     let words = words_of(rt)?;
     let matches = matched(rt, words.as_slice())?;
     do_command(rt, threads, &matches)

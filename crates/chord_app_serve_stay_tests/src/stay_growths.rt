@@ -5,21 +5,33 @@
 use chord_app_plan::Plan;
 use chord_app_serve::stay;
 use chord_app_serve_testkit::{bound, plan_with, two_stores};
-use chord_app_sockets::{Host, ServerSetup};
+use chord_app_sockets::ServerSetup;
 use chord_app_text::Finish;
 use log::sink::Discard;
 use std::alloc::Global;
 use std::io::{self, PipeReader, PipeWriter, Read, Write};
 use std::net::{Net, OpenStream, Shutdown, SocketAddr, TcpListener, TcpStream};
+use std::sync::Wait;
 use std::test::Fail;
 use std::thread;
+use std::thread::Threads;
+use std::time::Clock;
 
 // Inserts `x` under `a`, with number 1. Clients take no memory, so that a refused growth is the
 // server's.
 const INSERT: &[u8] = b"\x00\x00\x00\x0f\x01\x01\x00\x00\x00\x00\x00\x00\x00\x01\x01a\x00\x01x";
 
 /// Serves until the input ends, writing into these bytes, and then frees the port.
-fn stays<R: Host>(
+fn stays<
+    R: Threads
+        + Wait
+        + Clock
+        + Net<Listener = TcpListener, Stream = TcpStream>
+        + Copy
+        + Send
+        + Sync
+        + 'static,
+>(
     rt: &R,
     alloc: Global,
     plan: &Plan,
@@ -79,11 +91,16 @@ fn count_of(bytes: &[u8], wanted: u8) -> usize {
 }
 
 /// Serves three clients, and gives how that ended.
-fn served<R: Host>(
-    rt: &R,
-    alloc: Global,
-    (reader, writer): (PipeReader, PipeWriter),
-) -> Option<Ended> {
+fn served<
+    R: Threads
+        + Wait
+        + Clock
+        + Net<Listener = TcpListener, Stream = TcpStream>
+        + Copy
+        + Send
+        + Sync
+        + 'static,
+>(rt: &R, alloc: Global, (reader, writer): (PipeReader, PipeWriter)) -> Option<Ended> {
     let plan = plan_with(alloc, 3)?;
     let (listener, address) = bound(rt)?;
     let mut room = [0u8; 256];

@@ -5,7 +5,7 @@ use chord_app_serve::stay;
 use chord_app_serve_testkit::{
     Act, Acts, Answer, Ask, bound, do_acts, is_served, leave, plan_with, two_stores,
 };
-use chord_app_sockets::{Host, ServerSetup};
+use chord_app_sockets::ServerSetup;
 use chord_app_text::{Fault, Finish};
 use chord_wire::FaultCode;
 use log::Log;
@@ -13,11 +13,25 @@ use log::sink::{Discard, Locked};
 use std::alloc::Global;
 use std::io::{self, PipeReader, PipeWriter, Write};
 use std::net::{Net, SocketAddr, TcpListener, TcpStream};
+use std::sync::Wait;
 use std::test::Fail;
 use std::thread;
+use std::thread::Threads;
+use std::time::Clock;
 
 /// Serves until the input ends, over two stores with room for `limit` pairs.
-fn stay_over<R: Host, L: Log + Sync, W: Write + Send + Drop>(
+fn stay_over<
+    R: Threads
+        + Wait
+        + Clock
+        + Net<Listener = TcpListener, Stream = TcpStream>
+        + Copy
+        + Send
+        + Sync
+        + 'static,
+    L: Log + Sync,
+    W: Write + Send + Drop,
+>(
     rt: &R,
     alloc: Global,
     plan: &Plan,
@@ -38,7 +52,17 @@ fn stay_over<R: Host, L: Log + Sync, W: Write + Send + Drop>(
 }
 
 /// Serves until the input ends, and gives what was written.
-fn stayed_and_noted<R: Host, L: Log + Sync>(
+fn stayed_and_noted<
+    R: Threads
+        + Wait
+        + Clock
+        + Net<Listener = TcpListener, Stream = TcpStream>
+        + Copy
+        + Send
+        + Sync
+        + 'static,
+    L: Log + Sync,
+>(
     rt: &R,
     alloc: Global,
     plan: &Plan,
@@ -53,7 +77,16 @@ fn stayed_and_noted<R: Host, L: Log + Sync>(
 }
 
 /// Serves until the input ends, and writes into 32 bytes, which have room for the address only.
-fn stayed_in_32_bytes<R: Host>(
+fn stayed_in_32_bytes<
+    R: Threads
+        + Wait
+        + Clock
+        + Net<Listener = TcpListener, Stream = TcpStream>
+        + Copy
+        + Send
+        + Sync
+        + 'static,
+>(
     rt: &R,
     alloc: Global,
     plan: &Plan,
@@ -89,7 +122,17 @@ impl Script {
 
 /// Checks that the clients are answered, and these lines written, by a server with this many
 /// callers and room for this many pairs.
-fn writes<R: Host, L: Log + Sync>(
+fn writes<
+    R: Threads
+        + Wait
+        + Clock
+        + Net<Listener = TcpListener, Stream = TcpStream>
+        + Copy
+        + Send
+        + Sync
+        + 'static,
+    L: Log + Sync,
+>(
     rt: &R,
     alloc: Global,
     (callers, limit): (u64, u64),
@@ -239,7 +282,16 @@ fn one_end<R: Net>(rt: &R, address: SocketAddr) -> io::Result<()> {
 }
 
 /// How a server ends whose writer has room for the address only, while its input is open.
-fn stays_without_room<R: Host>(
+fn stays_without_room<
+    R: Threads
+        + Wait
+        + Clock
+        + Net<Listener = TcpListener, Stream = TcpStream>
+        + Copy
+        + Send
+        + Sync
+        + 'static,
+>(
     rt: &R,
     alloc: Global,
     (reader, _writer): (PipeReader, PipeWriter),

@@ -4,12 +4,12 @@ use chord_app_ask::{ClientOptions, Kind, Load, Until, ask_lines, run_load};
 use chord_app_plan::Plan;
 use chord_app_serve::serve;
 use chord_app_serve_testkit::{bound, plan_with, two_stores};
-use chord_app_sockets::{Host, ServerSetup};
+use chord_app_sockets::ServerSetup;
 use chord_app_text::{Fault, Finish};
 use chord_store::EntryStore;
 use log::sink::Discard;
 use std::alloc::Global;
-use std::net::TcpListener;
+use std::net::{Net, TcpListener, TcpStream};
 use std::sync::Wait;
 use std::thread;
 use std::thread::Threads;
@@ -43,7 +43,7 @@ const REPLIES: &str =
 
 /// Asks a ring of two nodes over `connections` connections, one after another; each store has room
 /// for `room` pairs. Gives how asking ended, and whether it wrote the right lines.
-fn asks_a_ring<R: Host>(
+fn asks_a_ring<R: Threads + Wait + Clock + Net<Listener = TcpListener, Stream = TcpStream> + Sync>(
     rt: &R,
     alloc: Global,
     room: u64,
@@ -125,7 +125,7 @@ fn is_table(table: &[u8], answered: &str, faults: &str) -> bool {
 
 /// How a load of 21 requests ended on a ring whose stores have room for `room` pairs, and whether
 /// its table has these counts of answers and faults.
-fn loaded<R: Host>(
+fn loaded<R: Threads + Wait + Clock + Net<Listener = TcpListener, Stream = TcpStream> + Sync>(
     rt: &R,
     alloc: Global,
     room: u64,

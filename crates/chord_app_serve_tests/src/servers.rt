@@ -6,7 +6,7 @@ use chord_app_serve_testkit::{
     Act, Acts, Answer, Ask, ask, ask_insert, bound, changed, do_acts, expect, insert, is_served,
     leave, plan_of, plan_with, request_frame, retrieve, two_stores,
 };
-use chord_app_sockets::{Host, ServerSetup, listen};
+use chord_app_sockets::{ServerSetup, listen};
 use chord_app_text::{Fault, Finish};
 use chord_map::{Bytes, Reply, Request, Values};
 use chord_wire::FaultCode;
@@ -82,7 +82,10 @@ fn served<R: Threads + Wait + Clock + Sync, L: Log + Sync>(
 
 /// Checks that the clients are answered, and these lines written, by a server with this many
 /// callers and connections.
-fn writes<R: Host, L: Log + Sync>(
+fn writes<
+    R: Threads + Wait + Clock + Net<Listener = TcpListener, Stream = TcpStream> + Sync,
+    L: Log + Sync,
+>(
     rt: &R,
     alloc: Global,
     (callers, connections): (u64, usize),
@@ -311,7 +314,9 @@ fn sixty_four_ends(alloc: Global) -> Option<String> {
 }
 
 /// Checks that 64 clients are answered at once, and their lines written.
-fn writes_sixty_four<R: Host>(rt: &R, alloc: Global) -> Option<bool> {
+fn writes_sixty_four<
+    R: Threads + Wait + Clock + Net<Listener = TcpListener, Stream = TcpStream> + Sync,
+>(rt: &R, alloc: Global) -> Option<bool> {
     let ends = sixty_four_ends(alloc)?;
     let clients = Clients::SixtyFour;
     writes(rt, alloc, (64, 64), &Discard, clients, ends.as_str())
@@ -364,7 +369,10 @@ fn never_reads<R: Net>(rt: &R, alloc: Global, address: SocketAddr) -> io::Result
 }
 
 /// Why a plan is not served whose second node the ring refuses.
-fn not_served<R: Host>(rt: &R, alloc: Global) -> Option<Finish> {
+fn not_served<R: Threads + Wait + Clock + Net<Listener = TcpListener, Stream = TcpStream> + Sync>(
+    rt: &R,
+    alloc: Global,
+) -> Option<Finish> {
     let twice = changed(alloc, "id = \"c0", "id = \"40").ok()?;
     let plan = plan_of(alloc, twice.as_str());
     drop(twice);

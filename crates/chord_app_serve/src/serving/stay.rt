@@ -4,7 +4,7 @@ ghost use Rattle.std.specs.Prelude.{◌≡◌};
 use crate::plan_run::blank_of;
 use crate::serving::caller_pool::CallerPool;
 use crate::serving::service::{Service, node_of};
-use chord_app_sockets::{Clients, Ended, Host, Lines, ServerSetup, Stop};
+use chord_app_sockets::{Clients, Ended, Lines, ServerSetup, Stop};
 use chord_app_text::Finish;
 use chord_live_ring::{Ring, RingParts};
 use chord_serve::Served;
@@ -65,9 +65,7 @@ impl<
         self.clients.forget(self.service.rt, number);
         drop(stream);
     }
-}
 
-impl<'r, J: Naming, S: EntryStore, R: Host, L: Log, W: Write> StayingServer<'r, J, S, R, L, W> {
     /// Serves a connection on a thread of its own. Says false if there was no memory for that.
     fn run_beside<'s, E: 's>(
         &'s self,
@@ -78,6 +76,7 @@ impl<'r, J: Naming, S: EntryStore, R: Host, L: Log, W: Write> StayingServer<'r, 
     where
         J: Send + Sync + 's,
         S: Send + 's,
+        R: Threads + Sync + 's,
         L: Sync + 's,
         W: Send + 's,
     {
@@ -96,6 +95,7 @@ impl<'r, J: Naming, S: EntryStore, R: Host, L: Log, W: Write> StayingServer<'r, 
     where
         J: Send + Sync + 's,
         S: Send + 's,
+        R: Threads + Sync + 's,
         L: Sync + 's,
         W: Send + 's,
     {
@@ -115,6 +115,7 @@ impl<'r, J: Naming, S: EntryStore, R: Host, L: Log, W: Write> StayingServer<'r, 
     where
         J: Send + Sync + 's,
         S: Send + 's,
+        R: Threads + Sync + 's,
         L: Sync + 's,
         W: Send + 's,
     {
@@ -133,6 +134,7 @@ impl<'r, J: Naming, S: EntryStore, R: Host, L: Log, W: Write> StayingServer<'r, 
     where
         J: Send + Sync + 's,
         S: Send + 's,
+        R: Threads + Sync + 's,
         L: Sync + 's,
         W: Send + 's,
     {
@@ -172,7 +174,7 @@ fn start_and_accept<
     E: 's,
     J: Naming + Send + Sync + 's,
     S: EntryStore + Send + 's,
-    R: Host,
+    R: Threads + Wait + Clock + Net<Listener = TcpListener, Stream = TcpStream> + Sync + 's,
     L: Log + Sync + 's,
     W: Write + Send + 's,
 >(
@@ -195,7 +197,7 @@ fn stay_open<
     'r: 'x,
     J: Naming + Send + Sync,
     S: EntryStore + Send,
-    R: Host,
+    R: Threads + Wait + Clock + Net<Listener = TcpListener, Stream = TcpStream> + Sync,
     L: Log + Sync,
     W: Write + Send,
 >(
@@ -215,7 +217,7 @@ fn stay_open<
 fn stay_with<
     J: Naming + Send + Sync,
     S: EntryStore + Send,
-    R: Host,
+    R: Threads + Wait + Clock + Net<Listener = TcpListener, Stream = TcpStream> + Sync,
     L: Log + Sync,
     W: Write + Send + Drop,
 >(
@@ -245,7 +247,7 @@ fn stay_with<
 fn stay_named<
     J: Naming + Send + Sync,
     S: EntryStore + Send,
-    R: Host,
+    R: Threads + Wait + Clock + Net<Listener = TcpListener, Stream = TcpStream> + Sync,
     L: Log + Sync,
     W: Write + Send + Drop,
 >(
@@ -300,7 +302,14 @@ fn stop_at_end<
 /// until the input ends.
 pub fn stay<
     S: EntryStore + Send,
-    R: Host,
+    R: Threads
+        + Wait
+        + Clock
+        + Net<Listener = TcpListener, Stream = TcpStream>
+        + Copy
+        + Send
+        + Sync
+        + 'static,
     L: Log + Sync,
     W: Write + Send + Drop,
     I: Read + Send + Drop + 'static,
