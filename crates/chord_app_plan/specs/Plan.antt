@@ -5,6 +5,8 @@ use Rattle.std.specs.Str.Parse.{digits_value, AllDigits}
 use Rattle.toml.specs.Data.{Data, Items, no_items, item, Members, as_array, as_integer, as_str, as_table, get_member}
 use Rattle.toml.specs.Parse.{parse_document}
 use Rattle.toml.specs.View.{table_view}
+use Rattle.chord_live_types.specs.Limits.{AreWithin}
+use Rattle.chord_live_types.specs.declared.settings.Settings.{Settings}
 use Rattle.chord_map.specs.Checked.{IsRequest}
 use Rattle.chord_map.specs.declared.request.Request.{Request}
 use Rattle.chord_map.specs.declared.request.Request.TheVariants as request
@@ -14,7 +16,6 @@ use Rattle.chord_app_plan.specs.declared.entries.Entries.{Entries}
 use Rattle.chord_app_plan.specs.declared.node.PlanNode.{PlanNode}
 use Rattle.chord_app_plan.specs.declared.node.StoreKind.{StoreKind}
 use Rattle.chord_app_plan.specs.declared.node.StoreKind.TheVariants as store
-use Rattle.chord_app_plan.specs.declared.settings.PlanSettings.{PlanSettings}
 
 -- the members of a plan's table
 abbrev pub members_of : Entries → Members
@@ -51,7 +52,7 @@ pub record AreListed {X : Type 0} (Is : Members → X → Type 0) (key : List �
   pub each : AreTablesOf Is items xs
 
 -- the settings of a ring in a table
-pub record SettingsAre (members : Members) (s : PlanSettings) : Type 0 where
+pub record SettingsAre (members : Members) (s : Settings) : Type 0 where
   pub slots : number_at (codes "slots") members ≡ Some (pos s.slots)
   pub callers : number_at (codes "callers") members ≡ Some (pos s.callers)
   pub successors : number_at (codes "successors") members ≡ Some (pos s.successors)
@@ -97,18 +98,6 @@ pub record IsPlanOf (document : List ℕ) (p : Plan) : Type 0 where
   pub nodes : AreListed NodeIs (codes "node") members p.nodes.items
   pub asks : AreListed AskIs (codes "ask") members p.asks.items
 
--- the settings of a ring are within their limits
-pub record AreSettings (s : PlanSettings) : Type 0 where
-  pub some_slots : 1 ≤ s.slots
-  pub slots : s.slots ≤ 64
-  pub callers : s.callers ≤ 64
-  pub some_successors : 2 ≤ s.successors
-  pub successors : s.successors ≤ 16
-  pub some_tries : 1 ≤ s.tries
-  pub tries : s.tries ≤ 1000
-  pub some_wait : 1 ≤ s.wait_ms
-  pub wait : s.wait_ms ≤ 60000
-
 -- an ask's caller is below `callers` and its node below `nodes`, and its request keeps the limits
 pub record IsAskOf (callers nodes : ℕ) (a : PlanAsk) : Type 0 where
   pub caller : a.caller < callers
@@ -117,7 +106,7 @@ pub record IsAskOf (callers nodes : ℕ) (a : PlanAsk) : Type 0 where
 
 -- a plan keeps all its limits
 pub record IsPlan (p : Plan) : Type 0 where
-  pub settings : AreSettings p.settings
+  pub settings : AreWithin p.settings
   pub some_nodes : 1 ≤ length p.nodes.items
   pub nodes : length p.nodes.items ≤ p.settings.slots
   pub asks : All (IsAskOf p.settings.callers (length p.nodes.items)) p.asks.items

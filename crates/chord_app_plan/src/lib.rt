@@ -13,8 +13,8 @@ mod plan;
 mod settings;
 
 pub use ask::PlanAsk;
+pub use chord_live_types::Settings;
 pub use fault::{EntryFault, PlanFault, TableName};
 pub use file::read_plan;
 pub use node::{PlanNode, StoreKind};
 pub use plan::{PLAN_BYTES, Plan};
-pub use settings::PlanSettings;

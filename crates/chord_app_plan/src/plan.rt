@@ -11,7 +11,8 @@ use crate::ask::PlanAsk;
 use crate::entries::Entries;
 use crate::fault::{EntryFault, PlanFault, TableName};
 use crate::node::PlanNode;
-use crate::settings::PlanSettings;
+use crate::settings::read_settings;
+use chord_live_types::Settings;
 use std::alloc::Global;
 
 /// The most bytes of a plan.
@@ -19,7 +20,7 @@ pub const PLAN_BYTES: usize = 1_048_576;
 
 #[derive(Debug, Drop)]
 pub struct Plan {
-    pub settings: PlanSettings,
+    pub settings: Settings,
     /// In the order in which they join. The first creates the ring.
     pub nodes: Vec<PlanNode>,
     /// In the order of the file.
@@ -110,7 +111,7 @@ impl Plan {
             Err(fault) => return Err(fault_of(document, fault)),
         };
         let top = Entries::new(&table, TableName::Top);
-        let settings = PlanSettings::read(&top)?;
+        let settings = read_settings(&top)?;
         let nodes = read_nodes(alloc, &top, settings.slots)?;
         let asks = read_asks(alloc, &top, settings.callers, nodes.len())?;
         Ok(Plan {

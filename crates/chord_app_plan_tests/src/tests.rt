@@ -1,6 +1,6 @@
 //! Plans that are accepted, and each fault of those that are not.
 
-use chord_app_plan::{PLAN_BYTES, Plan, PlanAsk, PlanFault, PlanNode, PlanSettings, StoreKind};
+use chord_app_plan::{PLAN_BYTES, Plan, PlanAsk, PlanFault, PlanNode, Settings, StoreKind};
 use chord_ident::Id;
 use chord_map::Request;
 use std::alloc::{AllocError, Global};
@@ -61,7 +61,7 @@ fn node(id: u128, store: StoreKind) -> PlanNode {
 
 /// Checks that it is the two-node plan.
 fn is_two_nodes(plan: &Plan) -> bool {
-    let settings = PlanSettings {
+    let settings = Settings {
         slots: 2,
         callers: 1,
         successors: 3,
@@ -104,7 +104,7 @@ const OTHER_PLAN: &str = concat!(
 );
 
 /// The settings of the other plan, whether it has the right nodes, and how many asks it has.
-fn other_plan(alloc: Global) -> Option<(PlanSettings, bool, usize)> {
+fn other_plan(alloc: Global) -> Option<(Settings, bool, usize)> {
     let plan = plan_of(alloc, OTHER_PLAN)?;
     let most = 9_223_372_036_854_775_807;
     let nodes = [
@@ -118,7 +118,7 @@ fn other_plan(alloc: Global) -> Option<(PlanSettings, bool, usize)> {
 
 #[test]
 fn another_plan(rt: HostRuntime) {
-    let settings = PlanSettings {
+    let settings = Settings {
         slots: 64,
         callers: 64,
         successors: 16,

@@ -21,7 +21,6 @@ mod retirement;
 mod ring;
 mod ring_parts;
 mod seated_node;
-mod settings;
 mod slot;
 mod target;
 mod tick;
@@ -31,7 +30,8 @@ mod work;
 
 pub use carried::Carried;
 pub use chord_live_types::{
-    CreateFault, JoinFault, LeaveFault, NewFault, NoSuchNode, OpenClientFault, OpenFault, TickFault,
+    CreateFault, JoinFault, LeaveFault, NewFault, NoSuchNode, OpenClientFault, OpenFault, Settings,
+    TickFault,
 };
 pub use dealing::deal;
 pub use fault::RingRetireFault;
@@ -39,6 +39,5 @@ pub use keyed::Keyed;
 pub use probe::{NoProbe, Probe};
 pub use ring::Ring;
 pub use ring_parts::RingParts;
-pub use settings::Settings;
 pub use target::Target;
 pub use tidying::{Tidied, tidy};

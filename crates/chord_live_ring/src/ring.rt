@@ -2,18 +2,17 @@
 ghost use Rattle.std.specs.Prelude.{◌≡◌, ◌<◌, ◌≤◌, [], true, IfOk, IfErr, IfSome, vec_len};
 ghost use Rattle.chord_caller.specs.Answers.{new_caller};
 ghost use Rattle.chord_caller.specs.Client.{IsCoreOf};
-ghost use Rattle.chord_live_ring.specs.Counts.{AreWithin};
+ghost use Rattle.chord_live_types.specs.Limits.{AreWithin};
 
 use crate::numbers::Numbers;
 use crate::reader::RingReader;
 use crate::seated_node::SeatedNode;
-use crate::settings::Settings;
 use crate::slot::{Inbox, Slot, SlotState};
 use chord_caller::{CallerCore, ClientCore};
 use chord_ident::Id;
 use chord_links::{Links, Peer};
 use chord_live_types::{
-    CreateFault, JoinFault, LeaveFault, NoSuchNode, OpenClientFault, OpenFault,
+    CreateFault, JoinFault, LeaveFault, NoSuchNode, OpenClientFault, OpenFault, Settings,
 };
 use chord_node::Phase;
 use chord_ring::join_behind;

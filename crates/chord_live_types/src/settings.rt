@@ -1,6 +1,6 @@
 //! How large a ring is, and how long its callers wait.
-ghost use Rattle.std.specs.Prelude.{◌≡◌, IsTrue, ◌↔◌};
-ghost use Rattle.chord_live_ring.specs.Counts.{AreWithin};
+ghost use Rattle.std.specs.Prelude.{IsTrue, ◌↔◌};
+ghost use Rattle.chord_live_types.specs.Limits.{AreWithin};
 
 /// How large a ring is, and how long its callers wait.
 #[derive(Clone, Copy, Debug, PartialEq, Eq)]
