@@ -1,13 +1,15 @@
 -- A core and the caller of its seat change together when a request is submitted or sent again.
-use Rattle.std.proofs.Common.{◌≡◌, true, None, Some, Ok, Err, refl, sym, ◌∙◌, ap, subst}
-use Rattle.chord_caller.specs.Answers.{SubmitIs, is_pending}
+use Rattle.std.proofs.Common.{◌≡◌, ℕ, true, None, Some, Ok, Err, refl, sym, ◌∙◌, ap, subst}
+use Rattle.chord_caller.specs.Answers.{ResendIs, SubmitIs, is_pending}
 use Rattle.chord_caller.specs.Caller.{Caller, CallerStep, AskLetter, with_request}
 use Rattle.chord_caller.specs.declared.ask.Ask.{Ask}
 use Rattle.chord_caller.specs.declared.fault.SubmitFault.{SubmitFault}
 use Rattle.chord_caller.specs.declared.fault.SubmitFault.TheVariants.{Bad, WindowFull, NumbersSpent, Memory}
 use Rattle.chord_caller.proofs.Steps.{submit_steps}
-use Rattle.chord_live.specs.Begun.{Submitted}
+use Rattle.chord_live.specs.Begun.{IsCallOf, Submitted}
 use Rattle.chord_map.specs.declared.request.Request.{Request}
+use Rattle.chord_model.specs.declared.message.Message.{Message}
+use Rattle.chord_model.specs.declared.message.Message.TheVariants.{Ask as AskMessage}
 use Rattle.chord_table.specs.Views.{CallerSight}
 
 -- a caller that submitted a call has its request after the others
@@ -29,6 +31,14 @@ submission is_core request ask core caller (after, goes, answer) =
       step = subst (λ (c : Caller). CallerStep caller None c (Some (AskLetter ask))) is (submit_steps request caller ask after answer);
       core_is = subst (λ (c : Caller). is_core core c) is goes;
     }
+
+-- what a submission sends is the caller's call
+pub call_of_submission : (request : Request) (ask : Ask) (old new : Caller) (message : Message) → SubmitIs request old (Ok ask) new → message ≡ AskMessage ask → IsCallOf new ask.number message
+call_of_submission request ask old new message (fit, window, small, sent, is) same = (ask, same, sent.caller ∙ sym (ap (λ (c : Caller). c.number) is), refl)
+
+-- what is sent again is the caller's call
+pub call_of_resend : (number : ℕ) (ask : Ask) (old new : Caller) (message : Message) → ResendIs number old (Ok ask) → message ≡ AskMessage ask → new ≡ old → IsCallOf new number message
+call_of_resend number ask old new message (submission, at, waits, sent) same is = (ask, same, sent.caller ∙ sym (ap (λ (c : Caller). c.number) is), sent.number)
 
 -- the sight of a caller that submitted a request
 pub submitted : (request : Request) (ask : Ask) (old new : CallerSight) → SubmitIs request old.caller (Ok ask) new.caller → is_pending ask.number new.caller ≡ true → new.messages ≡ old.messages

@@ -3,7 +3,7 @@ ghost use Rattle.std.specs.Prelude.{◌≡◌, ◌≤◌, ◌<◌, [], ◌∷◌
 ghost use Rattle.chord_caller.specs.Answers.{PendingIs, is_pending};
 ghost use Rattle.chord_caller.specs.Caller.{floor_of, next_number};
 ghost use Rattle.chord_live.specs.Asking.{CallIs, RetryIs};
-ghost use Rattle.chord_live.specs.Begun.{BeginIs, MaySubmit, Submitted};
+ghost use Rattle.chord_live.specs.Begun.{BeginIs, IsCallOf, MaySubmit, Submitted};
 ghost use Rattle.chord_live.specs.Ending.{Ended};
 ghost use Rattle.chord_live_types.specs.declared.caller.AskFault.TheVariants as AskFault;
 ghost use Rattle.chord_live_types.specs.declared.caller.BeginFault.TheVariants as BeginFault;
@@ -113,6 +113,7 @@ impl<'a, J: Naming, S: EntryStore, C: AskingCore> RingCaller<'a, J, S, C> {
     fn submit(&mut self, via: u64, request: Request) -> Result<(u64, Envelope<J>), BeginFault>
         ensures number { IfOk result (λ sent. sent.0 ≡ next_number self.old.caller) }
         ensures ok { IfOk result (λ sent. Submitted request self.old self.new) }
+        ensures call { IfOk result (λ sent. IsCallOf self.new.caller sent.0 sent.1) }
         ensures placed { J.name.slots ≤ via → MaySubmit request self.old.caller → result ≡ Err BeginFault.NoSuchNode }
         ensures err { IfErr result (λ fault. BeginIs request self.old.caller (Err fault) self.new.caller) }
         ensures same { OnErr result (self.new ≡ self.old) }
@@ -226,6 +227,7 @@ impl<'a, J: Naming, S: EntryStore, C: AskingCore> RingCaller<'a, J, S, C> {
         envelope: Envelope<J>,
         number: u64,
     ) -> Result<Reply, WaitFault>
+        requires { IsCallOf self.old.caller number envelope }
         ensures { Ended C.ends number self.old result self.new }
     {
         let keyed = Keyed::new(envelope);
@@ -251,6 +253,7 @@ impl<'a, J: Naming, S: EntryStore, C: AskingCore> RingCaller<'a, J, S, C> {
         envelope: Envelope<J>,
         number: u64,
     ) -> Result<Reply, WaitFault>
+        requires { IsCallOf self.old.caller number envelope }
         ensures { Ended C.ends number self.old result self.new }
     {
         match route {
@@ -310,7 +313,8 @@ impl<'a, J: Naming, S: EntryStore, C: AskingCore> RingCaller<'a, J, S, C> {
         envelope: Envelope<J>,
         number: u64,
     ) -> Result<Reply, WaitFault>
-        requires { is_pending number self.old.caller ≡ true }
+        requires pending { is_pending number self.old.caller ≡ true }
+        requires call { IsCallOf self.old.caller number envelope }
         ensures { Ended C.ends number self.old result self.new }
     {
         let more = self.ring.tries() - 1;

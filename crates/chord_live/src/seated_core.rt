@@ -3,7 +3,7 @@ ghost use Rattle.std.specs.Prelude.{◌≡◌, ◌≢◌, ◌↔◌, ◌++◌, [
 ghost use Rattle.chord_caller.specs.Answers.{PendingIs, RefusalIs, ResendIs, SubmitIs, is_pending};
 ghost use Rattle.chord_caller.specs.Caller.{floor_of, next_number};
 ghost use Rattle.chord_caller.specs.declared.ask.Ask.{Ask as AskOf};
-ghost use Rattle.chord_live.specs.Begun.{Submitted};
+ghost use Rattle.chord_live.specs.Begun.{IsCallOf, Submitted};
 ghost use Rattle.chord_live.specs.Ending.{Ended};
 ghost use Rattle.chord_live_types.specs.declared.caller.WaitFault.TheVariants.{Full as WaitFull};
 ghost use Rattle.chord_model.specs.declared.message.Message.TheVariants.{Ask as AskMessage, Full as FullMessage, Told as ToldMessage};
@@ -81,6 +81,7 @@ impl<J: Naming, C: AskingCore> SeatedCore<J, C> {
         ensures number { IfOk result (λ sent. sent.0 ≡ next_number self.old.caller) }
         ensures ok { IfOk result (λ sent. Submitted request self.old self.new) }
         ensures envelope { IfOk result (λ sent. (ask : AskOf) × SubmitIs request self.old.caller (Ok ask) self.new.caller × (sent.1 ≡ AskMessage ask)) }
+        ensures call { IfOk result (λ sent. IsCallOf self.new.caller sent.0 sent.1) }
         ensures err { IfErr result (λ fault. SubmitIs request self.old.caller (Err fault) self.new.caller) }
         ensures same { OnErr result (self.new ≡ self.old) }
     {
@@ -98,6 +99,7 @@ impl<J: Naming, C: AskingCore> SeatedCore<J, C> {
         requires { is_pending number self.old.caller ≡ true }
         ensures same { self.new ≡ self.old }
         ensures envelope { IfOk result (λ sent. (ask : AskOf) × ResendIs number self.old.caller (Ok ask) × (sent ≡ AskMessage ask)) }
+        ensures call { IfOk result (IsCallOf self.new.caller number) }
     {
         let ask = match self.core.resend(number) {
             Ok(ask) => ask,

@@ -1,4 +1,5 @@
 pub mod Counts
 pub mod Dealt
 pub mod Keys
+pub mod Refused
 pub mod Tidy

@@ -29,7 +29,7 @@ IsOutside p node place segment =
     (slice_get node.held place ≡ Some segment) × (is_inside (own_span p node) segment.span ≡ false) × AreInside (own_span p node) node.held place
 
 -- the first held segment that is not inside is cut at p, else at the node; if neither cuts it, it
--- is to be given
+-- is to be given; out of memory can only come in place of a cut
 abbrev pub TidyIs : Id → Node → Result Tidied AllocError → Node → Type 0
 TidyIs p old (Ok tidied.Nothing) new = ((old.phase ≢ Staying) ⊎ AreInside (own_span p old) old.held (2 ^ 64 - 1)) × (new ≡ old)
 TidyIs p old (Ok tidied.Cut) new =
@@ -39,7 +39,9 @@ TidyIs p old (Ok tidied.Cut) new =
 TidyIs p old (Ok (tidied.Give place)) new =
     (segment : Segment) × IsOutside p old place segment × (old.phase ≡ Staying)
     × (cuts segment.span p ≡ false) × (cuts segment.span old.links.me.id ≡ false) × (new ≡ old)
-TidyIs p old (Err fault) new = new ≡ old
+TidyIs p old (Err fault) new =
+    (place : ℕ) × (segment : Segment) × IsOutside p old place segment × (old.phase ≡ Staying)
+    × ((cuts segment.span p ≡ true) ⊎ (cuts segment.span old.links.me.id ≡ true)) × (new ≡ old)
 
 -- a cut is one step of the node, and nothing else changes it
 abbrev pub TidySteps : Node → Result Tidied AllocError → Node → Type 0

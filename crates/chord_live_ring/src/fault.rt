@@ -16,6 +16,11 @@ pub enum RingRetireFault {
 }
 
 impl From<chord_node::RetireFault> for RingRetireFault {
+    ghost use Rattle.std.specs.Prelude.{◌≡◌};
+    ghost use Rattle.chord_live_ring.specs.Refused.{refusal_of_node};
+
+    ghost from_gives = { λ refused fault. fault ≡ refusal_of_node refused };
+
     fn from(refused: chord_node::RetireFault) -> RingRetireFault {
         match refused {
             chord_node::RetireFault::NotLeaving => RingRetireFault::NotLeaving,

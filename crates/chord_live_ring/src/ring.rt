@@ -171,6 +171,7 @@ impl<J: Naming, S: EntryStore> Ring<J, S> {
         requires vacant { S.content store ≡ [] }
         ensures back { IfErr result (λ refused. refused.1 ≡ store) }
         ensures named { IfOk result (λ peer. peer.id ≡ id) }
+        ensures numbered { IfOk result (λ peer. (1 ≤ peer.number) × (peer.number < J.name.slots)) }
     {
         let mut numbers = self.numbers.lock(rt);
         if self.is_stopped() {

@@ -1,5 +1,6 @@
 use Rattle.std.proofs.Common.{Ok, ap, subst}
 use Rattle.chord_caller.proofs.Steps.{resend_steps}
+use Rattle.chord_live.proofs.Submitting.{call_of_resend}
 use Rattle.chord_caller.specs.Answers.{ResendIs}
 use Rattle.chord_caller.specs.Caller.{Caller}
 use Rattle.chord_table.specs.Views.{CallerSight}
@@ -17,3 +18,9 @@ returns-clause-envelope g c =
       subst (λ (old : Caller). ResendIs c.args.number old (Ok c.in-Ok.ask)) (ap (λ (s : CallerSight). s.caller) c.self.view_is) (c.in-Ok.ensures caller c.self.invariant),
       c.resend-2.ensures.envelope,
     )
+
+pub returns-clause-call : goal.returns-clause-call
+returns-clause-call g c =
+    let caller = c.self.inside.seat.caller in
+    call_of_resend c.args.number c.in-Ok.ask caller (c.resend-2.new.self).caller c.resend-2.result (c.in-Ok.ensures caller c.self.invariant) c.resend-2.ensures.envelope
+    (ap (λ (s : CallerSight). s.caller) c.resend-2.ensures.seat)
