@@ -1,5 +1,5 @@
 -- What follows from the invariant of a world.
-use Rattle.std.proofs.Common.{◌≡◌, ℕ, true, not, ◌&&◌, eqb, ⊎_elim, sym, ◌∙◌, ap, arith, List, [], Some, None, Contains, ap₂, subst}
+use Rattle.std.proofs.Common.{◌≡◌, ℕ, ◌+◌, ◌<◌, ◌≤◌, true, not, ◌&&◌, eqb, ⊎_elim, sym, ◌∙◌, ap, arith, List, [], Some, None, Contains, ap₂, subst}
 use Rattle.std.proofs.lemmas.Bool.{and_from, eq-eqb, cond-true, cases_Bool, not_from_false}
 use Rattle.std.proofs.lemmas.Option.{none-some, same_Some}
 use Rattle.chord_ident.proofs.Digest.{key_id-below}
@@ -12,7 +12,7 @@ use Rattle.chord_map.specs.declared.pair.Pair.{Pair}
 use Rattle.chord_map.specs.Map.{fits, key_of}
 use Rattle.chord_model.proofs.Clash.{placed_reached}
 use Rattle.chord_model.proofs.HolderTie.{every_has, holder_facts}
-use Rattle.chord_model.proofs.Invariant.{HasTaken, TakenUpto, IsNear, SegmentGood, ToldGood, NodeGood, Current, Good, HolderFacts, CallerGood}
+use Rattle.chord_model.proofs.Invariant.{HasTaken, TakenUpto, SegmentGood, ToldGood, NodeGood, Current, Good, HolderFacts, CallerGood}
 use Rattle.chord_model.proofs.Main.{reached_good}
 use Rattle.chord_model.proofs.Placed.{KeptInside}
 use Rattle.chord_model.specs.Headline.{Holds, Appears, OneHistory, KeepNoneTwice, request_with, submitted_by, was_taken, answers}
@@ -23,6 +23,7 @@ use Rattle.chord_model.specs.Node.{Node}
 use Rattle.chord_model.specs.World.{World, Reached, node_at, caller_at}
 use Rattle.chord_map.proofs.HistoryLemmas.{done_is, kept_found, rises_replay}
 use Rattle.chord_segment.proofs.SegmentLemmas.{mark_each}
+use Rattle.chord_segment.specs.Marks.{mark_of}
 use Rattle.chord_map.specs.declared.done.Done.{Done}
 use Rattle.chord_map.specs.History.{replay, StandsIn, done_at}
 use Rattle.chord_segment.specs.Segment.{id_of, Segment}
@@ -109,7 +110,8 @@ module _ (world : World) (good : Good world) where
         let g = held_good segment pairs holds in
         ⊎_elim (λ low. absurd (omega arith)) (λ h. kept_found world.history segment.kept done g.segment_good.kept stands h) (g.current.covered done stands inside);
     stands = λ segment appears. all_each (StandsIn world.history) segment.kept (appears_good segment appears).kept;
-    near = λ segment appears. all_each (IsNear segment.floors) segment.kept (appears_good segment appears).near;
+    near = λ segment appears. all_each (λ (done : Done). (mark_of done.caller segment.floors < done.number) × (done.number ≤ mark_of done.caller segment.floors + 16)) segment.kept
+        (λ done h. let n = (appears_good segment appears).near done h in (n.above, n.near));
     floors = λ segment number place appears low high.
         let t : HasTaken world.callers number place =
         mark_each (TakenUpto world.callers) number segment.floors (λ other above below. absurd (omega arith)) (appears_good segment appears).floors place low high in
