@@ -17,7 +17,7 @@ use Rattle.chord_wire.specs.ReadingReplies.{or_fault, status_of, status_at, code
 use Rattle.chord_wire.specs.FaultTable.{AnswerHead, IsKind, BeginsWithAnswer, AnswerFaultOf}
 use Rattle.chord_wire.specs.FaultTable.AnswerFaultOf.{Bad_length, Bad_version, Bad_operation, Bad_value, Trails}
 use Rattle.chord_wire.proofs.Steps.{wide64, number_again}
-use Rattle.chord_wire.proofs.AnswerLaws.{answer_takes, status_again, fault_again, known_kind, is_answer}
+use Rattle.chord_wire.proofs.AnswerLaws.{answers, answer_takes, status_again, fault_again, known_kind, is_answer}
 use Rattle.chord_wire.proofs.FaultLaws.{Fails, fails_ok, fails_err, fails_if, fails_then, fails_so, number_fails, value_fails, broke, body_of, fields_fit, next_fails, length_reads, ok_then, err_not, err_is, next_fault}
 use Rattle.chord_wire.proofs.FaultLaws.Broke.{First, Then}
 
@@ -104,10 +104,6 @@ kind_of_begun head a rest begins = subst IsKind begins.kind (is_kind a)
     is_kind (answer.Reply number reply) = is_reply_kind reply
     is_kind (answer.Fault number code) = inr (inr refl)
 
-failing : {bytes : List ℕ} (head : AnswerHead bytes) (e : WireFault) → answer_in (body_of head) ≡ Err e → next_answer bytes ≡ Err e
-unfolding next_answer
-failing head e h = next_fails answer_in head e (omega arith) h
-
 bad_version : (version kind : ℕ) (rest : List ℕ) → version ≢ 1 → answer_in (version ∷ kind ∷ rest) ≡ Err (fault BadVersion 0)
 unfolding answer_in
 bad_version version kind rest bad = rw (ne_eqb version 1 bad) refl
@@ -141,11 +137,10 @@ begun head x known fits e =
     }
 
 pub is_fault : (bytes : List ℕ) (f : WireFault) → IsBytes bytes → AnswerFaultOf bytes f → next_answer bytes ≡ Err f
-unfolding next_answer
-is_fault bytes _ fits (Bad_length count rest front small out) = length_reads 11 4098014 answer_in bytes count rest front small out
-is_fault bytes _ fits (Bad_version head bad) = failing head (fault BadVersion 0) (bad_version head.version head.op _ bad)
+is_fault bytes _ fits (Bad_length count rest front small out) = length_reads answers bytes count rest front small out
+is_fault bytes _ fits (Bad_version head bad) = next_fails answers head (fault BadVersion 0) (bad_version head.version head.op _ bad)
 is_fault bytes _ fits (Bad_operation head one bad) =
-    failing head (fault BadOperation 0)
+    next_fails answers head (fault BadOperation 0)
     (elim (cases_Bool (((eqb head.op 129 || eqb head.op 130) || eqb head.op 131) || eqb head.op 255)) [
       | inl is_so ↦ absurd (bad (known_kind head.op is_so))
       | inr not_so ↦ bad_kind head.version head.op _ one not_so
@@ -153,9 +148,9 @@ is_fault bytes _ fits (Bad_operation head one bad) =
 is_fault bytes _ fits (Bad_value head one known bad) =
     let d = fault BadValue head.number in
     let none = fails_so d (answer_at head.op head.number head.fields) (answer_fails head.op head.number head.fields) (λ x e. bad x.0 x.1 (begun head x known fits e)) in
-    failing head d (known_reads head one known ∙ value_reads head.op head.number head.fields d head.number_fits none)
+    next_fails answers head d (known_reads head one known ∙ value_reads head.op head.number head.fields d head.number_fits none)
 is_fault bytes _ fits (Trails head a rest one begins some) =
-    failing head (fault Trailing head.number) (known_reads head one (kind_of_begun head a rest begins)
+    next_fails answers head (fault Trailing head.number) (known_reads head one (kind_of_begun head a rest begins)
     ∙ trailing_reads head.op head.number head.fields rest a head.number_fits (begins_read head a rest begins) (ne_eqb (length rest) 0 (λ e. some (nil_from_length rest e))))
 
 -- ---- from reading to the table

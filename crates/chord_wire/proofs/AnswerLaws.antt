@@ -17,10 +17,10 @@ use Rattle.chord_map.specs.Checked.{IsValue}
 use Rattle.chord_wire.specs.Spelling.{IsBytes, frame, value_field}
 use Rattle.chord_wire.specs.Replies.{IsReply, IsAnswer, reply_kind, reply_fields, values_field, answer_body, kind_of, number_of, fields_of}
 use Rattle.chord_wire.specs.FaultTable.{IsKind}
-use Rattle.chord_wire.specs.Reading.{◌>>=◌, number_at, value_at, IsDecided, with_more}
+use Rattle.chord_wire.specs.Reading.{◌>>=◌, number_at, value_at}
 use Rattle.chord_wire.specs.ReadingReplies.{is_above, or_fault, status_of, status_at, code_at, value_above, rising_at, values_from, answer_at, answer_at_end, answer_fields, answer_in, next_answer}
 use Rattle.chord_wire.proofs.Steps.{IsBytes-rest, IsBytes-front, IsBytes-back, bind_ok, guard_on, guard_then, ok_is, Takes, Takes-then, wide32, wide64, number_takes, number_again}
-use Rattle.chord_wire.proofs.NextLaws.{IsRead, next_again_of, stays}
+use Rattle.chord_wire.proofs.NextLaws.{IsRead}
 use Rattle.chord_wire.proofs.RequestLaws.{ends}
 use Rattle.chord_wire.proofs.Rising.{AreRising, are_rising, is_sorted}
 use Rattle.chord_wire.proofs.ReplyLaws.{length_reply}
@@ -301,14 +301,6 @@ length_answer (answer.Reply number reply) fits = length_reply number reply fits.
 length_answer (answer.Fault number code) fits = (omega arith, omega arith)
 
 -- an answer is read from its body
-pub answers : IsRead 11 4098014 answer_in IsAnswer answer_body
-answers = record { takes = answer_taken; again = answer_again; long = length_answer; small = omega arith }
-
-pub next_again : (a : Answer) (rest : List ℕ) → IsAnswer a → next_answer (frame (answer_body a) ++ rest) ≡ Ok (Some (a, rest))
+pub answers : IsRead next_answer 11 4098014 answer_in IsAnswer answer_body
 unfolding next_answer
-next_again = next_again_of answers
-
--- more bytes do not change what is decided
-pub answer_stays : (bytes more : List ℕ) → IsDecided (next_answer bytes) → next_answer (bytes ++ more) ≡ with_more more (next_answer bytes)
-unfolding next_answer
-answer_stays = stays 11 4098014 answer_in
+answers = record { is = λ bytes. refl; takes = answer_taken; again = answer_again; long = length_answer; small = omega arith }

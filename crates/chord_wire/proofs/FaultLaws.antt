@@ -15,7 +15,8 @@ use Rattle.chord_wire.specs.FaultTable.{Head, RequestHead, IsVersion, IsKnown, B
 use Rattle.chord_wire.specs.FaultTable.FaultOf.{Bad_length, Bad_version, Bad_operation, Bad_floor, Bad_key, Bad_value, Trails}
 use Rattle.chord_wire.proofs.Steps.{IsBytes-rest, IsBytes-front, IsBytes-back, wide32, wide64, number_takes, number_again}
 use Rattle.chord_wire.proofs.FieldLaws.{floor_takes, floor_again, key_takes, key_again, value_takes, value_again, operands_take, operands_again}
-use Rattle.chord_wire.proofs.NextLaws.{BodyFound, body_takes, body_again, body_fits}
+use Rattle.chord_wire.proofs.RequestLaws.{requests}
+use Rattle.chord_wire.proofs.NextLaws.{IsRead, BodyFound, body_takes, body_again, body_fits}
 
 -- ---- a reader fails with one fault alone
 
@@ -169,12 +170,13 @@ no_body least most bytes count rest front small out =
     ap (body_at least most) front ∙ length_refused least most count rest small test
 
 -- what no value is read from has a fault
-pub next_fails : {X : Type 0} {least most : ℕ} (read : List ℕ → Result X WireFault) {bytes : List ℕ} (head : Head least most bytes) (e : WireFault) → most < 2 ^ 32 → read (body_of head) ≡ Err e → next_of least most read bytes ≡ Err e
-next_fails read head e small h = rw (body_there head small, h) refl
+module _ {X : Type 0} {next : List ℕ → Result (Option (X × List ℕ)) WireFault} {least most : ℕ} {read : List ℕ → Result X WireFault} {Fits : X → Type 0} {text : X → List ℕ}
+    (reads : IsRead next least most read Fits text) where
+  pub next_fails : {bytes : List ℕ} (head : Head least most bytes) (e : WireFault) → read (body_of head) ≡ Err e → next bytes ≡ Err e
+  next_fails {bytes} head e h = reads.is bytes ∙ rw (body_there head reads.small, h) refl
 
-pub length_reads : {X : Type 0} (least most : ℕ) (read : List ℕ → Result X WireFault) (bytes : List ℕ) (count : ℕ) (rest : List ℕ) → bytes ≡ to_be_bytes w32 count ++ rest → count < 2 ^ 32 → (count < least) ⊎ (most < count)
-    → next_of least most read bytes ≡ Err (fault BadLength 0)
-length_reads least most read bytes count rest front small out = rw (no_body least most bytes count rest front small out) refl
+  pub length_reads : (bytes : List ℕ) (count : ℕ) (rest : List ℕ) → bytes ≡ to_be_bytes w32 count ++ rest → count < 2 ^ 32 → (count < least) ⊎ (most < count) → next bytes ≡ Err (fault BadLength 0)
+  length_reads bytes count rest front small out = reads.is bytes ∙ rw (no_body least most bytes count rest front small out) refl
 
 bad_version : (version op : ℕ) (rest : List ℕ) → ¬ IsVersion version → request_in (version ∷ op ∷ rest) ≡ Err (fault BadVersion 0)
 unfolding request_in
@@ -222,16 +224,11 @@ rest_fit : {bytes : List ℕ} (head : RequestHead bytes) (rest : List ℕ) → F
 rest_fit head rest floored fits =
     IsBytes-back (floor_field head.version floored.floor) rest (subst IsBytes floored.begins.0 (fields_fit head fits))
 
-failing : {bytes : List ℕ} (head : RequestHead bytes) (e : WireFault) → request_in (body_of head) ≡ Err e → next_request bytes ≡ Err e
-unfolding next_request
-failing head e h = next_fails request_in head e (omega arith) h
-
 pub is_fault : (bytes : List ℕ) (f : WireFault) → IsBytes bytes → FaultOf bytes f → next_request bytes ≡ Err f
-unfolding next_request
-is_fault bytes _ fits (Bad_length count rest front small out) = length_reads 12 4372 request_in bytes count rest front small out
-is_fault bytes _ fits (Bad_version head bad) = failing head (fault BadVersion 0) (bad_version head.version head.op _ bad)
+is_fault bytes _ fits (Bad_length count rest front small out) = length_reads requests bytes count rest front small out
+is_fault bytes _ fits (Bad_version head bad) = next_fails requests head (fault BadVersion 0) (bad_version head.version head.op _ bad)
 is_fault bytes _ fits (Bad_operation head known bad) =
-    failing head (fault BadOperation 0)
+    next_fails requests head (fault BadOperation 0)
     (elim (cases_Bool (ltb 0 head.op && ltb head.op 4)) [
       | inl is_so ↦ let range = known_op head.op is_so in absurd (bad (known, range.0, range.1))
       | inr not_so ↦ bad_operation head.version head.op _ known not_so
@@ -241,13 +238,13 @@ is_fault bytes _ fits (Bad_floor head known bad) =
     let none = fails_so d (floor_at head.version head.number head.fields) (floor_fails head.version head.number head.fields) (λ x e.
     let t = floor_takes head.version head.number head.fields x known.0 (fields_fit head fits) e in
     bad x.1 (record { known = known; floor = x.0; begins = (t.0.parts, t.1) })) in
-    failing head d (known_reads head known ∙ floor_reads head.version head.op head.number head.fields d head.number_fits none)
+    next_fails requests head d (known_reads head known ∙ floor_reads head.version head.op head.number head.fields d head.number_fits none)
 is_fault bytes _ fits (Bad_key head rest floored bad) =
     let d = fault BadKey head.number in
     let none = fails_so d (key_at head.number rest) (key_fails head.number rest) (λ x e.
     let t = key_takes head.number rest x (rest_fit head rest floored fits) e in
     bad x.0 x.1 (t.0.parts, t.1)) in
-    failing head d (known_reads head floored.known
+    next_fails requests head d (known_reads head floored.known
     ∙ operands_read head.version head.op head.number floored.floor head.fields rest d head.number_fits (floor_of head rest floored) (key_reads head.op head.number rest d none))
 is_fault bytes _ fits (Bad_value head rest key more floored begins two bad) =
     let d = fault BadValue head.number in
@@ -256,13 +253,13 @@ is_fault bytes _ fits (Bad_value head rest key more floored begins two bad) =
     let t = value_takes head.number more x more_fit e in
     bad x.0 x.1 (t.0.parts, t.1)) in
     let there = ap (key_at head.number) begins.0 ∙ key_again head.number key more begins.1 in
-    failing head d (known_reads head floored.known
+    next_fails requests head d (known_reads head floored.known
     ∙ operands_read head.version head.op head.number floored.floor head.fields rest d head.number_fits (floor_of head rest floored)
     (value_reads head.op head.number rest key more d there (ne_eqb head.op 2 two) none))
 is_fault bytes _ fits (Trails head rest request more floored parts is_request op some) =
     let there : operands_at head.op head.number rest ≡ Ok (request, more) =
     ap (operands_at head.op head.number) parts ∙ ap (λ (o : ℕ). operands_at o head.number (operands request ++ more)) (sym op) ∙ operands_again head.number request more is_request in
-    failing head (fault Trailing head.number) (known_reads head floored.known
+    next_fails requests head (fault Trailing head.number) (known_reads head floored.known
     ∙ trailing_reads head.version head.op head.number floored.floor head.fields rest more request head.number_fits (floor_of head rest floored) there
     (ne_eqb (length more) 0 (λ e. some (nil_from_length more e))))
 

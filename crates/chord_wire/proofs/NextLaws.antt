@@ -80,14 +80,16 @@ body_fits bytes body rest front fits =
 
 -- ---- values that are read from a body
 
--- a value that fits is read from its body alone
-pub record IsRead {X : Type 0} (least most : ℕ) (read : List ℕ → Result X WireFault) (Fits : X → Type 0) (text : X → List ℕ) : Type 0 where
+-- `next` reads the next frame; from its body a value that fits is read, and from no other body
+pub record IsRead {X : Type 0} (next : List ℕ → Result (Option (X × List ℕ)) WireFault) (least most : ℕ) (read : List ℕ → Result X WireFault) (Fits : X → Type 0) (text : X → List ℕ) : Type 0 where
+  pub is : (bytes : List ℕ) → next bytes ≡ next_of least most read bytes
   pub takes : (body : List ℕ) (x : X) → IsBytes body → read body ≡ Ok x → Fits x × (body ≡ text x)
   pub again : (x : X) → Fits x → read (text x) ≡ Ok x
   pub long : (x : X) → Fits x → (least ≤ length (text x)) × (length (text x) ≤ most)
   pub small : most < 2 ^ 32
 
-module _ {X : Type 0} {least most : ℕ} {read : List ℕ → Result X WireFault} {Fits : X → Type 0} {text : X → List ℕ} (reads : IsRead least most read Fits text) where
+module _ {X : Type 0} {next : List ℕ → Result (Option (X × List ℕ)) WireFault} {least most : ℕ} {read : List ℕ → Result X WireFault} {Fits : X → Type 0} {text : X → List ℕ}
+    (reads : IsRead next least most read Fits text) where
   abbrev Taken : List ℕ → (X × List ℕ) → Type 0
   Taken bytes x = Fits x.0 × (bytes ≡ frame (text x.0) ++ x.1)
 
@@ -100,20 +102,21 @@ module _ {X : Type 0} {least most : ℕ} {read : List ℕ → Result X WireFault
       let same : bytes ≡ frame (text b.0) ++ body.1 = t.parts.parts ∙ ap (λ (w : List ℕ). frame w ++ body.1) r.1 in
       subst (Taken bytes) (some_is (b.0, body.1) x b.2) (r.0, same)
 
-  next_takes : (bytes : List ℕ) (x : X × List ℕ) → IsBytes bytes → next_of least most read bytes ≡ Ok (Some x) → Taken bytes x
+  next_takes : (bytes : List ℕ) (x : X × List ℕ) → IsBytes bytes → next bytes ≡ Ok (Some x) → Taken bytes x
   next_takes bytes x fits e =
-      let a = bind_ok (body_at least most bytes) (of_body read) (Some x) e in
+      let a = bind_ok (body_at least most bytes) (of_body read) (Some x) (sym (reads.is bytes) ∙ e) in
       after_body bytes a.0 x fits a.1 a.2
 
-  pub next_again_of : (x : X) (rest : List ℕ) → Fits x → next_of least most read (frame (text x) ++ rest) ≡ Ok (Some (x, rest))
-  next_again_of x rest fits =
+  pub next_again : (x : X) (rest : List ℕ) → Fits x → next (frame (text x) ++ rest) ≡ Ok (Some (x, rest))
+  next_again x rest fits =
       let len = reads.long x fits in
-      ap (λ (r : Result (Option (List ℕ × List ℕ)) WireFault). r >>= of_body read) (body_again least most (text x) rest reads.small len.0 len.1)
+      reads.is (frame (text x) ++ rest)
+      ∙ ap (λ (r : Result (Option (List ℕ × List ℕ)) WireFault). r >>= of_body read) (body_again least most (text x) rest reads.small len.0 len.1)
       ∙ ap (λ (r : Result X WireFault). r >>= λ y. Ok (Some (y, rest))) (reads.again x fits)
 
   -- a call takes a value that fits
-  pub taken_is_found : (result : Result (Option X) WireFault) (old new : List ℕ) → IsBytes old → TakesNext (next_of least most read) old result new
-      → IfOk result (λ next. IfSome next (λ x. Fits x × (old ≡ frame (text x) ++ new)))
+  pub taken_is_found : (result : Result (Option X) WireFault) (old new : List ℕ) → IsBytes old → TakesNext next old result new
+      → IfOk result (λ found_next. IfSome found_next (λ x. Fits x × (old ≡ frame (text x) ++ new)))
   taken_is_found (Ok (Some x)) old new fits taken = next_takes old (x, new) fits taken
   taken_is_found (Ok None) old new fits taken = tt
   taken_is_found (Err e) old new fits taken = tt
@@ -122,18 +125,18 @@ module _ {X : Type 0} {least most : ℕ} {read : List ℕ → Result X WireFault
   read_as o = Ok o
 
   -- a call takes the value whose frame is next, unless memory runs out
-  pub spelled_is_taken : (result : Result (Option X) WireFault) (old new : List ℕ) → TakesNext (next_of least most read) old result new
+  pub spelled_is_taken : (result : Result (Option X) WireFault) (old new : List ℕ) → TakesNext next old result new
       → (x : X) (rest : List ℕ) → Fits x → old ≡ frame (text x) ++ rest → (result ≡ Ok (Some x)) ⊎ (result ≡ Err out_of_memory)
   spelled_is_taken (Ok (Some y)) old new taken x rest fits e =
-      let again = ap (next_of least most read) e ∙ next_again_of x rest fits in
+      let again = ap next e ∙ next_again x rest fits in
       let same : y ≡ x = ap (λ (p : X × List ℕ). p.0) (some_is (y, new) (x, rest) (sym taken ∙ again)) in
       inl (ap (λ (z : X). Ok (Some z)) same)
   spelled_is_taken (Ok None) old new taken x rest fits e =
-      let again = ap (next_of least most read) e ∙ next_again_of x rest fits in
+      let again = ap next e ∙ next_again x rest fits in
       let none : read_as None ≡ read_as (Some (x, rest)) = sym taken.0 ∙ again in
       absurd cc
   spelled_is_taken (Err f) old new taken x rest fits e =
-      let again = ap (next_of least most read) e ∙ next_again_of x rest fits in
+      let again = ap next e ∙ next_again x rest fits in
       elim taken.0 [
         | inl bad ↦ let two : Err f ≡ read_as (Some (x, rest)) = sym bad ∙ again in absurd cc
         | inr out ↦ inr (ap (λ (g : WireFault). Err g) out.0)
@@ -181,7 +184,12 @@ module _ {X : Type 0} (least most : ℕ) (read : List ℕ → Result X WireFault
   decided_before (Ok None) h = absurd h
   decided_before (Err e) h = tt
 
-  -- more bytes do not change what is decided
-  pub stays : (bytes more : List ℕ) → IsDecided (next_of least most read bytes) → next_of least most read (bytes ++ more) ≡ with_more more (next_of least most read bytes)
-  stays bytes more h =
+  next_stays : (bytes more : List ℕ) → IsDecided (next_of least most read bytes) → next_of least most read (bytes ++ more) ≡ with_more more (next_of least most read bytes)
+  next_stays bytes more h =
       ap (λ (r : Result (Option (List ℕ × List ℕ)) WireFault). r >>= of_body read) (body_stays least most bytes more (decided_before (body_at least most bytes) h)) ∙ read_stays more (body_at least most bytes) h
+
+-- more bytes do not change what is decided
+pub stays : {X : Type 0} {next : List ℕ → Result (Option (X × List ℕ)) WireFault} {least most : ℕ} {read : List ℕ → Result X WireFault} {Fits : X → Type 0} {text : X → List ℕ} → IsRead next least most read Fits text
+    → (bytes more : List ℕ) → IsDecided (next bytes) → next (bytes ++ more) ≡ with_more more (next bytes)
+stays {least = least} {most = most} {read = read} reads bytes more h =
+    reads.is (bytes ++ more) ∙ next_stays least most read bytes more (subst IsDecided (reads.is bytes) h) ∙ ap (with_more more) (sym (reads.is bytes))

@@ -12,9 +12,9 @@ use Rattle.chord_wire.specs.declared.fault.FaultCode.TheVariants.{BadLength, Bad
 use Rattle.chord_wire.specs.Fault.{fault, out_of_memory}
 use Rattle.chord_map.specs.Checked.{IsRequest}
 use Rattle.chord_wire.specs.Spelling.{IsBytes, operation, operands, key_field, value_field, floor_field, request_body, frame, HasFloor, IsWireRequest}
-use Rattle.chord_wire.specs.Reading.{◌>>=◌, number_at, floor_at, operands_at, fields_at, request_in, body_at, next_request, IsDecided, with_more}
+use Rattle.chord_wire.specs.Reading.{◌>>=◌, number_at, floor_at, operands_at, fields_at, request_in, body_at, next_request}
 use Rattle.chord_wire.proofs.Steps.{IsBytes-rest, IsBytes-drop, IsBytes-front, IsBytes-back, bind_ok, guard_then, guard_on, Takes, Takes-then, wide32, wide64, number_takes, number_again}
-use Rattle.chord_wire.proofs.NextLaws.{IsRead, next_again_of, stays}
+use Rattle.chord_wire.proofs.NextLaws.{IsRead}
 use Rattle.chord_wire.proofs.FieldLaws.{floor_takes, floor_again, operands_take, operands_again}
 
 -- nothing comes after the text
@@ -114,18 +114,10 @@ length_body r fits =
     (omega (arith, len, o.0), omega (arith, len, o.1, f))
 
 -- a request is read from its body
-pub requests : IsRead 12 4372 request_in IsWireRequest request_body
-requests = record { takes = request_takes; again = request_again; long = length_body; small = omega arith }
-
-pub next_again : (r : WireRequest) (rest : List ℕ) → IsWireRequest r → next_request (frame (request_body r) ++ rest) ≡ Ok (Some (r, rest))
+pub requests : IsRead next_request 12 4372 request_in IsWireRequest request_body
 unfolding next_request
-next_again = next_again_of requests
+requests = record { is = λ bytes. refl; takes = request_takes; again = request_again; long = length_body; small = omega arith }
 
 pub next_is : (bytes : List ℕ) (body : List ℕ × List ℕ) (r : WireRequest) → body_at 12 4372 bytes ≡ Ok (Some body) → request_in body.0 ≡ Ok r → next_request bytes ≡ Ok (Some (r, body.1))
 unfolding next_request
 next_is bytes body r e h = rw (e, h) refl
-
--- more bytes do not change what is decided
-pub next_stays : (bytes more : List ℕ) → IsDecided (next_request bytes) → next_request (bytes ++ more) ≡ with_more more (next_request bytes)
-unfolding next_request
-next_stays = stays 12 4372 request_in
