@@ -11,6 +11,7 @@ use Rattle.chord_model.specs.World.{World, empty_world}
 use Rattle.chord_model.specs.World.Run.{Stays, Goes_on}
 use Rattle.chord_table.proofs.Events.{shown_heir, admitted_heir, event_shown, true_entered, register_entered, callers_entered}
 use Rattle.chord_table.proofs.Later.{later_itself}
+use Rattle.chord_table.proofs.Numbers.{same_word}
 use Rattle.chord_table.proofs.Showing.{IsHeir, shows_changed, shows_added}
 use Rattle.chord_table.proofs.Worlds.{IsNew, new_apart, there_entered, may_enter}
 use Rattle.chord_table.specs.Actors.{IsThere, AreOne, world_after, world_with}
@@ -31,12 +32,17 @@ pub shown_true : {v w : View} {me : Me ℕ View} → me ≡ (v, []) → v ≡ w 
 shown_true is same true_of = subst (λ (u : View). IsTrueOfSome u) (ap (λ (m : Me ℕ View). m.0) is ∙ same) true_of
 
 -- after an event the seat shows the actor's new state and has the same word
-pub still_seated : (name : Name) (word : ℕ) (old next : Me ℕ View) (s : Sight) (new : Actor) → old ≡ (view_of s, []) → next ≡ (with_actor new old.0, old.1)
+still_seated : (name : Name) (word : ℕ) (old next : Me ℕ View) (s : Sight) (new : Actor) → old ≡ (view_of s, []) → next ≡ (with_actor new old.0, old.1)
     → word ≡ word_of name s.actor → word_of name s.actor ≡ word_of name new
     → (next ≡ (view_of (sight_of next.0), [])) × (word ≡ word_of name (sight_of next.0).actor)
 still_seated name word old next s new is becomes at same =
     let shown : next ≡ (Shown new s.messages, []) = becomes ∙ ap (λ (m : Me ℕ View). (with_actor new m.0, m.1)) is in
     subst (λ (m : Me ℕ View). (m ≡ (view_of (sight_of m.0), [])) × (word ≡ word_of name (sight_of m.0).actor)) (sym shown) (refl, at ∙ same)
+
+pub seated_after : (name : Name) (word : ℕ) (old next : Me ℕ View) (s : Sight) (new : Actor) (sent : Option Message) → old ≡ (view_of s, []) → next ≡ (with_actor new old.0, old.1)
+    → word ≡ word_of name s.actor → MayBecome s.actor s.messages new sent → (next ≡ (view_of (sight_of next.0), [])) × (word ≡ word_of name (sight_of next.0).actor)
+seated_after name word old next s new sent is becomes at (taken, call, known, event) =
+    still_seated name word old next s new is becomes at (same_word name s.actor new taken sent call event)
 
 -- the registrar's seat alone shows the empty world
 pub begins : (words : List ℕ) → IsKept (opening words [] (Admitted [] [] []))
@@ -58,7 +64,7 @@ nobodys message (Witnessed _) h = h
 nobodys message (Sent _) h = h
 nobodys message Spent h = h
 
-spent_has_none : (u : View) → HaveOneOwner u Spent → ⊥
+pub spent_has_none : (u : View) → HaveOneOwner u Spent → ⊥
 spent_has_none (Admitted _ _ _) h = h
 spent_has_none (Shown _ _) h = h
 spent_has_none (Witnessed _) h = h
