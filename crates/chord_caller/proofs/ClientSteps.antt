@@ -39,26 +39,9 @@ sent_alike client caller place other request ask core same asked = record {
 -- a client's refusal is its caller's
 refused_alike : (request : Request) (fault : SubmitFault) (old new : Client) (caller : Caller) → ClientSubmitIs request old (Err fault) new → IsCoreOf old caller → SubmitIs request caller (Err fault) caller
 refused_alike request (Bad fault) old new caller h core = (h.0, refl)
-refused_alike request WindowFull old new caller h core =
-    let over = h.1 in
-    let count = core.count_is in
-    let floor = core.floor_is in
-    let window = core.window_is in
-    (h.0, omega arith, refl)
-refused_alike request NumbersSpent old new caller h core =
-    let room = h.1 in
-    let spent = h.2 in
-    let count = core.count_is in
-    let floor = core.floor_is in
-    let window = core.window_is in
-    (h.0, omega arith, omega arith, refl)
-refused_alike request SubmitMemory old new caller h core =
-    let room = h.1 in
-    let left = h.2 in
-    let count = core.count_is in
-    let floor = core.floor_is in
-    let window = core.window_is in
-    (h.0, omega arith, omega arith, refl)
+refused_alike request WindowFull old new caller h core = (h.0, omega (arith, h.1, core.count_is, core.floor_is, core.window_is), refl)
+refused_alike request NumbersSpent old new caller h core = (h.0, omega (arith, h.1, core.count_is, core.floor_is, core.window_is), omega (arith, h.2, core.count_is), refl)
+refused_alike request SubmitMemory old new caller h core = (h.0, omega (arith, h.1, core.count_is, core.floor_is, core.window_is), omega (arith, h.2, core.count_is), refl)
 
 same_after : (request : Request) (fault : SubmitFault) (old new : Client) → ClientSubmitIs request old (Err fault) new → new ≡ old
 same_after request (Bad fault) old new h = h.1

@@ -4,59 +4,14 @@ use Rattle.std.proofs.lemmas.Bool.{and_parts, and_from, eqb-true, eq-eqb, ne_eqb
 use Rattle.std.proofs.lemmas.Option.{same_Some, none-some}
 use Rattle.std.proofs.lemmas.List.{take-append-le}
 use Rattle.chord_caller.specs.Caller.{Submission, Caller, submission_at, is_taken, floor_upto, floor_of, seen_at}
-use Rattle.chord_map.proofs.Lists.{by_test, Has, found, find_left}
+use Rattle.chord_map.proofs.Lists.{by_test, find_left}
 use Rattle.chord_map.specs.declared.request.Request.{Request}
 use Rattle.chord_model.proofs.Invariant.{TakenUpto, HasTaken, Submitted}
+use Rattle.chord_model.proofs.Numbered.{callers_by}
 use Rattle.chord_model.specs.World.{caller_at, put_caller}
 use Rattle.chord_map.proofs.HistoryLemmas.{done_left}
 use Rattle.chord_map.specs.declared.done.Done.{Done}
 use Rattle.chord_map.specs.History.{done_at}
-
--- looking callers up
-
-pub caller_number : (number : ℕ) (callers : List Caller) (caller : Caller) → caller_at number callers ≡ Some caller → caller.number ≡ number
-unfolding caller_at
-caller_number number callers caller e = eqb-true caller.number number (found (λ (c : Caller). eqb c.number number) callers caller e).0
-
-pub caller_has : (number : ℕ) (callers : List Caller) (caller : Caller) → caller_at number callers ≡ Some caller → Has callers caller
-unfolding caller_at
-caller_has number callers caller e = (found (λ (c : Caller). eqb c.number number) callers caller e).1
-
-pub put_same : (after : Caller) (callers : List Caller) (caller : Caller) → caller_at after.number callers ≡ Some caller
-    → caller_at after.number (put_caller after callers) ≡ Some after
-unfolding caller_at put_caller
-put_same after [] caller e = absurd (none-some caller e)
-put_same after (first ∷ rest) caller e =
-    by_test (eqb first.number after.number)
-    (λ t. ap (λ cs. find (λ (c : Caller). eqb c.number after.number) cs) (cond-true (eqb first.number after.number) (after ∷ rest) (first ∷ put_caller after rest) t)
-    ∙ cond-true (eqb after.number after.number) (Some after) (find (λ (c : Caller). eqb c.number after.number) rest) (eq-eqb after.number after.number refl))
-    (λ f. ap (λ cs. find (λ (c : Caller). eqb c.number after.number) cs) (cond-false (eqb first.number after.number) (after ∷ rest) (first ∷ put_caller after rest) f)
-    ∙ cond-false (eqb first.number after.number) (Some first) (find (λ (c : Caller). eqb c.number after.number) (put_caller after rest)) f
-    ∙ put_same after rest caller (sym (cond-false (eqb first.number after.number) (Some first) (find (λ (c : Caller). eqb c.number after.number) rest) f) ∙ e))
-
-pub put_apart : (after : Caller) (callers : List Caller) (number : ℕ) → number ≢ after.number
-    → caller_at number (put_caller after callers) ≡ caller_at number callers
-unfolding caller_at put_caller
-put_apart after [] number apart = refl
-put_apart after (first ∷ rest) number apart =
-    by_test (eqb first.number after.number)
-    (λ t.
-    let e : first.number ≡ after.number = eqb-true first.number after.number t in
-    ap (λ cs. find (λ (c : Caller). eqb c.number number) cs) (cond-true (eqb first.number after.number) (after ∷ rest) (first ∷ put_caller after rest) t)
-    ∙ cond-false (eqb after.number number) (Some after) (find (λ (c : Caller). eqb c.number number) rest) (ne_eqb after.number number (λ d. apart (sym d)))
-    ∙ sym (cond-false (eqb first.number number) (Some first) (find (λ (c : Caller). eqb c.number number) rest) (ne_eqb first.number number (λ d. apart (sym d ∙ e)))))
-    (λ f. ap (λ cs. find (λ (c : Caller). eqb c.number number) cs) (cond-false (eqb first.number after.number) (after ∷ rest) (first ∷ put_caller after rest) f)
-    ∙ ap (λ o. cond (eqb first.number number) (Some first) o) (put_apart after rest number apart))
-
-pub has_put_caller : (after : Caller) (callers : List Caller) (caller : Caller) → Has (put_caller after callers) caller → Has callers caller ⊎ (after ≡ caller)
-unfolding put_caller
-has_put_caller after [] caller h = absurd h
-has_put_caller after (first ∷ rest) caller h =
-    by_test (eqb first.number after.number)
-    (λ t. ⊎_elim (λ e. inr e) (λ more. inl (inr more))
-    (subst (λ cs. Has cs caller) (cond-true (eqb first.number after.number) (after ∷ rest) (first ∷ put_caller after rest) t) h))
-    (λ f. ⊎_elim (λ e. inl (inl e)) (λ more. ⊎_elim (λ a. inl (inr a)) (λ e. inr e) (has_put_caller after rest caller more))
-    (subst (λ cs. Has cs caller) (cond-false (eqb first.number after.number) (after ∷ rest) (first ∷ put_caller after rest) f) h))
 
 -- a caller that has grown has at least its old calls
 pub record Grown (old new : Caller) : Type 0 where
@@ -89,8 +44,8 @@ all_grown_put after callers caller here grown number other e =
     ⊎_elim
     (λ same.
     let is : caller ≡ other = same_Some caller other (sym here ∙ subst (λ n. caller_at n callers ≡ Some other) same e) in
-    (after, subst (λ n. caller_at n (put_caller after callers) ≡ Some after) (sym same) (put_same after callers caller here), subst (λ c. Grown c after) is grown))
-    (λ apart. (other, put_apart after callers number apart ∙ e, grown_itself other))
+    (after, subst (λ n. caller_at n (put_caller after callers) ≡ Some after) (sym same) (callers_by.put_same after callers caller here), subst (λ c. Grown c after) is grown))
+    (λ apart. (other, callers_by.put_apart after callers number apart ∙ e, grown_itself other))
     (cases_eq number after.number)
 
 pub caller_left : (number : ℕ) (callers more : List Caller) (caller : Caller) → caller_at number callers ≡ Some caller → caller_at number (callers ++ more) ≡ Some caller

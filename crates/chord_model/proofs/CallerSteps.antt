@@ -9,8 +9,8 @@ use Rattle.chord_map.proofs.Lists.{by_test, not_both, Has, Each, has_cases, has_
 use Rattle.chord_map.specs.declared.reply.Reply.{Reply}
 use Rattle.chord_map.specs.declared.request.Request.{Request}
 use Rattle.chord_map.specs.Map.{fits}
-use Rattle.chord_model.proofs.CallerLemmas.{caller_number, caller_has, put_same, has_put_caller, Grown, AllGrown, nothing_more, grown_itself, all_grown_put, submission_grown, taken_grown, one_request, floor_taken, floor_grown}
-use Rattle.chord_model.proofs.Growth.{message_grown, done_grown, node_grown, ordered_grown}
+use Rattle.chord_model.proofs.CallerLemmas.{Grown, AllGrown, nothing_more, grown_itself, all_grown_put, submission_grown, taken_grown, one_request, floor_taken, floor_grown}
+use Rattle.chord_model.proofs.Growth.{message_grown, good_of_grown}
 use Rattle.chord_model.proofs.Invariant.{IsOwn, CallerGood, AskGood, ToldGood, MessageGood, Good, Submitted}
 use Rattle.chord_caller.specs.declared.ask.Ask.{Ask}
 use Rattle.chord_model.specs.declared.message.Message.{Message}
@@ -20,6 +20,7 @@ use Rattle.chord_model.specs.World.{World, caller_at, put_caller, with_one, WasS
 use Rattle.chord_map.proofs.HistoryLemmas.{once_pushed}
 use Rattle.chord_map.specs.declared.done.Done.{Done}
 use Rattle.chord_map.specs.History.{done_at, StandsIn}
+use Rattle.chord_model.proofs.Numbered.{callers_by}
 
 -- a property of each message holds with one more, if there is one
 pub each_with_one : {A : Type 0} (P : A → Type 0) (xs : List A) (o : Option A) → Each P xs → ((x : A) → o ≡ Some x → P x) → Each P (with_one xs o)
@@ -32,29 +33,20 @@ pub caller_event : (old : World) (good : Good old) (number : ℕ) (caller after 
     → ((message : Message) → sent ≡ Some message → MessageGood (put_caller after old.callers) old.history message)
     → Good (record old { callers = put_caller after old.callers; sent = with_one old.sent sent })
 caller_event old good number caller after sent here grown after_good sent_good =
-    let new : World = record old { callers = put_caller after old.callers; sent = with_one old.sent sent } in
     let at : caller_at after.number old.callers ≡ Some caller =
-    ap (λ n. caller_at n old.callers) (grown.number ∙ caller_number number old.callers caller here) ∙ here in
-    let all : AllGrown old.callers new.callers = all_grown_put after old.callers caller at grown in
-    record {
-      callers = λ other h. ⊎_elim (λ there. good.callers other there) (λ is. subst (CallerGood old.history) is after_good) (has_put_caller after old.callers other h);
-      messages = each_with_one (MessageGood new.callers old.history) old.sent sent
-          (λ message h. message_grown old.callers new.callers old.history old.history all (λ done stands. stands) message (good.messages message h)) sent_good;
-      executed = λ done stands. done_grown old.callers new.callers old.history old.history all (λ done stands. stands) done (good.executed done stands);
-      legal = good.legal;
-      in_order = ordered_grown old new good refl all;
-      nodes = λ node h. node_grown old.callers new.callers old.history old.history all (λ done stands. stands) node (good.nodes node h);
-      held = good.held;
-      under_way = good.under_way;
-      unbegun = good.unbegun;
-    }
+    ap (λ n. caller_at n old.callers) (grown.number ∙ callers_by.number number old.callers caller here) ∙ here in
+    let all = all_grown_put after old.callers caller at grown in
+    good_of_grown old good (put_caller after old.callers) (with_one old.sent sent) all
+    (λ other h. ⊎_elim (λ there. good.callers other there) (λ is. subst (CallerGood old.history) is after_good) (callers_by.has_put after old.callers other h))
+    (each_with_one (MessageGood (put_caller after old.callers) old.history) old.sent sent
+    (λ message h. message_grown old.callers (put_caller after old.callers) old.history old.history all (λ done stands. stands) message (good.messages message h)) sent_good)
 
 -- a caller that does not change
 pub caller_stays : (old : World) (good : Good old) (number : ℕ) (caller : Caller) (sent : Option Message) → caller_at number old.callers ≡ Some caller
     → ((message : Message) → sent ≡ Some message → MessageGood (put_caller caller old.callers) old.history message)
     → Good (record old { callers = put_caller caller old.callers; sent = with_one old.sent sent })
 caller_stays old good number caller sent here sent_good =
-    caller_event old good number caller caller sent here (grown_itself caller) (good.callers caller (caller_has number old.callers caller here)) sent_good
+    caller_event old good number caller caller sent here (grown_itself caller) (good.callers caller (callers_by.has number old.callers caller here)) sent_good
 
 -- the submissions with one more
 
@@ -150,10 +142,10 @@ own_grown old new grown done own = record {
 
 module _ (old : World) (good : Good old) (number : ℕ) (caller : Caller) (here : caller_at number old.callers ≡ Some caller) where
   before_good : CallerGood old.history caller
-  before_good = good.callers caller (caller_has number old.callers caller here)
+  before_good = good.callers caller (callers_by.has number old.callers caller here)
 
   itself : caller_at caller.number old.callers ≡ Some caller
-  itself = ap (λ n. caller_at n old.callers) (caller_number number old.callers caller here) ∙ here
+  itself = ap (λ n. caller_at n old.callers) (callers_by.number number old.callers caller here) ∙ here
 
   -- the ask of a submitted request
   ask_good : (after : Caller) → Grown caller after → (place : ℕ) (submission : Submission) → submission_at place after.submitted ≡ Some submission
@@ -161,7 +153,7 @@ module _ (old : World) (good : Good old) (number : ℕ) (caller : Caller) (here 
   ask_good after grown place submission is ask sent =
       let at : caller_at after.number old.callers ≡ Some caller = ap (λ n. caller_at n old.callers) grown.number ∙ itself in
       let put : caller_at caller.number (put_caller after old.callers) ≡ Some after =
-      ap (λ n. caller_at n (put_caller after old.callers)) (sym grown.number) ∙ put_same after old.callers caller at in
+      ap (λ n. caller_at n (put_caller after old.callers)) (sym grown.number) ∙ callers_by.put_same after old.callers caller at in
       record {
         submitted = record {
           caller = after;

@@ -9,7 +9,7 @@ use Rattle.chord_map.proofs.Finding.{not_true}
 use Rattle.chord_model.proofs.Channels.{taken_in, gone_by}
 use Rattle.chord_model.proofs.Events.{Event, take_event, takes_back_event}
 use Rattle.chord_model.proofs.Kept.{Sound, sound_reached, gone_test, none_at, event}
-use Rattle.chord_model.proofs.Nodes.{node_at_is, node_at-put_same, at_put, at_push}
+use Rattle.chord_model.proofs.Nodes.{at_put, at_push}
 use Rattle.chord_model.proofs.Placed.{Placed, placed_step}
 use Rattle.chord_model.proofs.Totals.{has, weight, total}
 use Rattle.chord_model.proofs.Whole.{whole_ok}
@@ -24,6 +24,7 @@ use Rattle.chord_model.specs.declared.phase.Phase.TheVariants.{Gone}
 use Rattle.chord_map.proofs.Equal.{same_or_not, eqb_same, eqb_other}
 use Rattle.chord_segment.specs.Marks.{mark_of}
 use Rattle.chord_segment.specs.Segment.{Segment}
+use Rattle.chord_model.proofs.Numbered.{nodes_by}
 
 -- a node weighs no more than all
 weight-le-total : (x : ℕ) (taken : ℕ → ℕ → ℕ) (number : ℕ) (node : Node) (nodes : List Node) → node_at number nodes ≡ Some node → weight x taken node ≤ total x taken nodes
@@ -93,7 +94,7 @@ clear_by : (nodes : List Node) (node after : Node) (out : Option Message) → no
     → (x : ℕ) → x < 2 ^ 128 → total x (taken_in nodes) nodes ≡ 1 → count (has x) node.held + 1 ≡ count (has x) after.held → count (has x) node.held ≡ 0
 clear_by nodes node after out at event x x_in one more =
     let at' : node_at after.number nodes ≡ Some node = rw event.change.same_number at in
-    let w = weight-le-total x (taken_in (put_node after nodes)) after.number after (put_node after nodes) (node_at-put_same after node nodes at') in
+    let w = weight-le-total x (taken_in (put_node after nodes)) after.number after (put_node after nodes) (nodes_by.put_same after nodes node at') in
     let t = event.totals x x_in in
     omega arith
 
@@ -102,7 +103,7 @@ pub taken_clear : (world : World) → Reached world → (part : Part) (handover 
     → node.phase ≢ Gone → handover.number ≡ mark_of handover.from node.taken + 1 → MeetsNone handover.segment.span node.held
 taken_clear world reached part handover node was whole at stays next place segment e x x_in here =
     let sound = sound_reached world reached in
-    let me : node.number ≡ handover.to = node_at_is handover.to world.nodes node at in
+    let me : node.number ≡ handover.to = nodes_by.number handover.to world.nodes node at in
     let at' : node_at node.number world.nodes ≡ Some node = ap (λ n. node_at n world.nodes) me ∙ at in
     let event = take_event world.nodes world.sent node handover sound.distinct sound.channels sound.locals at' (sym me) next (gone_test node.phase stays)
     (whole_ok world.nodes world.sent sound.channels.messages part node.buffered handover was (sound.buffered handover.to node at) whole
@@ -117,7 +118,7 @@ pub back_clear : (world : World) → Reached world → (ticket : Ticket) (node :
     → node_at ticket.from world.nodes ≡ Some node → item_at ticket.to ticket.number node.outbox ≡ Some item → MeetsNone item.segment.span node.held
 back_clear world reached ticket node item was at found place segment e x x_in here =
     let sound = sound_reached world reached in
-    let me : node.number ≡ ticket.from = node_at_is ticket.from world.nodes node at in
+    let me : node.number ≡ ticket.from = nodes_by.number ticket.from world.nodes node at in
     let at' : node_at node.number world.nodes ≡ Some node = ap (λ n. node_at n world.nodes) me ∙ at in
     let event = takes_back_event world.nodes world.sent node ticket item sound.channels at' (sound.locals node.number node at') (sym me) found
     (sound.channels.messages (DeclinedMessage ticket) was) in
@@ -148,7 +149,7 @@ placed_world_step old new sound placed (Arrives links limit circle some new_numb
 placed_world_step old new sound placed (Opens number window low high new_number) = placed
 placed_world_step old new sound placed (Calls number caller after taken out at was step) = placed
 placed_world_step old new sound placed (Acts number node after taken out did at was step) =
-    let at' : node_at node.number old.nodes ≡ Some node = ap (λ n. node_at n old.nodes) (node_at_is number old.nodes node at) ∙ at in
+    let at' : node_at node.number old.nodes ≡ Some node = ap (λ n. node_at n old.nodes) (nodes_by.number number old.nodes node at) ∙ at in
     let event = event old.nodes old.sent node taken after out did sound at' was step in
     let at'' : node_at after.number old.nodes ≡ Some node = rw event.change.same_number at' in
     all_placed_put after node old.nodes at'' (placed_step old.nodes old.sent node taken after out did sound placed at' was step) placed

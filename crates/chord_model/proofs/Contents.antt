@@ -87,12 +87,13 @@ joined_good callers history first second one other =
     record {
       floors = lift_all_each (TakenUpto callers) second.floors first.floors other.floors one.floors;
       kept = λ done h. ⊎_elim (λ a. one.kept done a) (λ b. other.kept done b) (placed_all_has second.kept first.kept done (above_has floors all done h));
-      near = λ done h. (
-        above_is floors all done h,
-        ⊎_elim (λ a. omega (arith, (one.near done a).1, lift_all_grows done.caller second.floors first.floors))
-            (λ b. omega (arith, (other.near done b).1, lift_all_reaches done.caller second.floors first.floors))
-            (placed_all_has second.kept first.kept done (above_has floors all done h)),
-      );
+      near = λ done h. record {
+        above = above_is floors all done h;
+        near =
+            ⊎_elim (λ a. omega (arith, (one.near done a).near, lift_all_grows done.caller second.floors first.floors))
+            (λ b. omega (arith, (other.near done b).near, lift_all_reaches done.caller second.floors first.floors))
+            (placed_all_has second.kept first.kept done (above_has floors all done h));
+      };
     }
 
 pub joined_current : (history : List Done) (first second : Segment) (pairs : List Pair)
@@ -224,10 +225,11 @@ appended_good callers history done floor segment taken near fresh good =
       kept = λ past h.
           ⊎_elim (λ there. stands_left history (done ∷ []) past (good.kept past there)) (λ e. subst (StandsIn (history ++ done ∷ [])) e (stands_last history done fresh))
           (placed_has done segment.kept past (above_has floors all past h));
-      near = λ past h. (
-        above_is floors all past h,
-        ⊎_elim (λ there. omega (arith, (good.near past there).1, lift_grows past.caller done.caller floor segment.floors))
+      near = λ past h. record {
+        above = above_is floors all past h;
+        near =
+            ⊎_elim (λ there. omega (arith, (good.near past there).near, lift_grows past.caller done.caller floor segment.floors))
             (λ e. subst (λ (d : Done). d.number ≤ mark_of d.caller floors + 16) e is_near)
-            (placed_has done segment.kept past (above_has floors all past h)),
-      );
+            (placed_has done segment.kept past (above_has floors all past h));
+      };
     }

@@ -14,7 +14,7 @@ use Rattle.chord_map.proofs.Finding.{not_true}
 use Rattle.chord_map.specs.declared.pair.Pair.{Pair}
 use Rattle.chord_map.specs.Map.{put_all}
 use Rattle.chord_model.proofs.Channels.{is_gone, given_by, item_by, taken_in, given_in, item_in, gone_in, item_from, GiveOk, part_ok, DeclinedOk, MessageOk, Channels, Change, MessageOk-later, later_from}
-use Rattle.chord_model.proofs.Nodes.{DistinctNodes, at_put, node_at-put_same, node_at-put_other, node_at_is}
+use Rattle.chord_model.proofs.Nodes.{DistinctNodes, at_put}
 use Rattle.chord_model.proofs.Totals.{has, awaits, weight, total, total-put, total_same, total-take, weight-take, awaits_yes, awaits_no}
 use Rattle.chord_model.specs.declared.message.Message.{Message}
 use Rattle.chord_model.specs.declared.message.Message.TheVariants.{Part as PartMessage, Got as GotMessage}
@@ -25,6 +25,7 @@ use Rattle.chord_segment.proofs.MarkLemmas.{mark_of-raise_same, mark_of-raise_ot
 use Rattle.chord_segment.specs.Marks.{mark_of, raise}
 use Rattle.chord_segment.specs.Segment.{Segment, append, part_before, part_behind, joined_segment, span_joined}
 use Rattle.chord_map.specs.declared.done.Done.{Done}
+use Rattle.chord_model.proofs.Numbered.{nodes_by}
 
 -- the ends of a span are identifiers
 abbrev pub OnCircle : Span → Type 0
@@ -234,7 +235,7 @@ give_event nodes sent node place segment to channels at local found =
     let change = give_change nodes sent node place segment to channels at in
     let none : item_at to item.number node.outbox ≡ None =
     none_or_some (item_at to item.number node.outbox) (λ old e. let g = kept_was_given nodes sent node channels at to item.number old e in omega arith) in
-    let at_after = node_at-put_same after node nodes at in
+    let at_after = nodes_by.put_same after nodes node at in
     record {
       change = change;
       local = record {
@@ -395,7 +396,7 @@ take_event nodes sent node handover distinct channels locals at here next stays 
     let after = with_taken handover node in
     let nodes' = put_node after nodes in
     let taken_at : (from : ℕ) → taken_in nodes node.number from ≡ mark_of from node.taken = λ from. ap (λ o. taken_by o from) at in
-    let at_after = node_at-put_same after node nodes at in
+    let at_after = nodes_by.put_same after nodes node at in
     let taken_after : (from : ℕ) → taken_in nodes' node.number from ≡ mark_of from (raise handover.from handover.number node.taken) = λ from. ap (λ o. taken_by o from) at_after in
     let up : mark_of handover.from (raise handover.from handover.number node.taken) ≡ handover.number = mark_of-raise_same handover.from handover.number node.taken ∙ omega arith in
     let now : taken_in nodes' node.number handover.from ≡ handover.number = taken_after handover.from ∙ up in
@@ -403,7 +404,7 @@ take_event nodes sent node handover distinct channels locals at here next stays 
     let gone : gone_in nodes handover.to ≡ false = rw here (rw at stays) in
     let above : taken_in nodes handover.to handover.from < handover.number = rw here (omega arith) in
     let sender = sender_of (node_at handover.from nodes) handover.to handover.number (item_from handover) (ok.kept gone above) in
-    let sent_by : sender.0.number ≡ handover.from = node_at_is handover.from nodes sender.0 sender.1 in
+    let sent_by : sender.0.number ≡ handover.from = nodes_by.number handover.from nodes sender.0 sender.1 in
     let sender_local = locals handover.from sender.0 sender.1 in
     let on : SegmentOn handover.segment = found_on handover.to handover.number sender.0.outbox (item_from handover) sender.2 sender_local.outbox_on in
     record {
@@ -419,7 +420,7 @@ take_event nodes sent node handover distinct channels locals at here next stays 
           at_put (λ to old new. (other : ℕ) → other ≢ handover.from → taken_by old other ≡ taken_by new other) after node nodes at
           (λ other apart. sym (mark_of-raise_other other handover.from handover.number node.taken apart)) (λ to node other apart. refl) in
           let same_sender : (other : ℕ) → other ≢ handover.to → taken_in nodes other sender.0.number ≡ taken_in nodes' other sender.0.number =
-          λ other apart. ap (λ o. taken_by o sender.0.number) (sym (node_at-put_other other after nodes (λ e. apart (e ∙ sym here)))) in
+          λ other apart. ap (λ o. taken_by o sender.0.number) (sym (nodes_by.put_apart after nodes other (λ e. apart (e ∙ sym here)))) in
           let was : taken_in nodes handover.to sender.0.number ≡ taken_in nodes node.number handover.from =
           ap (λ n. taken_in nodes n sender.0.number) here ∙ ap (taken_in nodes node.number) sent_by in
           let is : taken_in nodes' handover.to sender.0.number ≡ taken_in nodes' node.number handover.from =

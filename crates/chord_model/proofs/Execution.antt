@@ -11,12 +11,12 @@ use Rattle.chord_map.proofs.Lists.{by_option, Has, Each, all_each, has_got, spli
 use Rattle.chord_map.proofs.MapLemmas.{pair_of, reply_same, fits_reply}
 use Rattle.chord_map.specs.declared.reply.Reply.{Reply}
 use Rattle.chord_map.specs.Map.{key_of, reply_to, pairs_after}
-use Rattle.chord_model.proofs.CallerLemmas.{all_grown_itself, caller_has, one_request}
+use Rattle.chord_model.proofs.CallerLemmas.{all_grown_itself, one_request}
 use Rattle.chord_model.proofs.CallerSteps.{each_with_one}
 use Rattle.chord_model.proofs.Contents.{elsewhere_current, beside_current, appended_current, appended_good}
 use Rattle.chord_model.proofs.Growth.{HistoryGrown, message_grown, node_grown, caller_longer, seen_stands}
 use Rattle.chord_model.proofs.Invariant.{SegmentGood, AskGood, MessageGood, DoneGood, NodeGood, Current, Good, HolderFacts, Submitted}
-use Rattle.chord_model.proofs.NodeLemmas.{node_number, node_has, has_put_node, put_node_cases, put_not_empty, last_grows, segment_found, append_cases}
+use Rattle.chord_model.proofs.NodeLemmas.{put_node_cases, put_not_empty, last_grows, segment_found, append_cases}
 use Rattle.chord_model.specs.declared.message.Message.TheVariants.{Ask as AskMessage, Told as ToldMessage}
 use Rattle.chord_model.specs.Node.{Node, segment_with, done_of, told_of, with_executed}
 use Rattle.chord_model.specs.World.{World, node_at, put_node, with_one, last_taken, InOrder}
@@ -27,12 +27,13 @@ use Rattle.chord_map.specs.History.{replay, done_at, StandsIn}
 use Rattle.chord_segment.specs.Marks.{mark_of}
 use Rattle.chord_segment.specs.Segment.{id_of, Segment, past_at}
 use Rattle.chord_segment.specs.Segment.Past.{New}
+use Rattle.chord_model.proofs.Numbered.{callers_by, nodes_by}
 
 module _ (old : World) (good : Good old) (facts : HolderFacts old) (number : ℕ) (node : Node) (here : node_at number old.nodes ≡ Some node)
     (ask : Ask) (segment : Segment) (was : Has old.sent (AskMessage ask)) (found : segment_with (id_of ask.request) node.held ≡ Some segment)
     (past : past_at ask.caller ask.number segment ≡ New) where
   before_good : NodeGood old.callers old.history node
-  before_good = good.nodes node (node_has number old.nodes node here)
+  before_good = good.nodes node (nodes_by.has number old.nodes node here)
 
   contains : in_span segment.span (id_of ask.request) ≡ true
   contains = (segment_found (id_of ask.request) node.held segment found).0
@@ -95,7 +96,7 @@ module _ (old : World) (good : Good old) (facts : HolderFacts old) (number : ℕ
       (λ r.
       all_each (StandsIn before) (seen_at caller submission)
       (subst (λ ds. Each (StandsIn ds) (seen_at caller submission)) r.0
-      (seen_stands old.history caller submission (good.callers caller (caller_has caller.number old.callers caller is_caller)))))
+      (seen_stands old.history caller submission (good.callers caller (callers_by.has caller.number old.callers caller is_caller)))))
       (λ r. good.in_order caller place submission before r.0 done is_caller is_submission r.1 c n)
       (split_pushed old.history (done_of ask (reply_to ask.request node.entries)) before done behind split)
 
@@ -146,7 +147,7 @@ module _ (old : World) (good : Good old) (facts : HolderFacts old) (number : ℕ
       let after : Node = with_executed ask node in
       let told : Told = told_of ask (reply_to ask.request node.entries) in
       let longer_history : List Done = old.history ++ last ∷ [] in
-      let at : node_at after.number old.nodes ≡ Some node = ap (λ n. node_at n old.nodes) (node_number number old.nodes node here) ∙ here in
+      let at : node_at after.number old.nodes ≡ Some node = ap (λ n. node_at n old.nodes) (nodes_by.number number old.nodes node here) ∙ here in
       record {
         callers = λ caller h. caller_longer old.callers old.callers old.history longer_history (all_grown_itself old.callers) longer caller (good.callers caller h);
         messages = each_with_one (MessageGood old.callers longer_history) old.sent (Some (ToldMessage told))
@@ -160,10 +161,10 @@ module _ (old : World) (good : Good old) (facts : HolderFacts old) (number : ℕ
         nodes = λ other h. ⊎_elim
             (λ there. node_grown old.callers old.callers old.history longer_history (all_grown_itself old.callers) longer other (good.nodes other there))
             (λ e. subst (NodeGood old.callers longer_history) e after_good)
-            (has_put_node after old.nodes other h);
+            (nodes_by.has_put after old.nodes other h);
         held = λ place other one e h. ⊎_elim
             (λ r. subst (λ (n : Node). Current longer_history one n.entries) r.1 (held_current one (subst (λ (n : Node). Has n.held one) (sym r.1) h)))
-            (λ r. elsewhere_held place other one (λ same. r.0 (same ∙ sym (node_number number old.nodes node here))) r.1 h)
+            (λ r. elsewhere_held place other one (λ same. r.0 (same ∙ sym (nodes_by.number number old.nodes node here))) r.1 h)
             (put_node_cases after old.nodes node place other at e);
         under_way = λ place other item e h late.
             let still : last_taken old.nodes item.to place < item.number = lt_of_le_of_lt (last_grows after old.nodes node at (λ from. omega arith) item.to place) late in

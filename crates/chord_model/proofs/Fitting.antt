@@ -14,7 +14,6 @@ use Rattle.chord_model.proofs.Channels.{taken_in, gone_in, gone_by, item_in}
 use Rattle.chord_model.proofs.Clash.{taken_clear}
 use Rattle.chord_model.proofs.Events.{sender_of}
 use Rattle.chord_model.proofs.Kept.{sound_reached, gone_test}
-use Rattle.chord_model.proofs.NodeLemmas.{node_number}
 use Rattle.chord_model.proofs.Stocked.{no_clash, payload_of_item, payload_at, stocks_reached}
 use Rattle.chord_model.specs.declared.message.Message.TheVariants.{Part as PartMessage}
 use Rattle.chord_model.specs.Node.{Node}
@@ -23,6 +22,7 @@ use Rattle.chord_model.specs.World.{World, Reached, node_at, taken_by}
 use Rattle.chord_model.specs.Stock.{IsClash}
 use Rattle.chord_map.proofs.Equal.{eqb_is}
 use Rattle.chord_segment.specs.Marks.{mark_of}
+use Rattle.chord_model.proofs.Numbered.{nodes_by}
 
 -- the parts are some of the parts of a payload, under this name
 record ArePartsOf (ticket : Ticket) (parts : List Part) (payload : Payload) : Type 0 where
@@ -92,7 +92,7 @@ module _ (world : World) (reached : Reached world) (part : Part) (node : Node) (
               let buffered = has_filter _ node.buffered other n in
               let names = and_parts (eqb other.from part.from) (eqb other.number part.number) buffered.1 in
               one other (sound.buffered part.to node at other buffered.0) (eqb_is other.from part.from names.0)
-              (every_has _ node.buffered other stocks.buffered buffered.0 ∙ node_number part.to world.nodes node at) (eqb_is other.number part.number names.1))
+              (every_has _ node.buffered other stocks.buffered buffered.0 ∙ nodes_by.number part.to world.nodes node at) (eqb_is other.number part.number names.1))
               (λ last. ⊎_elim (λ same. subst (λ (p : Part). p ≡ part_at (handover_of_payload (ticket_of_part part) (payload_of_item item)) p.place) same (one part was refl refl refl)) (λ n. absurd n) last)
               (has_cases _ (part ∷ []) other h);
         },

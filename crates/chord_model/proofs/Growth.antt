@@ -5,7 +5,7 @@ use Rattle.std.proofs.lemmas.Option.{same_Some}
 use Rattle.chord_caller.specs.declared.ask.Ask.{Ask}
 use Rattle.chord_caller.specs.Caller.{Submission, Caller, submission_at, seen_at}
 use Rattle.chord_map.proofs.Lists.{by_test, Has, Each, has_cases, has_taken, has_right}
-use Rattle.chord_model.proofs.CallerLemmas.{AllGrown, caller_number, caller_has, submitted_grown, taken_upto_grown, submission_grown, seen_grown}
+use Rattle.chord_model.proofs.CallerLemmas.{AllGrown, submitted_grown, taken_upto_grown, submission_grown, seen_grown}
 use Rattle.chord_model.proofs.Invariant.{CallerGood, SegmentGood, AskGood, MessageGood, DoneGood, NodeGood, Good}
 use Rattle.chord_model.specs.declared.message.Message.{Message}
 use Rattle.chord_model.specs.declared.message.Message.TheVariants.{Ask as AskMessage, Told as ToldMessage, Full as FullMessage, Part as PartMessage, Got as GotMessage, Declined as DeclinedMessage, Note as NoteMessage}
@@ -15,6 +15,7 @@ use Rattle.chord_map.proofs.HistoryLemmas.{is_call, is_itself, done_absent, done
 use Rattle.chord_map.specs.declared.done.Done.{Done}
 use Rattle.chord_map.specs.History.{done_at, EachOnce, StandsIn}
 use Rattle.chord_segment.specs.Segment.{Segment}
+use Rattle.chord_model.proofs.Numbered.{callers_by}
 
 abbrev pub HistoryGrown : List Done → List Done → Type 0
 HistoryGrown old new = (done : Done) → StandsIn old done → StandsIn new done
@@ -96,11 +97,26 @@ ordered_grown old new good same grown caller number submission before behind don
     let there_too : submission_at done.number (r.0).submitted ≡ Some s.submission = submission_grown s.caller r.0 r.2 done.number s.submission s.is_submission in
     let which : s.submission ≡ submission =
     same_Some s.submission submission (sym there_too ∙ ap₂ (λ k (q : Caller). submission_at k q.submitted) n is ∙ is_submission) in
-    let caller_good : CallerGood old.history s.caller = good.callers s.caller (caller_has done.caller old.callers s.caller s.is_caller) in
+    let caller_good : CallerGood old.history s.caller = good.callers s.caller (callers_by.has done.caller old.callers s.caller s.is_caller) in
     let seen = caller_good.seen done.number s.submission s.is_submission in
     let e : seen_at caller submission ≡ seen_at s.caller s.submission =
     ap₂ seen_at (sym is) (sym which) ∙ seen_grown s.caller r.0 r.2 s.submission seen.0 seen.1 in
-    let own_number : s.caller.number ≡ done.caller = caller_number done.caller old.callers s.caller s.is_caller in
+    let own_number : s.caller.number ≡ done.caller = callers_by.number done.caller old.callers s.caller s.is_caller in
     subst (λ ds. All (StandsIn before) ds) (sym e)
     (good.in_order s.caller done.number s.submission before behind done
     (ap (λ k. caller_at k old.callers) own_number ∙ s.is_caller) s.is_submission (sym same ∙ split) (sym own_number) refl)
+
+-- more callers, or callers that have grown, and messages
+pub good_of_grown : (old : World) → Good old → (callers : List Caller) (sent : List Message) → AllGrown old.callers callers → Each (CallerGood old.history) callers
+    → Each (MessageGood callers old.history) sent → Good (record old { callers = callers; sent = sent })
+good_of_grown old good callers sent all each messages = record {
+  callers = each;
+  messages = messages;
+  executed = λ done stands. done_grown old.callers callers old.history old.history all (λ done stands. stands) done (good.executed done stands);
+  legal = good.legal;
+  in_order = ordered_grown old (record old { callers = callers; sent = sent }) good refl all;
+  nodes = λ node h. node_grown old.callers callers old.history old.history all (λ done stands. stands) node (good.nodes node h);
+  held = good.held;
+  under_way = good.under_way;
+  unbegun = good.unbegun;
+}

@@ -1,5 +1,5 @@
 -- What follows from the invariant of a world.
-use Rattle.std.proofs.Common.{◌≡◌, ℕ, true, not, ◌&&◌, eqb, ⊎_elim, sym, ◌∙◌, ap, arith, List, [], Some, None, Contains, ap₂, subst}
+use Rattle.std.proofs.Common.{◌≡◌, ℕ, ◌+◌, ◌<◌, ◌≤◌, true, not, ◌&&◌, eqb, ⊎_elim, sym, ◌∙◌, ap, arith, List, [], Some, None, Contains, ap₂, subst}
 use Rattle.std.proofs.lemmas.Bool.{and_from, eq-eqb, cond-true, cases_Bool, not_from_false}
 use Rattle.std.proofs.lemmas.Option.{none-some, same_Some}
 use Rattle.chord_ident.proofs.Digest.{key_id-below}
@@ -10,12 +10,10 @@ use Rattle.chord_map.proofs.Lists.{Has, all_each, has_contained, by_option, has_
 use Rattle.chord_map.proofs.MapLemmas.{RisingPairs, pair_of, values_same}
 use Rattle.chord_map.specs.declared.pair.Pair.{Pair}
 use Rattle.chord_map.specs.Map.{fits, key_of}
-use Rattle.chord_model.proofs.CallerLemmas.{caller_number, caller_has}
 use Rattle.chord_model.proofs.Clash.{placed_reached}
 use Rattle.chord_model.proofs.HolderTie.{every_has, holder_facts}
-use Rattle.chord_model.proofs.Invariant.{HasTaken, TakenUpto, IsNear, SegmentGood, ToldGood, NodeGood, Current, Good, HolderFacts, CallerGood}
+use Rattle.chord_model.proofs.Invariant.{HasTaken, TakenUpto, SegmentGood, ToldGood, NodeGood, Current, Good, HolderFacts, CallerGood}
 use Rattle.chord_model.proofs.Main.{reached_good}
-use Rattle.chord_model.proofs.NodeLemmas.{node_has}
 use Rattle.chord_model.proofs.Placed.{KeptInside}
 use Rattle.chord_model.specs.Headline.{Holds, Appears, OneHistory, KeepNoneTwice, request_with, submitted_by, was_taken, answers}
 use Rattle.chord_model.specs.Headline.Appears.{Held, Kept_for, Sent}
@@ -25,9 +23,11 @@ use Rattle.chord_model.specs.Node.{Node}
 use Rattle.chord_model.specs.World.{World, Reached, node_at, caller_at}
 use Rattle.chord_map.proofs.HistoryLemmas.{done_is, kept_found, rises_replay}
 use Rattle.chord_segment.proofs.SegmentLemmas.{mark_each}
+use Rattle.chord_segment.specs.Marks.{mark_of}
 use Rattle.chord_map.specs.declared.done.Done.{Done}
 use Rattle.chord_map.specs.History.{replay, StandsIn, done_at}
 use Rattle.chord_segment.specs.Segment.{id_of, Segment}
+use Rattle.chord_model.proofs.Numbered.{callers_by, nodes_by}
 
 -- a fitting reply that is not fresh was taken before
 fresh_none : (caller : Caller) (told : Told) (submission : Submission) → told.caller ≡ caller.number → submission_at told.number caller.submitted ≡ Some submission
@@ -46,7 +46,7 @@ fresh_none caller told submission own is kind none =
 
 module _ (world : World) (good : Good world) where
   node_good : (number : ℕ) (node : Node) → node_at number world.nodes ≡ Some node → NodeGood world.callers world.history node
-  node_good number node here = good.nodes node (node_has number world.nodes node here)
+  node_good number node here = good.nodes node (nodes_by.has number world.nodes node here)
 
   -- what follows for a held segment
   record HeldGood (segment : Segment) (pairs : List Pair) : Type 0 where
@@ -86,7 +86,7 @@ module _ (world : World) (good : Good world) where
       let done_good = good.executed _ told_good.stands in
       let s = done_good.submitted in
       let same : s.caller ≡ caller = same_Some s.caller caller (sym s.is_caller ∙ here) in
-      fresh_none caller told s.submission (sym (caller_number told.caller world.callers caller here)) (ap (λ (c : Caller). submission_at told.number c.submitted) (sym same) ∙ s.is_submission)
+      fresh_none caller told s.submission (sym (callers_by.number told.caller world.callers caller here)) (ap (λ (c : Caller). submission_at told.number c.submitted) (sym same) ∙ s.is_submission)
       (ap (fits told.reply) s.is_request ∙ done_good.kind) none
 
   pub history_of : OneHistory world
@@ -94,12 +94,12 @@ module _ (world : World) (good : Good world) where
     legal = good.legal;
     made = made;
     mine = λ number caller here.
-        let good_one : CallerGood world.history caller = good.callers caller (caller_has number world.callers caller here) in
+        let good_one : CallerGood world.history caller = good.callers caller (callers_by.has number world.callers caller here) in
         all_each (λ done. (done.caller ≡ number) × StandsIn world.history done) caller.mine
-        (λ done h. ((good_one.own done h).is_caller ∙ caller_number number world.callers caller here, good_one.mine_stand done h));
+        (λ done h. ((good_one.own done h).is_caller ∙ callers_by.number number world.callers caller here, good_one.mine_stand done h));
     noted = λ note was. all_each (StandsIn world.history) note.done (good.messages (NoteMessage note) (has_contained world.sent (NoteMessage note) was));
-    told = λ number caller here. all_each (StandsIn world.history) caller.told (good.callers caller (caller_has number world.callers caller here)).told_stand;
-    once = λ number caller here. (good.callers caller (caller_has number world.callers caller here)).once;
+    told = λ number caller here. all_each (StandsIn world.history) caller.told (good.callers caller (callers_by.has number world.callers caller here)).told_stand;
+    once = λ number caller here. (good.callers caller (callers_by.has number world.callers caller here)).once;
     in_order = good.in_order;
     owed = owed;
     stale = stale;
@@ -110,7 +110,8 @@ module _ (world : World) (good : Good world) where
         let g = held_good segment pairs holds in
         ⊎_elim (λ low. absurd (omega arith)) (λ h. kept_found world.history segment.kept done g.segment_good.kept stands h) (g.current.covered done stands inside);
     stands = λ segment appears. all_each (StandsIn world.history) segment.kept (appears_good segment appears).kept;
-    near = λ segment appears. all_each (IsNear segment.floors) segment.kept (appears_good segment appears).near;
+    near = λ segment appears. all_each (λ (done : Done). (mark_of done.caller segment.floors < done.number) × (done.number ≤ mark_of done.caller segment.floors + 16)) segment.kept
+        (λ done h. let n = (appears_good segment appears).near done h in (n.above, n.near));
     floors = λ segment number place appears low high.
         let t : HasTaken world.callers number place =
         mark_each (TakenUpto world.callers) number segment.floors (λ other above below. absurd (omega arith)) (appears_good segment appears).floors place low high in
@@ -131,7 +132,7 @@ none_twice world reached number node here place other segment more caller k done
     by_option (done_at caller k more.kept) (λ none. none)
     (λ also there.
     let good : Good world = reached_good holder_facts world reached in
-    let all : NodeGood world.callers world.history node = good.nodes node (node_has number world.nodes node here) in
+    let all : NodeGood world.callers world.history node = good.nodes node (nodes_by.has number world.nodes node here) in
     let h : Has node.held segment = has_got node.held place segment got in
     let g : Has node.held more = has_got node.held other more got_other in
     let is = done_is caller k segment.kept done kept in

@@ -14,7 +14,7 @@ use Rattle.chord_model.proofs.Clash.{held_apart, placed_reached}
 use Rattle.chord_model.proofs.Events.{SegmentOn, sender_of}
 use Rattle.chord_model.proofs.Invariant.{HolderFacts}
 use Rattle.chord_model.proofs.Kept.{Sound, sound_reached, gone_test}
-use Rattle.chord_model.proofs.NodeLemmas.{node_number, item_found}
+use Rattle.chord_model.proofs.NodeLemmas.{item_found}
 use Rattle.chord_model.proofs.Placed.{InHeld, InSegment, ItemPlaced}
 use Rattle.chord_model.proofs.Totals.{has, awaits, weight, total, awaits_yes}
 use Rattle.chord_model.proofs.Whole.{whole_ok}
@@ -23,6 +23,7 @@ use Rattle.chord_model.specs.Node.{Node}
 use Rattle.chord_model.specs.World.{World, Reached, node_at, last_taken, taken_by}
 use Rattle.chord_segment.specs.Marks.{mark_of}
 use Rattle.chord_segment.specs.Segment.{Segment}
+use Rattle.chord_model.proofs.Numbered.{nodes_by}
 
 pub every_has : {A : Type 0} (P : A → Type 0) (xs : List A) (x : A) → Every P xs → Has xs x → P x
 every_has P [] x every h = absurd h
@@ -107,7 +108,7 @@ module _ (world : World) (reached : Reached world) where
       → in_span item.segment.span x ≡ true → 1 ≤ count (awaits x (λ to. taken_in world.nodes to sender.number)) sender.outbox
   way_weight x from sender item here h late inside =
       let above : taken_in world.nodes item.to sender.number < item.number =
-      subst (λ n. taken_in world.nodes item.to n < item.number) (sym (node_number from world.nodes sender here)) (omega (arith, last_is item.to from)) in
+      subst (λ n. taken_in world.nodes item.to n < item.number) (sym (nodes_by.number from world.nodes sender here)) (omega (arith, last_is item.to from)) in
       counts_one (awaits x (λ to. taken_in world.nodes to sender.number)) sender.outbox item h
       (awaits_yes x (λ to. taken_in world.nodes to sender.number) item above ∙ inside)
 

@@ -21,6 +21,7 @@ use Rattle.chord_map.specs.declared.done.Done.{Done}
 use Rattle.chord_map.specs.History.{replay, EachOnce, IsLegal, StandsIn}
 use Rattle.chord_segment.specs.declared.mark.Mark.{Mark}
 use Rattle.chord_segment.specs.Marks.{mark_of}
+use Rattle.chord_segment.specs.Rules.{IsNear}
 use Rattle.chord_segment.specs.Segment.{id_of, Segment}
 
 -- the caller submitted this request under this number
@@ -57,10 +58,6 @@ pub record CallerGood (history : List Done) (caller : Caller) : Type 0 where
       → (submission.mine_seen ≤ length caller.mine) × (submission.told_seen ≤ length caller.told)
   pub window : caller.window ≤ 16
   pub near : (place : ℕ) (submission : Submission) → submission_at place caller.submitted ≡ Some submission → place ≤ floor_of caller + caller.window
-
--- a kept call is above its caller's floor, and at most 16 above
-abbrev pub IsNear : List Mark → Done → Type 0
-IsNear floors done = (mark_of done.caller floors < done.number) × (done.number ≤ mark_of done.caller floors + 16)
 
 -- of a segment, wherever it is: its floors were taken, and its kept calls were executed
 pub record SegmentGood (callers : List Caller) (history : List Done) (segment : Segment) : Type 0 where

@@ -11,7 +11,7 @@ use Rattle.chord_map.proofs.Each.{Each, Each-set, Each-insert, Each-remove, Each
 use Rattle.chord_map.proofs.Lists.{Has, has_pushed, has_filter}
 use Rattle.chord_model.proofs.Channels.{is_gone, gone_by, given_by, item_by, taken_in, given_in, item_in, gone_in, MessageOk, Channels, Later, MessageOk-later, Channels-later, Channels_with, part_ok}
 use Rattle.chord_model.proofs.Events.{SegmentOn, ItemOn, Local, Event, same_event, quiet_event, count-append_at, append_at_on, count-cut, count-join, joined_on, give_event, frees_event, takes_back_event, take_event, kept_was_given}
-use Rattle.chord_model.proofs.Nodes.{DistinctNodes, node_at_is, at_put, at_push, DistinctNodes-put, DistinctNodes_push, put_node_some}
+use Rattle.chord_model.proofs.Nodes.{DistinctNodes, at_put, at_push, DistinctNodes-put, DistinctNodes_push, put_node_some}
 use Rattle.chord_model.proofs.Totals.{has, awaits, total, total-append, total_same}
 use Rattle.chord_model.proofs.Whole.{whole_ok}
 use Rattle.chord_model.specs.declared.message.Message.{Message}
@@ -27,6 +27,7 @@ use Rattle.chord_model.specs.declared.phase.Phase.TheVariants.{Staying, Leaving,
 use Rattle.chord_segment.specs.Marks.{mark_of}
 use Rattle.chord_segment.specs.Segment.{id_of, part_before, part_behind}
 use Rattle.chord_map.specs.declared.done.Done.{Done}
+use Rattle.chord_model.proofs.Numbered.{nodes_by}
 
 -- what holds of all nodes and messages
 pub record Sound (nodes : List Node) (sent : List Message) : Type 0 where
@@ -285,7 +286,7 @@ sound_step old new sound (Calls number caller after taken out at was step) =
       buffered = λ number node e part h. contained_more old.sent (letter_sent out) (PartMessage part) (sound.buffered number node e part h);
     }
 sound_step old new sound (Acts number node after taken out did at was step) =
-    let at' : node_at node.number old.nodes ≡ Some node = ap (λ n. node_at n old.nodes) (node_at_is number old.nodes node at) ∙ at in
+    let at' : node_at node.number old.nodes ≡ Some node = ap (λ n. node_at n old.nodes) (nodes_by.number number old.nodes node at) ∙ at in
     act_sound old.nodes old.sent node after out sound at'
     (buffered_step node taken after out did step old.sent was (sound.buffered node.number node at')) (event old.nodes old.sent node taken after out did sound at' was step)
 

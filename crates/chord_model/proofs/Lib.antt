@@ -1,4 +1,5 @@
 pub mod Nodes
+pub mod Numbered
 pub mod NodeLemmas
 pub mod CallerLemmas
 mod Invariant

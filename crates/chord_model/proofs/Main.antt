@@ -10,9 +10,9 @@ use Rattle.chord_map.proofs.Lists.{Has, has_contained, has_pushed, by_test}
 use Rattle.chord_model.proofs.CallerLemmas.{AllGrown, all_grown_itself, all_grown_pushed}
 use Rattle.chord_model.proofs.CallerSteps.{calls_keep}
 use Rattle.chord_model.proofs.Execution.{executes}
-use Rattle.chord_model.proofs.Growth.{message_grown, done_grown, node_grown, ordered_grown}
+use Rattle.chord_model.proofs.Growth.{message_grown, ordered_grown, good_of_grown}
 use Rattle.chord_model.proofs.Invariant.{CallerGood, SegmentGood, NodeGood, Current, Good, HolderFacts, MessageGood}
-use Rattle.chord_model.proofs.NodeLemmas.{node_has, without_has, item_found, node_pushed, last_pushed, not_empty}
+use Rattle.chord_model.proofs.NodeLemmas.{without_has, item_found, node_pushed, last_pushed, not_empty}
 use Rattle.chord_model.specs.declared.message.Message.{Message}
 use Rattle.chord_model.specs.declared.message.Message.TheVariants.{Ask as AskMessage, Full as FullMessage, Part as PartMessage, Got as GotMessage, Declined as DeclinedMessage}
 use Rattle.chord_model.specs.declared.phase.Phase.{Phase}
@@ -23,6 +23,7 @@ use Rattle.chord_model.specs.World.Run.{Stays, Goes_on}
 use Rattle.chord_map.specs.declared.done.Done.{Done}
 use Rattle.chord_map.specs.History.{done_at}
 use Rattle.chord_segment.specs.Segment.{empty_segment, Segment}
+use Rattle.chord_model.proofs.Numbered.{nodes_by}
 
 -- the segment of a part, if it has one
 named : (place : ℕ) (segment other : Segment) → cond (eqb place 1) (Some segment) None ≡ Some other → segment ≡ other
@@ -71,7 +72,7 @@ acts_keep old good facts number node after taken sent call here was (NodeStep.Gi
 acts_keep old good facts number node after taken sent call here was (NodeStep.Gives_again to k place item found from below) =
     let there : Has node.outbox item = (item_found to k node.outbox item found).2 in
     steps.stays_and_sends old good facts number node here (PartMessage (part_at (handover_of node.number item) place))
-    (part_good old.callers old.history (handover_of node.number item) place ((good.nodes node (node_has number old.nodes node here)).outbox item there))
+    (part_good old.callers old.history (handover_of node.number item) place ((good.nodes node (nodes_by.has number old.nodes node here)).outbox item there))
 acts_keep old good facts number node after taken sent call here was (NodeStep.Links_change links same) =
     steps.same_store old good facts number node here (record node { links = links }) refl refl refl refl (λ item h. h)
 acts_keep old good facts number node after taken sent call here was (NodeStep.Leaves phase) =
@@ -113,7 +114,7 @@ creates : (old : World) (good : Good old) (links : NodeLinks) (limit : ℕ) → 
 creates old good links limit none =
     let founded : Node = founder links limit in
     let only : (place : ℕ) (node : Node) → node_at place (founded ∷ []) ≡ Some node → founded ≡ node =
-    λ place node e. ⊎_elim (λ is. is) (λ n. absurd n) (node_has place (founded ∷ []) node e) in
+    λ place node e. ⊎_elim (λ is. is) (λ n. absurd n) (nodes_by.has place (founded ∷ []) node e) in
     record {
       callers = good.callers;
       messages = good.messages;
@@ -167,19 +168,10 @@ opens : (old : World) (good : Good old) (number window : ℕ) → window ≤ 16
     → Good (record old { callers = old.callers ++ record { number = number; window = window; submitted = []; mine = []; told = [] } ∷ [] })
 opens old good number window high =
     let blank : Caller = record { number = number; window = window; submitted = []; mine = []; told = [] } in
-    let new : World = record old { callers = old.callers ++ blank ∷ [] } in
-    let all : AllGrown old.callers new.callers = all_grown_pushed old.callers blank in
-    record {
-      callers = λ caller h. ⊎_elim (λ there. good.callers caller there) (λ e. subst (CallerGood old.history) e (blank_good old.history number window high)) (has_pushed old.callers blank caller h);
-      messages = λ message h. message_grown old.callers new.callers old.history old.history all (λ done stands. stands) message (good.messages message h);
-      executed = λ done stands. done_grown old.callers new.callers old.history old.history all (λ done stands. stands) done (good.executed done stands);
-      legal = good.legal;
-      in_order = ordered_grown old new good refl all;
-      nodes = λ node h. node_grown old.callers new.callers old.history old.history all (λ done stands. stands) node (good.nodes node h);
-      held = good.held;
-      under_way = good.under_way;
-      unbegun = good.unbegun;
-    }
+    let all = all_grown_pushed old.callers blank in
+    good_of_grown old good (old.callers ++ blank ∷ []) old.sent all
+    (λ caller h. ⊎_elim (λ there. good.callers caller there) (λ e. subst (CallerGood old.history) e (blank_good old.history number window high)) (has_pushed old.callers blank caller h))
+    (λ message h. message_grown old.callers (old.callers ++ blank ∷ []) old.history old.history all (λ done stands. stands) message (good.messages message h))
 
 -- each step keeps the invariant
 pub keeps : (old new : World) → Good old → HolderFacts old → WorldStep old new → Good new

@@ -5,55 +5,12 @@ use Rattle.std.proofs.lemmas.Option.{same_Some, none-some}
 use Rattle.chord_handover.specs.Handover.{Item, is_item, item_at, outbox_without}
 use Rattle.chord_ident.specs.Circle.{in_span}
 use Rattle.chord_map.proofs.Lists.{by_test, by_option, Has, found, find_left, find_right, place_of, has_filter}
+use Rattle.chord_model.proofs.Numbered.{nodes_by}
 use Rattle.chord_model.specs.Node.{Node, segment_with, append_at}
 use Rattle.chord_model.specs.World.{node_at, put_node, taken_by, last_taken}
 use Rattle.chord_segment.specs.Marks.{mark_of}
 use Rattle.chord_segment.specs.Segment.{Segment, append}
 use Rattle.chord_map.specs.declared.done.Done.{Done}
-
-pub node_number : (number : ℕ) (nodes : List Node) (node : Node) → node_at number nodes ≡ Some node → node.number ≡ number
-unfolding node_at
-node_number number nodes node e = eqb-true node.number number (found (λ (c : Node). eqb c.number number) nodes node e).0
-
-pub node_has : (number : ℕ) (nodes : List Node) (node : Node) → node_at number nodes ≡ Some node → Has nodes node
-unfolding node_at
-node_has number nodes node e = (found (λ (c : Node). eqb c.number number) nodes node e).1
-
-pub put_node_same : (after : Node) (nodes : List Node) (node : Node) → node_at after.number nodes ≡ Some node
-    → node_at after.number (put_node after nodes) ≡ Some after
-unfolding node_at put_node
-put_node_same after [] node e = absurd (none-some node e)
-put_node_same after (first ∷ rest) node e =
-    by_test (eqb first.number after.number)
-    (λ t. ap (λ cs. find (λ (c : Node). eqb c.number after.number) cs) (cond-true (eqb first.number after.number) (after ∷ rest) (first ∷ put_node after rest) t)
-    ∙ cond-true (eqb after.number after.number) (Some after) (find (λ (c : Node). eqb c.number after.number) rest) (eq-eqb after.number after.number refl))
-    (λ f. ap (λ cs. find (λ (c : Node). eqb c.number after.number) cs) (cond-false (eqb first.number after.number) (after ∷ rest) (first ∷ put_node after rest) f)
-    ∙ cond-false (eqb first.number after.number) (Some first) (find (λ (c : Node). eqb c.number after.number) (put_node after rest)) f
-    ∙ put_node_same after rest node (sym (cond-false (eqb first.number after.number) (Some first) (find (λ (c : Node). eqb c.number after.number) rest) f) ∙ e))
-
-pub put_node_apart : (after : Node) (nodes : List Node) (number : ℕ) → number ≢ after.number
-    → node_at number (put_node after nodes) ≡ node_at number nodes
-unfolding node_at put_node
-put_node_apart after [] number apart = refl
-put_node_apart after (first ∷ rest) number apart =
-    by_test (eqb first.number after.number)
-    (λ t.
-    let e : first.number ≡ after.number = eqb-true first.number after.number t in
-    ap (λ cs. find (λ (c : Node). eqb c.number number) cs) (cond-true (eqb first.number after.number) (after ∷ rest) (first ∷ put_node after rest) t)
-    ∙ cond-false (eqb after.number number) (Some after) (find (λ (c : Node). eqb c.number number) rest) (ne_eqb after.number number (λ d. apart (sym d)))
-    ∙ sym (cond-false (eqb first.number number) (Some first) (find (λ (c : Node). eqb c.number number) rest) (ne_eqb first.number number (λ d. apart (sym d ∙ e)))))
-    (λ f. ap (λ cs. find (λ (c : Node). eqb c.number number) cs) (cond-false (eqb first.number after.number) (after ∷ rest) (first ∷ put_node after rest) f)
-    ∙ ap (λ o. cond (eqb first.number number) (Some first) o) (put_node_apart after rest number apart))
-
-pub has_put_node : (after : Node) (nodes : List Node) (node : Node) → Has (put_node after nodes) node → Has nodes node ⊎ (after ≡ node)
-unfolding put_node
-has_put_node after [] node h = absurd h
-has_put_node after (first ∷ rest) node h =
-    by_test (eqb first.number after.number)
-    (λ t. ⊎_elim (λ e. inr e) (λ more. inl (inr more))
-    (subst (λ cs. Has cs node) (cond-true (eqb first.number after.number) (after ∷ rest) (first ∷ put_node after rest) t) h))
-    (λ f. ⊎_elim (λ e. inl (inl e)) (λ more. ⊎_elim (λ a. inl (inr a)) (λ e. inr e) (has_put_node after rest node more))
-    (subst (λ cs. Has cs node) (cond-false (eqb first.number after.number) (after ∷ rest) (first ∷ put_node after rest) f) h))
 
 -- a node found after a put is the one put, or was there before under another number
 pub put_node_cases : (after : Node) (nodes : List Node) (node : Node) (number : ℕ) (other : Node) → node_at after.number nodes ≡ Some node
@@ -61,8 +18,8 @@ pub put_node_cases : (after : Node) (nodes : List Node) (node : Node) (number : 
     → ((number ≡ after.number) × (after ≡ other)) ⊎ ((number ≢ after.number) × (node_at number nodes ≡ Some other))
 put_node_cases after nodes node number other here e =
     ⊎_elim
-    (λ same. inl (same, same_Some after other (sym (put_node_same after nodes node here) ∙ subst (λ n. node_at n (put_node after nodes) ≡ Some other) same e)))
-    (λ apart. inr (apart, sym (put_node_apart after nodes number apart) ∙ e))
+    (λ same. inl (same, same_Some after other (sym (nodes_by.put_same after nodes node here) ∙ subst (λ n. node_at n (put_node after nodes) ≡ Some other) same e)))
+    (λ apart. inr (apart, sym (nodes_by.put_apart after nodes number apart) ∙ e))
     (cases_eq number after.number)
 
 pub last_at : (nodes : List Node) (to from : ℕ) (node : Node) → node_at to nodes ≡ Some node → last_taken nodes to from ≡ mark_of from node.taken
@@ -80,8 +37,8 @@ last_grows after nodes node here grows to from =
     ⊎_elim
     (λ same.
     subst (λ n. last_taken nodes n from ≤ last_taken (put_node after nodes) n from) (sym same)
-    (omega (arith, last_at nodes after.number from node here, last_at (put_node after nodes) after.number from after (put_node_same after nodes node here), grows from)))
-    (λ apart. omega (arith, last_same (put_node after nodes) nodes to from (put_node_apart after nodes to apart)))
+    (omega (arith, last_at nodes after.number from node here, last_at (put_node after nodes) after.number from after (nodes_by.put_same after nodes node here), grows from)))
+    (λ apart. omega (arith, last_same (put_node after nodes) nodes to from (nodes_by.put_apart after nodes to apart)))
     (cases_eq to after.number)
 
 -- one more node at the end
@@ -115,7 +72,7 @@ not_empty (y ∷ xs) x e = cc
 pub put_not_empty : (after : Node) (nodes : List Node) (node : Node) → node_at after.number nodes ≡ Some node → put_node after nodes ≡ [] → ⊥
 unfolding node_at
 put_not_empty after nodes node here e =
-    none-some after (sym (ap (node_at after.number) e) ∙ put_node_same after nodes node here)
+    none-some after (sym (ap (node_at after.number) e) ∙ nodes_by.put_same after nodes node here)
 
 -- the held segment that contains x
 

@@ -16,7 +16,7 @@ use Rattle.chord_model.proofs.CallerSteps.{each_with_one}
 use Rattle.chord_model.proofs.Contents.{before_within, behind_within, joined_cases, part_good, part_current, joined_good, joined_current, stays_current, comes_current, inside_current, outside_current}
 use Rattle.chord_model.proofs.Growth.{ordered_grown}
 use Rattle.chord_model.proofs.Invariant.{SegmentGood, MessageGood, NodeGood, Current, Good, HolderFacts}
-use Rattle.chord_model.proofs.NodeLemmas.{node_number, node_has, has_put_node, put_node_cases, put_not_empty, last_at, last_grows, segment_found, item_found, without_has}
+use Rattle.chord_model.proofs.NodeLemmas.{put_node_cases, put_not_empty, last_at, last_grows, segment_found, item_found, without_has}
 use Rattle.chord_model.specs.declared.message.Message.{Message}
 use Rattle.chord_model.specs.declared.message.Message.TheVariants.{Told as ToldMessage, Part as PartMessage, Got as GotMessage, Declined as DeclinedMessage}
 use Rattle.chord_model.specs.declared.phase.Phase.{Phase}
@@ -29,6 +29,7 @@ use Rattle.chord_map.specs.History.{StandsIn}
 use Rattle.chord_segment.specs.Marks.{mark_of}
 use Rattle.chord_segment.specs.Segment.{id_of, Segment, past_at, span_before, span_behind, span_joined, part_before, part_behind, joined_segment}
 use Rattle.chord_segment.specs.Segment.Past.{Kept}
+use Rattle.chord_model.proofs.Numbered.{nodes_by}
 
 -- one event of one node that executes nothing
 pub node_event : (old : World) (good : Good old) (number : ℕ) (node after : Node) (sent : Option Message)
@@ -41,7 +42,7 @@ pub node_event : (old : World) (good : Good old) (number : ℕ) (node after : No
     → Good (record old { nodes = put_node after old.nodes; sent = with_one old.sent sent })
 node_event old good number node after sent here same grows after_good held_current outbox_current sent_good =
     let new : World = record old { nodes = put_node after old.nodes; sent = with_one old.sent sent } in
-    let is_number : after.number ≡ number = same ∙ node_number number old.nodes node here in
+    let is_number : after.number ≡ number = same ∙ nodes_by.number number old.nodes node here in
     let at : node_at after.number old.nodes ≡ Some node = ap (λ n. node_at n old.nodes) is_number ∙ here in
     record {
       callers = good.callers;
@@ -49,7 +50,7 @@ node_event old good number node after sent here same grows after_good held_curre
       executed = good.executed;
       legal = good.legal;
       in_order = ordered_grown old new good refl (all_grown_itself old.callers);
-      nodes = λ other h. ⊎_elim (λ there. good.nodes other there) (λ e. subst (NodeGood old.callers old.history) e after_good) (has_put_node after old.nodes other h);
+      nodes = λ other h. ⊎_elim (λ there. good.nodes other there) (λ e. subst (NodeGood old.callers old.history) e after_good) (nodes_by.has_put after old.nodes other h);
       held = λ place other segment e h. ⊎_elim
           (λ r. subst (λ (n : Node). Current old.history segment n.entries) r.1 (held_current segment (subst (λ (n : Node). Has n.held segment) (sym r.1) h)))
           (λ r. good.held place other segment r.1 h)
@@ -66,7 +67,7 @@ node_event old good number node after sent here same grows after_good held_curre
 
 module _ (old : World) (good : Good old) (facts : HolderFacts old) (number : ℕ) (node : Node) (here : node_at number old.nodes ≡ Some node) where
   before_good : NodeGood old.callers old.history node
-  before_good = good.nodes node (node_has number old.nodes node here)
+  before_good = good.nodes node (nodes_by.has number old.nodes node here)
 
   no_less : (from : ℕ) → mark_of from node.taken ≤ mark_of from node.taken
   no_less from = omega arith
@@ -135,7 +136,7 @@ module _ (old : World) (good : Good old) (facts : HolderFacts old) (number : ℕ
   pub takes : (part : Part) (handover : Handover) → Has old.sent (PartMessage part) → IsWhole (gathered_parts part node.buffered) handover → handover.to ≡ node.number → handover.number ≡ mark_of handover.from node.taken + 1 → node.phase ≢ Phase.Gone
       → Good (record old { nodes = put_node (with_taken handover node) old.nodes; sent = with_one old.sent (Some (GotMessage (ticket_of handover))) })
   takes part handover was whole to next phase =
-      let at : node_at handover.to old.nodes ≡ Some node = ap (λ n. node_at n old.nodes) (to ∙ node_number number old.nodes node here) ∙ here in
+      let at : node_at handover.to old.nodes ≡ Some node = ap (λ n. node_at n old.nodes) (to ∙ nodes_by.number number old.nodes node here) ∙ here in
       let r = facts.next_in_outbox node part handover at was whole next phase in
       let sender : Node = r.0 in
       let item : Item = r.1 in
@@ -143,7 +144,7 @@ module _ (old : World) (good : Good old) (facts : HolderFacts old) (number : ℕ
       subst (λ n. last_taken old.nodes n handover.from < item.number) (sym r.4)
       (omega (arith, last_at old.nodes handover.to handover.from node at, r.5)) in
       let given : SegmentGood old.callers old.history handover.segment =
-      subst (SegmentGood old.callers old.history) r.6 ((good.nodes sender (node_has handover.from old.nodes sender r.2)).outbox item r.3) in
+      subst (SegmentGood old.callers old.history) r.6 ((good.nodes sender (nodes_by.has handover.from old.nodes sender r.2)).outbox item r.3) in
       node_event old good number node (with_taken handover node) (Some (GotMessage (ticket_of handover))) here refl
       (λ from. mark_grows from handover.from handover.number node.taken)
       (record {
@@ -163,7 +164,7 @@ module _ (old : World) (good : Good old) (facts : HolderFacts old) (number : ℕ
   takes_back ticket item was from found =
       let is = item_found ticket.to ticket.number node.outbox item found in
       let early : last_taken old.nodes ticket.to number < ticket.number =
-      facts.declined_not_taken number node ticket item here was (from ∙ node_number number old.nodes node here) found in
+      facts.declined_not_taken number node ticket item here was (from ∙ nodes_by.number number old.nodes node here) found in
       let late : last_taken old.nodes item.to number < item.number = subst (λ n. last_taken old.nodes n number < item.number) (sym is.0) (omega (arith, is.1)) in
       node_event old good number node (with_back item node) None here refl no_less
       (record {

@@ -1,13 +1,10 @@
 -- The nodes of a world, by number.
 use Rattle.std.proofs.Common.{◌≡◌, ◌≢◌, ℕ, cond, eqb, Option, Some, None, List, [], ◌∷◌, ◌++◌, ⊎_elim, refl, sym, ◌∙◌, ap}
 use Rattle.chord_map.proofs.Finding.{find_passes, find_push_miss, find_push_hit}
+use Rattle.chord_model.proofs.Numbered.{nodes_by}
 use Rattle.chord_model.specs.Node.{Node}
 use Rattle.chord_model.specs.World.{node_at, put_node}
 use Rattle.chord_map.proofs.Equal.{same_or_not, eqb_same, eqb_other, eqb_is}
-
-pub node_at_is : (number : ℕ) (nodes : List Node) (node : Node) → node_at number nodes ≡ Some node → node.number ≡ number
-unfolding node_at
-node_at_is number nodes node e = eqb_is node.number number (find_passes (λ (node : Node). eqb node.number number) nodes node e)
 
 pub node_at_push_other : (number : ℕ) (nodes : List Node) (node : Node) → node.number ≢ number → node_at number (nodes ++ node ∷ []) ≡ node_at number nodes
 unfolding node_at
@@ -17,38 +14,14 @@ pub node_at_push_same : (number : ℕ) (nodes : List Node) (node : Node) → nod
 unfolding node_at
 node_at_push_same number nodes node same none = find_push_hit (λ (node : Node). eqb node.number number) nodes node (eqb_same node.number number same) none
 
-pub node_at-put_same : (after node : Node) (nodes : List Node) → node_at after.number nodes ≡ Some node → node_at after.number (put_node after nodes) ≡ Some after
-unfolding node_at put_node
-node_at-put_same after node [] e = cc
-node_at-put_same after node (other ∷ rest) e =
-    ⊎_elim
-    (λ (same : other.number ≡ after.number). rw (eqb_same other.number after.number same, eqb_same after.number after.number refl) refl)
-    (λ (apart : other.number ≢ after.number).
-    let skip = eqb_other other.number after.number apart in
-    let e' : node_at after.number rest ≡ Some node = rw skip at e in
-    rw skip (rw skip (node_at-put_same after node rest e')))
-    (same_or_not other.number after.number)
-
-pub node_at-put_other : (number : ℕ) (after : Node) (nodes : List Node) → number ≢ after.number → node_at number (put_node after nodes) ≡ node_at number nodes
-unfolding node_at put_node
-node_at-put_other number after [] apart = refl
-node_at-put_other number after (other ∷ rest) apart =
-    ⊎_elim
-    (λ (same : other.number ≡ after.number).
-    let other_apart : other.number ≢ number = λ e. apart (sym e ∙ same) in
-    rw (eqb_same other.number after.number same, eqb_other other.number number other_apart) (rw (eqb_other after.number number (λ e. apart (sym e))) refl))
-    (λ (unlike : other.number ≢ after.number).
-    rw (eqb_other other.number after.number unlike) (ap (cond (eqb other.number number) (Some other)) (node_at-put_other number after rest apart)))
-    (same_or_not other.number after.number)
-
 -- A property of the new node beside the old, and of any node beside itself, holds at every number
 pub at_put : (P : ℕ → Option Node → Option Node → Type 0) (after node : Node) (nodes : List Node) → node_at after.number nodes ≡ Some node
     → P after.number (Some node) (Some after) → ((number : ℕ) (other : Option Node) → P number other other)
     → (number : ℕ) → P number (node_at number nodes) (node_at number (put_node after nodes))
 at_put P after node nodes at here elsewhere number =
     ⊎_elim
-    (λ (same : number ≡ after.number). rw (same, at, node_at-put_same after node nodes at) here)
-    (λ (apart : number ≢ after.number). rw (node_at-put_other number after nodes apart) (elsewhere number (node_at number nodes)))
+    (λ (same : number ≡ after.number). rw (same, at, nodes_by.put_same after nodes node at) here)
+    (λ (apart : number ≢ after.number). rw (nodes_by.put_apart after nodes number apart) (elsewhere number (node_at number nodes)))
     (same_or_not number after.number)
 
 -- no two nodes have the same number

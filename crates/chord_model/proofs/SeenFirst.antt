@@ -4,7 +4,7 @@ use Rattle.std.proofs.lemmas.Bool.{cases_eq}
 use Rattle.std.proofs.lemmas.Option.{same_Some, none-some, slice_get_within}
 use Rattle.chord_caller.specs.Caller.{Submission, Caller, submission_at, known_calls, seen_at, CallerStep, Letter}
 use Rattle.chord_map.proofs.Lists.{Has, has_cases, has_contained, has_left, has_right, each_all}
-use Rattle.chord_model.proofs.CallerLemmas.{caller_number, put_same, put_apart, Grown, nothing_more, grown_itself, caller_left}
+use Rattle.chord_model.proofs.CallerLemmas.{Grown, nothing_more, grown_itself, caller_left}
 use Rattle.chord_model.proofs.CallerSteps.{submission_pushed}
 use Rattle.chord_model.proofs.Growth.{once_stands}
 use Rattle.chord_model.proofs.HolderTie.{holder_facts}
@@ -14,6 +14,7 @@ use Rattle.chord_model.specs.Headline.{SeenFirst}
 use Rattle.chord_model.specs.World.{World, WorldStep, Run, Reached, empty_world, caller_at, put_caller}
 use Rattle.chord_model.specs.World.Run.{Stays, Goes_on}
 use Rattle.chord_map.specs.History.{StandsIn}
+use Rattle.chord_model.proofs.Numbered.{callers_by}
 
 pub grown_twice : (first second third : Caller) → Grown first second → Grown second third → Grown first third
 grown_twice first second third one other = record {
@@ -76,12 +77,12 @@ longer old new grown =
 since_step : (callers : List Caller) (number : ℕ) (old : Caller) (since : Since callers number old) (after : Caller) → Grown since.new after → NotesAll since.new after
     → Since (put_caller after callers) number old
 since_step callers number old since after grown notes =
-    let is_number : after.number ≡ number = grown.number ∙ caller_number number callers since.new since.is_caller in
+    let is_number : after.number ≡ number = grown.number ∙ callers_by.number number callers since.new since.is_caller in
     let at : caller_at after.number callers ≡ Some since.new = ap (λ n. caller_at n callers) is_number ∙ since.is_caller in
     let low = longer old since.new since.grown in
     record {
       new = after;
-      is_caller = ap (λ n. caller_at n (put_caller after callers)) (sym is_number) ∙ put_same after callers since.new at;
+      is_caller = ap (λ n. caller_at n (put_caller after callers)) (sym is_number) ∙ callers_by.put_same after callers since.new at;
       grown = grown_twice old since.new after since.grown grown;
       notes = λ place submission high is. ⊎_elim (λ there. since.notes place submission high there) (λ e. (omega (arith, e.0, low.0), omega (arith, e.1, low.1)))
           (notes place submission is);
@@ -106,7 +107,7 @@ world_since middle last number old since (WorldStep.Calls at caller after taken 
     (λ apart.
     record {
       new = since.new;
-      is_caller = put_apart after middle.callers number (λ e. apart (e ∙ r.0.number ∙ caller_number at middle.callers caller here)) ∙ since.is_caller;
+      is_caller = callers_by.put_apart after middle.callers number (λ e. apart (e ∙ r.0.number ∙ callers_by.number at middle.callers caller here)) ∙ since.is_caller;
       grown = since.grown;
       notes = since.notes;
     })
@@ -143,7 +144,7 @@ seen_first earlier later reached run number caller seen done before behind here 
     let is : s.caller ≡ new = same_Some s.caller new (sym s.is_caller ∙ ap (λ n. caller_at n later.callers) is_caller ∙ since.is_caller) in
     let submission : submission_at done.number new.submitted ≡ Some s.submission = ap (λ (c : Caller). submission_at done.number c.submitted) (sym is) ∙ s.is_submission in
     let seen_before = since.notes done.number s.submission above submission in
-    let own_number : new.number ≡ number = caller_number number later.callers new since.is_caller in
+    let own_number : new.number ≡ number = callers_by.number number later.callers new since.is_caller in
     let grown : Grown caller new = since.grown in
     each_all (StandsIn before) (seen_at new s.submission)
     (good.in_order new done.number s.submission before behind done (ap (λ n. caller_at n later.callers) own_number ∙ since.is_caller) submission split (is_caller ∙ sym own_number) refl)

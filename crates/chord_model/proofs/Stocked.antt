@@ -14,7 +14,7 @@ use Rattle.chord_model.proofs.Channels.{taken_in, gone_in, item_from}
 use Rattle.chord_model.proofs.Clash.{taken_clear, back_clear}
 use Rattle.chord_model.proofs.Events.{SegmentOn, count-append_at, count-cut, count-join, sender_of}
 use Rattle.chord_model.proofs.Kept.{sound_reached, gone_test, none_at, event}
-use Rattle.chord_model.proofs.NodeLemmas.{node_number, segment_found, put_node_cases, node_pushed}
+use Rattle.chord_model.proofs.NodeLemmas.{segment_found, put_node_cases, node_pushed}
 use Rattle.chord_model.proofs.Stocking.{holds_same, stocked_none, stocked_same, stocked_after, stocked_less, stocked_more, payload_taken}
 use Rattle.chord_model.proofs.Whole.{whole_ok}
 use Rattle.chord_model.specs.declared.message.Message.{Message}
@@ -27,6 +27,7 @@ use Rattle.chord_model.specs.World.Run.{Stays, Goes_on}
 use Rattle.chord_model.specs.World.WorldStep.{Creates, Joins as Arrives, Opens, Calls, Acts}
 use Rattle.chord_map.specs.declared.done.Done.{Done}
 use Rattle.chord_segment.specs.Segment.{Segment, id_of}
+use Rattle.chord_model.proofs.Numbered.{nodes_by}
 
 -- ---- what is held, index by index
 
@@ -184,7 +185,7 @@ stocks_world_step old new reached all (Arrives links limit circle some new_numbe
 stocks_world_step old new reached all (Opens number window low high new_number) = all
 stocks_world_step old new reached all (Calls number caller after taken out at was step) = all
 stocks_world_step old new reached all (Acts number node after taken out did at was step) =
-    let at' : node_at node.number old.nodes ≡ Some node = ap (λ n. node_at n old.nodes) (node_number number old.nodes node at) ∙ at in
+    let at' : node_at node.number old.nodes ≡ Some node = ap (λ n. node_at n old.nodes) (nodes_by.number number old.nodes node at) ∙ at in
     let event = event old.nodes old.sent node taken after out did (sound_reached old reached) at' was step in
     let at'' : node_at after.number old.nodes ≡ Some node = rw event.change.same_number at' in
     λ other_number other e. ⊎_elim

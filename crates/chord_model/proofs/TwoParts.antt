@@ -16,7 +16,6 @@ use Rattle.chord_map.specs.declared.request.Request.{Request}
 use Rattle.chord_map.specs.declared.request.Request.TheVariants.{Insert}
 use Rattle.chord_map.specs.Map.{reply_to, pairs_after, insert_pair}
 use Rattle.chord_map.specs.History.{done_at}
-use Rattle.chord_model.proofs.CallerLemmas.{put_apart}
 use Rattle.chord_model.proofs.EveryRule.{five, whole, first_links, second_links, acted, called, holds_key, appends}
 use Rattle.chord_model.specs.declared.message.Message.{Message}
 use Rattle.chord_model.specs.declared.message.Message.TheVariants.{Ask as AskMessage, Told as ToldMessage, Part as PartMessage, Got as GotMessage}
@@ -31,6 +30,7 @@ use Rattle.chord_segment.specs.Marks.{mark_of, lift}
 use Rattle.chord_segment.specs.Segment.{Segment, append, calls_above, insert_call, past_of, past_at}
 use Rattle.chord_segment.specs.Segment.Past.{New, Seen}
 use Rattle.chord_store.specs.Inside.{pairs_inside}
+use Rattle.chord_model.proofs.Numbered.{callers_by}
 
 -- ---- many callers have a value put under one key
 
@@ -148,7 +148,7 @@ no_caller_after : (n : ℕ) (callers : List Caller) (number : ℕ) → n < numbe
     → caller_at number (put_caller (asking n) (callers ++ caller n ∷ [])) ≡ None
 unfolding caller_at
 no_caller_after n callers number behind none =
-    put_apart (asking n) (callers ++ caller n ∷ []) number (omega arith)
+    callers_by.put_apart (asking n) (callers ++ caller n ∷ []) number (omega arith)
     ∙ find_right _ callers (caller n ∷ []) none ∙ cond-false (eqb n number) (Some (caller n)) None (ne_eqb n number (omega arith))
 
 one_more : (n : ℕ) → Filled n → Filled (suc n)

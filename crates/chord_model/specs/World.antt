@@ -27,14 +27,18 @@ pub record World : Type 0 where
 abbrev pub empty_world : World
 empty_world = record { nodes = []; callers = []; sent = []; history = [] }
 
+-- the list, with x in place of the first that has its number
+abbrev pub put_in_place : {A : Type 0} → (A → ℕ) → A → List A → List A
+put_in_place number_of x [] = []
+put_in_place number_of x (y ∷ ys) = if number_of y == number_of x then x ∷ ys else y ∷ put_in_place number_of x ys
+
 -- the node of this number
 unfoldable pub node_at : ℕ → List Node → Option Node
 node_at number nodes = find (λ (node : Node). node.number == number) nodes
 
 -- the nodes, with this one in place of that of its number
 unfoldable pub put_node : Node → List Node → List Node
-put_node node [] = []
-put_node node (other ∷ nodes) = if other.number == node.number then node ∷ nodes else other ∷ put_node node nodes
+put_node node nodes = put_in_place (λ (n : Node). n.number) node nodes
 
 -- the caller of this number
 unfoldable pub caller_at : ℕ → List Caller → Option Caller
@@ -42,8 +46,7 @@ caller_at number callers = find (λ (caller : Caller). caller.number == number) 
 
 -- the callers, with this one in place of that of its number
 unfoldable pub put_caller : Caller → List Caller → List Caller
-put_caller caller [] = []
-put_caller caller (other ∷ callers) = if other.number == caller.number then caller ∷ callers else other ∷ put_caller caller callers
+put_caller caller callers = put_in_place (λ (c : Caller). c.number) caller callers
 
 -- the list with one more at its end, if there is one
 abbrev pub with_one : {A : Type 0} → List A → Option A → List A

@@ -1,5 +1,5 @@
 -- Each step of a ring keeps it sound and keeps its principals.
-use Rattle.std.proofs.Common.{◌≡◌, ℕ, ◌+◌, ◌<◌, ◌≤◌, inl, inr, true, false, List, [], ◌∷◌, ◌++◌, length, drop, Some, arith, refl, ap, sym, subst, ◌∙◌, length-take}
+use Rattle.std.proofs.Common.{◌≡◌, ℕ, ◌+◌, ◌<◌, ◌≤◌, inl, inr, true, false, List, [], ◌∷◌, ◌++◌, length, drop, Option, Some, arith, refl, ap, sym, subst, ◌∙◌, length-take}
 use Rattle.std.specs.Prelude.{is_some, IsSome, slice_get}
 use Rattle.std.specs.List.{AllByRecursion, Contains}
 use Rattle.std.proofs.lemmas.Bool.{false_from_ne_true, cond_both}
@@ -150,6 +150,11 @@ Kept-drops_dead old node new sound step =
           (OnCircle-known old.ids sound.ids (first ∷ rest) known) (member_on_circle old sound other member is_its) not_first rises skips),
     )))
 
+-- another predecessor and other fingers
+links_still_sound : (ids : List ℕ) (node : ℕ) (links : NodeLinks) (predecessor : Option Peer) (fingers : Fingers) → LinksSound ids node links → LinksSound ids node (record links { predecessor = predecessor; fingers = fingers })
+links_still_sound ids node links predecessor fingers mine =
+    record { number = mine.number; me_known = mine.me_known; known = mine.known; rises = mine.rises; short = mine.short; positive = mine.positive }
+
 pub Kept-rectifies : (old : Ring) (node notifier : ℕ) (new : Ring) → IsSound old → Rectifies old node notifier new → Kept old new
 Kept-rectifies old node notifier new sound step =
     let links = step.links in
@@ -160,14 +165,7 @@ Kept-rectifies old node notifier new sound step =
     (cond_both (gives_way links.me step.theirs.me (is_live old.members links.predecessor) links.predecessor) found links (λ after. Kept old (with_links old node after))
     (λ _.
     Kept-with_links old node links found sound step.is_its refl
-    (record {
-      number = mine.number;
-      me_known = mine.me_known;
-      known = mine.known;
-      rises = mine.rises;
-      short = mine.short;
-      positive = mine.positive;
-    })
+    (links_still_sound old.ids node links _ _ mine)
     live (λ other member is_its skips. (node, links, step.is_its, skips)))
     (λ _. Kept-with_links old node links links sound step.is_its refl mine live (λ other member is_its skips. (node, links, step.is_its, skips))))
 
@@ -177,14 +175,7 @@ pub Kept-fingers : (old : Ring) (node : ℕ) (links : NodeLinks) (fingers : Fing
 Kept-fingers old node links fingers sound is_its =
     let mine : LinksSound old.ids node links = sound.each node links is_its in
     Kept-with_links old node links (record links { fingers = fingers }) sound is_its refl
-    (record {
-      number = mine.number;
-      me_known = mine.me_known;
-      known = mine.known;
-      rises = mine.rises;
-      short = mine.short;
-      positive = mine.positive;
-    })
+    (links_still_sound old.ids node links _ _ mine)
     (sound.safe.live node links is_its) (λ other member member_is skips. (node, links, is_its, skips))
 
 pub Kept-joins : (old : Ring) (id pred : ℕ) (new : Ring) → IsSound old → Joins old id pred new → Kept old new

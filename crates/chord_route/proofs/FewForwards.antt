@@ -11,24 +11,15 @@ use Rattle.chord_route.specs.Course.{ComesTo, Forwards}
 use Rattle.chord_route.specs.Hops.{BringsNearer}
 use Rattle.chord_route.specs.declared.hop.Hop.TheVariants.{Near}
 use Rattle.chord_route.proofs.NextHop.{rule_nearer}
-use Rattle.chord_route.specs.Network.{IsIdealNetwork, AnswersAs, ReadsIdealRing}
-
--- what is read of a member is its ideal links
-pub arrives : (ring : List Peer) (table : ℕ → Option NodeLinks) (limit : ℕ) (node : Peer) (here : NodeLinks) → IsIdealNetwork ring table limit → Contains ring node → Some here ≡ table node.number →
-    IsIdeal ring here × (here.me ≡ node) × (node.number < limit) × (table node.number ≡ Some here)
-arrives ring table limit node here net m e =
-    let found = net.ideal node m in
-    let both : Some found.0 ≡ Some here = sym found.1 ∙ sym e in
-    let same : found.0 ≡ here = cc in
-    let I : NodeLinks → Type 0 = λ l. IsIdeal ring l in
-    (subst I same found.3, ap (λ (l : NodeLinks). l.me) (sym same) ∙ found.2, net.below node m, sym e)
+use Rattle.chord_route.proofs.Settled.{arrives}
+use Rattle.chord_route.specs.Network.{IsNetwork, AnswersAs, ReadsIdealRing}
 
 -- after some forwards a lookup is at a member, with digits left for the rest
 pub record OnCourse (ring : List Peer) (target forwards : ℕ) (here : NodeLinks) : Type 0 where
   pub ideal : IsIdeal ring here
   pub digits : (last : Peer) → IsPredecessor ring target last → forwards + digit_count (distance here.me.id.number last.id.number) ≤ 128
 
-pub course_begins : (ring : List Peer) (table : ℕ → Option NodeLinks) (limit target : ℕ) (start : Peer) (here : NodeLinks) → IsIdealNetwork ring table limit → Contains ring start → Some here ≡ table start.number → OnCourse ring target 0 here
+pub course_begins : (ring : List Peer) (table : ℕ → Option NodeLinks) (limit target : ℕ) (start : Peer) (here : NodeLinks) → IsNetwork IsIdeal ring table limit → Contains ring start → Some here ≡ table start.number → OnCourse ring target 0 here
 course_begins ring table limit target start here net m e =
     let at = arrives ring table limit start here net m e in
     record {
@@ -36,7 +27,7 @@ course_begins ring table limit target start here net m e =
       digits = λ last p. omega (arith, digit_count-le (distance here.me.id.number last.id.number));
     }
 
-pub course_goes_on : (ring : List Peer) (table : ℕ → Option NodeLinks) (limit target forwards : ℕ) (here next : NodeLinks) (peer : Peer) → IsIdealNetwork ring table limit → OnCourse ring target forwards here →
+pub course_goes_on : (ring : List Peer) (table : ℕ → Option NodeLinks) (limit target forwards : ℕ) (here next : NodeLinks) (peer : Peer) → IsNetwork IsIdeal ring table limit → OnCourse ring target forwards here →
     BringsNearer ring here target (Near peer) → Some next ≡ table peer.number → OnCourse ring target (forwards + 1) next
 course_goes_on ring table limit target forwards here next peer net on nearer e =
     let at = arrives ring table limit peer next net nearer.0 e in
@@ -48,7 +39,7 @@ course_goes_on ring table limit target forwards here next peer net on nearer e =
     }
 
 -- Whatever course a lookup takes on an ideal network, it stays at members and comes nearer.
-pub any_course : (answers : ℕ → Option NodeLinks → Type 0) (ring : List Peer) (table : ℕ → Option NodeLinks) (limit from target n : ℕ) (start : Peer) (begin here : NodeLinks) → IsIdealNetwork ring table limit → AnswersAs answers table → target < 2 ^ 128 →
+pub any_course : (answers : ℕ → Option NodeLinks → Type 0) (ring : List Peer) (table : ℕ → Option NodeLinks) (limit from target n : ℕ) (start : Peer) (begin here : NodeLinks) → IsNetwork IsIdeal ring table limit → AnswersAs answers table → target < 2 ^ 128 →
     Contains ring start → start.number ≡ from → answers from (Some begin) → Forwards answers target n begin here → OnCourse ring target n here
 any_course answers ring table limit from target zero start begin here net answered ht m e known course =
     let O : NodeLinks → Type 0 = λ l. OnCourse ring target 0 l in
@@ -59,7 +50,7 @@ any_course answers ring table limit from target (suc n) start begin here net ans
     rw (← add-one) (course_goes_on ring table limit target n course.0 here node net before
     (rule_nearer ring course.0 target (Near node) net.on_circle before.ideal ht course.2.1) (answered node.number _ course.2.2))
 
-few_forwards_from : (answers : ℕ → Option NodeLinks → Type 0) (ring : List Peer) (table : ℕ → Option NodeLinks) (limit from target n : ℕ) (start : Peer) (here : NodeLinks) → IsIdealNetwork ring table limit → AnswersAs answers table → target < 2 ^ 128 →
+few_forwards_from : (answers : ℕ → Option NodeLinks → Type 0) (ring : List Peer) (table : ℕ → Option NodeLinks) (limit from target n : ℕ) (start : Peer) (here : NodeLinks) → IsNetwork IsIdeal ring table limit → AnswersAs answers table → target < 2 ^ 128 →
     Contains ring start → start.number ≡ from → ComesTo answers from target n here → n ≤ 128
 few_forwards_from answers ring table limit from target n start here net answered ht m e comes =
     let on = any_course answers ring table limit from target n start comes.start here net answered ht m e comes.known comes.course in

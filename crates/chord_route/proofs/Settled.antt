@@ -5,28 +5,28 @@ use Rattle.chord_ident.specs.Circle.{distance}
 use Rattle.chord_route.proofs.Least.{predecessor_exists}
 use Rattle.chord_links.specs.declared.peer.Peer.{Peer}
 use Rattle.chord_links.specs.NodeLinks.{NodeLinks, first_entry}
-use Rattle.chord_route.specs.IdealRing.{IsSettled, IsPredecessor, IsSuccessor}
+use Rattle.chord_route.specs.IdealRing.{IsSettled, IsIdeal, IsPredecessor, IsSuccessor}
 use Rattle.chord_route.proofs.Counting.{nearer_count, count_room, count_falls}
 use Rattle.chord_route.proofs.Nearing.{settled_of}
 use Rattle.chord_route.proofs.NextHop.{rule_closer}
 use Rattle.chord_route.specs.Course.{ComesTo, Forwards}
 use Rattle.chord_route.specs.Hops.{ComesCloser, IsNextHop}
-use Rattle.chord_route.specs.Network.{IsSettledNetwork, AnswersAs, ReadsSettledRing, ReadsIdealRing}
+use Rattle.chord_route.specs.Network.{IsNetwork, AnswersAs, ReadsRing, ReadsSettledRing}
 use Rattle.chord_route.specs.declared.hop.Hop.TheVariants.{Near, Last}
 
-arrives : (ring : List Peer) (table : ℕ → Option NodeLinks) (limit : ℕ) (node : Peer) (here : NodeLinks) → IsSettledNetwork ring table limit → Contains ring node → Some here ≡ table node.number →
-    IsSettled ring here × (here.me ≡ node) × (node.number < limit) × (table node.number ≡ Some here)
-arrives ring table limit node here net m e =
-    let found = net.settled node m in
+-- what is read of a member is its links
+pub arrives : {Are : List Peer → NodeLinks → Type 0} (ring : List Peer) (table : ℕ → Option NodeLinks) (limit : ℕ) (node : Peer) (here : NodeLinks) → IsNetwork Are ring table limit → Contains ring node → Some here ≡ table node.number →
+    Are ring here × (here.me ≡ node) × (node.number < limit) × (table node.number ≡ Some here)
+arrives {Are} ring table limit node here net m e =
+    let found = net.each node m in
     let both : Some found.0 ≡ Some here = sym found.1 ∙ sym e in
     let same : found.0 ≡ here = cc in
-    let I : NodeLinks → Type 0 = λ l. IsSettled ring l in
-    (subst I same found.3, ap (λ (l : NodeLinks). l.me) (sym same) ∙ found.2, net.below node m, sym e)
+    (subst (Are ring) same found.3, ap (λ (l : NodeLinks). l.me) (sym same) ∙ found.2, net.below node m, sym e)
 
 -- A member is not answered with nothing.
-is_there : (ring : List Peer) (table : ℕ → Option NodeLinks) (limit : ℕ) (node : Peer) → IsSettledNetwork ring table limit → Contains ring node → None ≡ table node.number → ⊥
+is_there : (ring : List Peer) (table : ℕ → Option NodeLinks) (limit : ℕ) (node : Peer) → IsNetwork IsSettled ring table limit → Contains ring node → None ≡ table node.number → ⊥
 is_there ring table limit node net m e =
-    let found = net.settled node m in
+    let found = net.each node m in
     let both : Some found.0 ≡ None = sym found.1 ∙ sym e in
     absurd (cc)
 
@@ -35,7 +35,7 @@ pub record OnWay (ring : List Peer) (table : ℕ → Option NodeLinks) (limit ta
   pub settled : IsSettled ring here
   pub room : (last : Peer) → IsPredecessor ring target last → n + nearer_count table last.id.number (distance here.me.id.number last.id.number) limit < limit
 
-pub way_goes_on : (ring : List Peer) (table : ℕ → Option NodeLinks) (limit target n : ℕ) (here next : NodeLinks) (peer : Peer) → IsSettledNetwork ring table limit → OnWay ring table limit target n here →
+pub way_goes_on : (ring : List Peer) (table : ℕ → Option NodeLinks) (limit target n : ℕ) (here next : NodeLinks) (peer : Peer) → IsNetwork IsSettled ring table limit → OnWay ring table limit target n here →
     ComesCloser ring here target (Near peer) → Some next ≡ table peer.number → OnWay ring table limit target (suc n) next
 way_goes_on ring table limit target n here next peer net on nearer e =
     let at = arrives ring table limit peer next net nearer.0 e in
@@ -47,7 +47,7 @@ way_goes_on ring table limit target n here next peer net on nearer e =
     }
 
 -- Whatever course a lookup takes on a settled network, it stays at members and comes closer.
-any_way : (answers : ℕ → Option NodeLinks → Type 0) (ring : List Peer) (table : ℕ → Option NodeLinks) (limit from target n : ℕ) (start : Peer) (begin here : NodeLinks) → IsSettledNetwork ring table limit → AnswersAs answers table → target < 2 ^ 128 →
+any_way : (answers : ℕ → Option NodeLinks → Type 0) (ring : List Peer) (table : ℕ → Option NodeLinks) (limit from target n : ℕ) (start : Peer) (begin here : NodeLinks) → IsNetwork IsSettled ring table limit → AnswersAs answers table → target < 2 ^ 128 →
     Contains ring start → start.number ≡ from → answers from (Some begin) → Forwards answers target n begin here → OnWay ring table limit target n here
 any_way answers ring table limit from target zero start begin here net answered ht m e known course =
     let at = arrives ring table limit start begin net m (answered from _ known ∙ ap table (sym e)) in
@@ -62,7 +62,7 @@ any_way answers ring table limit from target (suc n) start begin here net answer
     way_goes_on ring table limit target n course.0 here node net before
     (rule_closer ring course.0 target (Near node) net.on_circle before.settled ht course.2.1) (answered node.number _ course.2.2)
 
-comes_on_way : (answers : ℕ → Option NodeLinks → Type 0) (ring : List Peer) (table : ℕ → Option NodeLinks) (limit from target n : ℕ) (start : Peer) (here : NodeLinks) → IsSettledNetwork ring table limit → AnswersAs answers table → target < 2 ^ 128 →
+comes_on_way : (answers : ℕ → Option NodeLinks → Type 0) (ring : List Peer) (table : ℕ → Option NodeLinks) (limit from target n : ℕ) (start : Peer) (here : NodeLinks) → IsNetwork IsSettled ring table limit → AnswersAs answers table → target < 2 ^ 128 →
     Contains ring start → start.number ≡ from → ComesTo answers from target n here → OnWay ring table limit target n here × (n < limit)
 comes_on_way answers ring table limit from target n start here net answered ht m e comes =
     let on = any_way answers ring table limit from target n start comes.start here net answered ht m e comes.known comes.course in
@@ -78,16 +78,16 @@ comes_on answers from target n here next node comes hop known = record {
 }
 
 -- an ideal ring is settled
-pub reads_settled : (answers : ℕ → Option NodeLinks → Type 0) (slots from : ℕ) (ring : List Peer) → ReadsIdealRing answers slots from ring → ReadsSettledRing answers slots from ring
-reads_settled answers slots from ring reads =
+pub reads_settled : {answers : ℕ → Option NodeLinks → Type 0} {slots from : ℕ} {ring : List Peer} → ReadsRing IsIdeal answers slots from ring → ReadsRing IsSettled answers slots from ring
+reads_settled {ring = ring} reads =
     record {
       table = reads.table;
       network =
           record {
             on_circle = reads.network.on_circle;
             below = reads.network.below;
-            settled = λ node m.
-                let found = reads.network.ideal node m in
+            each = λ node m.
+                let found = reads.network.each node m in
                 (found.0, found.1, found.2, settled_of ring found.0 found.3);
           };
       answered = reads.answered;

@@ -4,6 +4,8 @@ use Rattle.chord_ident.specs.Circle.{IsWithin}
 use Rattle.chord_links.specs.declared.peer.Peer.{Peer}
 use Rattle.chord_links.specs.NodeLinks.{NodeLinks, first_entry}
 use Rattle.chord_route.specs.declared.hop.Hop.TheVariants.{Near}
+use Rattle.chord_route.specs.declared.lookup.LookupFault.{LookupFault}
+use Rattle.chord_route.specs.declared.lookup.LookupFault.TheVariants.{NoSuchNode, Unsettled}
 use Rattle.chord_route.specs.Hops.{IsNextHop}
 
 -- n forwards of a lookup lead from the first links to the second, each node's links as answered
@@ -32,3 +34,8 @@ pub record IsUnsettled (answers : ℕ → Option NodeLinks → Type 0) (from tar
   pub here : NodeLinks
   pub comes : ComesTo answers from target n here
   pub stops : (n ≡ limit) ⊎ ((node : Peer) × IsNextHop here target (Near node) × answers node.number None)
+
+-- why a lookup gives no node
+abbrev pub RefusesLookup : (ℕ → Option NodeLinks → Type 0) → ℕ → ℕ → ℕ → LookupFault → Type 0
+RefusesLookup answers from target limit Unsettled = IsUnsettled answers from target limit
+RefusesLookup answers from target limit NoSuchNode = answers from None

@@ -1,11 +1,11 @@
 //! Lookups: following the hops from node to node.
 
-ghost use Rattle.std.specs.Prelude.{◌≡◌, ℕ, ◌*◌, ◌≤◌, List, Option, None, IfOk, IsOkAnd};
+ghost use Rattle.std.specs.Prelude.{◌≡◌, ℕ, ◌*◌, ◌≤◌, List, Option, IfOk, IfErr, IsOkAnd};
 ghost use Rattle.chord_links.specs.declared.peer.Peer.{Peer};
 ghost use Rattle.chord_links.specs.NodeLinks.{NodeLinks, first_entry};
 ghost use Rattle.chord_route.specs.IdealRing.{IsSuccessor, IsPredecessor};
 ghost use Rattle.chord_route.specs.Network.{ReadsSettledRing, ReadsIdealRing};
-ghost use Rattle.chord_route.specs.Course.{ComesTo, EndsAt, IsUnsettled};
+ghost use Rattle.chord_route.specs.Course.{ComesTo, EndsAt, RefusesLookup};
 
 use crate::hop::{Hop, next_hop};
 use chord_ident::Id;
@@ -43,9 +43,8 @@ pub enum LookupFault {
 fn look_up<R: LinkReader>(reader: &R, from: u64, target: Id) -> Result<Links, LookupFault>
     ensures found { IfOk result (λ last.
         EndsAt (R.answers reader.now) from target.number (2 * R.slot_count reader.now) last) }
-    ensures unsettled { result ≡ Err LookupFault.Unsettled →
-        IsUnsettled (R.answers reader.now) from target.number (2 * R.slot_count reader.now) }
-    ensures missing { result ≡ Err LookupFault.NoSuchNode → R.answers reader.now from None }
+    ensures refused { IfErr result
+        (RefusesLookup (R.answers reader.now) from target.number (2 * R.slot_count reader.now)) }
     ensures on_settled_ring { (ring : List Peer) →
         ReadsSettledRing (R.answers reader.now) (R.slot_count reader.now) from ring →
         IsOkAnd result (λ last. IsPredecessor ring target.number last.me
@@ -70,9 +69,8 @@ fn look_up<R: LinkReader>(reader: &R, from: u64, target: Id) -> Result<Links, Lo
 pub fn find_successor<R: LinkReader>(reader: &R, from: u64, target: Id) -> Result<Peer, LookupFault>
     ensures found { IfOk result (λ node. (last : NodeLinks) × (node ≡ first_entry last)
         × EndsAt (R.answers reader.now) from target.number (2 * R.slot_count reader.now) last) }
-    ensures unsettled { result ≡ Err LookupFault.Unsettled →
-        IsUnsettled (R.answers reader.now) from target.number (2 * R.slot_count reader.now) }
-    ensures missing { result ≡ Err LookupFault.NoSuchNode → R.answers reader.now from None }
+    ensures refused { IfErr result
+        (RefusesLookup (R.answers reader.now) from target.number (2 * R.slot_count reader.now)) }
     ensures on_settled_ring { (ring : List Peer) →
         ReadsSettledRing (R.answers reader.now) (R.slot_count reader.now) from ring →
         IsOkAnd result (IsSuccessor ring target.number) }
@@ -95,9 +93,8 @@ pub fn find_predecessor<R: LinkReader>(
 ) -> Result<Peer, LookupFault>
     ensures found { IfOk result (λ node. (last : NodeLinks) × (node ≡ last.me)
         × EndsAt (R.answers reader.now) from target.number (2 * R.slot_count reader.now) last) }
-    ensures unsettled { result ≡ Err LookupFault.Unsettled →
-        IsUnsettled (R.answers reader.now) from target.number (2 * R.slot_count reader.now) }
-    ensures missing { result ≡ Err LookupFault.NoSuchNode → R.answers reader.now from None }
+    ensures refused { IfErr result
+        (RefusesLookup (R.answers reader.now) from target.number (2 * R.slot_count reader.now)) }
     ensures on_settled_ring { (ring : List Peer) →
         ReadsSettledRing (R.answers reader.now) (R.slot_count reader.now) from ring →
         IsOkAnd result (IsPredecessor ring target.number) }

@@ -7,7 +7,7 @@ use Rattle.chord_map.specs.declared.done.Done.{Done}
 use Rattle.chord_segment.specs.declared.mark.Mark.{Mark}
 use Rattle.chord_segment.specs.Marks.{mark_of, lift, lift_all}
 use Rattle.chord_segment.specs.Segment.{insert_call, insert_calls}
-use Rattle.chord_segment.proofs.SegmentLemmas.{at_head, past_head, max_keeps, EachMark}
+use Rattle.chord_segment.proofs.SegmentLemmas.{at_head, past_head, max_keeps, grows_by, EachMark}
 
 -- ---- marks
 
@@ -77,11 +77,7 @@ lifted_other owner other number marks apart =
     (cases_lt owner other)
 
 pub lift_grows : (owner other number : ℕ) (marks : List Mark) → mark_of owner marks ≤ mark_of owner (lift other number marks)
-lift_grows owner other number marks =
-    ⊎_elim
-    (λ same. subst (λ o. mark_of owner marks ≤ mark_of owner (lift o number marks)) same (omega (arith, mark_lifted owner number marks)))
-    (λ apart. omega (arith, lifted_other owner other number marks apart))
-    (cases_eq owner other)
+lift_grows = grows_by lift mark_lifted lifted_other
 
 pub lift_all_grows : (owner : ℕ) (more marks : List Mark) → mark_of owner marks ≤ mark_of owner (lift_all more marks)
 unfolding lift_all

@@ -21,3 +21,12 @@ rules_above span callers h =
 pub rules_same : (span : Span) (old new : List OfCaller) → marks_in new ≡ marks_in old → calls_in new ≡ calls_in old
     → IsSegment (record { span = span; floors = marks_in old; kept = calls_in old }) → IsSegment (record { span = span; floors = marks_in new; kept = calls_in new })
 rules_same span old new e f h = subst IsSegment (segment_is span span (marks_in old) (marks_in new) (calls_in old) (calls_in new) refl (sym e) (sym f)) h
+
+-- what a segment keeps, if its floors and calls are the same and it has at least the room
+pub record StillRuled (span : Span) (o : Option ℕ) (new : List OfCaller) : Type 0 where
+  pub rules : IsSegment (record { span = span; floors = marks_in new; kept = calls_in new })
+  pub readied : IsReadied o new
+
+pub still_ruled : (span : Span) (o : Option ℕ) (old new : List OfCaller) → marks_in new ≡ marks_in old → calls_in new ≡ calls_in old → ((other room : ℕ) → HasRoom other room old → HasRoom other room new)
+    → IsSegment (record { span = span; floors = marks_in old; kept = calls_in old }) → IsReadied o old → StillRuled span o new
+still_ruled span o old new floors calls keeps rules readied = record { rules = rules_same span old new floors calls rules; readied = readied_keeps o old new keeps readied }

@@ -11,24 +11,38 @@ use Rattle.chord_model.specs.World.{World, empty_world}
 use Rattle.chord_model.specs.World.Run.{Stays, Goes_on}
 use Rattle.chord_table.proofs.Events.{shown_heir, admitted_heir, event_shown, true_entered, register_entered, callers_entered}
 use Rattle.chord_table.proofs.Later.{later_itself}
+use Rattle.chord_table.proofs.Numbers.{same_word}
 use Rattle.chord_table.proofs.Showing.{IsHeir, shows_changed, shows_added}
 use Rattle.chord_table.proofs.Worlds.{IsNew, new_apart, there_entered, may_enter}
 use Rattle.chord_table.specs.Actors.{IsThere, AreOne, world_after, world_with}
 use Rattle.chord_table.specs.Later.{WasThere}
 use Rattle.chord_table.specs.Seen.{Actor, OfNode, OfCaller, Sight, View, Admitted, Shown, Witnessed, Sent, Spent}
-use Rattle.chord_table.specs.Views.{Name, word_of, sight_of, OneIs, IsSeen, IsTrueOf, HaveOneOwner, Shows, IsKept, IsTrueOfSome, view_of, Register, with_actor, with_admitted, with_message, testimony, joined_witnesses, MayBecome, MayEnter}
+use Rattle.chord_table.specs.Views.{TableId, Name, word_of, sight_of, OneIs, IsSeen, IsTrueOf, HaveOneOwner, Shows, IsKept, IsTrueOfSome, view_of, Register, with_actor, with_admitted, with_message, testimony, joined_witnesses, MayBecome, MayEnter}
 
 -- a table with a word has more than 0 words
 pub some_words : {word words : ℕ} → word < words → 0 < words
 some_words at = omega arith
 
+-- two seats of a table, and the table
+pub in_table : {mine other table name : TableId} → table ≡ name → mine ≡ name → other ≡ name → 0 < name.words → (mine ≡ table) × (other ≡ table) × (0 < table.words)
+in_table named here there many = (here ∙ sym named, there ∙ sym named, subst (λ (t : TableId). 0 < t.words) (sym named) many)
+
+-- what is true of what a seat shows
+pub shown_true : {v w : View} {me : Me ℕ View} → me ≡ (v, []) → v ≡ w → IsTrueOfSome me.0 → IsTrueOfSome w
+shown_true is same true_of = subst (λ (u : View). IsTrueOfSome u) (ap (λ (m : Me ℕ View). m.0) is ∙ same) true_of
+
 -- after an event the seat shows the actor's new state and has the same word
-pub still_seated : (name : Name) (word : ℕ) (old next : Me ℕ View) (s : Sight) (new : Actor) → old ≡ (view_of s, []) → next ≡ (with_actor new old.0, old.1)
+still_seated : (name : Name) (word : ℕ) (old next : Me ℕ View) (s : Sight) (new : Actor) → old ≡ (view_of s, []) → next ≡ (with_actor new old.0, old.1)
     → word ≡ word_of name s.actor → word_of name s.actor ≡ word_of name new
     → (next ≡ (view_of (sight_of next.0), [])) × (word ≡ word_of name (sight_of next.0).actor)
 still_seated name word old next s new is becomes at same =
     let shown : next ≡ (Shown new s.messages, []) = becomes ∙ ap (λ (m : Me ℕ View). (with_actor new m.0, m.1)) is in
     subst (λ (m : Me ℕ View). (m ≡ (view_of (sight_of m.0), [])) × (word ≡ word_of name (sight_of m.0).actor)) (sym shown) (refl, at ∙ same)
+
+pub seated_after : (name : Name) (word : ℕ) (old next : Me ℕ View) (s : Sight) (new : Actor) (sent : Option Message) → old ≡ (view_of s, []) → next ≡ (with_actor new old.0, old.1)
+    → word ≡ word_of name s.actor → MayBecome s.actor s.messages new sent → (next ≡ (view_of (sight_of next.0), [])) × (word ≡ word_of name (sight_of next.0).actor)
+seated_after name word old next s new sent is becomes at (taken, call, known, event) =
+    still_seated name word old next s new is becomes at (same_word name s.actor new taken sent call event)
 
 -- the registrar's seat alone shows the empty world
 pub begins : (words : List ℕ) → IsKept (opening words [] (Admitted [] [] []))
@@ -50,7 +64,7 @@ nobodys message (Witnessed _) h = h
 nobodys message (Sent _) h = h
 nobodys message Spent h = h
 
-spent_has_none : (u : View) → HaveOneOwner u Spent → ⊥
+pub spent_has_none : (u : View) → HaveOneOwner u Spent → ⊥
 spent_has_none (Admitted _ _ _) h = h
 spent_has_none (Shown _ _) h = h
 spent_has_none (Witnessed _) h = h
@@ -210,6 +224,12 @@ attend_as slots word t (world, reached, shows) len fits = (
 )
 
 -- a caller's seat gives a witness of what it shows
+-- a seat of a table may look
+pub may_look : {mine table name : TableId} {slots id word : ℕ} {me : Me ℕ View} {v : View} (f : ℕ → ℕ) → table ≡ name → mine ≡ name → 0 < name.words → me ≡ (v, [])
+    → (mine ≡ table) × (0 < table.words) × Allows IsKept slots id me word f (λ found m. (m ≡ me) × IsTrueOfSome me.0)
+may_look {slots = slots} {id = id} {word = word} {me = me} {v = v} f named here many is =
+    let at = in_table named here here many in (at.0, at.2, look_at slots id word me v f is)
+
 pub testify_as : (id : ℕ) (me : Me ℕ View) (s : Sight) (caller : Caller) → me ≡ (view_of s, []) → s.actor ≡ OfCaller caller → Splits IsKept id me.0 me.0 (testimony me.0)
 testify_as id me s caller is calls =
     subst (λ (m : Me ℕ View). Splits IsKept id m.0 m.0 (testimony m.0)) (sym (is ∙ ap (λ actor. (Shown actor s.messages, [])) calls)) allowed

@@ -5,12 +5,13 @@ use Rattle.std.proofs.lemmas.List.{append_assoc}
 use Rattle.std.proofs.lemmas.Option.{same_Some}
 use Rattle.chord_caller.specs.Caller.{Caller, CallerStep, Letter}
 use Rattle.chord_map.specs.declared.done.Done.{Done}
-use Rattle.chord_model.proofs.CallerLemmas.{caller_left, nothing_more, put_same, put_apart}
+use Rattle.chord_model.proofs.CallerLemmas.{caller_left, nothing_more}
 use Rattle.chord_model.specs.declared.message.Message.{Message}
 use Rattle.chord_model.specs.World.{World, caller_at, put_caller}
 use Rattle.chord_table.specs.Actors.{IsThere, AreOne, Event, world_after, world_with}
 use Rattle.chord_table.specs.Later.{IsLater, WasThere}
 use Rattle.chord_table.specs.Seen.{Actor, OfNode, OfCaller}
+use Rattle.chord_model.proofs.Numbered.{callers_by}
 
 pub later_itself : (caller : Caller) → IsLater caller caller
 later_itself caller = record { number = refl; submitted = nothing_more caller.submitted; mine = nothing_more caller.mine; told = nothing_more caller.told }
@@ -59,10 +60,10 @@ was_there_after world (OfCaller old) (OfCaller new) sent call same on here calle
     (λ (one : caller.number ≡ new.number).
     let is : old ≡ now = same_Some old now (sym here_too ∙ subst (λ n. caller_at n world.callers ≡ Some now) one at) in (
       new,
-      subst (λ n. caller_at n (put_caller new world.callers) ≡ Some new) (sym one) (put_same new world.callers old here_too),
+      subst (λ n. caller_at n (put_caller new world.callers) ≡ Some new) (sym one) (callers_by.put_same new world.callers old here_too),
       later_then caller now new later (subst (λ (c : Caller). IsLater c new) is on),
     ))
-    (λ apart. (now, put_apart new world.callers caller.number apart ∙ at, later))
+    (λ apart. (now, callers_by.put_apart new world.callers caller.number apart ∙ at, later))
     (cases_eq caller.number new.number)
 was_there_after world (OfNode old) (OfCaller new) sent call same on here caller was = absurd same
 was_there_after world (OfCaller old) (OfNode new) sent call same on here caller was = absurd same

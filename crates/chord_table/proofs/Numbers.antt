@@ -4,7 +4,7 @@ use Rattle.chord_caller.specs.Caller.{Caller, CallerStep, Letter}
 use Rattle.chord_map.proofs.Lists.{has_contained, contains_has}
 use Rattle.chord_model.specs.declared.message.Message.{Message}
 use Rattle.chord_model.specs.Node.{Node, NodeStep}
-use Rattle.chord_model.specs.World.{put_node, put_caller}
+use Rattle.chord_model.specs.World.{put_in_place, put_node, put_caller}
 use Rattle.chord_map.proofs.Equal.{same_or_not, eqb_same, eqb_other}
 use Rattle.chord_map.specs.declared.done.Done.{Done}
 use Rattle.chord_table.specs.Actors.{AreOne, Event}
@@ -60,21 +60,19 @@ absent number_of (x ∷ xs) number none =
     rw (eqb_other (number_of x) number (λ same. none (contains_has (map number_of (x ∷ xs)) number (inl same))))
     (absent number_of xs number (λ there. none (contains_has (map number_of (x ∷ xs)) number (inr (has_contained (map number_of xs) number there)))))
 
--- putting a node leaves the numbers as they were
+-- a put leaves the numbers as they were
+same_numbers : {A : Type 0} (number_of : A → ℕ) (x : A) (xs : List A) → map number_of (put_in_place number_of x xs) ≡ map number_of xs
+same_numbers number_of x [] = refl
+same_numbers number_of x (other ∷ xs) =
+    ⊎_elim
+    (λ (same : number_of other ≡ number_of x). rw (eqb_same (number_of other) (number_of x) same) (ap (λ n. n ∷ map number_of xs) (sym same)))
+    (λ (apart : number_of other ≢ number_of x). rw (eqb_other (number_of other) (number_of x) apart) (ap (λ ns. number_of other ∷ ns) (same_numbers number_of x xs)))
+    (same_or_not (number_of other) (number_of x))
+
 pub node_put : (node : Node) (nodes : List Node) → map (λ (n : Node). n.number) (put_node node nodes) ≡ map (λ (n : Node). n.number) nodes
 unfolding put_node
-node_put node [] = refl
-node_put node (other ∷ nodes) =
-    ⊎_elim
-    (λ (same : other.number ≡ node.number). rw (eqb_same other.number node.number same) (ap (λ n. n ∷ map (λ (n : Node). n.number) nodes) (sym same)))
-    (λ (apart : other.number ≢ node.number). rw (eqb_other other.number node.number apart) (ap (λ ns. other.number ∷ ns) (node_put node nodes)))
-    (same_or_not other.number node.number)
+node_put = same_numbers (λ (n : Node). n.number)
 
 pub caller_put : (caller : Caller) (callers : List Caller) → map (λ (c : Caller). c.number) (put_caller caller callers) ≡ map (λ (c : Caller). c.number) callers
 unfolding put_caller
-caller_put caller [] = refl
-caller_put caller (other ∷ callers) =
-    ⊎_elim
-    (λ (same : other.number ≡ caller.number). rw (eqb_same other.number caller.number same) (ap (λ n. n ∷ map (λ (c : Caller). c.number) callers) (sym same)))
-    (λ (apart : other.number ≢ caller.number). rw (eqb_other other.number caller.number apart) (ap (λ ns. other.number ∷ ns) (caller_put caller callers)))
-    (same_or_not other.number caller.number)
+caller_put = same_numbers (λ (c : Caller). c.number)

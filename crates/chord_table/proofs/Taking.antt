@@ -6,6 +6,7 @@ use lib.ListN.{get_elem?}
 use Rattle.atomic_table.specs.Table.{Me, Joins}
 use Rattle.atomic_table.proofs.Lists.{at_set}
 use Rattle.chord_model.specs.World.{World}
+use Rattle.chord_table.proofs.Keeping.{spent_has_none}
 use Rattle.chord_table.specs.Actors.{AreOne}
 use Rattle.chord_table.specs.Seen.{Actor, OfNode, OfCaller, Sight, View, Admitted, Shown, Witnessed, Sent, Spent}
 use Rattle.chord_table.specs.Views.{OneIs, AllDiffer, IsSeen, IsTrueOf, HaveOneOwner, Shows, IsKept, view_of, Assembled, view_of_assembled, with_seat}
@@ -41,13 +42,6 @@ spent_left (Witnessed _) h = h
 spent_left (Sent _) h = h
 spent_left Spent h = h
 
-spent_right : (u : View) → HaveOneOwner u Spent → ⊥
-spent_right (Admitted _ _ _) h = h
-spent_right (Shown _ _) h = h
-spent_right (Witnessed _) h = h
-spent_right (Sent _) h = h
-spent_right Spent h = h
-
 -- each view with the same owner as the new view had the same owner as one of the two old ones
 record IsHeirOfBoth (v w both : View) : Type 0 where
   pub left : (u : View) → HaveOneOwner both u → HaveOneOwner v u ⊎ HaveOneOwner w u
@@ -82,13 +76,13 @@ shows_joined world views id other v w both shows at there heir true = record {
 
     apart : (seat next : ℕ) (u t : View) → Stands views id other both seat u → Stands views id other both next t → HaveOneOwner u t → seat ≡ next
     apart seat next u t (Is_spent s is) _ one = absurd (spent_left t (subst (λ (z : View). HaveOneOwner z t) (sym is) one))
-    apart seat next u t (Is_both s is) (Is_spent r has) one = absurd (spent_right u (subst (λ (z : View). HaveOneOwner u z) (sym has) one))
+    apart seat next u t (Is_both s is) (Is_spent r has) one = absurd (spent_has_none u (subst (λ (z : View). HaveOneOwner u z) (sym has) one))
     apart seat next u t (Is_both s is) (Is_both r has) one = s ∙ sym r
     apart seat next u t (Is_both s is) (Is_old n m f) one = ⊎_elim
         (λ (o : HaveOneOwner v t). absurd (n (sym (shows.apart id next v t at f o))))
         (λ (o : HaveOneOwner w t). absurd (m (sym (shows.apart other next w t there f o))))
         (heir.left t (subst (λ (z : View). HaveOneOwner z t) (sym is) one))
-    apart seat next u t (Is_old n m e) (Is_spent r has) one = absurd (spent_right u (subst (λ (z : View). HaveOneOwner u z) (sym has) one))
+    apart seat next u t (Is_old n m e) (Is_spent r has) one = absurd (spent_has_none u (subst (λ (z : View). HaveOneOwner u z) (sym has) one))
     apart seat next u t (Is_old n m e) (Is_both r has) one = ⊎_elim
         (λ (o : HaveOneOwner u v). absurd (n (shows.apart seat id u v e at o)))
         (λ (o : HaveOneOwner u w). absurd (m (shows.apart seat other u w e there o)))

@@ -1,5 +1,5 @@
 -- If the seats of all that are registered were taken in, the world has these actors only.
-use Rattle.std.proofs.Common.{◌≡◌, ◌≢◌, ℕ, List, [], ◌∷◌, map, Some, None, refl, sym, ap, ◌∙◌, subst, inl, inr, All}
+use Rattle.std.proofs.Common.{◌≡◌, ◌≢◌, ℕ, List, [], ◌∷◌, map, find, eqb, Option, Some, None, refl, sym, ap, ◌∙◌, subst, inl, inr, All}
 use Rattle.std.specs.Prelude.{Contains}
 use Rattle.std.proofs.lemmas.List.Elements.{All-nil, All-cons, All-head, All-tail, All-weaker}
 use Rattle.std.proofs.lemmas.Option.{same_Some}
@@ -15,7 +15,7 @@ use Rattle.chord_table.specs.Actors.{IsThere, AreOne}
 use Rattle.chord_table.specs.Later.{WasThere}
 use Rattle.chord_table.specs.Seen.{Actor, OfNode, OfCaller, Sight}
 use Rattle.chord_table.specs.Shown.{IsIn, latest_callers, taken_by_all, AssemblyShown, WholeShown, world_of}
-use Rattle.chord_table.specs.Views.{OneIs, AllDiffer, IsSeen, IsTrueOfSome, Assembled, view_of_assembled, with_node, with_caller, nodes_among, callers_among, IsWhole}
+use Rattle.chord_table.specs.Views.{OneIs, AllDiffer, IsSeen, IsTrueOfSome, Assembled, view_of_assembled, with_node, with_caller, among, nodes_among, callers_among, IsWhole}
 
 -- the first number, and the others
 first_of : List ℕ → ℕ
@@ -26,120 +26,95 @@ others_of : List ℕ → List ℕ
 others_of [] = []
 others_of (n ∷ ns) = ns
 
--- ---- nodes
+-- ---- actors of one kind, nodes or callers
 
-node_hit : (node : Node) (nodes : List Node) (number : ℕ) → node.number ≡ number → node_at number (node ∷ nodes) ≡ Some node
+-- the actor is of this kind, or it is left out
+data IsKind {A : Type 0} (of : A → Actor) (add : Actor → List A → List A) (actor : Actor) : Type 0 where
+  Is_one : (x : A) → actor ≡ of x → ((xs : List A) → add actor xs ≡ x ∷ xs) → IsKind of add actor
+  Is_other : ((xs : List A) → add actor xs ≡ xs) → IsKind of add actor
+
+module _ {A : Type 0} (number_of : A → ℕ) (of : A → Actor) (add : Actor → List A → List A)
+    (one : (x y : A) → number_of x ≡ number_of y → AreOne (of x) (of y)) (kind : (actor : Actor) → IsKind of add actor) where
+  abbrev one_at : ℕ → List A → Option A
+  one_at number xs = find (λ (x : A). eqb (number_of x) number) xs
+
+  hit : (x : A) (xs : List A) (number : ℕ) → number_of x ≡ number → one_at number (x ∷ xs) ≡ Some x
+  hit x xs number same = rw (eqb_same (number_of x) number same) refl
+
+  missed : (x : A) (xs : List A) (number : ℕ) → number_of x ≢ number → one_at number (x ∷ xs) ≡ one_at number xs
+  missed x xs number apart = rw (eqb_other (number_of x) number apart) refl
+
+  -- the actor is found in the list, if it is of this kind
+  abbrev IsOf : List A → Actor → Type 0
+  IsOf xs actor = (x : A) → actor ≡ of x → one_at (number_of x) xs ≡ Some x
+
+  behind : (first : A) (xs : List A) (actor : Actor) (same : A) → number_of first ≡ number_of same → (AreOne actor (of same) → ⊥) → IsOf (first ∷ xs) actor → IsOf xs actor
+  behind first xs actor same is apart at x e =
+      sym (missed first xs (number_of x) (λ d. apart (subst (λ a. AreOne a (of same)) (sym e) (one x same (sym d ∙ is))))) ∙ at x e
+
+  all_behind : (first : A) (xs : List A) (same : A) → number_of first ≡ number_of same → (taken : List Sight) → (OneIs taken (of same) → ⊥)
+      → All (λ (s : Sight). IsOf (first ∷ xs) s.actor) taken → All (λ (s : Sight). IsOf xs s.actor) taken
+  all_behind first xs same is [] apart all = All-nil (λ (s : Sight). IsOf xs s.actor)
+  all_behind first xs same is (sight ∷ rest) apart all =
+      All-cons (λ (s : Sight). IsOf xs s.actor) sight rest
+      (behind first xs sight.actor same is (λ o. apart (inl o)) (All-head (λ (s : Sight). IsOf (first ∷ xs) s.actor) sight rest all))
+      (all_behind first xs same is rest (λ o. apart (inr o)) (All-tail (λ (s : Sight). IsOf (first ∷ xs) s.actor) sight rest all))
+
+  no_more : (xs : List A) → map number_of xs ≡ [] → xs ≡ []
+  no_more [] e = refl
+  no_more (x ∷ xs) e = cc
+
+  -- the sight of one actor, before the sights of others
+  first_is : (xs : List A) (x : A) (rest : List Sight) → map number_of xs ≡ number_of x ∷ map number_of (among add rest) → (OneIs rest (of x) → ⊥)
+      → one_at (number_of x) xs ≡ Some x → All (λ (s : Sight). IsOf xs s.actor) rest
+      → ((others : List A) → map number_of others ≡ map number_of (among add rest) → All (λ (s : Sight). IsOf others s.actor) rest → others ≡ among add rest)
+      → xs ≡ x ∷ among add rest
+  unfolding first_of others_of
+  first_is [] x rest e apart here all more = cc
+  first_is (first ∷ xs) x rest e apart here all more =
+      let same : number_of first ≡ number_of x = ap first_of e in
+      ap (λ y. y ∷ xs) (same_Some first x (sym (hit first xs (number_of x) same) ∙ here))
+      ∙ ap (λ ys. x ∷ ys) (more xs (ap others_of e) (all_behind first xs x same rest apart all))
+
+  step : (xs : List A) (actor : Actor) (rest : List Sight) → IsKind of add actor → map number_of xs ≡ map number_of (add actor (among add rest)) → (OneIs rest actor → ⊥)
+      → IsOf xs actor → All (λ (s : Sight). IsOf xs s.actor) rest
+      → ((others : List A) → map number_of others ≡ map number_of (among add rest) → All (λ (s : Sight). IsOf others s.actor) rest → others ≡ among add rest)
+      → xs ≡ add actor (among add rest)
+  step xs actor rest (Is_other skip) e apart here all more =
+      more xs (e ∙ ap (map number_of) (skip (among add rest))) all ∙ sym (skip (among add rest))
+  step xs actor rest (Is_one x is front) e apart here all more =
+      first_is xs x rest (e ∙ ap (map number_of) (front (among add rest))) (subst (λ a. OneIs rest a → ⊥) is apart) (here x is) all more ∙ sym (front (among add rest))
+
+  -- those of this kind are those whose seats were taken in, if they have their numbers
+  whole : (xs : List A) (taken : List Sight) → map number_of xs ≡ map number_of (among add taken) → AllDiffer taken
+      → All (λ (s : Sight). IsOf xs s.actor) taken → xs ≡ among add taken
+  whole xs [] e differ all = no_more xs e
+  whole xs (sight ∷ rest) e differ all =
+      step xs sight.actor rest (kind sight.actor) e differ.0 (All-head (λ (s : Sight). IsOf xs s.actor) sight rest all)
+      (All-tail (λ (s : Sight). IsOf xs s.actor) sight rest all)
+      (λ others same found. whole others rest same differ.1 found)
+
+node_or_not : (actor : Actor) → IsKind OfNode with_node actor
+node_or_not (OfNode node) = Is_one node refl (λ nodes. refl)
+node_or_not (OfCaller caller) = Is_other (λ nodes. refl)
+
+caller_or_not : (actor : Actor) → IsKind OfCaller with_caller actor
+caller_or_not (OfNode node) = Is_other (λ callers. refl)
+caller_or_not (OfCaller caller) = Is_one caller refl (λ callers. refl)
+
+whole_nodes : (world : World) (taken : List Sight) → map (λ (n : Node). n.number) world.nodes ≡ map (λ (n : Node). n.number) (nodes_among taken) → AllDiffer taken
+    → All (IsSeen world) taken → world.nodes ≡ nodes_among taken
 unfolding node_at
-node_hit node nodes number same = rw (eqb_same node.number number same) refl
+whole_nodes world taken e differ seen =
+    whole (λ (n : Node). n.number) OfNode with_node (λ x y same. same) node_or_not world.nodes taken e differ
+    (All-weaker (IsSeen world) (λ (s : Sight). (node : Node) → s.actor ≡ OfNode node → node_at node.number world.nodes ≡ Some node) (λ (s : Sight) (h : IsSeen world s) node is. subst (IsThere world) is h.0) taken seen)
 
-node_missed : (node : Node) (nodes : List Node) (number : ℕ) → node.number ≢ number → node_at number (node ∷ nodes) ≡ node_at number nodes
-unfolding node_at
-node_missed node nodes number apart = rw (eqb_other node.number number apart) refl
-
--- the node is found in the list, if the actor is one
-abbrev IsNodeOf : List Node → Actor → Type 0
-IsNodeOf nodes (OfNode node) = node_at node.number nodes ≡ Some node
-IsNodeOf nodes (OfCaller caller) = Unit {0}
-
-node_there : (world : World) (actor : Actor) → IsThere world actor → IsNodeOf world.nodes actor
-node_there world (OfNode node) there = there
-node_there world (OfCaller caller) there = tt
-
-node_behind : (first : Node) (nodes : List Node) (actor : Actor) (same : Node) → first.number ≡ same.number → (AreOne actor (OfNode same) → ⊥)
-    → IsNodeOf (first ∷ nodes) actor → IsNodeOf nodes actor
-node_behind first nodes (OfNode node) same is apart at = sym (node_missed first nodes node.number (λ e. apart (sym e ∙ is))) ∙ at
-node_behind first nodes (OfCaller caller) same is apart at = tt
-
-nodes_behind : (first : Node) (nodes : List Node) (same : Node) → first.number ≡ same.number → (taken : List Sight) → (OneIs taken (OfNode same) → ⊥)
-    → All (λ (s : Sight). IsNodeOf (first ∷ nodes) s.actor) taken → All (λ (s : Sight). IsNodeOf nodes s.actor) taken
-nodes_behind first nodes same is [] apart all = All-nil (λ (s : Sight). IsNodeOf nodes s.actor)
-nodes_behind first nodes same is (sight ∷ rest) apart all =
-    All-cons (λ (s : Sight). IsNodeOf nodes s.actor) sight rest
-    (node_behind first nodes sight.actor same is (λ one. apart (inl one)) (All-head (λ (s : Sight). IsNodeOf (first ∷ nodes) s.actor) sight rest all))
-    (nodes_behind first nodes same is rest (λ one. apart (inr one)) (All-tail (λ (s : Sight). IsNodeOf (first ∷ nodes) s.actor) sight rest all))
-
-no_more_nodes : (nodes : List Node) → map (λ (n : Node). n.number) nodes ≡ [] → nodes ≡ []
-no_more_nodes [] e = refl
-no_more_nodes (node ∷ nodes) e = cc
-
--- the sight of one actor, before the sights of others
-node_step : (nodes : List Node) (actor : Actor) (rest : List Sight) → map (λ (n : Node). n.number) nodes ≡ map (λ (n : Node). n.number) (with_node actor (nodes_among rest))
-    → (OneIs rest actor → ⊥) → IsNodeOf nodes actor → All (λ (s : Sight). IsNodeOf nodes s.actor) rest
-    → ((others : List Node) → map (λ (n : Node). n.number) others ≡ map (λ (n : Node). n.number) (nodes_among rest)
-    → All (λ (s : Sight). IsNodeOf others s.actor) rest → others ≡ nodes_among rest)
-    → nodes ≡ with_node actor (nodes_among rest)
-unfolding first_of others_of
-node_step nodes (OfCaller caller) rest e apart here all behind = behind nodes e all
-node_step [] (OfNode node) rest e apart here all behind = cc
-node_step (first ∷ nodes) (OfNode node) rest e apart here all behind =
-    let same : first.number ≡ node.number = ap first_of e in
-    ap (λ (n : Node). n ∷ nodes) (same_Some first node (sym (node_hit first nodes node.number same) ∙ here))
-    ∙ ap (λ (ns : List Node). node ∷ ns) (behind nodes (ap others_of e) (nodes_behind first nodes node same rest apart all))
-
-whole_nodes : (nodes : List Node) (taken : List Sight) → map (λ (n : Node). n.number) nodes ≡ map (λ (n : Node). n.number) (nodes_among taken) → AllDiffer taken
-    → All (λ (s : Sight). IsNodeOf nodes s.actor) taken → nodes ≡ nodes_among taken
-whole_nodes nodes [] e differ all = no_more_nodes nodes e
-whole_nodes nodes (sight ∷ rest) e differ all =
-    node_step nodes sight.actor rest e differ.0 (All-head (λ (s : Sight). IsNodeOf nodes s.actor) sight rest all)
-    (All-tail (λ (s : Sight). IsNodeOf nodes s.actor) sight rest all)
-    (λ others same found. whole_nodes others rest same differ.1 found)
-
--- ---- callers
-
-caller_hit : (caller : Caller) (callers : List Caller) (number : ℕ) → caller.number ≡ number → caller_at number (caller ∷ callers) ≡ Some caller
+whole_callers : (world : World) (taken : List Sight) → map (λ (c : Caller). c.number) world.callers ≡ map (λ (c : Caller). c.number) (callers_among taken) → AllDiffer taken
+    → All (IsSeen world) taken → world.callers ≡ callers_among taken
 unfolding caller_at
-caller_hit caller callers number same = rw (eqb_same caller.number number same) refl
-
-caller_missed : (caller : Caller) (callers : List Caller) (number : ℕ) → caller.number ≢ number → caller_at number (caller ∷ callers) ≡ caller_at number callers
-unfolding caller_at
-caller_missed caller callers number apart = rw (eqb_other caller.number number apart) refl
-
-abbrev IsCallerOf : List Caller → Actor → Type 0
-IsCallerOf callers (OfNode node) = Unit {0}
-IsCallerOf callers (OfCaller caller) = caller_at caller.number callers ≡ Some caller
-
-caller_there : (world : World) (actor : Actor) → IsThere world actor → IsCallerOf world.callers actor
-caller_there world (OfNode node) there = tt
-caller_there world (OfCaller caller) there = there
-
-caller_behind : (first : Caller) (callers : List Caller) (actor : Actor) (same : Caller) → first.number ≡ same.number → (AreOne actor (OfCaller same) → ⊥)
-    → IsCallerOf (first ∷ callers) actor → IsCallerOf callers actor
-caller_behind first callers (OfNode node) same is apart at = tt
-caller_behind first callers (OfCaller caller) same is apart at = sym (caller_missed first callers caller.number (λ e. apart (sym e ∙ is))) ∙ at
-
-callers_behind : (first : Caller) (callers : List Caller) (same : Caller) → first.number ≡ same.number → (taken : List Sight) → (OneIs taken (OfCaller same) → ⊥)
-    → All (λ (s : Sight). IsCallerOf (first ∷ callers) s.actor) taken → All (λ (s : Sight). IsCallerOf callers s.actor) taken
-callers_behind first callers same is [] apart all = All-nil (λ (s : Sight). IsCallerOf callers s.actor)
-callers_behind first callers same is (sight ∷ rest) apart all =
-    All-cons (λ (s : Sight). IsCallerOf callers s.actor) sight rest
-    (caller_behind first callers sight.actor same is (λ one. apart (inl one)) (All-head (λ (s : Sight). IsCallerOf (first ∷ callers) s.actor) sight rest all))
-    (callers_behind first callers same is rest (λ one. apart (inr one)) (All-tail (λ (s : Sight). IsCallerOf (first ∷ callers) s.actor) sight rest all))
-
-no_more_callers : (callers : List Caller) → map (λ (c : Caller). c.number) callers ≡ [] → callers ≡ []
-no_more_callers [] e = refl
-no_more_callers (caller ∷ callers) e = cc
-
--- the sight of one actor, before the sights of others
-caller_step : (callers : List Caller) (actor : Actor) (rest : List Sight) → map (λ (c : Caller). c.number) callers ≡ map (λ (c : Caller). c.number) (with_caller actor (callers_among rest))
-    → (OneIs rest actor → ⊥) → IsCallerOf callers actor → All (λ (s : Sight). IsCallerOf callers s.actor) rest
-    → ((others : List Caller) → map (λ (c : Caller). c.number) others ≡ map (λ (c : Caller). c.number) (callers_among rest)
-    → All (λ (s : Sight). IsCallerOf others s.actor) rest → others ≡ callers_among rest)
-    → callers ≡ with_caller actor (callers_among rest)
-unfolding first_of others_of
-caller_step callers (OfNode node) rest e apart here all behind = behind callers e all
-caller_step [] (OfCaller caller) rest e apart here all behind = cc
-caller_step (first ∷ callers) (OfCaller caller) rest e apart here all behind =
-    let same : first.number ≡ caller.number = ap first_of e in
-    ap (λ (c : Caller). c ∷ callers) (same_Some first caller (sym (caller_hit first callers caller.number same) ∙ here))
-    ∙ ap (λ (cs : List Caller). caller ∷ cs) (behind callers (ap others_of e) (callers_behind first callers caller same rest apart all))
-
-whole_callers : (callers : List Caller) (taken : List Sight) → map (λ (c : Caller). c.number) callers ≡ map (λ (c : Caller). c.number) (callers_among taken) → AllDiffer taken
-    → All (λ (s : Sight). IsCallerOf callers s.actor) taken → callers ≡ callers_among taken
-whole_callers callers [] e differ all = no_more_callers callers e
-whole_callers callers (sight ∷ rest) e differ all =
-    caller_step callers sight.actor rest e differ.0 (All-head (λ (s : Sight). IsCallerOf callers s.actor) sight rest all)
-    (All-tail (λ (s : Sight). IsCallerOf callers s.actor) sight rest all)
-    (λ others same found. whole_callers others rest same differ.1 found)
+whole_callers world taken e differ seen =
+    whole (λ (c : Caller). c.number) OfCaller with_caller (λ x y same. same) caller_or_not world.callers taken e differ
+    (All-weaker (IsSeen world) (λ (s : Sight). (caller : Caller) → s.actor ≡ OfCaller caller → caller_at caller.number world.callers ≡ Some caller) (λ (s : Sight) (h : IsSeen world s) caller is. subst (IsThere world) is h.0) taken seen)
 
 -- ---- what a look proves
 
@@ -155,8 +130,9 @@ callers_seen world (sight ∷ rest) all =
 
 -- no actor of the list is the caller, so its number is not found
 none_step : (actor : Actor) (callers : List Caller) (caller : Caller) → (AreOne actor (OfCaller caller) → ⊥) → caller_at caller.number callers ≡ None → caller_at caller.number (with_caller actor callers) ≡ None
+unfolding caller_at
 none_step (OfNode node) callers caller apart none = none
-none_step (OfCaller other) callers caller apart none = caller_missed other callers caller.number apart ∙ none
+none_step (OfCaller other) callers caller apart none = rw (eqb_other other.number caller.number apart) none
 
 none_found : (taken : List Sight) (caller : Caller) → (OneIs taken (OfCaller caller) → ⊥) → caller_at caller.number (callers_among taken) ≡ None
 unfolding caller_at
@@ -196,10 +172,8 @@ assembly_told a (world, reached, (nodes, callers, differ, there)) headline =
 pub whole_told : (a : Assembled) → AssemblyShown a → IsWhole a → WholeShown a
 whole_told a shown whole =
     let world : World = shown.world in
-    let n : world.nodes ≡ nodes_among a.taken = whole_nodes world.nodes a.taken (shown.nodes ∙ sym whole.nodes) shown.differ
-    (All-weaker (IsSeen world) (λ (s : Sight). IsNodeOf world.nodes s.actor) (λ (s : Sight) (h : IsSeen world s). node_there world s.actor h.0) a.taken shown.there) in
-    let c : world.callers ≡ callers_among a.taken = whole_callers world.callers a.taken (shown.callers ∙ sym whole.callers) shown.differ
-    (All-weaker (IsSeen world) (λ (s : Sight). IsCallerOf world.callers s.actor) (λ (s : Sight) (h : IsSeen world s). caller_there world s.actor h.0) a.taken shown.there) in
+    let n : world.nodes ≡ nodes_among a.taken = whole_nodes world a.taken (shown.nodes ∙ sym whole.nodes) shown.differ shown.there in
+    let c : world.callers ≡ callers_among a.taken = whole_callers world a.taken (shown.callers ∙ sym whole.callers) shown.differ shown.there in
     let is : world ≡ world_of a world.sent world.history =
     ap (λ (ns : List Node). record world { nodes = ns }) n ∙ ap (λ (cs : List Caller). record (world_of a world.sent world.history) { callers = cs }) c in
     let same : Headline (world_of a world.sent world.history) = subst Headline is shown.headline in

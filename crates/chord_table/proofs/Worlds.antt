@@ -4,8 +4,8 @@ use Rattle.std.proofs.lemmas.List.Elements.{Contains-append_left}
 use Rattle.std.proofs.lemmas.Option.{none-some}
 use Rattle.chord_caller.specs.Caller.{Caller}
 use Rattle.chord_map.proofs.Finding.{find_push_hit}
-use Rattle.chord_model.proofs.CallerLemmas.{put_same, put_apart, caller_left}
-use Rattle.chord_model.proofs.Nodes.{node_at-put_same, node_at-put_other, node_at_push_other, node_at_push_same}
+use Rattle.chord_model.proofs.CallerLemmas.{caller_left}
+use Rattle.chord_model.proofs.Nodes.{node_at_push_other, node_at_push_same}
 use Rattle.chord_model.specs.declared.message.Message.{Message}
 use Rattle.chord_model.specs.Node.{Node, founder}
 use Rattle.chord_model.specs.World.{World, WorldStep, WasSent, node_at, caller_at}
@@ -16,6 +16,7 @@ use Rattle.chord_table.specs.Actors.{IsThere, AreOne, Event, world_after, world_
 use Rattle.chord_table.specs.Seen.{Actor, OfNode, OfCaller}
 use Rattle.chord_table.specs.Views.{IsTrueOf, Register, MayEnter}
 use Rattle.chord_table.specs.Seen.{Admitted}
+use Rattle.chord_model.proofs.Numbered.{callers_by, nodes_by}
 
 -- ---- an event
 
@@ -29,16 +30,16 @@ event_steps world _ _ _ _ _ there was (Event.Calls {old = old} {new = new} {take
 -- after an event the world has the actor in its new state
 pub there_after : (world : World) (old new : Actor) (sent : Option Message) (call : Option Done) → AreOne old new → IsThere world old → IsThere (world_after world new sent call) new
 there_after world (OfNode old) (OfNode new) sent call same there =
-    node_at-put_same new old world.nodes (subst (λ n. node_at n world.nodes ≡ Some old) same there)
+    nodes_by.put_same new world.nodes old (subst (λ n. node_at n world.nodes ≡ Some old) same there)
 there_after world (OfCaller old) (OfCaller new) sent call same there =
-    put_same new world.callers old (subst (λ n. caller_at n world.callers ≡ Some old) same there)
+    callers_by.put_same new world.callers old (subst (λ n. caller_at n world.callers ≡ Some old) same there)
 there_after world (OfNode old) (OfCaller new) sent call same there = absurd same
 there_after world (OfCaller old) (OfNode new) sent call same there = absurd same
 
 -- after an event the world has each other actor as before
 pub others_after : (world : World) (new other : Actor) (sent : Option Message) (call : Option Done) → (AreOne other new → ⊥) → IsThere world other → IsThere (world_after world new sent call) other
-others_after world (OfNode new) (OfNode other) sent call apart there = node_at-put_other other.number new world.nodes apart ∙ there
-others_after world (OfCaller new) (OfCaller other) sent call apart there = put_apart new world.callers other.number apart ∙ there
+others_after world (OfNode new) (OfNode other) sent call apart there = nodes_by.put_apart new world.nodes other.number apart ∙ there
+others_after world (OfCaller new) (OfCaller other) sent call apart there = callers_by.put_apart new world.callers other.number apart ∙ there
 others_after world (OfNode new) (OfCaller other) sent call apart there = there
 others_after world (OfCaller new) (OfNode other) sent call apart there = there
 

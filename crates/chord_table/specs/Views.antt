@@ -172,15 +172,18 @@ assembled_of _ = record { register = record { nodes = []; callers = [] }; taken 
 abbrev pub view_of_assembled : Assembled → View
 view_of_assembled assembled = Admitted assembled.register.nodes assembled.register.callers assembled.taken
 
--- the nodes among them, in that order
-abbrev pub nodes_among : List Sight → List Node
-nodes_among [] = []
-nodes_among (sight ∷ rest) = with_node sight.actor (nodes_among rest)
+-- the actors of one kind among them, in that order: `with_actor` puts one in front, if it is of it
+abbrev pub among : {A : Type 0} → (Actor → List A → List A) → List Sight → List A
+among with_actor [] = []
+among with_actor (sight ∷ rest) = with_actor sight.actor (among with_actor rest)
 
--- the callers among them, in that order
+-- the nodes among them
+abbrev pub nodes_among : List Sight → List Node
+nodes_among sights = among with_node sights
+
+-- the callers among them
 abbrev pub callers_among : List Sight → List Caller
-callers_among [] = []
-callers_among (sight ∷ rest) = with_caller sight.actor (callers_among rest)
+callers_among sights = among with_caller sights
 
 -- it took in the seats of all that are registered, in the order of registration
 pub record IsWhole (assembled : Assembled) : Type 0 where

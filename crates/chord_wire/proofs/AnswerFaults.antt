@@ -12,14 +12,13 @@ use Rattle.chord_wire.specs.declared.fault.FaultCode.TheVariants.{BadLength, Bad
 use Rattle.chord_wire.specs.Fault.{fault, code_of}
 use Rattle.chord_wire.specs.Spelling.{IsBytes}
 use Rattle.chord_wire.specs.Replies.{kind_of, number_of, fields_of, IsAnswer}
-use Rattle.chord_wire.specs.Reading.{◌>>=◌, number_at, value_at, body_at}
-use Rattle.chord_wire.specs.ReadingReplies.{or_fault, status_of, status_at, code_at, is_above, rising_at, values_from, answer_at, answer_fields, answer_in, answer_of_body, next_answer}
+use Rattle.chord_wire.specs.Reading.{◌>>=◌, number_at, value_at}
+use Rattle.chord_wire.specs.ReadingReplies.{or_fault, status_of, status_at, code_at, is_above, value_above, rising_at, values_from, answer_at, answer_fields, answer_in, next_answer}
 use Rattle.chord_wire.specs.FaultTable.{AnswerHead, IsKind, BeginsWithAnswer, AnswerFaultOf}
 use Rattle.chord_wire.specs.FaultTable.AnswerFaultOf.{Bad_length, Bad_version, Bad_operation, Bad_value, Trails}
 use Rattle.chord_wire.proofs.Steps.{wide64, number_again}
-use Rattle.chord_wire.proofs.RequestLaws.{BodyFound, body_takes}
-use Rattle.chord_wire.proofs.AnswerLaws.{answer_takes, status_again, fault_again, known_kind, is_answer}
-use Rattle.chord_wire.proofs.FaultLaws.{Fails, fails_ok, fails_err, fails_if, fails_then, fails_so, number_fails, value_fails, broke, body_of, fields_fit, body_there, head_in, no_body, ok_then, err_not, err_is, length_fault}
+use Rattle.chord_wire.proofs.AnswerLaws.{answers, answer_takes, status_again, fault_again, known_kind, is_answer}
+use Rattle.chord_wire.proofs.FaultLaws.{Fails, fails_ok, fails_err, fails_if, fails_then, fails_so, number_fails, value_fails, broke, body_of, fields_fit, next_fails, length_reads, ok_then, err_not, err_is, next_fault}
 use Rattle.chord_wire.proofs.FaultLaws.Broke.{First, Then}
 
 -- ---- the bytes after the number fail as a value
@@ -42,14 +41,19 @@ code_fails number (code ∷ rest) =
     let d = fault BadValue number in
     fails_then d (or_fault d (code_of code)) _ (known_fails d (code_of code)) (λ known. fails_ok d (answer.Fault number known, rest))
 
+above_fails : (number : ℕ) (before : Option (List ℕ)) (bytes : List ℕ) → Fails (fault BadValue number) (value_above number before bytes)
+unfolding value_above
+above_fails number before bytes =
+    let d = fault BadValue number in
+    fails_then d (value_at number bytes) _ (value_fails number bytes) (λ value. fails_if d (is_above before value.0) (Ok value) (Err d) (fails_ok d value) (fails_err d))
+
 rising_fails : (number : ℕ) (before : Option (List ℕ)) (count : ℕ) (bytes : List ℕ) → Fails (fault BadValue number) (rising_at number before count bytes)
 unfolding rising_at
 rising_fails number before zero bytes = fails_ok (fault BadValue number) ([], bytes)
 rising_fails number before (suc count) bytes =
     let d = fault BadValue number in
-    fails_then d (value_at number bytes) _ (value_fails number bytes) (λ value.
-    fails_if d (is_above before value.0) (rising_at number (Some value.0) count value.1 >>= λ others. Ok (value.0 ∷ others.0, others.1)) (Err d)
-    (fails_then d (rising_at number (Some value.0) count value.1) _ (rising_fails number (Some value.0) count value.1) (λ others. fails_ok d (value.0 ∷ others.0, others.1))) (fails_err d))
+    fails_then d (value_above number before bytes) _ (above_fails number before bytes) (λ value.
+    fails_then d (rising_at number (Some value.0) count value.1) _ (rising_fails number (Some value.0) count value.1) (λ others. fails_ok d (value.0 ∷ others.0, others.1)))
 
 values_fail : (number : ℕ) (bytes : List ℕ) → Fails (fault BadValue number) (values_from number bytes)
 unfolding values_from
@@ -100,14 +104,6 @@ kind_of_begun head a rest begins = subst IsKind begins.kind (is_kind a)
     is_kind (answer.Reply number reply) = is_reply_kind reply
     is_kind (answer.Fault number code) = inr (inr refl)
 
-next_of : {bytes : List ℕ} (head : AnswerHead bytes) (e : WireFault) → answer_in (body_of head) ≡ Err e → next_answer bytes ≡ Err e
-unfolding next_answer
-next_of head e h = rw (body_there head (omega arith), h) refl
-
-length_reads : (bytes : List ℕ) (count : ℕ) (rest : List ℕ) → bytes ≡ to_be_bytes w32 count ++ rest → count < 2 ^ 32 → (count < 11) ⊎ (4098014 < count) → next_answer bytes ≡ Err (fault BadLength 0)
-unfolding next_answer
-length_reads bytes count rest front small out = rw (no_body 11 4098014 bytes count rest front small out) refl
-
 bad_version : (version kind : ℕ) (rest : List ℕ) → version ≢ 1 → answer_in (version ∷ kind ∷ rest) ≡ Err (fault BadVersion 0)
 unfolding answer_in
 bad_version version kind rest bad = rw (ne_eqb version 1 bad) refl
@@ -141,10 +137,10 @@ begun head x known fits e =
     }
 
 pub is_fault : (bytes : List ℕ) (f : WireFault) → IsBytes bytes → AnswerFaultOf bytes f → next_answer bytes ≡ Err f
-is_fault bytes _ fits (Bad_length count rest front small out) = length_reads bytes count rest front small out
-is_fault bytes _ fits (Bad_version head bad) = next_of head (fault BadVersion 0) (bad_version head.version head.op _ bad)
+is_fault bytes _ fits (Bad_length count rest front small out) = length_reads answers bytes count rest front small out
+is_fault bytes _ fits (Bad_version head bad) = next_fails answers head (fault BadVersion 0) (bad_version head.version head.op _ bad)
 is_fault bytes _ fits (Bad_operation head one bad) =
-    next_of head (fault BadOperation 0)
+    next_fails answers head (fault BadOperation 0)
     (elim (cases_Bool (((eqb head.op 129 || eqb head.op 130) || eqb head.op 131) || eqb head.op 255)) [
       | inl is_so ↦ absurd (bad (known_kind head.op is_so))
       | inr not_so ↦ bad_kind head.version head.op _ one not_so
@@ -152,9 +148,9 @@ is_fault bytes _ fits (Bad_operation head one bad) =
 is_fault bytes _ fits (Bad_value head one known bad) =
     let d = fault BadValue head.number in
     let none = fails_so d (answer_at head.op head.number head.fields) (answer_fails head.op head.number head.fields) (λ x e. bad x.0 x.1 (begun head x known fits e)) in
-    next_of head d (known_reads head one known ∙ value_reads head.op head.number head.fields d head.number_fits none)
+    next_fails answers head d (known_reads head one known ∙ value_reads head.op head.number head.fields d head.number_fits none)
 is_fault bytes _ fits (Trails head a rest one begins some) =
-    next_of head (fault Trailing head.number) (known_reads head one (kind_of_begun head a rest begins)
+    next_fails answers head (fault Trailing head.number) (known_reads head one (kind_of_begun head a rest begins)
     ∙ trailing_reads head.op head.number head.fields rest a head.number_fits (begins_read head a rest begins) (ne_eqb (length rest) 0 (λ e. some (nil_from_length rest e))))
 
 -- ---- from reading to the table
@@ -186,25 +182,6 @@ head_fault {bytes} head f fits e =
           ]
     ]
 
-in_body : (bytes body rest : List ℕ) (f : WireFault) → IsBytes bytes → BodyFound 11 4098014 bytes body rest → answer_in body ≡ Err f → AnswerFaultOf bytes f
-in_body bytes [] rest f fits t e = absurd (let low = t.low in omega arith)
-in_body bytes (version ∷ []) rest f fits t e = absurd (let low = t.low in omega arith)
-in_body bytes (version ∷ kind ∷ after) rest f fits t e =
-    let head = head_in 11 4098014 bytes version kind after rest (omega arith) fits t in
-    head_fault head.0 f fits (ap answer_in (sym head.1) ∙ e)
-
-body_fault : (bytes : List ℕ) (o : Option (List ℕ × List ℕ)) (f : WireFault) → IsBytes bytes → body_at 11 4098014 bytes ≡ Ok o → answer_of_body o ≡ Err f → AnswerFaultOf bytes f
-body_fault bytes None f fits b e = absurd cc
-body_fault bytes (Some body) f fits b e =
-    elim (broke (answer_in body.0) (λ a. Ok (Some (a, body.1))) f e) [
-      | First i ↦ in_body bytes body.0 body.1 f fits (body_takes 11 4098014 bytes body fits b) i
-      | Then x i last ↦ absurd cc
-    ]
-
 pub fault_is : (bytes : List ℕ) (f : WireFault) → IsBytes bytes → next_answer bytes ≡ Err f → AnswerFaultOf bytes f
 unfolding next_answer
-fault_is bytes f fits e =
-    elim (broke (body_at 11 4098014 bytes) answer_of_body f e) [
-      | First b ↦ let l = length_fault 11 4098014 bytes f fits b in subst (AnswerFaultOf bytes) l.is (Bad_length l.count l.rest l.parts l.fits l.out)
-      | Then o b h ↦ body_fault bytes o f fits b h
-    ]
+fault_is = next_fault 11 4098014 answer_in AnswerFaultOf (λ bytes count rest parts fits out. Bad_length count rest parts fits out) (λ bytes head. head_fault head) (omega arith)

@@ -17,21 +17,28 @@ use Rattle.chord_map.specs.Checked.{IsValue}
 use Rattle.chord_wire.specs.Spelling.{IsBytes, frame, value_field}
 use Rattle.chord_wire.specs.Replies.{IsReply, IsAnswer, reply_kind, reply_fields, values_field, answer_body, kind_of, number_of, fields_of}
 use Rattle.chord_wire.specs.FaultTable.{IsKind}
-use Rattle.chord_wire.specs.Reading.{◌>>=◌, number_at, value_at, body_at, TakesNext, IsDecided, with_more}
-use Rattle.chord_wire.specs.ReadingReplies.{is_above, or_fault, status_of, status_at, code_at, rising_at, values_from, answer_at, answer_at_end, answer_fields, answer_in, answer_of_body, next_answer}
+use Rattle.chord_wire.specs.Reading.{◌>>=◌, number_at, value_at}
+use Rattle.chord_wire.specs.ReadingReplies.{is_above, or_fault, status_of, status_at, code_at, value_above, rising_at, values_from, answer_at, answer_at_end, answer_fields, answer_in, next_answer}
 use Rattle.chord_wire.proofs.Steps.{IsBytes-rest, IsBytes-front, IsBytes-back, bind_ok, guard_on, guard_then, ok_is, Takes, Takes-then, wide32, wide64, number_takes, number_again}
-use Rattle.std.specs.Prelude.{IfOk, IfSome}
-use Rattle.chord_wire.proofs.RequestLaws.{ends, body_takes, body_again, body_stays}
+use Rattle.chord_wire.proofs.NextLaws.{IsRead}
+use Rattle.chord_wire.proofs.RequestLaws.{ends}
 use Rattle.chord_wire.proofs.Rising.{AreRising, are_rising, is_sorted}
 use Rattle.chord_wire.proofs.ReplyLaws.{length_reply}
 use Rattle.chord_wire.proofs.FieldLaws.{value_takes, value_again}
 
 -- ---- values
 
--- a test before a further step
-guard_if : {A : Type 0} (b : Bool) (d : WireFault) (r : Result A WireFault) (y : A) → cond b r (Err d) ≡ Ok y → (b ≡ true) × (r ≡ Ok y)
-guard_if true d r y e = (refl, e)
-guard_if false d r y e = absurd cc
+-- a value that is above the one before it
+above_is : (number : ℕ) (before : Option (List ℕ)) (bytes : List ℕ) (x : List ℕ × List ℕ) → value_above number before bytes ≡ Ok x → (value_at number bytes ≡ Ok x) × (is_above before x.0 ≡ true)
+unfolding value_above
+above_is number before bytes x e =
+    let a = bind_ok (value_at number bytes) (λ value. cond (is_above before value.0) (Ok value) (Err (fault BadValue number))) x e in
+    let g = guard_then (is_above before a.0.0) (fault BadValue number) a.0 x a.2 in
+    (a.1 ∙ ap (λ (y : List ℕ × List ℕ). Ok y) g.1, ap (λ (y : List ℕ × List ℕ). is_above before y.0) (sym g.1) ∙ g.0)
+
+above_again : (number : ℕ) (before : Option (List ℕ)) (value rest : List ℕ) → IsValue value → is_above before value ≡ true → value_above number before (value_field value ++ rest) ≡ Ok (value, rest)
+unfolding value_above
+above_again number before value rest fits above = rw (value_again number value rest fits, above) refl
 
 abbrev ValuesTaken : Option (List ℕ) → ℕ → List ℕ → (List (List ℕ) × List ℕ) → Type 0
 ValuesTaken before count bytes x = Takes bytes (flat_map value_field x.0) x.1 × (length x.0 ≡ count) × AllByRecursion IsValue x.0 × AreRising before x.0
@@ -41,20 +48,20 @@ unfolding rising_at
 rising_takes number before zero bytes x fits e =
     subst (ValuesTaken before 0 bytes) (ok_is ([], bytes) x e) (record { parts = refl; rest_fits = fits }, refl, tt, tt)
 rising_takes number before (suc count) bytes x fits e =
-    let a = bind_ok (value_at number bytes) (λ value. cond (is_above before value.0) (rising_at number (Some value.0) count value.1 >>= λ others. Ok (value.0 ∷ others.0, others.1)) (Err (fault BadValue number))) x e in
-    let g = guard_if (is_above before a.0.0) (fault BadValue number) (rising_at number (Some a.0.0) count a.0.1 >>= λ others. Ok (a.0.0 ∷ others.0, others.1)) x a.2 in
-    let b = bind_ok (rising_at number (Some a.0.0) count a.0.1) (λ others. Ok (a.0.0 ∷ others.0, others.1)) x g.1 in
-    let first = value_takes number bytes a.0 fits a.1 in
+    let a = bind_ok (value_above number before bytes) (λ value. rising_at number (Some value.0) count value.1 >>= λ others. Ok (value.0 ∷ others.0, others.1)) x e in
+    let g = above_is number before bytes a.0 a.1 in
+    let b = bind_ok (rising_at number (Some a.0.0) count a.0.1) (λ others. Ok (a.0.0 ∷ others.0, others.1)) x a.2 in
+    let first = value_takes number bytes a.0 fits g.0 in
     let second = rising_takes number (Some a.0.0) count a.0.1 b.0 first.0.rest_fits b.1 in
     let both = Takes-then bytes (value_field a.0.0) a.0.1 (flat_map value_field b.0.0) b.0.1 first.0 second.0 in
-    subst (ValuesTaken before (suc count) bytes) (ok_is (a.0.0 ∷ b.0.0, b.0.1) x b.2) (rw flat_map-cons both, ap suc second.1, (first.1, second.2), (g.0, second.3))
+    subst (ValuesTaken before (suc count) bytes) (ok_is (a.0.0 ∷ b.0.0, b.0.1) x b.2) (rw flat_map-cons both, ap suc second.1, (first.1, second.2), (g.1, second.3))
 
 pub rising_again : (number : ℕ) (before : Option (List ℕ)) (values : List (List ℕ)) (rest : List ℕ) → AllByRecursion IsValue values → AreRising before values → rising_at number before (length values) (flat_map value_field values ++ rest) ≡ Ok (values, rest)
 unfolding rising_at
 rising_again number before [] rest fits rising = refl
 rising_again number before (value ∷ values) rest fits rising =
     let regrouped : flat_map value_field (value ∷ values) ++ rest ≡ value_field value ++ (flat_map value_field values ++ rest) = ap (λ (x : List ℕ). x ++ rest) (flat_map-cons value_field value values) ∙ append_assoc (value_field value) (flat_map value_field values) rest in
-    ap (rising_at number before (suc (length values))) regrouped ∙ rw (value_again number value (flat_map value_field values ++ rest) fits.0, rising.0, rising_again number (Some value) values rest fits.1 rising.1) refl
+    ap (rising_at number before (suc (length values))) regrouped ∙ rw (above_again number before value (flat_map value_field values ++ rest) fits.0 rising.0, rising_again number (Some value) values rest fits.1 rising.1) refl
 
 -- ---- codes
 
@@ -289,88 +296,11 @@ answer_again (answer.Fault number code) fits =
 
 -- ---- the next answer
 
-abbrev found_next : (Answer × List ℕ) → Result (Option (Answer × List ℕ)) WireFault
-found_next x = Ok (Some x)
-
 length_answer : (a : Answer) → IsAnswer a → (11 ≤ length (answer_body a)) × (length (answer_body a) ≤ 4098014)
 length_answer (answer.Reply number reply) fits = length_reply number reply fits.1
 length_answer (answer.Fault number code) fits = (omega arith, omega arith)
 
-abbrev NextTaken : List ℕ → (Answer × List ℕ) → Type 0
-NextTaken bytes x = IsAnswer x.0 × (bytes ≡ frame (answer_body x.0) ++ x.1)
-
-some_is : (x y : Answer × List ℕ) → found_next x ≡ found_next y → x ≡ y
-some_is x y e = cc
-
-after_body : (bytes : List ℕ) (o : Option (List ℕ × List ℕ)) (x : Answer × List ℕ) → IsBytes bytes → body_at 11 4098014 bytes ≡ Ok o → answer_of_body o ≡ Ok (Some x) → NextTaken bytes x
-after_body bytes None x fits e h = absurd cc
-after_body bytes (Some body) x fits e h =
-    let t = body_takes 11 4098014 bytes body fits e in
-    let b = bind_ok (answer_in body.0) (λ a. Ok (Some (a, body.1))) (Some x) h in
-    let body_fits : IsBytes body.0 = IsBytes-front body.0 body.1 (IsBytes-back (to_be_bytes w32 (length body.0)) (body.0 ++ body.1) (subst IsBytes (t.parts.parts ∙ append_assoc (to_be_bytes w32 (length body.0)) body.0 body.1) fits)) in
-    let r = answer_taken body.0 b.0 body_fits b.1 in
-    let same : bytes ≡ frame (answer_body b.0) ++ body.1 = t.parts.parts ∙ ap (λ (w : List ℕ). frame w ++ body.1) r.1 in
-    subst (NextTaken bytes) (some_is (b.0, body.1) x b.2) (r.0, same)
-
-next_takes : (bytes : List ℕ) (x : Answer × List ℕ) → IsBytes bytes → next_answer bytes ≡ Ok (Some x) → NextTaken bytes x
+-- an answer is read from its body
+pub answers : IsRead next_answer 11 4098014 answer_in IsAnswer answer_body
 unfolding next_answer
-next_takes bytes x fits e =
-    let a = bind_ok (body_at 11 4098014 bytes) answer_of_body (Some x) e in
-    after_body bytes a.0 x fits a.1 a.2
-
-pub next_again : (a : Answer) (rest : List ℕ) → IsAnswer a → next_answer (frame (answer_body a) ++ rest) ≡ Ok (Some (a, rest))
-unfolding next_answer
-next_again a rest fits =
-    let len = length_answer a fits in
-    let body = body_again 11 4098014 (answer_body a) rest (omega arith) len.0 len.1 in
-    ap (λ (r : Result (Option (List ℕ × List ℕ)) WireFault). r >>= answer_of_body) body ∙ ap (λ (r : Result Answer WireFault). r >>= λ x. Ok (Some (x, rest))) (answer_again a fits)
-
-pub taken_is_found : (result : Result (Option Answer) WireFault) (old new : List ℕ) → IsBytes old → TakesNext next_answer old result new → IfOk result (λ next. IfSome next (λ a. IsAnswer a × (old ≡ frame (answer_body a) ++ new)))
-taken_is_found (Ok (Some a)) old new fits taken = next_takes old (a, new) fits taken
-taken_is_found (Ok None) old new fits taken = tt
-taken_is_found (Err e) old new fits taken = tt
-
-abbrev read_as : Option (Answer × List ℕ) → Result (Option (Answer × List ℕ)) WireFault
-read_as o = Ok o
-
-pub spelled_is_taken : (result : Result (Option Answer) WireFault) (old new : List ℕ) → TakesNext next_answer old result new → (a : Answer) (rest : List ℕ) → IsAnswer a → old ≡ frame (answer_body a) ++ rest → (result ≡ Ok (Some a)) ⊎ (result ≡ Err out_of_memory)
-spelled_is_taken (Ok (Some b)) old new taken a rest fits e =
-    let again : next_answer old ≡ Ok (Some (a, rest)) = ap next_answer e ∙ next_again a rest fits in
-    let same : b ≡ a = ap (λ (p : Answer × List ℕ). p.0) (some_is (b, new) (a, rest) (sym taken ∙ again)) in
-    inl (ap (λ (x : Answer). Ok (Some x)) same)
-spelled_is_taken (Ok None) old new taken a rest fits e =
-    let again : next_answer old ≡ Ok (Some (a, rest)) = ap next_answer e ∙ next_again a rest fits in
-    let none : read_as None ≡ read_as (Some (a, rest)) = sym taken.0 ∙ again in
-    absurd cc
-spelled_is_taken (Err f) old new taken a rest fits e =
-    let again : next_answer old ≡ Ok (Some (a, rest)) = ap next_answer e ∙ next_again a rest fits in
-    elim taken.0 [
-      | inl bad ↦ let two : Err f ≡ read_as (Some (a, rest)) = sym bad ∙ again in absurd cc
-      | inr out ↦ inr (ap (λ (x : WireFault). Err x) out.0)
-    ]
-
--- ---- what is decided does not change
-
-abbrev Body : Type 0
-Body = Option (List ℕ × List ℕ)
-
-same_answer : (r : Result Answer WireFault) (rest more : List ℕ) → (r >>= λ a. Ok (Some (a, rest ++ more))) ≡ with_more more (r >>= λ a. Ok (Some (a, rest)))
-same_answer (Ok a) rest more = refl
-same_answer (Err e) rest more = refl
-
-body_stays_answered : (more : List ℕ) (r : Result Body WireFault) → IsDecided (r >>= answer_of_body) → (with_more more r >>= answer_of_body) ≡ with_more more (r >>= answer_of_body)
-body_stays_answered more (Ok (Some body)) h = same_answer (answer_in body.0) body.1 more
-body_stays_answered more (Ok None) h = absurd h
-body_stays_answered more (Err e) h = refl
-
-decided_before : (r : Result Body WireFault) → IsDecided (r >>= answer_of_body) → IsDecided r
-decided_before (Ok (Some body)) h = tt
-decided_before (Ok None) h = absurd h
-decided_before (Err e) h = tt
-
--- more bytes do not change what is decided
-pub answer_stays : (bytes more : List ℕ) → IsDecided (next_answer bytes) → next_answer (bytes ++ more) ≡ with_more more (next_answer bytes)
-unfolding next_answer
-answer_stays bytes more h =
-    let d = decided_before (body_at 11 4098014 bytes) h in
-    ap (λ (r : Result Body WireFault). r >>= answer_of_body) (body_stays 11 4098014 bytes more d) ∙ body_stays_answered more (body_at 11 4098014 bytes) h
+answers = record { is = λ bytes. refl; takes = answer_taken; again = answer_again; long = length_answer; small = omega arith }

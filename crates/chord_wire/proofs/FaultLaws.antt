@@ -10,12 +10,13 @@ use Rattle.chord_wire.specs.declared.fault.WireFault.{WireFault}
 use Rattle.chord_wire.specs.declared.fault.FaultCode.TheVariants.{BadLength, BadVersion, BadOperation, BadFloor, BadKey, BadValue, Trailing}
 use Rattle.chord_wire.specs.Fault.{fault}
 use Rattle.chord_wire.specs.Spelling.{IsBytes, operation, operands, key_field, floor_field, frame}
-use Rattle.chord_wire.specs.Reading.{◌>>=◌, number_at, bytes_at, floor_at, key_at, value_at, operands_at, fields_at, request_in, body_of_length, body_at, request_of_body, next_request}
+use Rattle.chord_wire.specs.Reading.{◌>>=◌, number_at, bytes_at, floor_at, key_at, value_at, operands_at, fields_at, request_in, body_of_length, body_at, of_body, next_of, next_request}
 use Rattle.chord_wire.specs.FaultTable.{Head, RequestHead, IsVersion, IsKnown, BeginsWithKey, BeginsWithValue, Floored, FaultOf}
 use Rattle.chord_wire.specs.FaultTable.FaultOf.{Bad_length, Bad_version, Bad_operation, Bad_floor, Bad_key, Bad_value, Trails}
 use Rattle.chord_wire.proofs.Steps.{IsBytes-rest, IsBytes-front, IsBytes-back, wide32, wide64, number_takes, number_again}
 use Rattle.chord_wire.proofs.FieldLaws.{floor_takes, floor_again, key_takes, key_again, value_takes, value_again, operands_take, operands_again}
-use Rattle.chord_wire.proofs.RequestLaws.{BodyFound, body_takes, body_again}
+use Rattle.chord_wire.proofs.RequestLaws.{requests}
+use Rattle.chord_wire.proofs.NextLaws.{IsRead, BodyFound, body_takes, body_again, body_fits}
 
 -- ---- a reader fails with one fault alone
 
@@ -88,11 +89,6 @@ body_of head = head.version ∷ head.op ∷ to_be_bytes w64 head.number ++ head.
 length_body : {least most : ℕ} {bytes : List ℕ} (head : Head least most bytes) → length (body_of head) ≡ 10 + length head.fields
 length_body head = omega (arith, length-append (to_be_bytes w64 head.number) head.fields)
 
--- the body of a frame of bytes consists of bytes
-body_fits : (bytes body rest : List ℕ) → bytes ≡ frame body ++ rest → IsBytes bytes → IsBytes body
-body_fits bytes body rest front fits =
-    IsBytes-front body rest (IsBytes-back (to_be_bytes w32 (length body)) (body ++ rest) (subst IsBytes (front ∙ append_assoc (to_be_bytes w32 (length body)) body rest) fits))
-
 pub fields_fit : {least most : ℕ} {bytes : List ℕ} (head : Head least most bytes) → IsBytes bytes → IsBytes head.fields
 fields_fit {bytes = bytes} head fits =
     IsBytes-back (to_be_bytes w64 head.number) head.fields
@@ -107,7 +103,7 @@ body_there {least} {most} head small =
     ap (body_at least most) head.front ∙ body_again least most (body_of head) head.behind small (omega (arith, len, low)) (omega (arith, len, high))
 
 -- the head of a body that was found
-pub head_in : (least most : ℕ) (bytes : List ℕ) (version op : ℕ) (after rest : List ℕ) → 10 ≤ least → IsBytes bytes → BodyFound least most bytes (version ∷ op ∷ after) rest
+head_in : (least most : ℕ) (bytes : List ℕ) (version op : ℕ) (after rest : List ℕ) → 10 ≤ least → IsBytes bytes → BodyFound least most bytes (version ∷ op ∷ after) rest
     → (head : Head least most bytes) × (version ∷ op ∷ after ≡ body_of head)
 head_in least most bytes version op after rest ten fits t =
     let low = t.low in
@@ -131,10 +127,6 @@ head_in least most bytes version op after rest ten fits t =
       front = t.parts.parts ∙ ap (λ (ws : List ℕ). frame (version ∷ op ∷ ws) ++ rest) k.0.parts;
     } in
     (head, ap (λ (ws : List ℕ). version ∷ op ∷ ws) k.0.parts)
-
-next_of : {bytes : List ℕ} (head : RequestHead bytes) (e : WireFault) → request_in (body_of head) ≡ Err e → next_request bytes ≡ Err e
-unfolding next_request
-next_of head e h = rw (body_there head (omega arith), h) refl
 
 -- ---- from the table to reading
 
@@ -168,7 +160,7 @@ length_refused least most count rest small out =
     ∙ ap (λ (k : ℕ). body_of_length least most k (drop 4 bytes)) n
     ∙ cond-true (ltb count least || ltb most count) (Err (fault BadLength 0)) _ out
 
-pub no_body : (least most : ℕ) (bytes : List ℕ) (count : ℕ) (rest : List ℕ) → bytes ≡ to_be_bytes w32 count ++ rest → count < 2 ^ 32 → (count < least) ⊎ (most < count) → body_at least most bytes ≡ Err (fault BadLength 0)
+no_body : (least most : ℕ) (bytes : List ℕ) (count : ℕ) (rest : List ℕ) → bytes ≡ to_be_bytes w32 count ++ rest → count < 2 ^ 32 → (count < least) ⊎ (most < count) → body_at least most bytes ≡ Err (fault BadLength 0)
 no_body least most bytes count rest front small out =
     let test : (ltb count least || ltb most count) ≡ true =
     elim out [
@@ -177,9 +169,14 @@ no_body least most bytes count rest front small out =
     ] in
     ap (body_at least most) front ∙ length_refused least most count rest small test
 
-length_reads : (bytes : List ℕ) (count : ℕ) (rest : List ℕ) → bytes ≡ to_be_bytes w32 count ++ rest → count < 2 ^ 32 → (count < 12) ⊎ (4372 < count) → next_request bytes ≡ Err (fault BadLength 0)
-unfolding next_request
-length_reads bytes count rest front small out = rw (no_body 12 4372 bytes count rest front small out) refl
+-- what no value is read from has a fault
+module _ {X : Type 0} {next : List ℕ → Result (Option (X × List ℕ)) WireFault} {least most : ℕ} {read : List ℕ → Result X WireFault} {Fits : X → Type 0} {text : X → List ℕ}
+    (reads : IsRead next least most read Fits text) where
+  pub next_fails : {bytes : List ℕ} (head : Head least most bytes) (e : WireFault) → read (body_of head) ≡ Err e → next bytes ≡ Err e
+  next_fails {bytes} head e h = reads.is bytes ∙ rw (body_there head reads.small, h) refl
+
+  pub length_reads : (bytes : List ℕ) (count : ℕ) (rest : List ℕ) → bytes ≡ to_be_bytes w32 count ++ rest → count < 2 ^ 32 → (count < least) ⊎ (most < count) → next bytes ≡ Err (fault BadLength 0)
+  length_reads bytes count rest front small out = reads.is bytes ∙ rw (no_body least most bytes count rest front small out) refl
 
 bad_version : (version op : ℕ) (rest : List ℕ) → ¬ IsVersion version → request_in (version ∷ op ∷ rest) ≡ Err (fault BadVersion 0)
 unfolding request_in
@@ -228,10 +225,10 @@ rest_fit head rest floored fits =
     IsBytes-back (floor_field head.version floored.floor) rest (subst IsBytes floored.begins.0 (fields_fit head fits))
 
 pub is_fault : (bytes : List ℕ) (f : WireFault) → IsBytes bytes → FaultOf bytes f → next_request bytes ≡ Err f
-is_fault bytes _ fits (Bad_length count rest front small out) = length_reads bytes count rest front small out
-is_fault bytes _ fits (Bad_version head bad) = next_of head (fault BadVersion 0) (bad_version head.version head.op _ bad)
+is_fault bytes _ fits (Bad_length count rest front small out) = length_reads requests bytes count rest front small out
+is_fault bytes _ fits (Bad_version head bad) = next_fails requests head (fault BadVersion 0) (bad_version head.version head.op _ bad)
 is_fault bytes _ fits (Bad_operation head known bad) =
-    next_of head (fault BadOperation 0)
+    next_fails requests head (fault BadOperation 0)
     (elim (cases_Bool (ltb 0 head.op && ltb head.op 4)) [
       | inl is_so ↦ let range = known_op head.op is_so in absurd (bad (known, range.0, range.1))
       | inr not_so ↦ bad_operation head.version head.op _ known not_so
@@ -241,13 +238,13 @@ is_fault bytes _ fits (Bad_floor head known bad) =
     let none = fails_so d (floor_at head.version head.number head.fields) (floor_fails head.version head.number head.fields) (λ x e.
     let t = floor_takes head.version head.number head.fields x known.0 (fields_fit head fits) e in
     bad x.1 (record { known = known; floor = x.0; begins = (t.0.parts, t.1) })) in
-    next_of head d (known_reads head known ∙ floor_reads head.version head.op head.number head.fields d head.number_fits none)
+    next_fails requests head d (known_reads head known ∙ floor_reads head.version head.op head.number head.fields d head.number_fits none)
 is_fault bytes _ fits (Bad_key head rest floored bad) =
     let d = fault BadKey head.number in
     let none = fails_so d (key_at head.number rest) (key_fails head.number rest) (λ x e.
     let t = key_takes head.number rest x (rest_fit head rest floored fits) e in
     bad x.0 x.1 (t.0.parts, t.1)) in
-    next_of head d (known_reads head floored.known
+    next_fails requests head d (known_reads head floored.known
     ∙ operands_read head.version head.op head.number floored.floor head.fields rest d head.number_fits (floor_of head rest floored) (key_reads head.op head.number rest d none))
 is_fault bytes _ fits (Bad_value head rest key more floored begins two bad) =
     let d = fault BadValue head.number in
@@ -256,13 +253,13 @@ is_fault bytes _ fits (Bad_value head rest key more floored begins two bad) =
     let t = value_takes head.number more x more_fit e in
     bad x.0 x.1 (t.0.parts, t.1)) in
     let there = ap (key_at head.number) begins.0 ∙ key_again head.number key more begins.1 in
-    next_of head d (known_reads head floored.known
+    next_fails requests head d (known_reads head floored.known
     ∙ operands_read head.version head.op head.number floored.floor head.fields rest d head.number_fits (floor_of head rest floored)
     (value_reads head.op head.number rest key more d there (ne_eqb head.op 2 two) none))
 is_fault bytes _ fits (Trails head rest request more floored parts is_request op some) =
     let there : operands_at head.op head.number rest ≡ Ok (request, more) =
     ap (operands_at head.op head.number) parts ∙ ap (λ (o : ℕ). operands_at o head.number (operands request ++ more)) (sym op) ∙ operands_again head.number request more is_request in
-    next_of head (fault Trailing head.number) (known_reads head floored.known
+    next_fails requests head (fault Trailing head.number) (known_reads head floored.known
     ∙ trailing_reads head.version head.op head.number floored.floor head.fields rest more request head.number_fits (floor_of head rest floored) there
     (ne_eqb (length more) 0 (λ e. some (nil_from_length more e))))
 
@@ -287,7 +284,7 @@ pub err_is : {A : Type 0} (d f : WireFault) → failed {A = A} d ≡ failed f �
 err_is d f e = cc
 
 -- a length that is refused
-pub record LengthFault (least most : ℕ) (bytes : List ℕ) (f : WireFault) : Type 0 where
+record LengthFault (least most : ℕ) (bytes : List ℕ) (f : WireFault) : Type 0 where
   pub count : ℕ
   pub rest : List ℕ
   pub parts : bytes ≡ to_be_bytes w32 count ++ rest
@@ -295,7 +292,7 @@ pub record LengthFault (least most : ℕ) (bytes : List ℕ) (f : WireFault) : T
   pub out : (count < least) ⊎ (most < count)
   pub is : fault BadLength 0 ≡ f
 
-pub length_fault : (least most : ℕ) (bytes : List ℕ) (f : WireFault) → IsBytes bytes → body_at least most bytes ≡ Err f → LengthFault least most bytes f
+length_fault : (least most : ℕ) (bytes : List ℕ) (f : WireFault) → IsBytes bytes → body_at least most bytes ≡ Err f → LengthFault least most bytes f
 unfolding body_at
 length_fault least most bytes f fits e =
     let n = from_be_bytes w32 (take 4 bytes) in
@@ -318,6 +315,33 @@ length_fault least most bytes f fits e =
       }
       | inr not_out ↦ absurd (never (ltb (length behind) n) None (Some (take n behind, drop n behind)) f not_out)
     ]
+
+-- what refuses the length, or the body of each head, refuses the next frame
+module _ {X : Type 0} (least most : ℕ) (read : List ℕ → Result X WireFault) (Refuses : List ℕ → WireFault → Type 0)
+    (refused_length : (bytes : List ℕ) (count : ℕ) (rest : List ℕ) → bytes ≡ to_be_bytes w32 count ++ rest → count < 2 ^ 32 → (count < least) ⊎ (most < count) → Refuses bytes (fault BadLength 0))
+    (refused_head : (bytes : List ℕ) (head : Head least most bytes) (f : WireFault) → IsBytes bytes → read (body_of head) ≡ Err f → Refuses bytes f)
+    (ten : 10 ≤ least) where
+  in_body : (bytes body rest : List ℕ) (f : WireFault) → IsBytes bytes → BodyFound least most bytes body rest → read body ≡ Err f → Refuses bytes f
+  in_body bytes [] rest f fits t e = absurd (let low = t.low in omega arith)
+  in_body bytes (version ∷ []) rest f fits t e = absurd (let low = t.low in omega arith)
+  in_body bytes (version ∷ op ∷ after) rest f fits t e =
+      let head = head_in least most bytes version op after rest ten fits t in
+      refused_head bytes head.0 f fits (ap read (sym head.1) ∙ e)
+
+  body_fault : (bytes : List ℕ) (o : Option (List ℕ × List ℕ)) (f : WireFault) → IsBytes bytes → body_at least most bytes ≡ Ok o → of_body read o ≡ Err f → Refuses bytes f
+  body_fault bytes None f fits b e = absurd cc
+  body_fault bytes (Some body) f fits b e =
+      elim (broke (read body.0) (λ x. Ok (Some (x, body.1))) f e) [
+        | First i ↦ in_body bytes body.0 body.1 f fits (body_takes least most bytes body fits b) i
+        | Then x i last ↦ absurd cc
+      ]
+
+  pub next_fault : (bytes : List ℕ) (f : WireFault) → IsBytes bytes → next_of least most read bytes ≡ Err f → Refuses bytes f
+  next_fault bytes f fits e =
+      elim (broke (body_at least most bytes) (of_body read) f e) [
+        | First b ↦ let l = length_fault least most bytes f fits b in subst (Refuses bytes) l.is (refused_length bytes l.count l.rest l.parts l.fits l.out)
+        | Then o b h ↦ body_fault bytes o f fits b h
+      ]
 
 operands_first : {bytes : List ℕ} (head : RequestHead bytes) (rest : List ℕ) (floored : Floored head rest) (f : WireFault) → IsBytes rest → operands_at head.op head.number rest ≡ Err f → FaultOf bytes f
 unfolding operands_at
@@ -381,25 +405,6 @@ head_fault {bytes} head f fits e =
           ]
     ]
 
-in_body : (bytes body rest : List ℕ) (f : WireFault) → IsBytes bytes → BodyFound 12 4372 bytes body rest → request_in body ≡ Err f → FaultOf bytes f
-in_body bytes [] rest f fits t e = absurd (let low = t.low in omega arith)
-in_body bytes (version ∷ []) rest f fits t e = absurd (let low = t.low in omega arith)
-in_body bytes (version ∷ op ∷ after) rest f fits t e =
-    let head = head_in 12 4372 bytes version op after rest (omega arith) fits t in
-    head_fault head.0 f fits (ap request_in (sym head.1) ∙ e)
-
-body_fault : (bytes : List ℕ) (o : Option (List ℕ × List ℕ)) (f : WireFault) → IsBytes bytes → body_at 12 4372 bytes ≡ Ok o → request_of_body o ≡ Err f → FaultOf bytes f
-body_fault bytes None f fits b e = absurd cc
-body_fault bytes (Some body) f fits b e =
-    elim (broke (request_in body.0) (λ r. Ok (Some (r, body.1))) f e) [
-      | First i ↦ in_body bytes body.0 body.1 f fits (body_takes 12 4372 bytes body fits b) i
-      | Then x i last ↦ absurd cc
-    ]
-
 pub fault_is : (bytes : List ℕ) (f : WireFault) → IsBytes bytes → next_request bytes ≡ Err f → FaultOf bytes f
 unfolding next_request
-fault_is bytes f fits e =
-    elim (broke (body_at 12 4372 bytes) request_of_body f e) [
-      | First b ↦ let l = length_fault 12 4372 bytes f fits b in subst (FaultOf bytes) l.is (Bad_length l.count l.rest l.parts l.fits l.out)
-      | Then o b h ↦ body_fault bytes o f fits b h
-    ]
+fault_is = next_fault 12 4372 request_in FaultOf (λ bytes count rest parts fits out. Bad_length count rest parts fits out) (λ bytes head. head_fault head) (omega arith)

@@ -105,25 +105,26 @@ retrieve_takes number bytes x fits e =
     let k = key_takes number bytes b.0 fits b.1 in
     subst (OperandsTaken 2 bytes) (ok_is (Retrieve b.0.0, b.0.1) x b.2) (k.0, (k.1, omega arith), refl)
 
-insert_takes : (number : ℕ) (bytes : List ℕ) (x : Request × List ℕ) → IsBytes bytes → operands_at 1 number bytes ≡ Ok x → OperandsTaken 1 bytes x
-unfolding operands_at
-insert_takes number bytes x fits e =
-    let b = bind_ok (key_at number bytes) (λ key. value_at number key.1 >>= λ value. Ok (Insert key.0 value.0, value.1)) x e in
-    let d = bind_ok (value_at number b.0.1) (λ value. Ok (Insert b.0.0 value.0, value.1)) x b.2 in
+-- a key and a value
+pair_takes : (op number : ℕ) (make : List ℕ → List ℕ → Request) → ((key value : List ℕ) → operands (make key value) ≡ key_field key ++ value_field value)
+    → ((key value : List ℕ) → IsKey key × IsValue value → IsRequest (make key value)) → ((key value : List ℕ) → operation (make key value) ≡ op) → (bytes : List ℕ) (x : Request × List ℕ) → IsBytes bytes
+    → (key_at number bytes >>= λ key. value_at number key.1 >>= λ value. Ok (make key.0 value.0, value.1)) ≡ Ok x → OperandsTaken op bytes x
+pair_takes op number make fields_are is_request op_is bytes x fits e =
+    let b = bind_ok (key_at number bytes) (λ key. value_at number key.1 >>= λ value. Ok (make key.0 value.0, value.1)) x e in
+    let d = bind_ok (value_at number b.0.1) (λ value. Ok (make b.0.0 value.0, value.1)) x b.2 in
     let k = key_takes number bytes b.0 fits b.1 in
     let v = value_takes number b.0.1 d.0 k.0.rest_fits d.1 in
     let both = Takes-then bytes (key_field b.0.0) b.0.1 (value_field d.0.0) d.0.1 k.0 v.0 in
-    subst (OperandsTaken 1 bytes) (ok_is (Insert b.0.0 d.0.0, d.0.1) x d.2) (both, (k.1, v.1), refl)
+    subst (OperandsTaken op bytes) (ok_is (make b.0.0 d.0.0, d.0.1) x d.2)
+    (subst (λ (text : List ℕ). Takes bytes text d.0.1) (sym (fields_are b.0.0 d.0.0)) both, is_request b.0.0 d.0.0 (k.1, v.1), op_is b.0.0 d.0.0)
+
+insert_takes : (number : ℕ) (bytes : List ℕ) (x : Request × List ℕ) → IsBytes bytes → operands_at 1 number bytes ≡ Ok x → OperandsTaken 1 bytes x
+unfolding operands_at
+insert_takes number = pair_takes 1 number Insert (λ key value. refl) (λ key value fits. fits) (λ key value. refl)
 
 remove_takes : (number : ℕ) (bytes : List ℕ) (x : Request × List ℕ) → IsBytes bytes → operands_at 3 number bytes ≡ Ok x → OperandsTaken 3 bytes x
 unfolding operands_at
-remove_takes number bytes x fits e =
-    let b = bind_ok (key_at number bytes) (λ key. value_at number key.1 >>= λ value. Ok (Remove key.0 value.0, value.1)) x e in
-    let d = bind_ok (value_at number b.0.1) (λ value. Ok (Remove b.0.0 value.0, value.1)) x b.2 in
-    let k = key_takes number bytes b.0 fits b.1 in
-    let v = value_takes number b.0.1 d.0 k.0.rest_fits d.1 in
-    let both = Takes-then bytes (key_field b.0.0) b.0.1 (value_field d.0.0) d.0.1 k.0 v.0 in
-    subst (OperandsTaken 3 bytes) (ok_is (Remove b.0.0 d.0.0, d.0.1) x d.2) (both, (k.1, v.1), refl)
+remove_takes number = pair_takes 3 number Remove (λ key value. refl) (λ key value fits. fits) (λ key value. refl)
 
 pub operands_take : (op number : ℕ) (bytes : List ℕ) (x : Request × List ℕ) → 0 < op → op < 4 → IsBytes bytes → operands_at op number bytes ≡ Ok x → OperandsTaken op bytes x
 operands_take op number bytes x low high fits e =

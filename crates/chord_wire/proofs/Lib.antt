@@ -1,5 +1,6 @@
 pub mod Steps
 pub mod FieldLaws
+pub mod NextLaws
 pub mod RequestLaws
 pub mod ReplyLaws
 pub mod ValueLaws

@@ -4,10 +4,14 @@ use Rattle.std.specs.List.{flat_map, AllByRecursion}
 use Rattle.std.proofs.lemmas.List.Concat.{flat_map-cons}
 use Rattle.std.proofs.lemmas.List.{append-nil}
 use Rattle.chord_wire.specs.declared.fault.WireFault.{WireFault}
+use Rattle.chord_wire.specs.Spelling.{frame}
+use Rattle.chord_wire.proofs.NextLaws.{IsRead, next_again}
 
--- a value that has a frame is read from the start of the bytes
-module _ {X : Type 0} (Fits : X → Type 0) (text : X → List ℕ) (next : List ℕ → Result (Option (X × List ℕ)) WireFault)
-    (again : (x : X) (rest : List ℕ) → Fits x → next (text x ++ rest) ≡ Ok (Some (x, rest))) where
+module _ {X : Type 0} {next : List ℕ → Result (Option (X × List ℕ)) WireFault} {least most : ℕ} {read : List ℕ → Result X WireFault} {Fits : X → Type 0} {body : X → List ℕ}
+    (reads : IsRead next least most read Fits body) where
+  abbrev text : X → List ℕ
+  text x = frame (body x)
+
   abbrev found : X × List ℕ → Result (Option (X × List ℕ)) WireFault
   found x = Ok (Some x)
 
@@ -19,7 +23,7 @@ module _ {X : Type 0} (Fits : X → Type 0) (text : X → List ℕ) (next : List
   first_is_next x xs rest fits =
       ap (λ (bytes : List ℕ). next (bytes ++ rest)) (flat_map-cons text x xs)
       ∙ ap next (append_assoc (text x) (flat_map text xs) rest)
-      ∙ again x (flat_map text xs ++ rest) fits
+      ∙ next_again reads x (flat_map text xs ++ rest) fits
 
   abbrev pub Said : List ℕ → List X → List ℕ → Type 0
   Said bytes xs rest = AllByRecursion Fits xs × (bytes ≡ flat_map text xs ++ rest)
@@ -56,5 +60,5 @@ module _ {X : Type 0} (Fits : X → Type 0) (text : X → List ℕ) (next : List
   -- no frame begins another
   pub alone : (x y : X) (more : List ℕ) → Fits x → Fits y → text x ++ more ≡ text y → (x ≡ y) × (more ≡ [])
   alone x y more x_fits y_fits e =
-      let same = same_found (x, more) (y, []) (sym (again x more x_fits) ∙ ap next (e ∙ sym (append-nil (text y))) ∙ again y [] y_fits) in
+      let same = same_found (x, more) (y, []) (sym (next_again reads x more x_fits) ∙ ap next (e ∙ sym (append-nil (text y))) ∙ next_again reads y [] y_fits) in
       (ap (λ (z : X × List ℕ). z.0) same, ap (λ (z : X × List ℕ). z.1) same)

@@ -10,7 +10,7 @@ use Rattle.chord_wire.specs.declared.answer.Answer.TheVariants as answer
 use Rattle.chord_wire.specs.declared.fault.FaultCode.TheVariants.{BadLength, BadVersion, BadOperation, BadValue, Trailing}
 use Rattle.chord_wire.specs.declared.fault.WireFault.{WireFault}
 use Rattle.chord_wire.specs.Fault.{fault, out_of_memory, code_of}
-use Rattle.chord_wire.specs.Reading.{◌>>=◌, number_at, value_at, body_at}
+use Rattle.chord_wire.specs.Reading.{◌>>=◌, number_at, value_at, next_of}
 
 -- the value, or the fault if there is none
 abbrev pub or_fault : {X : Type 0} → WireFault → Option X → Result X WireFault
@@ -47,14 +47,19 @@ abbrev pub rise_from : Option (List ℕ) → List (List ℕ) → Bool
 rise_from before [] = true
 rise_from before (value ∷ values) = if nat_lt 4096 (length value) || not (is_above before value) then false else rise_from (Some value) values
 
+-- a value that is above the one before it
+unfoldable pub value_above : ℕ → Option (List ℕ) → List ℕ → Result (List ℕ × List ℕ) WireFault
+value_above number before bytes = do
+  value ← value_at number bytes
+  if is_above before value.0 then Ok value else Err (fault BadValue number)
+
 -- `count` values, each above the one before it
 unfoldable pub rising_at : ℕ → Option (List ℕ) → ℕ → List ℕ → Result (List (List ℕ) × List ℕ) WireFault
 rising_at number before zero bytes = Ok ([], bytes)
 rising_at number before (suc count) bytes = do
-  value ← value_at number bytes
-  if is_above before value.0 then (do
-    others ← rising_at number (Some value.0) count value.1
-    Ok (value.0 ∷ others.0, others.1)) else Err (fault BadValue number)
+  value ← value_above number before bytes
+  others ← rising_at number (Some value.0) count value.1
+  Ok (value.0 ∷ others.0, others.1)
 
 -- a count of at most 1,000, and the values
 unfoldable pub values_from : ℕ → List ℕ → Result (Answer × List ℕ) WireFault
@@ -86,16 +91,9 @@ answer_in (version ∷ kind ∷ rest) =
     else answer_fields kind rest)
 answer_in _ = Err (fault BadLength 0)
 
--- the answer of a whole body
-abbrev pub answer_of_body : Option (List ℕ × List ℕ) → Result (Option (Answer × List ℕ)) WireFault
-answer_of_body None = Ok None
-answer_of_body (Some body) = do
-  answer ← answer_in body.0
-  Ok (Some (answer, body.1))
-
 -- the answer of the next frame, and the bytes after it
 unfoldable pub next_answer : List ℕ → Result (Option (Answer × List ℕ)) WireFault
-next_answer bytes = body_at 11 4098014 bytes >>= answer_of_body
+next_answer bytes = next_of 11 4098014 answer_in bytes
 
 -- If the reading gives a value, this is the rest after it; the value itself is not copied.
 abbrev pub ReadsPast : {X Y : Type 0} → (X → List ℕ) → Result X WireFault → Result (Y × List ℕ) WireFault → Type 0

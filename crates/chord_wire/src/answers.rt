@@ -1,5 +1,5 @@
-//! A stream of answers, in pieces of any length.
-ghost use Rattle.std.specs.Prelude.{◌≡◌, ◌⊎◌, List, ℕ, IfOk, IfSome, ◌++◌, [], length, OnOk, OnErr, IsOkUnless};
+//! A stream of answers.
+ghost use Rattle.std.specs.Prelude.{◌≡◌, ◌⊎◌, List, ℕ, IfOk, IfSome, ◌++◌};
 ghost use Rattle.chord_wire.specs.Fault.{out_of_memory};
 ghost use Rattle.chord_wire.specs.Reading.{TakesNext, FindsNext};
 ghost use Rattle.chord_wire.specs.Spelling.{IsBytes, frame};
@@ -10,11 +10,13 @@ ghost use Rattle.chord_wire.specs.ReadingReplies.{next_answer};
 use crate::answer::Answer;
 use crate::codes::{LEAST_ANSWER, MOST_ANSWER};
 use crate::fault::WireFault;
+use crate::reader::{Framed, Reader};
 use crate::reading::answer_body::answer_in;
 use crate::reading::frame::body_at;
-use crate::stream::Stream;
 use std::alloc::Global;
-use std::marker::Model;
+
+/// A stream of answers, in pieces of any length.
+pub type Answers = Reader<Answer>;
 
 // The next answer, and the length of its frame.
 #[tactic(auto, unfolding(crate::specs::ReadingReplies::next_answer))]
@@ -29,46 +31,15 @@ fn next_answer(alloc: Global, bytes: &[u8]) -> Result<Option<(Answer, usize)>, W
     Ok(Some((answer, bytes.len() - rest.len())))
 }
 
-/// The bytes fed and not consumed yet; contracts see just these.
-#[derive(Debug, Drop)]
-pub struct Answers {
-    stream: Stream,
+impl Framed for Answer {
+    ghost next = { next_answer };
+
+    fn next_in(alloc: Global, bytes: &[u8]) -> Result<Option<(Answer, usize)>, WireFault> {
+        next_answer(alloc, bytes)
+    }
 }
 
-impl Model for Answers {
-    ghost use Rattle.std.specs.Prelude.{ℕ, List};
-
-    ghost Value = { List ℕ };
-
-    ghost view = { λ s. s.stream };
-}
-
-impl Answers {
-    pub fn new(alloc: Global) -> Answers
-        ensures { result ≡ [] }
-    {
-        Answers {
-            stream: Stream::new(alloc),
-        }
-    }
-
-    /// How many bytes were fed and not consumed.
-    pub fn left(&self) -> usize
-        ensures { result ≡ length self.now }
-    {
-        self.stream.left()
-    }
-
-    /// Adds a piece of the stream.
-    pub fn feed(&mut self, piece: &[u8]) -> Result<(), WireFault>
-        ensures ok { OnOk result (self.new ≡ self.old ++ piece.now) }
-        ensures err { OnErr result (self.new ≡ self.old) }
-        ensures only_memory { IsOkUnless result out_of_memory }
-    {
-        self.stream.feed(piece)?;
-        Ok(())
-    }
-
+impl Reader<Answer> {
     /// The next answer, if all of its frame was fed.
     pub fn next(&mut self) -> Result<Option<Answer>, WireFault>
         // An answer comes from its one spelling, and its frame is consumed.
@@ -80,17 +51,5 @@ impl Answers {
         ensures exact { TakesNext next_answer self.old result self.new }
     {
         self.take()
-    }
-
-    fn take(&mut self) -> Result<Option<Answer>, WireFault>
-        ensures bytes { IsBytes self.old }
-        ensures exact { TakesNext next_answer self.old result self.new }
-    {
-        let alloc = self.stream.allocator();
-        let Some((next, count)) = next_answer(alloc, self.stream.as_slice())? else {
-            return Ok(None);
-        };
-        self.stream.consume(count);
-        Ok(Some(next))
     }
 }

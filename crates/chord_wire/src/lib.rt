@@ -14,6 +14,7 @@ mod codes;
 mod fault;
 mod frames;
 pub mod laws;
+mod reader;
 mod reading;
 mod request;
 mod stream;

@@ -16,7 +16,7 @@ use Rattle.chord_model.specs.World.{WorldStep, WasSent, put_node, node_at, with_
 use Rattle.chord_model.specs.World.WorldStep.{Acts}
 use Rattle.chord_world.specs.Members.{is_gone, links_unless, member_links, members_of, ring_with}
 use Rattle.chord_world.specs.State.{WorldState, NodesFrom, IsKnown, AreKnown, AreAimed, IsWorld, ring_of, is_crashed, KeepsRing}
-use Rattle.chord_world.proofs.Placing.{node_at_place, put_node_place, nodes_set, node_number, calls_pushed}
+use Rattle.chord_world.proofs.Placing.{nodes_by, calls_pushed}
 use Rattle.chord_world.proofs.RingLemmas.{get_other, ids_same, members_same, members_length, member_past, member_at}
 use Rattle.chord_world.proofs.Keeping.{further}
 
@@ -92,9 +92,9 @@ pub acts : (place : ℕ) (node after : Node) (taken sent : Option Message) (targ
     → Acting place node after taken sent target done view → After view (acted after sent target done view)
 acts place node after taken sent target done view kept acting =
     let new = acted after sent target done view in
-    let at = acting.number ∙ node_number 0 place node view.world.nodes kept.nodes acting.here in
-    let put : put_node after view.world.nodes ≡ set view.world.nodes place after = put_node_place 0 place after view.world.nodes kept.nodes at in
-    let there : node_at place view.world.nodes ≡ Some node = node_at_place 0 place place view.world.nodes kept.nodes (omega arith) ∙ acting.here in
+    let at = acting.number ∙ nodes_by.number 0 place node view.world.nodes kept.nodes acting.here in
+    let put : put_node after view.world.nodes ≡ set view.world.nodes place after = nodes_by.put_is 0 place after view.world.nodes kept.nodes at in
+    let there : node_at place view.world.nodes ≡ Some node = nodes_by.found 0 place place view.world.nodes kept.nodes (omega arith) ∙ acting.here in
     let count : length (put_node after view.world.nodes) ≡ length view.world.nodes = ap (λ (ns : List Node). length ns) put ∙ length-set view.world.nodes place after in
     let ring : ring_of new ≡ ring_with (set view.world.nodes place after) view.crashed = ap (λ ns. ring_with ns view.crashed) put in
     let did : WorldStep view.world new.world = Acts place node after taken sent done there acting.was acting.does in
@@ -102,7 +102,7 @@ acts place node after taken sent target done view kept acting =
       world =
           record {
             reached = further view.world new.world kept.reached did;
-            nodes = subst (NodesFrom 0) (sym put) (nodes_set 0 place after view.world.nodes kept.nodes at);
+            nodes = subst (NodesFrom 0) (sym put) (nodes_by.numbered_set 0 place after view.world.nodes kept.nodes at);
             callers = kept.callers;
             targets = acting.aimed;
             calls = subst (λ n. AreKnown n (length view.world.callers) (with_one view.world.sent sent)) (sym count)
@@ -136,7 +136,7 @@ acts_at place node after taken sent target done view old new same kept acting is
 pub put_is : (place : ℕ) (node after : Node) (nodes : List Node) (view : WorldState) → IsWorld view → slice_get view.world.nodes place ≡ Some node → after.number ≡ node.number
     → nodes ≡ set view.world.nodes place after → nodes ≡ put_node after view.world.nodes
 put_is place node after nodes view kept here number is =
-    is ∙ sym (put_node_place 0 place after view.world.nodes kept.nodes (number ∙ node_number 0 place node view.world.nodes kept.nodes here))
+    is ∙ sym (nodes_by.put_is 0 place after view.world.nodes kept.nodes (number ∙ nodes_by.number 0 place node view.world.nodes kept.nodes here))
 
 -- ---- what the code reads of the ring
 

@@ -37,7 +37,7 @@ use Rattle.chord_world.specs.Delivered.IsFor.{Ask_for}
 use Rattle.chord_world.specs.declared.outcome.Outcome.{Outcome}
 use Rattle.chord_world.specs.declared.outcome.Outcome.TheVariants as did
 use Rattle.chord_world.specs.Delivering.{Answers, AnswersAt, CallAnswered, Hears, IsOwed, IsReceiver, message_by}
-use Rattle.chord_world.proofs.Placing.{node_at_place, put_node_place, node_number, caller_at_place, put_caller_place, caller_number, call_at, aimed_pushed, aimed_at}
+use Rattle.chord_world.proofs.Placing.{nodes_by, callers_by, call_at, aimed_pushed, aimed_at}
 use Rattle.chord_world.proofs.Acting.{After, SendsCall, ring_stays, acts_at}
 use Rattle.chord_world.proofs.Posting.{got, got_of, set_same, slice_get_there}
 use Rattle.chord_world.proofs.Speaking.{heard_is_world}
@@ -122,7 +122,7 @@ pub answer_delivers : (place to : ℕ) (ask : Ask) (view old : WorldState) (answ
     → is_crashed to old ≡ false → Delivers place old (outcome_of answered (length view.world.sent)) (with_answer ask node after answered view)
 answer_delivers place to ask view old answered node after same kept asked running =
     subst (λ (w : WorldState). Delivers place w (outcome_of answered (length view.world.sent)) (with_answer ask node after answered view)) same
-    (To_node ask to node after answered asked.sent asked.target (node_at_place 0 to to view.world.nodes kept.nodes (omega arith) ∙ asked.here)
+    (To_node ask to node after answered asked.sent asked.target (nodes_by.found 0 to to view.world.nodes kept.nodes (omega arith) ∙ asked.here)
     (ap (is_crashed to) same ∙ running) asked.answers)
 
 -- restated in the terms of the code
@@ -134,8 +134,8 @@ pub answered_is : (place to : ℕ) (ask : Ask) (view : WorldState) (answered : A
     → history ≡ with_one earlier did → earlier ≡ view.world.history → targets ≡ with_one known (target_of answered) → known ≡ view.targets
     → after_answer nodes sent history targets view ≡ with_answer ask done.node done.after answered view
 answered_is place to ask view answered did nodes sent before history earlier targets known kept done s s' h h' t t' =
-    let at = answered_number ask done.node done.after answered done.answers.0 ∙ node_number 0 to done.node view.world.nodes kept.nodes done.here in
-    let put : nodes ≡ put_node done.after view.world.nodes = done.new_is ∙ sym (put_node_place 0 to done.after view.world.nodes kept.nodes at) in
+    let at = answered_number ask done.node done.after answered done.answers.0 ∙ nodes_by.number 0 to done.node view.world.nodes kept.nodes done.here in
+    let put : nodes ≡ put_node done.after view.world.nodes = done.new_is ∙ sym (nodes_by.put_is 0 to done.after view.world.nodes kept.nodes at) in
     let messages : sent ≡ with_one view.world.sent (sent_by ask answered) = s ∙ ap (λ xs. with_one xs (message_by ask.caller ask.number answered)) s' ∙ ap (with_one view.world.sent) (message_is ask answered) in
     let noted : history ≡ with_one view.world.history (ask_done ask done.node) = h ∙ ap (λ xs. with_one xs did) h' ∙ ap (with_one view.world.history) done.answers.1 in
     let nodes_of : targets ≡ with_one view.targets (target_of answered) = t ∙ ap (λ xs. with_one xs (target_of answered)) t' in
@@ -160,7 +160,7 @@ pub record ToldTo (place : ℕ) (told : Told) (view : WorldState) (heard : Heard
 pub told_step : (place : ℕ) (told : Told) (view : WorldState) (heard : Heard) (core after : Caller) → IsWorld view → ToldTo place told view heard core after
     → WorldStep view.world (with_heard after view).world
 told_step place told view heard core after kept to =
-    Calls told.caller core after (Some (ToldLetter told)) None (caller_at_place 0 told.caller told.caller view.world.callers kept.callers (omega arith) ∙ to.here)
+    Calls told.caller core after (Some (ToldLetter told)) None (callers_by.found 0 told.caller told.caller view.world.callers kept.callers (omega arith) ∙ to.here)
     (was_sent view.world.sent place (ToldMessage told) to.sent) (heard_step told heard core after to.hears)
 
 pub told_is_world : (place : ℕ) (told : Told) (view : WorldState) (heard : Heard) (core after : Caller) → IsWorld view → ToldTo place told view heard core after → IsWorld (with_heard after view)
@@ -171,7 +171,7 @@ pub told_delivers : (place : ℕ) (told : Told) (view old : WorldState) (heard :
     → Delivers place old (outcome_heard heard told.caller) (with_heard after view)
 told_delivers place told view old heard core after same kept to =
     subst (λ (w : WorldState). Delivers place w (outcome_heard heard told.caller) (with_heard after view)) same
-    (To_caller told core after heard to.sent (caller_at_place 0 told.caller told.caller view.world.callers kept.callers (omega arith) ∙ to.here) to.hears)
+    (To_caller told core after heard to.sent (callers_by.found 0 told.caller told.caller view.world.callers kept.callers (omega arith) ∙ to.here) to.hears)
 
 -- restated in the terms of the code
 abbrev pub after_hearing : List Caller → WorldState → WorldState
@@ -180,8 +180,8 @@ after_hearing callers view = record view { world = record view.world { callers =
 pub heard_is : (told : Told) (view : WorldState) (heard : Heard) (callers : List Caller) → IsWorld view → (did : Hears told.caller told view.world.callers heard callers)
     → after_hearing callers view ≡ with_heard did.after view
 heard_is told view heard callers kept did =
-    let at = heard_number told heard did.core did.after did.hears ∙ caller_number 0 told.caller did.core view.world.callers kept.callers did.here in
-    ap (λ (cs : List Caller). after_hearing cs view) (did.new_is ∙ sym (put_caller_place 0 told.caller did.after view.world.callers kept.callers at))
+    let at = heard_number told heard did.core did.after did.hears ∙ callers_by.number 0 told.caller did.core view.world.callers kept.callers did.here in
+    ap (λ (cs : List Caller). after_hearing cs view) (did.new_is ∙ sym (callers_by.put_is 0 told.caller did.after view.world.callers kept.callers at))
 
 -- a reply that was sent answers a request of its caller's own
 foreign_none : (told : Told) (core : Caller) → told.caller ≡ core.number → answers told.reply (submitted_by (Some core) told.number) ≡ true → IsForeign told core → ⊥
@@ -193,8 +193,8 @@ foreign_none told core own owed (inr (inr (submission, at, pending, unfit))) =
 
 pub told_owed : (told : Told) (place : ℕ) (view : WorldState) → IsWorld view → Headline view.world → slice_get view.world.sent place ≡ Some (ToldMessage told) → IsOwed told.caller told view.world.callers
 told_owed told place view kept headline sent core here foreign =
-    let at : caller_at told.caller view.world.callers ≡ Some core = caller_at_place 0 told.caller told.caller view.world.callers kept.callers (omega arith) ∙ here in
-    let number = caller_number 0 told.caller core view.world.callers kept.callers here in
+    let at : caller_at told.caller view.world.callers ≡ Some core = callers_by.found 0 told.caller told.caller view.world.callers kept.callers (omega arith) ∙ here in
+    let number = callers_by.number 0 told.caller core view.world.callers kept.callers here in
     let owed : answers told.reply (submitted_by (Some core) told.number) ≡ true =
     ap (λ o. answers told.reply (submitted_by o told.number)) (sym at) ∙ headline.history.owed told (was_sent view.world.sent place (ToldMessage told) sent) in
     foreign_none told core (omega arith) owed foreign
@@ -212,18 +212,18 @@ pub full_delivers : (place caller number : ℕ) (view old : WorldState) → view
 full_delivers place caller number view old same kept sent =
     let there = full_there place caller number view kept sent in
     subst (λ (w : WorldState). Delivers place w did.HeardFull w) same
-    (Full_to_caller caller number there.0 sent (caller_at_place 0 caller caller view.world.callers kept.callers (omega arith) ∙ there.1))
+    (Full_to_caller caller number there.0 sent (callers_by.found 0 caller caller view.world.callers kept.callers (omega arith) ∙ there.1))
 
 pub full_step : (place caller number : ℕ) (view old : WorldState) → view ≡ old → IsWorld view → slice_get view.world.sent place ≡ Some (FullMessage caller number)
     → WorldStep old.world old.world
 full_step place caller number view old same kept sent =
     let there = full_there place caller number view kept sent in
     let core = there.0 in
-    let at = caller_number 0 caller core view.world.callers kept.callers there.1 in
-    let put : put_caller core view.world.callers ≡ view.world.callers = put_caller_place 0 caller core view.world.callers kept.callers at ∙ set_same view.world.callers caller core there.1 in
+    let at = callers_by.number 0 caller core view.world.callers kept.callers there.1 in
+    let put : put_caller core view.world.callers ≡ view.world.callers = callers_by.put_is 0 caller core view.world.callers kept.callers at ∙ set_same view.world.callers caller core there.1 in
     subst (λ (w : WorldState). WorldStep w.world w.world) same
     (subst (λ cs. WorldStep view.world (record view.world { callers = cs })) put
-    (Calls caller core core (Some (FullLetter caller number)) None (caller_at_place 0 caller caller view.world.callers kept.callers (omega arith) ∙ there.1)
+    (Calls caller core core (Some (FullLetter caller number)) None (callers_by.found 0 caller caller view.world.callers kept.callers (omega arith) ∙ there.1)
     (was_sent view.world.sent place (FullMessage caller number) sent) (Hears_full caller number)))
 
 -- ---- in the words of the code
@@ -270,11 +270,17 @@ sent_here view old place message same here = ap (λ (w : WorldState). slice_get 
 pub sent_there : (view old : WorldState) (place : ℕ) (message : Message) → view ≡ old → slice_get view.world.sent place ≡ Some message → slice_get old.world.sent place ≡ Some message
 sent_there view old place message same here = ap (λ (w : WorldState). slice_get w.world.sent place) (sym same) ∙ here
 
+-- the message that was read is in the world
+pub read_there : {place : ℕ} {x : Sent} {message : Message} (items : List Sent) (view old : WorldState) → view.world.sent ≡ messages_of items → view ≡ old → place < length items → x ≡ get_or items place x
+    → x.message ≡ message → slice_get old.world.sent place ≡ Some message
+read_there {place} {x} {message} items view old is same within e here =
+    sent_there view old place message same (ap (λ ms. slice_get ms place) is ∙ read items items place x message refl within e here)
+
 pub astray : (place to : ℕ) (ask : Ask) (view old : WorldState) → view ≡ old → IsWorld view → slice_get view.world.sent place ≡ Some (AskMessage ask) → slice_get view.targets place ≡ Some (Some to)
     → length view.world.nodes ≤ to → IsAstray place old
 astray place to ask view old same kept sent target past =
     subst (IsAstray place) same
-    (record { ask = ask; to = to; sent = sent; target = target; missing = node_at_place 0 to to view.world.nodes kept.nodes (omega arith) ∙ slice_get_past view.world.nodes to past })
+    (record { ask = ask; to = to; sent = sent; target = target; missing = nodes_by.found 0 to to view.world.nodes kept.nodes (omega arith) ∙ slice_get_past view.world.nodes to past })
 
 pub for_crashed : (place to : ℕ) (ask : Ask) (node : Node) (view old : WorldState) → view ≡ old → IsWorld view → slice_get view.world.sent place ≡ Some (AskMessage ask) → slice_get view.targets place ≡ Some (Some to)
     → slice_get view.world.nodes to ≡ Some node → is_crashed to old ≡ true → IsForCrashed place old
@@ -284,7 +290,7 @@ for_crashed place to ask node view old same kept sent target here out =
       to = to;
       node = node;
       is_for = Ask_for ask to sent target;
-      here = node_at_place 0 to to view.world.nodes kept.nodes (omega arith) ∙ here;
+      here = nodes_by.found 0 to to view.world.nodes kept.nodes (omega arith) ∙ here;
       crashed = ap (is_crashed to) same ∙ out;
     })
 
@@ -319,7 +325,7 @@ pub ask_takes : (place to : ℕ) (ask : Ask) (view old : WorldState) → view �
     → slice_get view.targets place ≡ Some (Some to) → to < length view.world.nodes → is_crashed to old ≡ false → TakesMemory place view
 ask_takes place to ask view old same kept sent target within running =
     let found = slice_get_there view.world.nodes to within in
-    Ask_takes ask to found.0 sent target (node_at_place 0 to to view.world.nodes kept.nodes (omega arith) ∙ found.1) (ap (is_crashed to) same ∙ running)
+    Ask_takes ask to found.0 sent target (nodes_by.found 0 to to view.world.nodes kept.nodes (omega arith) ∙ found.1) (ap (is_crashed to) same ∙ running)
 
 pub told_to : (place : ℕ) (told : Told) (view : WorldState) (heard : Heard) (callers : List Caller) → slice_get view.world.sent place ≡ Some (ToldMessage told)
     → (did : Hears told.caller told view.world.callers heard callers) → ToldTo place told view heard did.core did.after

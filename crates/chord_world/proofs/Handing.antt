@@ -1,5 +1,5 @@
 -- Nodes that change, give or drop what they hold: the world keeps its rules, and so does its ring.
-use Rattle.std.proofs.Common.{◌≡◌, ◌≢◌, ℕ, zero, suc, ◌<◌, inl, inr, Bool, true, false, Option, None, Some, Result, Ok, Err, List, [], ◌∷◌, ◌++◌, length, set, refl, sym, ◌∙◌, ap, subst, arith}
+use Rattle.std.proofs.Common.{◌≡◌, ◌≢◌, ℕ, zero, suc, ◌<◌, inl, inr, Bool, true, false, Option, None, Some, Result, Ok, Err, List, [], ◌∷◌, ◌++◌, length, set, get_or, refl, sym, ◌∙◌, ap, subst, arith}
 use Rattle.std.specs.Prelude.{slice_get, IsErrAnd, ◌==◌, cond, ◌&&◌, nat_le, is_some}
 use Rattle.std.proofs.lemmas.Bool.{true≢false}
 use Rattle.std.proofs.lemmas.Option.{slice_get_within, same_Some}
@@ -30,19 +30,21 @@ use Rattle.chord_model.specs.World.{WasSent, node_at, put_node, with_one}
 use Rattle.chord_world.specs.declared.outcome.Outcome.{Outcome}
 use Rattle.chord_world.specs.declared.outcome.Outcome.TheVariants as did
 use Rattle.chord_world.specs.declared.refusal.Refusal.{Refusal}
-use Rattle.chord_world.specs.Handing.{IsMissing, HasNode, CannotAct, ActIs, Call, Moved, RefusedBy, MoveIs, SendsPart, GiveStepIs, SendPartIs, refusal_of_give, refusal_of_resend, refusal_of_retire, IsNeeded, NeededIs, RetireStepIs, DoesAt}
+use Rattle.chord_world.specs.Handing.{IsMissing, HasNode, CannotAct, ActIs, CanAct, Resends, Call, Moved, RefusedBy, MoveIs, SendsPart, GiveStepIs, SendPartIs, refusal_of_give, refusal_of_resend, refusal_of_retire, IsNeeded, NeededIs, RetireStepIs, DoesAt}
 use Rattle.chord_world.specs.Handing.IsMissing.{Uncreated, Missing}
 use Rattle.chord_world.specs.Handing.CannotAct.{Is_missing, Is_crashed}
 use Rattle.chord_world.specs.Linking.{with_node}
 use Rattle.chord_world.specs.Members.{is_gone, links_unless, member_links}
 use Rattle.chord_world.specs.State.{WorldState, AreAimed, IsWorld, ring_of, with_sent, is_crashed, KeepsRing}
 use Rattle.chord_world.specs.Steps.{Advances}
+use Rattle.chord_world.specs.Calling.{SentIs}
 use Rattle.chord_world.proofs.Acting.{After, SendsCall, acted, acts_at, keeps_same, ring_stays, put_is, links_here}
 use Rattle.chord_world.proofs.Keeping.{with_nodes}
 use Rattle.chord_world.proofs.Upkeeping.{retires}
 use Rattle.chord_world.proofs.Pointing.{node_stands, node_within}
-use Rattle.chord_world.proofs.Placing.{node_at_place, put_node_place, node_number, aimed_pushed}
-use Rattle.chord_world.proofs.Posting.{set_same}
+use Rattle.chord_world.proofs.Placing.{nodes_by, aimed_pushed}
+use Rattle.chord_world.proofs.Posting.{set_same, got, posted}
+use Rattle.chord_world.proofs.Speaking.{sent_now}
 
 -- ---- who acts
 
@@ -65,8 +67,12 @@ uncreated view old same none = ap (λ (w : WorldState). w.world.nodes) (sym same
 pub acts_within : (place : ℕ) (view old : WorldState) → view ≡ old → IsWorld view → HasNode place old → place < length view.world.nodes
 acts_within place view old same kept has =
     let here : slice_get view.world.nodes place ≡ Some has.node =
-    sym (node_at_place 0 place place view.world.nodes kept.nodes (omega arith)) ∙ ap (λ (w : WorldState). node_at place w.world.nodes) same ∙ has.here in
+    sym (nodes_by.found 0 place place view.world.nodes kept.nodes (omega arith)) ∙ ap (λ (w : WorldState). node_at place w.world.nodes) same ∙ has.here in
     slice_get_within view.world.nodes place has.node here
+
+-- the node that was read there is at its index
+pub node_read : {place : ℕ} {node : Node} {view old : WorldState} → view ≡ old → IsWorld view → HasNode place old → node ≡ get_or view.world.nodes place node → slice_get view.world.nodes place ≡ Some node
+node_read {place} {node} {view} {old} same kept has is = got view.world.nodes place node (acts_within place view old same kept has) is
 
 pub not_there : (place : ℕ) (old : WorldState) (refusal : Refusal) (result : Result (Unit {0}) Refusal) → IsMissing place old refusal → IsErrAnd result (λ e. e ≡ refusal) → ActIs place old result
 not_there place old refusal (Ok done) missing is = absurd is
@@ -259,7 +265,7 @@ after_sending after part view = with_sent (PartMessage part) None (with_node aft
 pub part_known : (place to : ℕ) (node : Node) (part : Part) (view : WorldState) → IsWorld view → slice_get view.world.nodes place ≡ Some node → to < length view.world.nodes
     → (part.from ≡ node.number) × (part.to ≡ to) → (part.from < length view.world.nodes) × (part.to < length view.world.nodes)
 part_known place to node part view kept here there ends =
-    let at = node_number 0 place node view.world.nodes kept.nodes here in
+    let at = nodes_by.number 0 place node view.world.nodes kept.nodes here in
     let within = slice_get_within view.world.nodes place node here in
     let from = ends.0 in
     let goes = ends.1 in
@@ -339,24 +345,41 @@ pub part_not : (place to item slot : ℕ) (old : WorldState) (refusal : Refusal)
 part_not place to item slot old refusal (Ok outcome) cannot is = absurd is
 part_not place to item slot old refusal (Err e) cannot is = (inl (subst (CannotAct place old) (sym is) cannot), refl)
 
-pub part_refused : (place to item slot : ℕ) (node : Node) (fault : ResendPartFault) (view old new : WorldState) (result : Result Outcome Refusal) → view ≡ old → IsWorld view → HasNode to old
-    → is_crashed place old ≡ false → slice_get view.world.nodes place ≡ Some node → ResendIs to item slot node (Err fault) → IsErrAnd result (λ e. e ≡ refusal_of_resend fault) → new ≡ old
+pub part_refused : (place to item slot : ℕ) (node : Node) (fault : ResendPartFault) (view old new : WorldState) (result : Result Outcome Refusal) → view ≡ old → IsWorld view → to < length view.world.nodes
+    → CanAct place old → node ≡ get_or view.world.nodes place node → ResendIs to item slot node (Err fault) → IsErrAnd result (λ e. e ≡ refusal_of_resend fault) → new ≡ old
     → SendPartIs place to item slot old result new
-part_refused place to item slot node fault view old new (Ok outcome) same kept there running here why is e = absurd is
-part_refused place to item slot node fault view old new (Err refusal) same kept there running here why is e =
-    (inr (inr (there, record { node = node; fault = fault; here = node_stands place view old node same kept here; running = running; is = (why, refl); told = is })), e)
+part_refused place to item slot node fault view old new (Ok outcome) same kept there can read why is e = absurd is
+part_refused place to item slot node fault view old new (Err refusal) same kept there can read why is e =
+    let here = node_stands place view old node same kept (node_read same kept can.0 read) in
+    (inr (inr (has_node to view old same kept there, record { node = node; fault = fault; here = here; running = can.1; is = (why, refl); told = is })), e)
 
 -- a node that stays unchanged
 pub same_node : (place : ℕ) (node : Node) (view : WorldState) → IsWorld view → slice_get view.world.nodes place ≡ Some node → with_node node view ≡ view
 same_node place node view kept here =
     ap (λ ns. with_nodes ns view)
-    (put_node_place 0 place node view.world.nodes kept.nodes (node_number 0 place node view.world.nodes kept.nodes here) ∙ set_same view.world.nodes place node here)
+    (nodes_by.put_is 0 place node view.world.nodes kept.nodes (nodes_by.number 0 place node view.world.nodes kept.nodes here) ∙ set_same view.world.nodes place node here)
 
 pub resends : (place to item slot : ℕ) (node : Node) (part : Part) (view old new : WorldState) → view ≡ old → IsWorld view → slice_get view.world.nodes place ≡ Some node → is_crashed place old ≡ false
     → to < length view.world.nodes → ResendIs to item slot node (Ok part) → NodeStep node None node (Some (PartMessage part)) None → new ≡ after_sending node part view → After old new
 resends place to item slot node part view old new same kept here running there is steps e =
     sends_after place to node node part view old new same kept here running there (record { number = refl; gone = refl; links = refl })
     (resent_ends node.number to item slot (payload_of (item_at to item node.outbox)) part is) steps e
+
+-- a part that is sent again, whole
+pub record SentAgain (place to item slot number : ℕ) (old new : WorldState) : Type 0 where
+  pub after : After old new
+  pub answer : HasNode to old × SendsPart (Resends to item slot) place old number new
+
+pub sends_again : (place to item slot number : ℕ) (node : Node) (part : Part) (view old : WorldState) (sent : List Message) (targets : List (Option ℕ)) → view ≡ old → IsWorld view → to < length view.world.nodes
+    → CanAct place old → node ≡ get_or view.world.nodes place node → ResendIs to item slot node (Ok part) → NodeStep node None node (Some (PartMessage part)) None
+    → SentIs (PartMessage part) None view.world.sent view.targets (Ok number) sent targets → SentAgain place to item slot number old (posted view.world.callers sent targets view)
+sends_again place to item slot number node part view old sent targets same kept there can read answer step goes =
+    let here = node_read same kept can.0 read in
+    let is = sent_now (PartMessage part) None view number sent targets goes ∙ sym (ap (with_sent (PartMessage part) None) (same_node place node view kept here)) in
+    record {
+      after = resends place to item slot node part view old _ same kept here can.1 there answer step is;
+      answer = (has_node to view old same kept there, sends_part (Resends to item slot) place number node node part view old _ same kept here can.1 (answer, refl) goes.0 is);
+    }
 
 -- ---- a node that is gone
 

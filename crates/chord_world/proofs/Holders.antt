@@ -13,12 +13,12 @@ use Rattle.chord_model.specs.World.{at_node, holders_under_way, holders, taken_b
 use Rattle.chord_segment.specs.Segment.{Segment}
 use Rattle.chord_world.specs.Holding.{is_open, way_of, holders_at, HolderIs}
 use Rattle.chord_world.specs.State.{WorldState, NodesFrom}
-use Rattle.chord_world.proofs.Placing.{node_at_place}
+use Rattle.chord_world.proofs.Placing.{nodes_by}
 
 -- the node of a number is at that index
 pub taken_at : (nodes : List Node) (to from : ℕ) (found : Option Node) → NodesFrom 0 nodes → found ≡ slice_get nodes to → taken_by found from ≡ last_taken nodes to from
 unfolding last_taken
-taken_at nodes to from found numbered e = ap (λ (o : Option Node). taken_by o from) (e ∙ sym (node_at_place 0 to to nodes numbered (omega arith)))
+taken_at nodes to from found numbered e = ap (λ (o : Option Node). taken_by o from) (e ∙ sym (nodes_by.found 0 to to nodes numbered (omega arith)))
 
 module _ {A B : Type 0} (p : A → Bool) (f : A → B) where
   -- no element passes

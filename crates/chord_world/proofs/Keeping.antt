@@ -18,7 +18,7 @@ use Rattle.chord_world.specs.Members.{members_of, ids_of, ring_with}
 use Rattle.chord_world.specs.State.{WorldState, new_world, IsWorld, KeepsRing}
 use Rattle.chord_world.specs.declared.outcome.Outcome.TheVariants as did
 use Rattle.chord_world.specs.Steps.{with_founder, CreateIs, IsWindow, with_caller}
-use Rattle.chord_world.proofs.Placing.{callers_pushed, caller_at_place, calls_of_more}
+use Rattle.chord_world.proofs.Placing.{callers_by, calls_of_more}
 use Rattle.chord_world.proofs.RingLemmas.{member_past, flag_within}
 
 -- the world after one more step is reachable
@@ -56,14 +56,14 @@ founded_is_world id limit old circle none kept = record {
 pub opens : (window : ℕ) (old : WorldState) → IsWindow window → IsWorld old → WorldStep old.world (with_caller window old).world
 opens window old fits kept =
     Opens (length old.world.callers) window fits.0 fits.1
-    (caller_at_place 0 (length old.world.callers) (length old.world.callers) old.world.callers kept.callers (omega arith)
+    (callers_by.found 0 (length old.world.callers) (length old.world.callers) old.world.callers kept.callers (omega arith)
     ∙ slice_get_past old.world.callers (length old.world.callers) (omega arith))
 
 pub opened_is_world : (window : ℕ) (old : WorldState) → IsWindow window → IsWorld old → IsWorld (with_caller window old)
 opened_is_world window old fits kept = record {
   reached = further old.world (with_caller window old).world kept.reached (opens window old fits kept);
   nodes = kept.nodes;
-  callers = callers_pushed 0 (new_caller (length old.world.callers) window) old.world.callers kept.callers (omega arith);
+  callers = callers_by.numbered_push 0 (new_caller (length old.world.callers) window) old.world.callers kept.callers (omega arith);
   targets = kept.targets;
   calls = calls_of_more (length old.world.nodes) (length old.world.nodes) (length old.world.callers) _ old.world.sent (omega arith) (let more = length-append old.world.callers (new_caller (length old.world.callers) window ∷ []) in omega arith) kept.calls;
   crashed = kept.crashed;

@@ -5,6 +5,7 @@ pub mod Keeping
 pub mod Acting
 pub mod Upkeeping
 pub mod Posting
+pub mod Doing
 pub mod Speaking
 pub mod Answering
 pub mod Pointing

@@ -1,6 +1,6 @@
 -- The numbers of nodes and callers are their indices:
 -- a look-up reads an index, and a put writes it.
-use Rattle.std.proofs.Common.{◌≡◌, ◌≢◌, ℕ, zero, suc, ◌+◌, ◌≤◌, Option, None, Some, List, [], ◌∷◌, ◌++◌, length, set, refl, ◌∙◌, ap, subst, arith}
+use Rattle.std.proofs.Common.{◌≡◌, ◌≢◌, ℕ, zero, suc, ◌+◌, ◌≤◌, Option, None, Some, List, [], ◌∷◌, ◌++◌, length, set, find, eqb, refl, ◌∙◌, ap, subst, arith}
 use Rattle.std.specs.Prelude.{slice_get}
 use Rattle.chord_map.proofs.Equal.{eqb_same, eqb_other}
 use Rattle.chord_caller.specs.declared.ask.Ask.{Ask}
@@ -8,84 +8,72 @@ use Rattle.chord_caller.specs.Caller.{Caller}
 use Rattle.chord_model.specs.declared.message.Message.{Message}
 use Rattle.chord_model.specs.declared.message.Message.TheVariants.{Ask as AskMessage, Told as ToldMessage, Full as FullMessage, Part as PartMessage, Got as GotMessage, Declined as DeclinedMessage, Note as NoteMessage}
 use Rattle.chord_model.specs.Node.{Node}
-use Rattle.chord_model.specs.World.{node_at, put_node, caller_at, put_caller}
-use Rattle.chord_world.specs.State.{NodesFrom, CallersFrom, IsKnown, AreKnown, IsAimed, AreAimed}
+use Rattle.chord_model.specs.World.{put_in_place, node_at, put_node, caller_at, put_caller}
+use Rattle.chord_world.specs.State.{NumberedFrom, IsKnown, AreKnown, IsAimed, AreAimed}
 
--- ---- nodes
+-- ---- elements whose numbers are their indices
 
-pub node_at_place : (start place number : ℕ) (nodes : List Node) → NodesFrom start nodes → number ≡ start + place → node_at number nodes ≡ slice_get nodes place
-unfolding node_at
-node_at_place start place number [] numbered e = refl
-node_at_place start zero number (node ∷ rest) numbered e =
-    let here : node.number ≡ number = numbered.0 ∙ omega arith in
-    rw (eqb_same node.number number here) refl
-node_at_place start (suc place) number (node ∷ rest) numbered e =
-    let first = numbered.0 in
-    let apart : node.number ≢ number = omega arith in
-    rw (eqb_other node.number number apart) (node_at_place (start + 1) place number rest numbered.1 (omega arith))
+module _ {A : Type 0} (number_of : A → ℕ) where
+  found_at : (start place number : ℕ) (xs : List A) → NumberedFrom number_of start xs → number ≡ start + place → find (λ (x : A). eqb (number_of x) number) xs ≡ slice_get xs place
+  found_at start place number [] numbered e = refl
+  found_at start zero number (x ∷ rest) numbered e =
+      let here : number_of x ≡ number = numbered.0 ∙ omega arith in
+      rw (eqb_same (number_of x) number here) refl
+  found_at start (suc place) number (x ∷ rest) numbered e =
+      let first = numbered.0 in
+      let apart : number_of x ≢ number = omega arith in
+      rw (eqb_other (number_of x) number apart) (found_at (start + 1) place number rest numbered.1 (omega arith))
 
-pub put_node_place : (start place : ℕ) (node : Node) (nodes : List Node) → NodesFrom start nodes → node.number ≡ start + place → put_node node nodes ≡ set nodes place node
-unfolding put_node
-put_node_place start zero node [] numbered e = refl
-put_node_place start (suc place) node [] numbered e = refl
-put_node_place start zero node (other ∷ rest) numbered e =
-    let here : other.number ≡ node.number = numbered.0 ∙ omega arith in
-    rw (eqb_same other.number node.number here) refl
-put_node_place start (suc place) node (other ∷ rest) numbered e =
-    let first = numbered.0 in
-    let apart : other.number ≢ node.number = omega arith in
-    rw (eqb_other other.number node.number apart) (ap (λ (nodes : List Node). other ∷ nodes) (put_node_place (start + 1) place node rest numbered.1 (omega arith)))
+  put_at : (start place : ℕ) (x : A) (xs : List A) → NumberedFrom number_of start xs → number_of x ≡ start + place → put_in_place number_of x xs ≡ set xs place x
+  put_at start zero x [] numbered e = refl
+  put_at start (suc place) x [] numbered e = refl
+  put_at start zero x (other ∷ rest) numbered e =
+      let here : number_of other ≡ number_of x = numbered.0 ∙ omega arith in
+      rw (eqb_same (number_of other) (number_of x) here) refl
+  put_at start (suc place) x (other ∷ rest) numbered e =
+      let first = numbered.0 in
+      let apart : number_of other ≢ number_of x = omega arith in
+      rw (eqb_other (number_of other) (number_of x) apart) (ap (λ (xs : List A). other ∷ xs) (put_at (start + 1) place x rest numbered.1 (omega arith)))
 
-pub nodes_set : (start place : ℕ) (node : Node) (nodes : List Node) → NodesFrom start nodes → node.number ≡ start + place → NodesFrom start (set nodes place node)
-nodes_set start zero node [] numbered e = tt
-nodes_set start (suc place) node [] numbered e = tt
-nodes_set start zero node (other ∷ rest) numbered e = (omega arith, numbered.1)
-nodes_set start (suc place) node (other ∷ rest) numbered e = (numbered.0, nodes_set (start + 1) place node rest numbered.1 (omega arith))
+  set_at : (start place : ℕ) (x : A) (xs : List A) → NumberedFrom number_of start xs → number_of x ≡ start + place → NumberedFrom number_of start (set xs place x)
+  set_at start zero x [] numbered e = tt
+  set_at start (suc place) x [] numbered e = tt
+  set_at start zero x (other ∷ rest) numbered e = (omega arith, numbered.1)
+  set_at start (suc place) x (other ∷ rest) numbered e = (numbered.0, set_at (start + 1) place x rest numbered.1 (omega arith))
 
-pub node_number : (start place : ℕ) (node : Node) (nodes : List Node) → NodesFrom start nodes → slice_get nodes place ≡ Some node → node.number ≡ start + place
-node_number start place node [] numbered e = cc
-node_number start zero node (other ∷ rest) numbered e = let same : other ≡ node = cc in subst (λ (n : Node). n.number ≡ start + 0) same (omega (arith, numbered.0))
-node_number start (suc place) node (other ∷ rest) numbered e = let number = node_number (start + 1) place node rest numbered.1 e in omega arith
+  pushed_at : (start : ℕ) (x : A) (xs : List A) → NumberedFrom number_of start xs → number_of x ≡ start + length xs → NumberedFrom number_of start (xs ++ x ∷ [])
+  pushed_at start x [] numbered e = (omega arith, tt)
+  pushed_at start x (other ∷ rest) numbered e = (numbered.0, pushed_at (start + 1) x rest numbered.1 (omega arith))
 
--- ---- callers
+  number_at : (start place : ℕ) (x : A) (xs : List A) → NumberedFrom number_of start xs → slice_get xs place ≡ Some x → number_of x ≡ start + place
+  number_at start place x [] numbered e = cc
+  number_at start zero x (other ∷ rest) numbered e = let same : other ≡ x = cc in subst (λ (y : A). number_of y ≡ start + 0) same (omega (arith, numbered.0))
+  number_at start (suc place) x (other ∷ rest) numbered e = let number = number_at (start + 1) place x rest numbered.1 e in omega arith
 
-pub caller_at_place : (start place number : ℕ) (callers : List Caller) → CallersFrom start callers → number ≡ start + place → caller_at number callers ≡ slice_get callers place
-unfolding caller_at
-caller_at_place start place number [] numbered e = refl
-caller_at_place start zero number (caller ∷ rest) numbered e =
-    let here : caller.number ≡ number = numbered.0 ∙ omega arith in
-    rw (eqb_same caller.number number here) refl
-caller_at_place start (suc place) number (caller ∷ rest) numbered e =
-    let first = numbered.0 in
-    let apart : caller.number ≢ number = omega arith in
-    rw (eqb_other caller.number number apart) (caller_at_place (start + 1) place number rest numbered.1 (omega arith))
+-- a look-up reads an index, and a put writes it
+pub record ByIndex {A : Type 0} (number_of : A → ℕ) (at : ℕ → List A → Option A) (put : A → List A → List A) : Type 0 where
+  pub found : (start place number : ℕ) (xs : List A) → NumberedFrom number_of start xs → number ≡ start + place → at number xs ≡ slice_get xs place
+  pub put_is : (start place : ℕ) (x : A) (xs : List A) → NumberedFrom number_of start xs → number_of x ≡ start + place → put x xs ≡ set xs place x
+  pub numbered_set : (start place : ℕ) (x : A) (xs : List A) → NumberedFrom number_of start xs → number_of x ≡ start + place → NumberedFrom number_of start (set xs place x)
+  pub numbered_push : (start : ℕ) (x : A) (xs : List A) → NumberedFrom number_of start xs → number_of x ≡ start + length xs → NumberedFrom number_of start (xs ++ x ∷ [])
+  pub number : (start place : ℕ) (x : A) (xs : List A) → NumberedFrom number_of start xs → slice_get xs place ≡ Some x → number_of x ≡ start + place
 
-pub put_caller_place : (start place : ℕ) (caller : Caller) (callers : List Caller) → CallersFrom start callers → caller.number ≡ start + place → put_caller caller callers ≡ set callers place caller
-unfolding put_caller
-put_caller_place start zero caller [] numbered e = refl
-put_caller_place start (suc place) caller [] numbered e = refl
-put_caller_place start zero caller (other ∷ rest) numbered e =
-    let here : other.number ≡ caller.number = numbered.0 ∙ omega arith in
-    rw (eqb_same other.number caller.number here) refl
-put_caller_place start (suc place) caller (other ∷ rest) numbered e =
-    let first = numbered.0 in
-    let apart : other.number ≢ caller.number = omega arith in
-    rw (eqb_other other.number caller.number apart) (ap (λ (callers : List Caller). other ∷ callers) (put_caller_place (start + 1) place caller rest numbered.1 (omega arith)))
+by_index : {A : Type 0} (number_of : A → ℕ) → ByIndex number_of (λ number xs. find (λ (x : A). eqb (number_of x) number) xs) (put_in_place number_of)
+by_index number_of = record {
+  found = found_at number_of;
+  put_is = put_at number_of;
+  numbered_set = set_at number_of;
+  numbered_push = pushed_at number_of;
+  number = number_at number_of;
+}
 
-pub callers_set : (start place : ℕ) (caller : Caller) (callers : List Caller) → CallersFrom start callers → caller.number ≡ start + place → CallersFrom start (set callers place caller)
-callers_set start zero caller [] numbered e = tt
-callers_set start (suc place) caller [] numbered e = tt
-callers_set start zero caller (other ∷ rest) numbered e = (omega arith, numbered.1)
-callers_set start (suc place) caller (other ∷ rest) numbered e = (numbered.0, callers_set (start + 1) place caller rest numbered.1 (omega arith))
+pub nodes_by : ByIndex (λ (n : Node). n.number) node_at put_node
+unfolding node_at put_node
+nodes_by = by_index (λ (n : Node). n.number)
 
-pub callers_pushed : (start : ℕ) (caller : Caller) (callers : List Caller) → CallersFrom start callers → caller.number ≡ start + length callers → CallersFrom start (callers ++ caller ∷ [])
-callers_pushed start caller [] numbered e = (omega arith, tt)
-callers_pushed start caller (other ∷ rest) numbered e = (numbered.0, callers_pushed (start + 1) caller rest numbered.1 (omega arith))
-
-pub caller_number : (start place : ℕ) (caller : Caller) (callers : List Caller) → CallersFrom start callers → slice_get callers place ≡ Some caller → caller.number ≡ start + place
-caller_number start place caller [] numbered e = cc
-caller_number start zero caller (other ∷ rest) numbered e = let same : other ≡ caller = cc in subst (λ (n : Caller). n.number ≡ start + 0) same (omega (arith, numbered.0))
-caller_number start (suc place) caller (other ∷ rest) numbered e = let number = caller_number (start + 1) place caller rest numbered.1 e in omega arith
+pub callers_by : ByIndex (λ (c : Caller). c.number) caller_at put_caller
+unfolding caller_at put_caller
+callers_by = by_index (λ (c : Caller). c.number)
 
 -- ---- messages
 

@@ -12,7 +12,7 @@ use Rattle.chord_ring.proofs.Stepping.{Kept, Kept-fingers}
 use Rattle.chord_world.specs.Members.{is_gone, links_unless, member_links, ring_with}
 use Rattle.chord_world.specs.State.{WorldState, IsWorld, ring_of, is_crashed}
 use Rattle.chord_world.specs.Linking.{IsFinger, with_finger_at, with_node, Points, PointsAt}
-use Rattle.chord_world.proofs.Placing.{node_at_place, put_node_place, node_number}
+use Rattle.chord_world.proofs.Placing.{nodes_by}
 use Rattle.chord_world.proofs.RingLemmas.{member_at, ring_relinked}
 use Rattle.chord_world.proofs.Keeping.{with_nodes}
 use Rattle.chord_world.proofs.Acting.{After, node_there, ring_is, acts_at}
@@ -20,12 +20,12 @@ use Rattle.chord_world.proofs.Posting.{slice_get_there}
 
 pub node_stands : (place : ℕ) (view old : WorldState) (node : Node) → view ≡ old → IsWorld view → slice_get view.world.nodes place ≡ Some node → node_at place old.world.nodes ≡ Some node
 node_stands place view old node same kept here =
-    subst (λ (w : WorldState). node_at place w.world.nodes ≡ Some node) same (node_at_place 0 place place view.world.nodes kept.nodes (omega arith) ∙ here)
+    subst (λ (w : WorldState). node_at place w.world.nodes ≡ Some node) same (nodes_by.found 0 place place view.world.nodes kept.nodes (omega arith) ∙ here)
 
 pub node_missing : (place : ℕ) (view old : WorldState) → view ≡ old → IsWorld view → length view.world.nodes ≤ place → node_at place old.world.nodes ≡ None
 node_missing place view old same kept past =
     subst (λ (w : WorldState). node_at place w.world.nodes ≡ None) same
-    (node_at_place 0 place place view.world.nodes kept.nodes (omega arith) ∙ slice_get_past view.world.nodes place past)
+    (nodes_by.found 0 place place view.world.nodes kept.nodes (omega arith) ∙ slice_get_past view.world.nodes place past)
 
 -- the ring after it: unchanged except for the fingers
 pointed_ring : (place finger : ℕ) (peer : Peer) (node : Node) (view : WorldState) → IsWorld view → slice_get view.world.nodes place ≡ Some node → is_crashed place view ≡ false
@@ -69,8 +69,8 @@ pointed_after place finger peer node view old new same kept here running is =
 pub pointed_is : (place finger : ℕ) (peer : Peer) (view : WorldState) (nodes : List Node) → IsWorld view → (points : PointsAt place finger peer view.world.nodes nodes)
     → with_nodes nodes view ≡ with_node (with_finger_at finger peer points.node) view
 pointed_is place finger peer view nodes kept points =
-    let at = node_number 0 place points.node view.world.nodes kept.nodes points.here in
-    let put : nodes ≡ put_node (with_finger_at finger peer points.node) view.world.nodes = points.new_is ∙ sym (put_node_place 0 place (with_finger_at finger peer points.node) view.world.nodes kept.nodes at) in
+    let at = nodes_by.number 0 place points.node view.world.nodes kept.nodes points.here in
+    let put : nodes ≡ put_node (with_finger_at finger peer points.node) view.world.nodes = points.new_is ∙ sym (nodes_by.put_is 0 place (with_finger_at finger peer points.node) view.world.nodes kept.nodes at) in
     ap (λ (ns : List Node). with_nodes ns view) put
 
 pub node_within : (place : ℕ) (view old : WorldState) → view ≡ old → IsWorld view → place < length view.world.nodes → (node : Node) × (node_at place old.world.nodes ≡ Some node)

@@ -22,7 +22,7 @@ use Rattle.chord_world.specs.declared.refusal.Refusal.{Refusal}
 use Rattle.chord_world.specs.Refusals.{refusal_of}
 use Rattle.chord_world.specs.Steps.{with_ask, Sends, RefusesCall, RefusesSubmit}
 use Rattle.chord_world.specs.Sending.{CanSubmit, Submitted}
-use Rattle.chord_world.proofs.Placing.{caller_at_place, put_caller_place, callers_set, caller_number, calls_pushed, aimed_pushed}
+use Rattle.chord_world.proofs.Placing.{callers_by, calls_pushed, aimed_pushed}
 use Rattle.chord_world.proofs.Keeping.{further}
 
 -- the submission can fail for memory only
@@ -60,12 +60,12 @@ set_same (y ∷ xs) (suc place) x e = ap (λ zs. y ∷ zs) (set_same xs place x 
 -- the caller of a number is at its index
 pub caller_stands : (caller : ℕ) (view old : WorldState) (core : Caller) → view ≡ old → IsWorld view → slice_get view.world.callers caller ≡ Some core → caller_at caller old.world.callers ≡ Some core
 caller_stands caller view old core same kept here =
-    subst (λ (w : WorldState). caller_at caller w.world.callers ≡ Some core) same (caller_at_place 0 caller caller view.world.callers kept.callers (omega arith) ∙ here)
+    subst (λ (w : WorldState). caller_at caller w.world.callers ≡ Some core) same (callers_by.found 0 caller caller view.world.callers kept.callers (omega arith) ∙ here)
 
 pub caller_missing : (caller : ℕ) (view old : WorldState) → view ≡ old → IsWorld view → length view.world.callers ≤ caller → caller_at caller old.world.callers ≡ None
 caller_missing caller view old same kept past =
     subst (λ (w : WorldState). caller_at caller w.world.callers ≡ None) same
-    (caller_at_place 0 caller caller view.world.callers kept.callers (omega arith) ∙ slice_get_past view.world.callers caller past)
+    (callers_by.found 0 caller caller view.world.callers kept.callers (omega arith) ∙ slice_get_past view.world.callers caller past)
 
 pub caller_within : (caller : ℕ) (view old : WorldState) → view ≡ old → IsWorld view → caller < length view.world.callers → (core : Caller) × (caller_at caller old.world.callers ≡ Some core)
 caller_within caller view old same kept within =
@@ -84,7 +84,7 @@ created view old same some none = let count = ap (λ (w : WorldState). length w.
 pub can_submit : (caller via : ℕ) (request : Request) (view old : WorldState) → view ≡ old → IsWorld view → RefusesCall caller via request old Memory → CanSubmit caller request view.world.callers
 can_submit caller via request view old same kept may = record {
   core = may.core;
-  here = sym (caller_at_place 0 caller caller view.world.callers kept.callers (omega arith)) ∙ ap (λ (w : WorldState). caller_at caller w.world.callers) same ∙ may.there.1;
+  here = sym (callers_by.found 0 caller caller view.world.callers kept.callers (omega arith)) ∙ ap (λ (w : WorldState). caller_at caller w.world.callers) same ∙ may.there.1;
   can = may.refuses;
 }
 
@@ -100,18 +100,18 @@ sends_step caller via request old core after ask there submits = Calls caller co
 pub sent_is_world : (caller via : ℕ) (request : Request) (old : WorldState) (core after : Caller) (ask : Ask) → IsThere caller via old core → SubmitIs request core (Ok ask) after
     → IsWorld old → IsWorld (with_ask after ask via old)
 sent_is_world caller via request old core after ask there submits kept =
-    let here : slice_get old.world.callers caller ≡ Some core = sym (caller_at_place 0 caller caller old.world.callers kept.callers (omega arith)) ∙ there.1 in
-    let at = caller_number 0 caller core old.world.callers kept.callers here in
+    let here : slice_get old.world.callers caller ≡ Some core = sym (callers_by.found 0 caller caller old.world.callers kept.callers (omega arith)) ∙ there.1 in
+    let at = callers_by.number 0 caller core old.world.callers kept.callers here in
     let number : core.number ≡ caller = omega arith in
     let number' : after.number ≡ caller = sent_number request core after ask submits ∙ number in
     let within : caller < length old.world.callers = slice_get_within old.world.callers caller core here in
-    let put : put_caller after old.world.callers ≡ set old.world.callers caller after = put_caller_place 0 caller after old.world.callers kept.callers (omega arith) in
+    let put : put_caller after old.world.callers ≡ set old.world.callers caller after = callers_by.put_is 0 caller after old.world.callers kept.callers (omega arith) in
     let own : ask.caller ≡ caller = submits.3.caller ∙ number in
     let count : length (put_caller after old.world.callers) ≡ length old.world.callers = ap (λ (cs : List Caller). length cs) put ∙ length-set old.world.callers caller after in
     record {
       reached = further old.world (with_ask after ask via old).world kept.reached (sends_step caller via request old core after ask there submits);
       nodes = kept.nodes;
-      callers = subst (CallersFrom 0) (sym put) (callers_set 0 caller after old.world.callers kept.callers (omega arith));
+      callers = subst (CallersFrom 0) (sym put) (callers_by.numbered_set 0 caller after old.world.callers kept.callers (omega arith));
       targets = aimed_pushed old.world.sent old.targets (AskMessage ask) (Some via) kept.targets tt;
       calls = subst (λ n. AreKnown (length old.world.nodes) n (old.world.sent ++ AskMessage ask ∷ [])) (sym count) (calls_pushed (length old.world.nodes) (length old.world.callers) old.world.sent (AskMessage ask) kept.calls (omega arith));
       crashed = kept.crashed;
@@ -128,16 +128,16 @@ pub posted_is : (caller via : ℕ) (request : Request) (view : WorldState) (call
     → (did : Submitted caller request view.world.callers ask callers) → sent ≡ before ++ AskMessage ask ∷ [] → before ≡ view.world.sent → targets ≡ earlier ++ Some via ∷ [] → earlier ≡ view.targets
     → posted callers sent targets view ≡ with_ask did.after ask via view
 posted_is caller via request view callers sent before targets earlier ask kept did s s' t t' =
-    let at = sent_number request did.core did.after ask did.submits ∙ caller_number 0 caller did.core view.world.callers kept.callers did.here in
+    let at = sent_number request did.core did.after ask did.submits ∙ callers_by.number 0 caller did.core view.world.callers kept.callers did.here in
     let number : did.after.number ≡ caller = omega arith in
-    let put : callers ≡ put_caller did.after view.world.callers = did.new_is ∙ sym (put_caller_place 0 caller did.after view.world.callers kept.callers (omega arith)) in
+    let put : callers ≡ put_caller did.after view.world.callers = did.new_is ∙ sym (callers_by.put_is 0 caller did.after view.world.callers kept.callers (omega arith)) in
     let messages : sent ≡ view.world.sent ++ AskMessage ask ∷ [] = s ∙ ap (λ (xs : List Message). xs ++ AskMessage ask ∷ []) s' in
     let nodes : targets ≡ view.targets ++ Some via ∷ [] = t ∙ ap (λ (xs : List (Option ℕ)). xs ++ Some via ∷ []) t' in
     λ i. posted (put i) (messages i) (nodes i) view
 
 pub there_of : (caller via : ℕ) (request : Request) (view : WorldState) (ask : Ask) (callers : List Caller) → IsWorld view → via < length view.world.nodes
     → (did : Submitted caller request view.world.callers ask callers) → IsThere caller via view did.core
-there_of caller via request view ask callers kept node did = (node, caller_at_place 0 caller caller view.world.callers kept.callers (omega arith) ∙ did.here)
+there_of caller via request view ask callers kept node did = (node, callers_by.found 0 caller caller view.world.callers kept.callers (omega arith) ∙ did.here)
 
 pub posted_sends : (caller via number : ℕ) (request : Request) (view old : WorldState) (callers : List Caller) (ask : Ask) (new : WorldState) → view ≡ old → IsWorld view → via < length view.world.nodes
     → (did : Submitted caller request view.world.callers ask callers) → number ≡ length view.world.sent → new ≡ with_ask did.after ask via view → Sends caller via request old number new

@@ -23,20 +23,20 @@ use Rattle.chord_world.specs.State.{WorldState, CallersFrom, IsKnown, AreKnown, 
 use Rattle.chord_world.specs.Calling.CannotAskAgain.{Is_idle, No_memory}
 use Rattle.chord_world.specs.Calling.{CallerIs, WantedIs, IsIdle, IsWaiting, AsksAgain, CannotAskAgain, AgainIs, SendsAgain, ResendStepIs, note_of, SendsNote, with_note, MeetsNote, MeetIs, SentIs, Met, MeetsAt}
 use Rattle.chord_world.specs.Calling.IsIdle.{Not_pending}
-use Rattle.chord_world.proofs.Placing.{caller_at_place, put_caller_place, callers_set, caller_number, calls_pushed, aimed_pushed}
+use Rattle.chord_world.proofs.Placing.{callers_by, calls_pushed, aimed_pushed}
 use Rattle.chord_world.proofs.Keeping.{further}
 use Rattle.chord_world.proofs.Posting.{got, set_same, posted, caller_stands}
 
 -- ---- a caller that sends and is as it was
 
 put_here : (place : ℕ) (core : Caller) (callers : List Caller) → CallersFrom 0 callers → slice_get callers place ≡ Some core → put_caller core callers ≡ callers
-put_here place core callers numbered here = put_caller_place 0 place core callers numbered (caller_number 0 place core callers numbered here) ∙ set_same callers place core here
+put_here place core callers numbered here = callers_by.put_is 0 place core callers numbered (callers_by.number 0 place core callers numbered here) ∙ set_same callers place core here
 
 pub sent_step : (place : ℕ) (to : Option ℕ) (core : Caller) (letter : Letter) (view : WorldState) → IsWorld view → slice_get view.world.callers place ≡ Some core → CallerStep core None core (Some letter)
     → WorldStep view.world (with_sent (message_of letter) to view).world
 sent_step place to core letter view kept here step =
     subst (λ (callers : List Caller). WorldStep view.world (record view.world { callers = callers; sent = view.world.sent ++ message_of letter ∷ [] })) (put_here place core view.world.callers kept.callers here)
-    (Calls place core core None (Some letter) (caller_at_place 0 place place view.world.callers kept.callers (omega arith) ∙ here) tt step)
+    (Calls place core core None (Some letter) (callers_by.found 0 place place view.world.callers kept.callers (omega arith) ∙ here) tt step)
 
 pub sent_is_world : (place : ℕ) (to : Option ℕ) (core : Caller) (letter : Letter) (view : WorldState) → IsWorld view → slice_get view.world.callers place ≡ Some core → CallerStep core None core (Some letter)
     → IsKnown (length view.world.nodes) (length view.world.callers) (message_of letter) → IsAimed (message_of letter) to → IsWorld (with_sent (message_of letter) to view)
@@ -66,14 +66,14 @@ pub again_call : (named : Option ℕ) (place : ℕ) (core : Caller) (ask : Ask) 
     → IsKnown (length view.world.nodes) (length view.world.callers) (AskMessage ask)
 again_call named place core ask view kept here asks =
     let within = slice_get_within view.world.callers place core here in
-    let number = caller_number 0 place core view.world.callers kept.callers here in
+    let number = callers_by.number 0 place core view.world.callers kept.callers here in
     let own = asks.resends.3.caller in
     omega arith
 
 pub note_call : (place : ℕ) (core : Caller) (view : WorldState) → IsWorld view → slice_get view.world.callers place ≡ Some core → IsKnown (length view.world.nodes) (length view.world.callers) (NoteMessage (note_of core))
 note_call place core view kept here =
     let within = slice_get_within view.world.callers place core here in
-    let number = caller_number 0 place core view.world.callers kept.callers here in
+    let number = callers_by.number 0 place core view.world.callers kept.callers here in
     omega arith
 
 pub again_step : (named : Option ℕ) (core : Caller) (ask : Ask) → AsksAgain named core ask → CallerStep core None core (Some (AskLetter ask))
@@ -84,13 +84,13 @@ again_step named core ask asks = resend_steps asks.number core ask asks.resends
 pub heard_is_world : (place : ℕ) (core after : Caller) (view : WorldState) → IsWorld view → slice_get view.world.callers place ≡ Some core → after.number ≡ core.number
     → WorldStep view.world (with_heard after view).world → IsWorld (with_heard after view)
 heard_is_world place core after view kept here same step =
-    let at = same ∙ caller_number 0 place core view.world.callers kept.callers here in
-    let put : put_caller after view.world.callers ≡ set view.world.callers place after = put_caller_place 0 place after view.world.callers kept.callers at in
+    let at = same ∙ callers_by.number 0 place core view.world.callers kept.callers here in
+    let put : put_caller after view.world.callers ≡ set view.world.callers place after = callers_by.put_is 0 place after view.world.callers kept.callers at in
     let count : length (put_caller after view.world.callers) ≡ length view.world.callers = ap (λ (cs : List Caller). length cs) put ∙ length-set view.world.callers place after in
     record {
       reached = further view.world (with_heard after view).world kept.reached step;
       nodes = kept.nodes;
-      callers = subst (CallersFrom 0) (sym put) (callers_set 0 place after view.world.callers kept.callers at);
+      callers = subst (CallersFrom 0) (sym put) (callers_by.numbered_set 0 place after view.world.callers kept.callers at);
       targets = kept.targets;
       calls = subst (λ n. AreKnown (length view.world.nodes) n view.world.sent) (sym count) kept.calls;
       crashed = kept.crashed;
@@ -102,14 +102,14 @@ heard_is_world place core after view kept here same step =
 pub met_step : (place : ℕ) (note : Note) (core : Caller) (view : WorldState) → IsWorld view → slice_get view.world.callers place ≡ Some core → Contains view.world.sent (NoteMessage note)
     → WorldStep view.world (with_heard (with_note note core) view).world
 met_step place note core view kept here sent =
-    Calls place core (with_note note core) (Some (NoteLetter note)) None (caller_at_place 0 place place view.world.callers kept.callers (omega arith) ∙ here) sent (Meets note)
+    Calls place core (with_note note core) (Some (NoteLetter note)) None (callers_by.found 0 place place view.world.callers kept.callers (omega arith) ∙ here) sent (Meets note)
 
 -- restated in the terms of the code
 pub met_is : (place : ℕ) (note : Note) (view : WorldState) (callers : List Caller) → IsWorld view → (met : Met place note view.world.callers callers)
     → posted callers view.world.sent view.targets view ≡ with_heard (with_note note met.core) view
 met_is place note view callers kept met =
-    let at = caller_number 0 place met.core view.world.callers kept.callers met.here in
-    let put : callers ≡ put_caller (with_note note met.core) view.world.callers = met.new_is ∙ sym (put_caller_place 0 place (with_note note met.core) view.world.callers kept.callers at) in
+    let at = callers_by.number 0 place met.core view.world.callers kept.callers met.here in
+    let put : callers ≡ put_caller (with_note note met.core) view.world.callers = met.new_is ∙ sym (callers_by.put_is 0 place (with_note note met.core) view.world.callers kept.callers at) in
     λ i. posted (put i) view.world.sent view.targets view
 
 -- ---- what the callers answer
@@ -127,7 +127,7 @@ meets_from place note old core after (Err refused) within e ok err =
 -- the caller of the code, at its index
 pub caller_index : (caller : ℕ) (view old : WorldState) (core : Caller) → view ≡ old → IsWorld view → caller_at caller old.world.callers ≡ Some core → slice_get view.world.callers caller ≡ Some core
 caller_index caller view old core same kept here =
-    sym (caller_at_place 0 caller caller view.world.callers kept.callers (omega arith)) ∙ ap (λ (w : WorldState). caller_at caller w.world.callers) same ∙ here
+    sym (callers_by.found 0 caller caller view.world.callers kept.callers (omega arith)) ∙ ap (λ (w : WorldState). caller_at caller w.world.callers) same ∙ here
 
 pub caller_in : (caller : ℕ) (view old : WorldState) (core : Caller) → view ≡ old → IsWorld view → caller_at caller old.world.callers ≡ Some core → caller < length view.world.callers
 caller_in caller view old core same kept here = slice_get_within view.world.callers caller core (caller_index caller view old core same kept here)

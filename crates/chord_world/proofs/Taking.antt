@@ -26,7 +26,7 @@ use Rattle.chord_world.proofs.Acting.{After, SendsCall, acted, put_is}
 use Rattle.chord_world.proofs.Answering.{was_sent, place_within, read, sent_here}
 use Rattle.chord_world.proofs.Handing.{IsStill, hands, nodes_are}
 use Rattle.chord_world.proofs.Keeping.{with_nodes}
-use Rattle.chord_world.proofs.Placing.{node_number, call_at, aimed_pushed}
+use Rattle.chord_world.proofs.Placing.{nodes_by, call_at, aimed_pushed}
 use Rattle.chord_world.proofs.Pointing.{node_stands, node_within}
 
 -- ---- a node that takes in a message keeps its number and links
@@ -55,7 +55,7 @@ still_back declined back.Full node after h = still_same node after h.4
 -- ---- the node and its index
 
 pub numbered : (place : ℕ) (view : WorldState) → IsWorld view → IsNumbered place view.world.nodes
-numbered place view kept node here = let at = node_number 0 place node view.world.nodes kept.nodes here in omega arith
+numbered place view kept node here = let at = nodes_by.number 0 place node view.world.nodes kept.nodes here in omega arith
 
 -- the message at this index is this part
 pub same_part : (view : WorldState) (place : ℕ) (part other : Part) → slice_get view.world.sent place ≡ Some (PartMessage part) → slice_get view.world.sent place ≡ Some (PartMessage other) → part ≡ other

@@ -26,7 +26,7 @@ use Rattle.chord_world.specs.declared.outcome.Outcome.{Outcome}
 use Rattle.chord_world.specs.declared.refusal.Refusal.{Refusal}
 use Rattle.chord_world.specs.Joining.{with_newborn, CanJoin, JoinIs, JoinsBehind, MayJoin, RefusesJoin}
 use Rattle.chord_world.specs.Upkeep.{Moves, FitAt, RelinksAt, with_crash}
-use Rattle.chord_world.proofs.Placing.{node_at_place, calls_of_more}
+use Rattle.chord_world.proofs.Placing.{nodes_by, calls_of_more}
 use Rattle.chord_world.proofs.RingLemmas.{get_pushed, flag_within, flag_pushed, flag_set, ids_are, ids_length, ids_pushed, members_pushed, members_crash, member_node, ring_relinked, ring_departed}
 use Rattle.chord_world.proofs.Keeping.{further, with_nodes, with_more}
 use Rattle.chord_world.proofs.Acting.{After, node_there, acts_at, put_is}
@@ -67,7 +67,7 @@ upkept_here step place links view nodes kept own moves relinks =
           record {
             node = node;
             links = links;
-            here = node_at_place 0 place place view.world.nodes kept.nodes (omega arith) ∙ relinks.here;
+            here = nodes_by.found 0 place place view.world.nodes kept.nodes (omega arith) ∙ relinks.here;
             moves = subst (Step (ring_of view) step) (sym (ap (λ ns. ring_with ns view.crashed) relinks.new_is ∙ ring)) moves;
             new_is = ap (λ ns. with_nodes ns view) put;
           };
@@ -178,10 +178,6 @@ retires place node view nodes kept may is =
 
 -- ---- a node that joins
 
-nodes_pushed : (start : ℕ) (node : Node) (nodes : List Node) → NodesFrom start nodes → node.number ≡ start + length nodes → NodesFrom start (nodes ++ node ∷ [])
-nodes_pushed start node [] numbered e = (omega arith, tt)
-nodes_pushed start node (other ∷ rest) numbered e = (numbered.0, nodes_pushed (start + 1) node rest numbered.1 (omega arith))
-
 pub record AfterJoin (id : Id) (behind limit : ℕ) (old : WorldState) (number : ℕ) (new : WorldState) : Type 0 where
   pub after : After old new
   pub joins : JoinsBehind id behind limit old number new
@@ -210,7 +206,7 @@ joined_here id behind limit pred view kept may =
     } in
     let kept_ring : Kept (ring_of view) (ring_of new) = Kept-joins (ring_of view) id.number behind (ring_of new) (kept.ring created) joins in
     let none : node_at number view.world.nodes ≡ None =
-    node_at_place 0 number number view.world.nodes kept.nodes (omega arith) ∙ slice_get_past view.world.nodes number (omega arith) in
+    nodes_by.found 0 number number view.world.nodes kept.nodes (omega arith) ∙ slice_get_past view.world.nodes number (omega arith) in
     let did : WorldStep view.world new.world = JoinsWorld links limit may.is_id created none in
     record {
       after =
@@ -218,7 +214,7 @@ joined_here id behind limit pred view kept may =
             world =
                 record {
                   reached = further view.world new.world kept.reached did;
-                  nodes = nodes_pushed 0 (newborn links limit) view.world.nodes kept.nodes (omega arith);
+                  nodes = nodes_by.numbered_push 0 (newborn links limit) view.world.nodes kept.nodes (omega arith);
                   callers = kept.callers;
                   targets = kept.targets;
                   calls = calls_of_more (length view.world.nodes) _ (length view.world.callers) (length view.world.callers) view.world.sent

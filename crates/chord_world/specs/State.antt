@@ -35,15 +35,16 @@ ring_of state = ring_with state.world.nodes state.crashed
 abbrev pub new_world : ℕ → WorldState
 new_world r = record { world = empty_world; targets = []; crashed = []; r = r }
 
--- the nodes' numbers are start, start + 1, and so on
-abbrev pub NodesFrom : ℕ → List Node → Type 0
-NodesFrom start [] = Unit {0}
-NodesFrom start (node ∷ rest) = (node.number ≡ start) × NodesFrom (start + 1) rest
+-- the elements' numbers are start, start + 1, and so on
+abbrev pub NumberedFrom : {A : Type 0} → (A → ℕ) → ℕ → List A → Type 0
+NumberedFrom number_of start [] = Unit {0}
+NumberedFrom number_of start (x ∷ xs) = (number_of x ≡ start) × NumberedFrom number_of (start + 1) xs
 
--- the callers' numbers are start, start + 1, and so on
+abbrev pub NodesFrom : ℕ → List Node → Type 0
+NodesFrom start nodes = NumberedFrom (λ (n : Node). n.number) start nodes
+
 abbrev pub CallersFrom : ℕ → List Caller → Type 0
-CallersFrom start [] = Unit {0}
-CallersFrom start (caller ∷ rest) = (caller.number ≡ start) × CallersFrom (start + 1) rest
+CallersFrom start callers = NumberedFrom (λ (c : Caller). c.number) start callers
 
 -- the message is of one of the first `callers` callers, or of a handover between two of the first
 -- `nodes` nodes

@@ -2,9 +2,13 @@
 ghost use Rattle.std.specs.Prelude.{◌≡◌, ◌<◌, length};
 ghost use Rattle.chord_ring.specs.declared.ring_step.RingStep.TheVariants as step;
 ghost use Rattle.chord_ring.specs.declared.ring_step.RingDid.TheVariants as ring;
-ghost use Rattle.chord_world.specs.State.{KeepsRing};
+ghost use Rattle.chord_ring.specs.declared.ring_step.RingStep.{RingStep};
+ghost use Rattle.chord_ring.specs.Refusals.{AreOwn};
+ghost use Rattle.chord_ring.specs.Steps.{Step, with_links};
+ghost use Rattle.chord_model.specs.World.{WorldStep};
+ghost use Rattle.chord_world.specs.State.{KeepsRing, ring_of};
 ghost use Rattle.chord_world.specs.Steps.{Advances};
-ghost use Rattle.chord_world.specs.Upkeep.{UpkeepIs, FitAt, RelinksAt, outcome_of_ring};
+ghost use Rattle.chord_world.specs.Upkeep.{UpkeepIs, FitAt, RelinksAt, Moves, outcome_of_ring};
 
 use crate::outcome::Outcome;
 use crate::refusal::Refusal;
@@ -35,6 +39,17 @@ fn outcome_of_candidate(candidate: Option<Peer>) -> Outcome
 }
 
 impl<S: EntryStore> World<S> {
+    /// Sets the links that a step of the ring gave a member.
+    fn relink(&mut self, node: u64, links: Links)
+        requires own { AreOwn (ring_of self.old) node links }
+        requires moved { (by : RingStep) × Step (ring_of self.old) by (with_links (ring_of self.old) node links) }
+        ensures moves { (by : RingStep) → Step (ring_of self.old) by (with_links (ring_of self.old) node links) → Moves by node self.old self.new }
+        ensures step { WorldStep self.old.world self.new.world }
+        ensures ring { KeepsRing self.old self.new }
+    {
+        relink_at(&mut self.nodes, node as usize, links);
+    }
+
     /// A member copies the list of its first entry.
     pub(crate) fn stabilise(&mut self, node: u64, head: u64) -> Result<Outcome, Refusal>
         ensures answer { UpkeepIs (step.Stabilise node head) node self.old result self.new }
@@ -45,7 +60,7 @@ impl<S: EntryStore> World<S> {
             return Err(Refusal::NotCreated);
         }
         let did = stabilise_in(self, node, head)?;
-        relink_at(&mut self.nodes, node as usize, did.0);
+        self.relink(node, did.0);
         Ok(outcome_of_candidate(did.1))
     }
 
@@ -59,7 +74,7 @@ impl<S: EntryStore> World<S> {
             return Err(Refusal::NotCreated);
         }
         let links = take_candidate_in(self, node, peer)?;
-        relink_at(&mut self.nodes, node as usize, links);
+        self.relink(node, links);
         Ok(Outcome::Done)
     }
 
@@ -73,7 +88,7 @@ impl<S: EntryStore> World<S> {
             return Err(Refusal::NotCreated);
         }
         let links = drop_dead_in(self, node)?;
-        relink_at(&mut self.nodes, node as usize, links);
+        self.relink(node, links);
         Ok(Outcome::Done)
     }
 
@@ -87,7 +102,7 @@ impl<S: EntryStore> World<S> {
             return Err(Refusal::NotCreated);
         }
         let did = rectify_in(self, node, notifier)?;
-        relink_at(&mut self.nodes, node as usize, did.0);
+        self.relink(node, did.0);
         Ok(Outcome::Done)
     }
 }

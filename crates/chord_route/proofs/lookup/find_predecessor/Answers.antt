@@ -11,10 +11,7 @@ pub returns-clause-on_settled_ring : goal.returns-clause-on_settled_ring
 returns-clause-on_settled_ring g c = λ ring reads. subst (IsPredecessor ring c.args.target.number) (sym c.me.ensures) (c.in_ok-look_up.ensures.on_settled_ring ring reads).0
 
 pub returns-in_err-look_up-clause-on_ideal_ring : goal.returns-in_err-look_up-clause-on_ideal_ring
-returns-in_err-look_up-clause-on_ideal_ring g c = λ ring reads.
-    absurd (c.in_err-look_up.ensures.on_settled_ring ring (reads_settled (g.R.LinkReader.answers c.args.reader.now) (g.R.LinkReader.slot_count c.args.reader.now) c.args.from ring reads))
+returns-in_err-look_up-clause-on_ideal_ring g c = λ ring reads. returns-in_err-look_up-clause-on_settled_ring g c ring (reads_settled reads)
 
 pub returns-clause-on_ideal_ring : goal.returns-clause-on_ideal_ring
-returns-clause-on_ideal_ring g c = λ ring reads.
-    subst (IsPredecessor ring c.args.target.number) (sym c.me.ensures)
-    (c.in_ok-look_up.ensures.on_settled_ring ring (reads_settled (g.R.LinkReader.answers c.args.reader.now) (g.R.LinkReader.slot_count c.args.reader.now) c.args.from ring reads)).0
+returns-clause-on_ideal_ring g c = λ ring reads. returns-clause-on_settled_ring g c ring (reads_settled reads)

@@ -1,6 +1,6 @@
 use Rattle.std.proofs.Common.{arith, refl}
 use Rattle.chord_wire.specs.ReadingReplies.{next_answer}
-use Rattle.chord_wire.proofs.RequestLaws.{rest_is_end}
+use Rattle.chord_wire.proofs.NextLaws.{rest_is_end}
 use Rattle.chord_wire.proofs.answers.next_answer.Goals as goal
 
 pub overflow_sub-result : goal.overflow_sub-result

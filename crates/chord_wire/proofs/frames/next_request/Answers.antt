@@ -1,6 +1,7 @@
 use Rattle.std.proofs.Common.{arith}
 use Rattle.chord_wire.specs.View.{wire_request}
-use Rattle.chord_wire.proofs.RequestLaws.{rest_is_end, next_is}
+use Rattle.chord_wire.proofs.NextLaws.{rest_is_end}
+use Rattle.chord_wire.proofs.RequestLaws.{next_is}
 use Rattle.chord_wire.proofs.frames.next_request.Goals as goal
 
 pub overflow_sub-result : goal.overflow_sub-result

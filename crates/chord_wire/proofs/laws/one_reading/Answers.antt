@@ -1,25 +1,16 @@
-use Rattle.chord_wire.specs.Spelling.{IsWireRequest}
-use Rattle.chord_wire.specs.Replies.{IsAnswer}
-use Rattle.chord_wire.specs.Reading.{next_request}
-use Rattle.chord_wire.specs.ReadingReplies.{next_answer}
-use Rattle.chord_wire.specs.Streams.{request_frame, answer_frame}
-use Rattle.chord_wire.proofs.RequestLaws as requests
-use Rattle.chord_wire.proofs.AnswerLaws as answers
+use Rattle.chord_wire.proofs.RequestLaws.{requests}
+use Rattle.chord_wire.proofs.AnswerLaws.{answers}
 use Rattle.chord_wire.proofs.StreamLaws.{one, counted}
 use Rattle.chord_wire.proofs.laws.one_reading.Goals as goal
 
 pub returns-clause-ended : goal.returns-clause-ended
-returns-clause-ended c bytes rs ss rest rest' p pn q qn =
-    one IsWireRequest request_frame next_request requests.next_again rs ss bytes rest rest' (p.each, p.parts) pn (q.each, q.parts) qn
+returns-clause-ended c bytes rs ss rest rest' p pn q qn = one requests rs ss bytes rest rest' (p.each, p.parts) pn (q.each, q.parts) qn
 
 pub returns-clause-same_count : goal.returns-clause-same_count
-returns-clause-same_count c bytes rs ss rest rest' p q e =
-    counted IsWireRequest request_frame next_request requests.next_again rs ss bytes rest rest' (p.each, p.parts) (q.each, q.parts) e
+returns-clause-same_count c bytes rs ss rest rest' p q e = counted requests rs ss bytes rest rest' (p.each, p.parts) (q.each, q.parts) e
 
 pub returns-clause-answers_ended : goal.returns-clause-answers_ended
-returns-clause-answers_ended c bytes xs ys rest rest' p pn q qn =
-    one IsAnswer answer_frame next_answer answers.next_again xs ys bytes rest rest' (p.each, p.parts) pn (q.each, q.parts) qn
+returns-clause-answers_ended c bytes xs ys rest rest' p pn q qn = one answers xs ys bytes rest rest' (p.each, p.parts) pn (q.each, q.parts) qn
 
 pub returns-clause-answers_same_count : goal.returns-clause-answers_same_count
-returns-clause-answers_same_count c bytes xs ys rest rest' p q e =
-    counted IsAnswer answer_frame next_answer answers.next_again xs ys bytes rest rest' (p.each, p.parts) (q.each, q.parts) e
+returns-clause-answers_same_count c bytes xs ys rest rest' p q e = counted answers xs ys bytes rest rest' (p.each, p.parts) (q.each, q.parts) e

@@ -1,4 +1,4 @@
-use Rattle.std.proofs.Common.{◌≢◌, ◌<◌, length, set, Ok, Err, refl, subst, ap, sym, ◌∙◌, arith, rules}
+use Rattle.std.proofs.Common.{◌≡◌, ◌≢◌, ℕ, ◌<◌, List, length, set, get_or, Ok, Err, refl, subst, ap, sym, ◌∙◌, arith, rules}
 use Rattle.std.proofs.Math.ListN.{length-set}
 use Rattle.chord_ident.specs.declared.span.Span.{Span}
 use Rattle.chord_segment.specs.Segment.{RoomySegment}
@@ -9,6 +9,11 @@ use Rattle.chord_node.proofs.Covering.{on_at, merge_covers}
 use Rattle.chord_node.proofs.Merging.{Read, merged, unmerged, refused}
 use Rattle.chord_node.proofs.Moving.{segments_get}
 use Rattle.chord_node.proofs.handovers.held.merge_segments.Goals as goal
+
+-- both segments are read, the second before it is taken out
+read_both : {held : List RoomySegment} {place other : ℕ} {dest first second : RoomySegment} → place ≢ other → first ≡ get_or (set held other dest) place first → second ≡ get_or held other second
+    → place < length held → other < length held → Read held place other dest first second
+read_both apart first_is second_is inside there = record { apart = apart; first_in = simp length-set inside; second_in = there; first_is = first_is; second_is = second_is }
 
 pub returns-then-ne-clause-answer : goal.returns-then-ne-clause-answer
 returns-then-ne-clause-answer c =
@@ -30,10 +35,7 @@ returns-then-ne-clause-answer c =
 pub returns-in-Ok-clause-answer : goal.returns-in-Ok-clause-answer
 returns-in-Ok-clause-answer c =
     let held = c.args.held.now.items in
-    let inside : c.args.place < length (set held c.args.other c.replace-next.new.dest) = simp length-set (omega arith) in
-    let other : c.args.other < length held = omega arith in
-    let read : Read held c.args.place c.args.other c.replace-next.new.dest c.index_mut-first.result.now c.index_mut.result.now =
-    record { apart = c.if-place-other.false; first_in = inside; second_in = other; first_is = c.index_mut-first.ensures.value; second_is = c.index_mut.ensures.value } in
+    let read = read_both {held = held} {dest = c.replace-next.new.dest} c.if-place-other.false c.index_mut-first.ensures.value c.index_mut.ensures.value (omega arith) (omega arith) in
     let P : RoomySegment → Type 0 = λ s. JoinIs c.index_mut-first.result.now.segment s.segment (Ok tt) c.absorb.new.self.segment in
     merged held c.remove.new.self.items c.args.place c.args.other c.replace-next.new.dest c.index_mut-first.result.now c.index_mut.result.now c.absorb.new.self read
     (subst P c.replace-next.ensures.value c.in-Ok.ensures.answer) c.remove.ensures.items
@@ -41,10 +43,7 @@ returns-in-Ok-clause-answer c =
 pub returns-in-Err-clause-answer : goal.returns-in-Err-clause-answer
 returns-in-Err-clause-answer c =
     let held = c.args.held.now.items in
-    let inside : c.args.place < length (set held c.args.other c.replace-next.new.dest) = simp length-set (omega arith) in
-    let other : c.args.other < length held = omega arith in
-    let read : Read held c.args.place c.args.other c.replace-next.new.dest c.index_mut-first.result.now c.index_mut.result.now =
-    record { apart = c.if-place-other.false; first_in = inside; second_in = other; first_is = c.index_mut-first.ensures.value; second_is = c.index_mut.ensures.value } in
+    let read = read_both {held = held} {dest = c.replace-next.new.dest} c.if-place-other.false c.index_mut-first.ensures.value c.index_mut.ensures.value (omega arith) (omega arith) in
     let P : RoomySegment → Type 0 = λ s. JoinIs c.index_mut-first.result.now.segment s.segment (Err c.in-Err.fault) c.absorb.new.self.segment in
     let answer = subst P c.replace-next.ensures.value c.in-Err.ensures.answer in
     refused held (set (set (set held c.args.other c.replace-next.new.dest) c.args.place c.absorb.new.self) c.args.other c.absorb.new.next) c.args.place c.args.other

@@ -1,7 +1,7 @@
-use Rattle.std.proofs.Common.{◌≡◌, ℕ, true, None, Some, Ok, sym, ap, ◌∙◌, subst, refl}
+use Rattle.std.proofs.Common.{◌≡◌, ℕ, List, true, Option, None, Some, Ok, sym, ap, ◌∙◌, subst, refl}
 use Rattle.std.specs.Prelude.{position}
 use Rattle.chord_ident.specs.Circle.{key_id}
-use Rattle.chord_segment.specs.Segment.{id_of}
+use Rattle.chord_segment.specs.Segment.{RoomySegment, id_of}
 use Rattle.std.specs.Option.{option_copied_mut}
 use Rattle.chord_node.specs.View.{entries_in, limit_in}
 use Rattle.chord_node.proofs.Asking.{has, asked_at, asked_no_further, asked_past, asked_steps_recording, place_from, find_from}
@@ -10,14 +10,17 @@ use Rattle.chord_model.specs.Stock.{IsStocked}
 use Rattle.chord_node.proofs.StockedAsks.{asked_stocked}
 use Rattle.chord_node.proofs.node.Node.on_ask.Goals as goal
 
+-- the place of the first held segment that has the key's identifier
+place_is : {n x : ℕ} {read : List RoomySegment} {place : Option ℕ} (held : List RoomySegment) → n ≡ x → read ≡ held → place ≡ position (has n) read → place ≡ position (has x) held
+place_is {n} held same there is = is ∙ ap (position (has n)) there ∙ ap (λ (m : ℕ). position (has m) held) same
+
 pub pass_on-requires : goal.pass_on-requires
 pass_on-requires g c = c.of_bytes-x.ensures ∙ ap key_id c.key.ensures
 
 pub returns-in-Ok-clause-answer : goal.returns-in-Ok-clause-answer
 returns-in-Ok-clause-answer g c =
     let held = c.self.inside.held.items in
-    let x = c.of_bytes-x.ensures ∙ ap key_id c.key.ensures in
-    let at = c.place_with.ensures ∙ ap (position (has c.of_bytes-x.result.number)) c.deref.ensures.value ∙ ap (λ (n : ℕ). position (has n) held) x in
+    let at = place_is held (c.of_bytes-x.ensures ∙ ap key_id c.key.ensures) c.deref.ensures.value c.place_with.ensures in
     asked_past c.args.ask.now true _ _ c.self.view_is held c.in-Ok.passed refl (find_from (id_of c.args.ask.now.request) held (sym at ∙ c.in_default.is)) c.in-Ok.ensures.passed
 
 pub returns-in-Ok-clause-step : goal.returns-in-Ok-clause-step
@@ -26,23 +29,20 @@ returns-in-Ok-clause-step g c = asked_steps_recording c.args.ask.now true c.args
 pub returns-in-Err-clause-answer : goal.returns-in-Err-clause-answer
 returns-in-Err-clause-answer g c =
     let held = c.self.inside.held.items in
-    let x = c.of_bytes-x.ensures ∙ ap key_id c.key.ensures in
-    let at = c.place_with.ensures ∙ ap (position (has c.of_bytes-x.result.number)) c.deref.ensures.value ∙ ap (λ (n : ℕ). position (has n) held) x in
+    let at = place_is held (c.of_bytes-x.ensures ∙ ap key_id c.key.ensures) c.deref.ensures.value c.place_with.ensures in
     (asked_no_further c.args.ask.now _ _ c.self.view_is held refl (find_from (id_of c.args.ask.now.request) held (sym at ∙ c.in_default.is)) c.in-Err.ensures.memory, refl)
 
 pub answer_in-requires : goal.answer_in-requires
 answer_in-requires g c =
     let held = c.self.inside.held.items in
-    let x = c.of_bytes-x.ensures ∙ ap key_id c.key.ensures in
-    let at = c.place_with.ensures ∙ ap (position (has c.of_bytes-x.result.number)) c.deref.ensures.value ∙ ap (λ (n : ℕ). position (has n) held) x in
+    let at = place_is held (c.of_bytes-x.ensures ∙ ap key_id c.key.ensures) c.deref.ensures.value c.place_with.ensures in
     let place = place_from (id_of c.args.ask.now.request) held c.in-Some.place c.index_mut-segment.result.now (sym c.in-Some.is ∙ at) in
     record { key = ap (has (id_of c.args.ask.now.request)) c.index_mut-segment.ensures.value ∙ place.here }
 
 pub returns-clause-answer : goal.returns-clause-answer
 returns-clause-answer g c =
     let held = c.self.inside.held.items in
-    let x = c.of_bytes-x.ensures ∙ ap key_id c.key.ensures in
-    let at = c.place_with.ensures ∙ ap (position (has c.of_bytes-x.result.number)) c.deref.ensures.value ∙ ap (λ (n : ℕ). position (has n) held) x in
+    let at = place_is held (c.of_bytes-x.ensures ∙ ap key_id c.key.ensures) c.deref.ensures.value c.place_with.ensures in
     let place = place_from (id_of c.args.ask.now.request) held c.in-Some.place c.index_mut-segment.result.now (sym c.in-Some.is ∙ at) in
     let store : Some c.unwrap-store.result.now ≡ c.self.inside.store = subst (λ o. option_copied_mut o ≡ c.self.inside.store) c.unwrap-store.ensures c.as_mut.ensures.value in
     asked_at c.args.ask.now true _ _ c.self.view_is held _ _ _ c.answer_in.result _ _ _ _ refl place c.index_mut-segment.ensures.value
@@ -51,8 +51,7 @@ returns-clause-answer g c =
 pub invariant_of-self : goal.invariant_of-self
 invariant_of-self g c =
     let held = c.self.inside.held.items in
-    let x = c.of_bytes-x.ensures ∙ ap key_id c.key.ensures in
-    let at = c.place_with.ensures ∙ ap (position (has c.of_bytes-x.result.number)) c.deref.ensures.value ∙ ap (λ (n : ℕ). position (has n) held) x in
+    let at = place_is held (c.of_bytes-x.ensures ∙ ap key_id c.key.ensures) c.deref.ensures.value c.place_with.ensures in
     let place = place_from (id_of c.args.ask.now.request) held c.in-Some.place c.index_mut-segment.result.now (sym c.in-Some.is ∙ at) in
     let store : Some c.unwrap-store.result.now ≡ c.self.inside.store = subst (λ o. option_copied_mut o ≡ c.self.inside.store) c.unwrap-store.ensures c.as_mut.ensures.value in
     let answer = asked_at c.args.ask.now true _ _ c.self.view_is held _ _ _ c.answer_in.result _ _ _ _ refl place c.index_mut-segment.ensures.value

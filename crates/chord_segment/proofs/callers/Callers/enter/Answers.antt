@@ -1,5 +1,5 @@
-use Rattle.std.proofs.Common.{◌≡◌, ℕ, ⊎_elim, List, ap, sym, subst, ◌∙◌}
-use Rattle.std.specs.Prelude.{insert}
+use Rattle.std.proofs.Common.{◌≡◌, ℕ, ⊎_elim, List, Result, refl, ap, sym, subst, ◌∙◌}
+use Rattle.std.specs.Prelude.{insert, is_ok, if◌then◌else◌}
 use Rattle.chord_segment.specs.Callers.{OfCaller, IsGrouped, IsGapAt, HasRoom, marks_in, calls_in}
 use Rattle.chord_segment.proofs.Bare.{hidden_own}
 use Rattle.chord_segment.proofs.Grouped.{grouped-insert, marks_insert, calls_insert, grown}
@@ -7,44 +7,33 @@ use Rattle.chord_segment.proofs.Rooms.{keeps_insert, room_insert, on_made, on_er
 use Rattle.chord_segment.proofs.callers.Callers.enter.Goals as goal
 use Rattle.chord_segment.proofs.callers.Callers.enter.Goals.{in-Ok, in-Err}
 
+-- what holds with one more and without it
+either_way : {A B : Type 0} (r : Result A B) (xs new more : List OfCaller) → new ≡ (if is_ok r then more else xs) → (P : List OfCaller → Type 0) → P more → P xs → P new
+either_way r xs new more is P grew same = ⊎_elim (λ e. subst P (sym e) grew) (λ e. subst P (sym e) same) (grown r xs new more is)
+
 pub invariant_of-self : goal.invariant_of-self
 invariant_of-self c =
     let xs = c.self.inside.entries.items in
     let own = c.in_ok-entry.entry in
     let f = c.in_ok-entry.ensures in
     let gap : IsGapAt own.caller xs c.args.place = subst (λ (k : ℕ). IsGapAt k xs c.args.place) (sym f.caller) (subst (λ (ys : List OfCaller). IsGapAt c.args.caller ys c.args.place) (sym c.self.view_is) c.requires) in
-    ⊎_elim
-    (λ (e : c.insert.new.self.items ≡ insert xs c.args.place own). subst IsGrouped (sym e) (grouped-insert xs c.args.place own c.self.invariant gap (hidden_own own f.floor f.kept)))
-    (λ (e : c.insert.new.self.items ≡ xs). subst IsGrouped (sym e) c.self.invariant)
-    (grown c.insert.result xs c.insert.new.self.items (insert xs c.args.place own) c.insert.ensures.items)
+    either_way c.insert.result xs _ (insert xs c.args.place own) c.insert.ensures.items IsGrouped (grouped-insert xs c.args.place own c.self.invariant gap (hidden_own own f.floor f.kept)) c.self.invariant
 
 pub returns-clause-floors : goal.returns-clause-floors
 returns-clause-floors c =
     let xs = c.self.inside.entries.items in
-    let own = c.in_ok-entry.entry in
-    ⊎_elim
-    (λ (e : c.insert.new.self.items ≡ insert xs c.args.place own). ap marks_in e ∙ marks_insert xs c.args.place own c.in_ok-entry.ensures.shown)
-    (λ (e : c.insert.new.self.items ≡ xs). ap marks_in e)
-    (grown c.insert.result xs c.insert.new.self.items (insert xs c.args.place own) c.insert.ensures.items) ∙ ap marks_in c.self.view_is
+    either_way c.insert.result xs _ _ c.insert.ensures.items (λ ys. marks_in ys ≡ marks_in xs) (marks_insert xs c.args.place c.in_ok-entry.entry c.in_ok-entry.ensures.shown) refl ∙ ap marks_in c.self.view_is
 
 pub returns-clause-calls : goal.returns-clause-calls
 returns-clause-calls c =
     let xs = c.self.inside.entries.items in
-    let own = c.in_ok-entry.entry in
-    ⊎_elim
-    (λ (e : c.insert.new.self.items ≡ insert xs c.args.place own). ap calls_in e ∙ calls_insert xs c.args.place own c.in_ok-entry.ensures.kept)
-    (λ (e : c.insert.new.self.items ≡ xs). ap calls_in e)
-    (grown c.insert.result xs c.insert.new.self.items (insert xs c.args.place own) c.insert.ensures.items) ∙ ap calls_in c.self.view_is
+    either_way c.insert.result xs _ _ c.insert.ensures.items (λ ys. calls_in ys ≡ calls_in xs) (calls_insert xs c.args.place c.in_ok-entry.entry c.in_ok-entry.ensures.kept) refl ∙ ap calls_in c.self.view_is
 
 pub returns-clause-keeps : goal.returns-clause-keeps
 returns-clause-keeps c = λ (other room : ℕ) h.
     let xs = c.self.inside.entries.items in
-    let own = c.in_ok-entry.entry in
     let h' : HasRoom other room xs = subst (HasRoom other room) (sym c.self.view_is) h in
-    ⊎_elim
-    (λ (e : c.insert.new.self.items ≡ insert xs c.args.place own). subst (HasRoom other room) (sym e) (keeps_insert other room xs c.args.place own h'))
-    (λ (e : c.insert.new.self.items ≡ xs). subst (HasRoom other room) (sym e) h')
-    (grown c.insert.result xs c.insert.new.self.items (insert xs c.args.place own) c.insert.ensures.items)
+    either_way c.insert.result xs _ _ c.insert.ensures.items (HasRoom other room) (keeps_insert other room xs c.args.place c.in_ok-entry.entry h') h'
 
 pub returns-clause-room : goal.returns-clause-room
 returns-clause-room c =

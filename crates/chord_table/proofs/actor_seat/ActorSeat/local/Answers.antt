@@ -1,6 +1,5 @@
 use Rattle.std.proofs.Common.{◌<◌, sym, ◌∙◌, ap, subst, [], ◌%◌, ◌+◌, ◌^◌}
-use Rattle.chord_table.proofs.Keeping.{still_seated, local_as}
-use Rattle.chord_table.proofs.Numbers.{same_word}
+use Rattle.chord_table.proofs.Keeping.{seated_after, local_as}
 use Rattle.chord_table.specs.Views.{word_of, TableId, view_of}
 use Rattle.chord_table.proofs.actor_seat.ActorSeat.local.Goals as goal
 
@@ -16,10 +15,6 @@ fetch_add-requires g c =
 pub invariant_of-self : goal.invariant_of-self
 invariant_of-self g c =
     let i = c.self.invariant in
-    let name = g.J.Naming.name in
-    let s = c.args.self.now in
-    let new = g.E.Event.actor in
-    let (sent, (taken, call, known, event)) = c.requires.event in
-    let seated = still_seated name c.self.inside.word c.self.inside.seat.me c.fetch_add.new.seat.me s new (i.1 ∙ ap (λ s. (view_of s, [])) c.self.view_is) c.fetch_add.ensures.2
-    (i.2 ∙ ap (λ s. word_of name s.actor) c.self.view_is) (same_word name s.actor new taken sent call event) in
+    let seated = seated_after g.J.Naming.name c.self.inside.word c.self.inside.seat.me c.fetch_add.new.seat.me c.args.self.now g.E.Event.actor c.requires.event.0 (i.1 ∙ ap (λ s. (view_of s, [])) c.self.view_is)
+    c.fetch_add.ensures.2 (i.2 ∙ ap (λ s. word_of g.J.Naming.name s.actor) c.self.view_is) c.requires.event.1 in
     (c.fetch_add.ensures.0 ∙ i.0, seated.0, seated.1, i.3)

@@ -1,13 +1,5 @@
-use Rattle.std.proofs.Common.{refl}
-use Rattle.chord_world.proofs.Posting.{got}
+use Rattle.chord_world.proofs.Doing.{did_at}
 use Rattle.chord_world.proofs.steps.hold.cut_in.Goals as goal
 
 pub returns : goal.returns
-returns g c = record {
-  node = c.index_mut-node.result.now;
-  after = c.cut_at.new.self;
-  here = got c.args.nodes.now.items c.args.number c.index_mut-node.result.now c.requires c.index_mut-node.ensures.value;
-  is = c.cut_at.ensures.answer;
-  steps = c.cut_at.ensures.step;
-  new_is = refl;
-}
+returns g c = did_at c.cut_at.new.self c.requires c.index_mut-node.ensures.value c.cut_at.ensures.answer c.cut_at.ensures.step

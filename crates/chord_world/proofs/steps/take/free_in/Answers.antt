@@ -1,19 +1,8 @@
-use Rattle.std.proofs.Common.{refl, sym, ◌∙◌}
-use Rattle.chord_world.proofs.Posting.{got}
+use Rattle.chord_world.proofs.Doing.{did_at, number_here}
 use Rattle.chord_world.proofs.steps.take.free_in.Goals as goal
 
 pub on_got-requires : goal.on_got-requires
-on_got-requires g c = record {
-  from = c.requires.from
-      ∙ sym (c.requires.numbered c.index_mut-node.result.now (got c.args.nodes.now.items c.args.number c.index_mut-node.result.now c.requires.place c.index_mut-node.ensures.value));
-}
+on_got-requires g c = record { from = number_here c.args.nodes.now.items c.requires.numbered c.requires.place c.index_mut-node.ensures.value c.requires.from }
 
 pub returns : goal.returns
-returns g c = record {
-  node = c.index_mut-node.result.now;
-  after = c.on_got.new.self;
-  here = got c.args.nodes.now.items c.args.number c.index_mut-node.result.now c.requires.place c.index_mut-node.ensures.value;
-  is = c.on_got.ensures.answer;
-  steps = c.on_got.ensures.step;
-  new_is = refl;
-}
+returns g c = did_at c.on_got.new.self c.requires.place c.index_mut-node.ensures.value c.on_got.ensures.answer c.on_got.ensures.step

@@ -1,19 +1,8 @@
-use Rattle.std.proofs.Common.{refl, sym, ◌∙◌}
-use Rattle.chord_world.proofs.Posting.{got}
+use Rattle.chord_world.proofs.Doing.{did_at, number_here}
 use Rattle.chord_world.proofs.steps.take.take_back_in.Goals as goal
 
 pub on_declined-requires : goal.on_declined-requires
-on_declined-requires g c = record {
-  from = c.requires.from
-      ∙ sym (c.requires.numbered c.index_mut-node.result.now (got c.args.nodes.now.items c.args.number c.index_mut-node.result.now c.requires.place c.index_mut-node.ensures.value));
-}
+on_declined-requires g c = record { from = number_here c.args.nodes.now.items c.requires.numbered c.requires.place c.index_mut-node.ensures.value c.requires.from }
 
 pub returns : goal.returns
-returns g c = record {
-  node = c.index_mut-node.result.now;
-  after = c.on_declined.new.self;
-  here = got c.args.nodes.now.items c.args.number c.index_mut-node.result.now c.requires.place c.index_mut-node.ensures.value;
-  is = c.on_declined.ensures.answer;
-  steps = c.on_declined.ensures.step;
-  new_is = refl;
-}
+returns g c = did_at c.on_declined.new.self c.requires.place c.index_mut-node.ensures.value c.on_declined.ensures.answer c.on_declined.ensures.step

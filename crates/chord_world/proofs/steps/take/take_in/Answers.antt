@@ -1,19 +1,8 @@
-use Rattle.std.proofs.Common.{refl, sym, ◌∙◌}
-use Rattle.chord_world.proofs.Posting.{got}
+use Rattle.chord_world.proofs.Doing.{did_at, number_here}
 use Rattle.chord_world.proofs.steps.take.take_in.Goals as goal
 
 pub on_give-requires : goal.on_give-requires
-on_give-requires g c = record {
-  to = c.requires.to
-      ∙ sym (c.requires.numbered c.index_mut-node.result.now (got c.args.nodes.now.items c.args.number c.index_mut-node.result.now c.requires.place c.index_mut-node.ensures.value));
-}
+on_give-requires g c = record { to = number_here c.args.nodes.now.items c.requires.numbered c.requires.place c.index_mut-node.ensures.value c.requires.to }
 
 pub returns : goal.returns
-returns g c = record {
-  node = c.index_mut-node.result.now;
-  after = c.on_give.new.self;
-  here = got c.args.nodes.now.items c.args.number c.index_mut-node.result.now c.requires.place c.index_mut-node.ensures.value;
-  is = c.on_give.ensures.answer;
-  steps = c.on_give.ensures.step;
-  new_is = refl;
-}
+returns g c = did_at c.on_give.new.self c.requires.place c.index_mut-node.ensures.value c.on_give.ensures.answer c.on_give.ensures.step

@@ -1,61 +1,30 @@
 use Rattle.std.proofs.Common.{refl, sym, ap, arith}
 use Rattle.chord_handover.specs.Handover.{Part}
-use Rattle.chord_model.specs.declared.message.Message.TheVariants.{Ask as AskMessage, Told as ToldMessage}
 use Rattle.chord_world.specs.View.{state_of}
 use Rattle.chord_world.specs.State.{WorldState}
-use Rattle.chord_model.specs.declared.message.Message.TheVariants.{Part as PartMessage, Got as GotMessage, Declined as DeclinedMessage, Note as NoteMessage}
-use Rattle.chord_world.proofs.Answering.{read, sent_there, full_delivers, full_step}
+use Rattle.chord_world.proofs.Answering.{read, read_there, full_delivers, full_step}
 use Rattle.chord_world.proofs.Acting.{keeps_all}
 use Rattle.chord_world.proofs.Posting.{created, not_zero}
 use Rattle.chord_world.proofs.Handing.{is_zero, uncreated}
 use Rattle.chord_world.proofs.world.World.deliver.Goals as goal
 
 pub deliver_ask-requires-clause-ask : goal.deliver_ask-requires-clause-ask
-deliver_ask-requires-clause-ask g c =
-    let view : WorldState = state_of c.self.inside in (
-      c.in-Ask.field-0,
-      sent_there view c.args.self.now c.args.message (AskMessage c.in-Ask.field-0) c.self.view_is
-          (read c.self.inside.sent.items c.self.inside.sent.items c.args.message c.index.result.now _ refl (omega arith) c.index.ensures c.in-Ask.is),
-    )
+deliver_ask-requires-clause-ask g c = (c.in-Ask.field-0, read_there c.self.inside.sent.items (state_of c.self.inside) c.args.self.now refl c.self.view_is (omega arith) c.index.ensures c.in-Ask.is)
 
 pub deliver_told-requires-clause-told : goal.deliver_told-requires-clause-told
-deliver_told-requires-clause-told g c =
-    let view : WorldState = state_of c.self.inside in (
-      c.in-Told.field-0,
-      sent_there view c.args.self.now c.args.message (ToldMessage c.in-Told.field-0) c.self.view_is
-          (read c.self.inside.sent.items c.self.inside.sent.items c.args.message c.index.result.now _ refl (omega arith) c.index.ensures c.in-Told.is),
-    )
+deliver_told-requires-clause-told g c = (c.in-Told.field-0, read_there c.self.inside.sent.items (state_of c.self.inside) c.args.self.now refl c.self.view_is (omega arith) c.index.ensures c.in-Told.is)
 
 pub deliver_part-requires-clause-part : goal.deliver_part-requires-clause-part
-deliver_part-requires-clause-part g c =
-    let view : WorldState = state_of c.self.inside in (
-      c.in-Part.part,
-      sent_there view c.args.self.now c.args.message (PartMessage c.in-Part.part) c.self.view_is
-          (read c.self.inside.sent.items c.self.inside.sent.items c.args.message c.index.result.now _ refl (omega arith) c.index.ensures c.in-Part.is),
-      ap (λ (p : Part). p.to) (sym c.part.view_is),
-    )
+deliver_part-requires-clause-part g c = (c.in-Part.part, read_there c.self.inside.sent.items (state_of c.self.inside) c.args.self.now refl c.self.view_is (omega arith) c.index.ensures c.in-Part.is, ap (λ (p : Part). p.to) (sym c.part.view_is))
 
 pub deliver_got-requires-clause-got : goal.deliver_got-requires-clause-got
-deliver_got-requires-clause-got g c =
-    let view : WorldState = state_of c.self.inside in
-    sent_there view c.args.self.now c.args.message (GotMessage c.in-Got.got) c.self.view_is
-    (read c.self.inside.sent.items c.self.inside.sent.items c.args.message c.index.result.now _ refl (omega arith) c.index.ensures c.in-Got.is)
+deliver_got-requires-clause-got g c = read_there c.self.inside.sent.items (state_of c.self.inside) c.args.self.now refl c.self.view_is (omega arith) c.index.ensures c.in-Got.is
 
 pub deliver_declined-requires-clause-declined : goal.deliver_declined-requires-clause-declined
-deliver_declined-requires-clause-declined g c =
-    let view : WorldState = state_of c.self.inside in
-    sent_there view c.args.self.now c.args.message (DeclinedMessage c.in-Declined.declined) c.self.view_is
-    (read c.self.inside.sent.items c.self.inside.sent.items c.args.message c.index.result.now _ refl (omega arith) c.index.ensures c.in-Declined.is)
+deliver_declined-requires-clause-declined g c = read_there c.self.inside.sent.items (state_of c.self.inside) c.args.self.now refl c.self.view_is (omega arith) c.index.ensures c.in-Declined.is
 
 pub returns-in-Note-clause-answer : goal.returns-in-Note-clause-answer
-returns-in-Note-clause-answer g c = (
-  (
-    c.in-Note.field-0,
-    sent_there _ c.args.self.now c.args.message (NoteMessage c.in-Note.field-0) c.self.view_is
-        (read c.self.inside.sent.items c.self.inside.sent.items c.args.message c.index.result.now _ refl (omega arith) c.index.ensures c.in-Note.is),
-  ),
-  refl,
-)
+returns-in-Note-clause-answer g c = ((c.in-Note.field-0, read_there c.self.inside.sent.items (state_of c.self.inside) c.args.self.now refl c.self.view_is (omega arith) c.index.ensures c.in-Note.is), refl)
 
 pub returns-in-Full-clause-answer : goal.returns-in-Full-clause-answer
 returns-in-Full-clause-answer g c =

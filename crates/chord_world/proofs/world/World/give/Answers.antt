@@ -5,8 +5,7 @@ use Rattle.chord_world.specs.Handing.{DoesAt}
 use Rattle.chord_world.specs.View.{state_of}
 use Rattle.chord_world.specs.State.{WorldState, IsWorld, messages_of, targets_of}
 use Rattle.chord_world.proofs.Acting.{keeps_same, keeps_all}
-use Rattle.chord_world.proofs.Handing.{acts_within, nodes_stay, advances_not, after_giving, giving_is, gives, sends_part, give_missing, give_not, give_refused, give_kept, give_stays, give_refused_at}
-use Rattle.chord_world.proofs.Posting.{got}
+use Rattle.chord_world.proofs.Handing.{acts_within, node_read, nodes_stay, advances_not, after_giving, giving_is, gives, sends_part, give_missing, give_not, give_refused, give_kept, give_stays, give_refused_at}
 use Rattle.chord_world.proofs.world.World.give.Goals as goal
 
 pub returns-in_err-is_there-clause-answer : goal.returns-in_err-is_there-clause-answer
@@ -25,16 +24,14 @@ index-requires g c =
 pub returns-in_err-may_give-clause-answer : goal.returns-in_err-may_give-clause-answer
 returns-in_err-may_give-clause-answer g c =
     let view : WorldState = state_of c.self.inside in
-    let within = acts_within c.args.node view c.args.self.now c.self.view_is c.self.invariant c.in_ok-can_act.ensures.0 in
-    let here = got view.world.nodes c.args.node c.index.result.now within c.index.ensures in
+    let here = node_read c.self.view_is c.self.invariant c.in_ok-can_act.ensures.0 c.index.ensures in
     give_refused c.args.node c.args.to c.args.place c.index.result.now c.in_err-may_give.field-0.0 view c.args.self.now _ c.from_residual-in_err-may_give.result c.self.view_is c.self.invariant c.in_ok-is_there.ensures c.in_ok-can_act.ensures.1 here
     c.in_err-may_give.ensures c.from_residual-in_err-may_give.ensures.1 refl
 
 pub returns-in_err-reserve-clause-answer : goal.returns-in_err-reserve-clause-answer
 returns-in_err-reserve-clause-answer g c =
     let view : WorldState = state_of c.self.inside in
-    let within = acts_within c.args.node view c.args.self.now c.self.view_is c.self.invariant c.in_ok-can_act.ensures.0 in
-    let here = got view.world.nodes c.args.node c.index.result.now within c.index.ensures in
+    let here = node_read c.self.view_is c.self.invariant c.in_ok-can_act.ensures.0 c.index.ensures in
     give_refused c.args.node c.args.to c.args.place c.index.result.now Memory view c.args.self.now _ c.from_residual-in_err-reserve.result c.self.view_is c.self.invariant c.in_ok-is_there.ensures c.in_ok-can_act.ensures.1 here
     c.in_ok-may_give.ensures c.from_residual-in_err-reserve.ensures.1
     ((λ i. after_giving view.world.nodes (messages_of (c.reserve.ensures.items i)) (targets_of (c.reserve.ensures.items i)) view) ∙ c.self.view_is)

@@ -1,0 +1,9 @@
+use Rattle.chord_wire.proofs.NextLaws.{taken_is_found, spelled_is_taken}
+use Rattle.chord_wire.proofs.RequestLaws.{requests}
+use Rattle.chord_wire.proofs.frames.Reader+WireRequest.next.Goals as goal
+
+pub returns-clause-found : goal.returns-clause-found
+returns-clause-found c = taken_is_found requests c.take.result c.args.self.now c.take.new.self c.take.ensures.bytes c.take.ensures.exact
+
+pub returns-clause-only : goal.returns-clause-only
+returns-clause-only c = spelled_is_taken requests c.take.result c.args.self.now c.take.new.self c.take.ensures.exact
