@@ -5,7 +5,7 @@ use Rattle.std.proofs.lemmas.Option.{none-some, slice_get-map}
 use Rattle.chord_app_serve.specs.Asked.{asked_by, asked_since}
 use Rattle.chord_caller.specs.Caller.{Caller, Submission, request_for_reply, fresh_for, is_taken, submission_at}
 use Rattle.chord_caller.specs.declared.told.Told.{Told}
-use Rattle.chord_live_ring.specs.Calling.{TookReply, told_to}
+use Rattle.chord_live.specs.Ending.{TookReply, told_to}
 use Rattle.chord_map.specs.Map.{fits}
 use Rattle.chord_map.specs.declared.reply.Reply.{Reply}
 use Rattle.chord_map.specs.declared.request.Request.{Request}

@@ -5,10 +5,9 @@ use crate::nodes::{start_nodes, tick_in_turn};
 use chord_app_plan::{Plan, PlanAsk};
 use chord_app_text::{Finish, ReplyText};
 use chord_caller::SubmitFault;
-use chord_live_ring::{
-    AskFault, BeginFault, NewFault, OpenClientFault, Ring, RingClient, RingParts, Settings,
-    WaitFault,
-};
+use chord_live::{OpenCaller, RingClient};
+use chord_live_ring::{NewFault, OpenClientFault, Ring, RingParts, Settings};
+use chord_live_types::{AskFault, BeginFault, WaitFault};
 use chord_map::Reply;
 use chord_store::EntryStore;
 use chord_table::Naming;

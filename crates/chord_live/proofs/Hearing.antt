@@ -1,21 +1,18 @@
 -- A caller takes other replies too while it waits for one.
-use Rattle.std.proofs.Common.{◌≡◌, ◌≢◌, ℕ, Bool, true, false, not, ◌&&◌, ◌||◌, eqb, None, Some, is_some, Result, Ok, Err, [], ◌∷◌, ◌++◌, append-nil, inr, sym, ◌∙◌, ap, subst}
+use Rattle.std.proofs.Common.{◌≡◌, ◌≢◌, ℕ, Bool, false, not, ◌&&◌, ◌||◌, eqb, None, Some, is_some, Result, Ok, Err, [], ◌∷◌, ◌++◌, sym, ◌∙◌, ap}
 use Rattle.std.proofs.Math.Bool.{or-false}
 use Rattle.std.proofs.lemmas.Bool.{cond-false, and_parts, eqb-true, not-true, true≢false}
-use Rattle.std.proofs.lemmas.List.{append_assoc}
 use Rattle.std.proofs.lemmas.Option.{none-some}
 use Rattle.chord_caller.specs.Answers.{TakeIs, is_pending}
-use Rattle.chord_caller.specs.Caller.{Caller, request_for_reply, fresh_for, is_taken, next_number, submission_at, with_reply}
+use Rattle.chord_caller.specs.Caller.{Caller, request_for_reply, fresh_for, is_taken, submission_at, with_reply}
 use Rattle.chord_caller.specs.declared.fault.TakeFault.{TakeFault}
 use Rattle.chord_caller.specs.declared.fault.TakeFault.TheVariants.{Foreign, Memory}
 use Rattle.chord_caller.specs.declared.heard.Heard.{Heard as TakenAs}
 use Rattle.chord_caller.specs.declared.heard.Heard.TheVariants.{Fresh, Known}
 use Rattle.chord_caller.specs.declared.told.Told.{Told}
 use Rattle.chord_caller.proofs.Places.{either_is}
-use Rattle.chord_live.specs.Asking.{AskIs, IsTaken, TookReplies, WaitIs, WaitsStill, WasSubmitted}
-use Rattle.chord_live_ring.specs.Begun.{BeginIs}
-use Rattle.chord_live_types.specs.declared.caller.AskFault.TheVariants as ask
-use Rattle.chord_live_types.specs.declared.caller.WaitFault.{WaitFault}
+use Rattle.chord_live.specs.Ending.{IsTaken, TookReplies, WaitsStill}
+use Rattle.chord_live.specs.Laws.{none_more}
 use Rattle.chord_map.specs.declared.reply.Reply.{Reply}
 use Rattle.chord_map.specs.declared.request.Request.{Request}
 use Rattle.chord_map.proofs.Lists.{by_option, by_test}
@@ -24,19 +21,8 @@ use Rattle.chord_map.specs.History.{done_at}
 use Rattle.chord_map.specs.declared.done.Done.{Done}
 use Rattle.chord_map.proofs.HistoryLemmas.{done_right, done_alone, is_call}
 
-none_more : (caller : Caller) → caller ≡ record caller { mine = caller.mine ++ [] }
-none_more caller = ap (λ mine. record caller { mine = mine }) (sym (append-nil caller.mine))
-
-pub waits_same : (number : ℕ) (old new : Caller) → new ≡ old → WaitsStill number old new
+waits_same : (number : ℕ) (old new : Caller) → new ≡ old → WaitsStill number old new
 waits_same number old new same = (([], same ∙ none_more old), ap (is_pending number) same)
-
--- taking replies twice is taking replies
-pub took_on : (first middle last : Caller) → TookReplies first middle → TookReplies middle last → TookReplies first last
-took_on first middle last (rest, is) (more, is') =
-    (rest ++ more, is' ∙ ap (λ (c : Caller). record c { mine = c.mine ++ more }) is ∙ ap (λ mine. record first { mine = mine }) (append_assoc first.mine rest more))
-
-pub waits_on : (number : ℕ) (first middle last : Caller) → WaitsStill number first middle → WaitsStill number middle last → WaitsStill number first last
-waits_on number first middle last (took, is) (took', is') = (took_on first middle last took took', is' ∙ is)
 
 -- a fresh reply is to one of the caller's own pending requests
 fresh_own : (told : Told) (caller : Caller) (request : Request) → fresh_for told caller ≡ Some request → (told.caller ≡ caller.number) × (is_taken caller told.number ≡ false)
@@ -90,9 +76,3 @@ took_other number told old new (Ok Fresh) other (request, fresh, is) =
 took_other number told old new (Ok Known) other is = waits_same number old new is.2
 took_other number told old new (Err Foreign) other is = waits_same number old new is.1
 took_other number told old new (Err Memory) other is = waits_same number old new is.2
-
--- how a wait after a submission ended, as `ask` answers it
-pub ended_ask : (request : Request) (number : ℕ) (old middle new : Caller) (waited : WaitFault) → BeginIs request old (Ok number) middle → is_pending number middle ≡ true
-    → WaitIs number middle (Err waited) new → AskIs request old (Err (ask.Wait waited)) new
-ended_ask request number old middle new waited (numbered, fit, window, small, is) waits ((rest, took), same) =
-    ((fit, window, small, (rest, took ∙ ap (λ (c : Caller). record c { mine = c.mine ++ rest }) is)), ap (λ n. is_pending n new) (sym numbered) ∙ same ∙ waits)

@@ -1,3 +1,4 @@
 pub mod Coming
 pub mod Hearing
-pub mod Messages
+pub mod Submitting
+pub mod Waiting

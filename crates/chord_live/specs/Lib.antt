@@ -1,2 +1,6 @@
 pub mod Asking
+pub mod Begun
+pub mod Ending
+pub mod Guesses
+pub mod Laws
 pub mod Noted

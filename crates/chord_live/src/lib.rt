@@ -1,20 +1,29 @@
-//! Callers of a running ring that keep all they took.
+//! Who asks a running ring (`chord_live_ring::Ring`).
 //!
-//! A [`Caller`] asks a ring (`chord_live_ring::Ring`) by `caller.ask(&rt, 0, request)`, through
-//! inboxes and workers, or by `caller.call(&rt, 0, request)`, which does each node's event on the
-//! calling thread. It keeps all that it took, and gives notes of what it knows for other callers to
-//! meet. [`OpenCaller`] lets a ring open one.
+//! A [`RingCaller`] submits requests, sends them, and waits for their replies. There are two kinds,
+//! by the [`AskingCore`] that each has. A [`RingClient`] hands each reply out and stores none, so
+//! its memory is bounded by its window. A [`Caller`] stores all that it took, and gives notes of
+//! what it knows for other callers to meet. [`OpenCaller`] lets a ring open both.
 //!
-//! Each caller has its seat of the table, so all that callers took is in one history of one map of
-//! sets.
+//! `caller.call(&rt, 0, request)` does each node's event on the calling thread;
+//! `caller.ask(&rt, 0, request)` goes through inboxes and workers.
+//!
+//! Each has its seat of the table, so all that they took is in one history of one map of sets.
 #![tactic(auto)]
 
-mod caller;
+mod asking_core;
+mod caller_asking;
+mod client_asking;
+mod guesses;
+mod keeping;
 mod note_envelope;
 mod opening;
-mod seated_caller;
-mod wait_event;
+mod ring_caller;
+mod route;
+mod seated_core;
 
-pub use caller::Caller;
+pub use asking_core::AskingCore;
+pub use keeping::Caller;
 pub use note_envelope::NoteEnvelope;
 pub use opening::OpenCaller;
+pub use ring_caller::{RingCaller, RingClient};

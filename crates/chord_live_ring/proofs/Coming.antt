@@ -1,5 +1,5 @@
 -- A message that came is among those that a seat shows.
-use Rattle.std.proofs.Common.{◌≡◌, [], ◌∷◌, ◌++◌, Option, Some, None, sym, subst, Contains}
+use Rattle.std.proofs.Common.{◌≡◌, [], ◌∷◌, ◌++◌, Option, Some, sym, subst, Contains}
 use Rattle.std.proofs.lemmas.List.Elements.{Contains-push}
 use Rattle.chord_live_ring.specs.Dealt.{message_in}
 use Rattle.chord_live_ring.specs.declared.target.Target.{Target}

@@ -1,4 +1,3 @@
 pub mod Coming
 pub mod Counting
-pub mod Messages
 pub mod Sending

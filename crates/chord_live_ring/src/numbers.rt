@@ -1,11 +1,11 @@
 //! The numbers of nodes and callers.
 ghost use Rattle.std.specs.Prelude.{◌≡◌, ◌+◌, ◌<◌, ◌≤◌, [], false, true, IfOk, IfErr, OnOk, OnErr, IfSome, Err, None};
 ghost use Rattle.chord_caller.specs.Answers.{new_caller};
+ghost use Rattle.chord_caller.specs.Client.{IsCoreOf};
 ghost use Rattle.chord_links.specs.NodeLinks.{alone};
 ghost use Rattle.chord_live_types.specs.declared.caller.OpenClientFault.TheVariants.{CallersSpent, Memory};
 ghost use Rattle.chord_model.specs.Node.{founder, newborn};
 
-use crate::seated_client::SeatedClient;
 use crate::seated_node::SeatedNode;
 use chord_caller::{CallerCore, ClientCore};
 use chord_ident::Id;
@@ -160,16 +160,18 @@ impl<J: Naming> Numbers<J> {
         Some((core, seat))
     }
 
-    /// A client with its number. It is refused if no number is free, or else only if out of memory.
-    pub fn open_client(
+    /// The core of a client under the next free number and the seat that shows its caller. It is
+    /// refused if no number is free, or else only if out of memory.
+    pub fn admit_client(
         &mut self,
         table: &Shared<J>,
         alloc: Global,
         window: u64,
-    ) -> Result<(u64, SeatedClient<J>), OpenClientFault>
+    ) -> Result<(ClientCore, CallerSeat<J>), OpenClientFault>
         requires some { 1 ≤ window }
         requires small { window ≤ 16 }
-        ensures ok { IfOk result (λ opened. (opened.0 ≡ self.old.callers) × (opened.0 < J.name.callers) × (opened.1.caller ≡ new_caller opened.0 window)) }
+        ensures number { OnOk result (self.old.callers < J.name.callers) }
+        ensures shown { IfOk result (λ admitted. (admitted.1.caller ≡ new_caller self.old.callers window) × IsCoreOf admitted.0 admitted.1.caller) }
         ensures counted { OnOk result (self.new ≡ record self.old { callers = self.old.callers + 1 }) }
         ensures spent { result ≡ Err CallersSpent → J.name.callers ≤ self.old.callers }
         ensures memory { result ≡ Err Memory → self.old.callers < J.name.callers }
@@ -185,6 +187,6 @@ impl<J: Naming> Numbers<J> {
         };
         let seat = self.registrar.open_caller(table, number, window);
         self.callers = number as usize + 1;
-        Ok((number, SeatedClient::new(core, seat)))
+        Ok((core, seat))
     }
 }

@@ -1,17 +1,15 @@
 //! Slots for nodes and inboxes for callers, over one table.
 ghost use Rattle.std.specs.Prelude.{◌≡◌, ◌<◌, ◌≤◌, [], true, IfOk, IfErr, IfSome, vec_len};
 ghost use Rattle.chord_caller.specs.Answers.{new_caller};
+ghost use Rattle.chord_caller.specs.Client.{IsCoreOf};
 ghost use Rattle.chord_live_ring.specs.Counts.{AreWithin};
-ghost use Rattle.chord_table.specs.Shown.{CallerShown};
 
 use crate::numbers::Numbers;
 use crate::reader::RingReader;
-use crate::ring_client::RingClient;
-use crate::seated_client::SeatedClient;
 use crate::seated_node::SeatedNode;
 use crate::settings::Settings;
 use crate::slot::{Inbox, Slot, SlotState};
-use chord_caller::CallerCore;
+use chord_caller::{CallerCore, ClientCore};
 use chord_ident::Id;
 use chord_links::{Links, Peer};
 use chord_live_types::{
@@ -56,7 +54,7 @@ impl<J: Naming, S: EntryStore> Ring<J, S> {
     }
 
     /// Whether the node of this number is a member.
-    pub(crate) fn is_live(&self, number: u64) -> bool {
+    pub fn is_live(&self, number: u64) -> bool {
         match self.slots.get(number as usize) {
             Some(slot) => slot.live.load(Ordering::SeqCst),
             None => false,
@@ -259,35 +257,22 @@ impl<J: Naming, S: EntryStore> Ring<J, S> {
         }
     }
 
-    /// A client under the next free number, with a window of 1 to 16 requests. It has room for
-    /// those, and holds no more.
-    pub fn open_client(
+    /// The core of a client under the next free number, with a window of 1 to 16 requests, and the
+    /// seat that shows its caller. The core has room for its window, and takes no more memory.
+    pub fn admit_client(
         &self,
         rt: &impl Wait,
         window: u64,
-    ) -> Result<RingClient<'_, J, S>, OpenClientFault>
+    ) -> Result<(ClientCore, CallerSeat<J>), OpenClientFault>
         requires some { 1 ≤ window }
         requires small { window ≤ 16 }
-        ensures opened { IfOk result (λ client. client.caller ≡ new_caller client.caller.number window) }
-        ensures shown { IfOk result (λ client. CallerShown client) }
-    {
-        RingClient::open(self, rt, window)
-    }
-
-    /// The core and the seat of the next client.
-    pub(crate) fn open_client_seat(
-        &self,
-        rt: &impl Wait,
-        window: u64,
-    ) -> Result<(u64, SeatedClient<J>), OpenClientFault>
-        requires some { 1 ≤ window }
-        requires small { window ≤ 16 }
-        ensures { IfOk result (λ opened. (opened.0 < J.name.callers) × (opened.1.caller ≡ new_caller opened.0 window)) }
+        ensures number { IfOk result (λ admitted. admitted.1.caller.number < J.name.callers) }
+        ensures shown { IfOk result (λ admitted. (admitted.1.caller ≡ new_caller admitted.1.caller.number window) × IsCoreOf admitted.0 admitted.1.caller) }
     {
         let mut numbers = self.numbers.lock(rt);
         if self.is_stopped() {
             return Err(OpenClientFault::Stopped);
         }
-        numbers.open_client(&self.table, self.alloc, window)
+        numbers.admit_client(&self.table, self.alloc, window)
     }
 }

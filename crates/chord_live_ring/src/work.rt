@@ -103,12 +103,7 @@ impl<J: Naming, S: EntryStore> Ring<J, S> {
 
     /// Carries an envelope and its key's identifier from node to node, each event under that node's
     /// lock, until a node answers a caller.
-    pub(crate) fn carry_keyed(
-        &self,
-        rt: &impl Wait,
-        via: u64,
-        keyed: Keyed<J>,
-    ) -> Option<Carried<J>> {
+    pub fn carry_keyed(&self, rt: &impl Wait, via: u64, keyed: Keyed<J>) -> Option<Carried<J>> {
         let mut to = via;
         let mut passed = keyed;
         for _ in 0..HOPS {
@@ -128,6 +123,7 @@ impl<J: Naming, S: EntryStore> Ring<J, S> {
         drop(passed);
         None
     }
+
     /// Carries an envelope from node to node, on the caller's thread in place of workers, until a
     /// node answers a caller.
     pub fn carry(&self, rt: &impl Wait, via: u64, envelope: Envelope<J>) -> Option<Carried<J>> {

@@ -5,7 +5,8 @@ ghost use Rattle.chord_serve.specs.Question.{IsAnswer, IsHeard};
 ghost use Rattle.chord_serve.specs.declared.asker.Asked.TheVariants as Asked;
 
 use crate::serving::idle::IdleCaller;
-use chord_live_ring::{AskFault, RetryFault, RingClient, WaitFault};
+use chord_live::RingClient;
+use chord_live_types::{AskFault, RetryFault, WaitFault};
 use chord_map::{Reply, Request};
 use chord_serve::{Asked, Asker};
 use chord_store::EntryStore;
@@ -86,7 +87,7 @@ impl<'a, J: Naming, S: EntryStore, R: Wait + Clock> Asker for RingAsker<'a, J, S
         let Some(submitted) = self.before.checked_add(number) else {
             return Asked::NoAnswer;
         };
-        match self.caller.retry(self.rt, self.via, submitted) {
+        match self.caller.call_again(self.rt, self.via, submitted) {
             Ok(reply) => to_answer(reply),
             Err(RetryFault::Wait(WaitFault::Full)) => Asked::Full,
             Err(RetryFault::Wait(WaitFault::Memory)) => Asked::Memory,

@@ -2,7 +2,8 @@
 
 use crate::serving::idle::IdleCaller;
 use chord_app_sockets::Ended;
-use chord_live_ring::{Ring, RingClient};
+use chord_live::RingClient;
+use chord_live_ring::Ring;
 use chord_store::EntryStore;
 use chord_table::Naming;
 use std::alloc::{AllocError, Global};

@@ -3,7 +3,8 @@ ghost use Rattle.std.specs.Prelude.{◌≡◌, ℕ, None, true, IfOk, IfErr};
 ghost use Rattle.chord_caller.specs.Answers.{PendingIs, is_pending};
 
 use chord_app_sockets::Ended;
-use chord_live_ring::{OpenClientFault, Ring, RingClient};
+use chord_live::{OpenCaller, RingClient};
+use chord_live_ring::{OpenClientFault, Ring};
 use chord_serve::Served;
 use chord_store::EntryStore;
 use chord_table::Naming;

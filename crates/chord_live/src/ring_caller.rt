@@ -1,0 +1,438 @@
+//! One who asks a ring.
+ghost use Rattle.std.specs.Prelude.{◌≡◌, ◌≤◌, ◌<◌, [], ◌∷◌, Ok, Err, None, true, IfOk, IfErr, IfSome, OnErr};
+ghost use Rattle.chord_caller.specs.Answers.{PendingIs, is_pending};
+ghost use Rattle.chord_caller.specs.Caller.{floor_of, next_number};
+ghost use Rattle.chord_live.specs.Asking.{CallIs, RetryIs};
+ghost use Rattle.chord_live.specs.Begun.{BeginIs, MaySubmit, Submitted};
+ghost use Rattle.chord_live.specs.Ending.{Ended};
+ghost use Rattle.chord_live_types.specs.declared.caller.AskFault.TheVariants as AskFault;
+ghost use Rattle.chord_live_types.specs.declared.caller.BeginFault.TheVariants as BeginFault;
+ghost use Rattle.chord_live_types.specs.declared.caller.RetryFault.TheVariants as RetryFault;
+ghost use Rattle.chord_table.specs.Shown.{CallerShown};
+
+use crate::asking_core::AskingCore;
+use crate::guesses::Guesses;
+use crate::route::Route;
+use crate::seated_core::SeatedCore;
+use chord_caller::ClientCore;
+use chord_ident::Id;
+use chord_live_ring::{Carried, Keyed, Ring, Target};
+use chord_live_types::{AskFault, BeginFault, RetryFault, WaitFault};
+use chord_map::{Reply, Request};
+use chord_store::EntryStore;
+use chord_table::{CallerSeat, Envelope, Naming, Witness};
+use std::marker::Model;
+use std::sync::Wait;
+use std::time::{Clock, Duration, Instant};
+
+/// One who asks a ring, which it borrows. Contracts see what its seat shows: the whole caller,
+/// which is data of the proof alone where the core stores less.
+#[derive(Drop)]
+pub struct RingCaller<'a, J: Naming, S: EntryStore, C: AskingCore> {
+    pub(crate) ring: &'a Ring<J, S>,
+    pub(crate) own: SeatedCore<J, C>,
+    number: u64,
+    guesses: Guesses,
+}
+
+/// A caller that holds each request until it hands out the reply, and no replies.
+pub type RingClient<'a, J, S> = RingCaller<'a, J, S, ClientCore>;
+
+impl<'a, J: Naming, S: EntryStore, C: AskingCore> Model for RingCaller<'a, J, S, C> {
+    ghost use Rattle.std.specs.Prelude.{◌≡◌, ◌<◌};
+    ghost use Rattle.chord_table.specs.Views.{CallerSight};
+
+    ghost Value = { CallerSight };
+
+    ghost view = { λ a. a.own };
+
+    ghost invariant = { λ a. a.number < J.name.callers };
+}
+
+impl<'a, J: Naming, S: EntryStore, C: AskingCore> RingCaller<'a, J, S, C> {
+    /// The core and the seat of a caller that the ring admitted.
+    pub(crate) fn new(ring: &'a Ring<J, S>, core: C, seat: CallerSeat<J>) -> RingCaller<'a, J, S, C>
+        requires core { C.is_core_of core seat.caller }
+        requires number { seat.caller.number < J.name.callers }
+        ensures same { result ≡ seat }
+        ensures shown { CallerShown result }
+    {
+        let number = core.number();
+        let own = SeatedCore::new(core, seat);
+        let mut caller = RingCaller {
+            ring,
+            own,
+            number,
+            guesses: Guesses::new(),
+        };
+        caller.look();
+        caller
+    }
+
+    /// The greatest number such that the replies to it and to all below it were taken.
+    pub fn floor(&self) -> u64
+        ensures { result ≡ floor_of self.now.caller }
+    {
+        self.own.floor()
+    }
+
+    /// The least pending number. With none pending, the next request has the number after the
+    /// floor.
+    pub fn pending(&self) -> Option<u64>
+        ensures { PendingIs self.now.caller result }
+    {
+        self.own.pending()
+    }
+
+    /// Whether the request of this number waits for its reply.
+    pub fn is_pending(&self, number: u64) -> bool
+        ensures { result ≡ is_pending number self.now.caller }
+    {
+        self.own.is_pending(number)
+    }
+
+    /// A witness of the caller as it is now. One look of joined witnesses proves something of all
+    /// their callers in one world.
+    pub fn witness(&mut self) -> Witness<J>
+        ensures same { self.new ≡ self.old }
+        ensures noted { result ≡ self.old.caller ∷ [] }
+    {
+        self.own.witness(self.ring.table())
+    }
+
+    /// Proves that all calls it took or learned by notes are in one legal history.
+    pub fn look(&mut self)
+        ensures same { self.new ≡ self.old }
+        ensures shown { CallerShown self.old }
+    {
+        self.own.look(self.ring.table());
+    }
+
+    /// Submits a request, if the caller takes it and there is such a node. Gives its number and its
+    /// envelope.
+    fn submit(&mut self, via: u64, request: Request) -> Result<(u64, Envelope<J>), BeginFault>
+        ensures number { IfOk result (λ sent. sent.0 ≡ next_number self.old.caller) }
+        ensures ok { IfOk result (λ sent. Submitted request self.old self.new) }
+        ensures placed { J.name.slots ≤ via → MaySubmit request self.old.caller → result ≡ Err BeginFault.NoSuchNode }
+        ensures err { IfErr result (λ fault. BeginIs request self.old.caller (Err fault) self.new.caller) }
+        ensures same { OnErr result (self.new ≡ self.old) }
+    {
+        if !self.ring.was_admitted(via) {
+            let refusal = self.own.refusal(&request);
+            drop(request);
+            return match refusal {
+                Some(fault) => Err(BeginFault::Submit(fault)),
+                None => Err(BeginFault::NoSuchNode),
+            };
+        }
+        match self.own.submit(self.ring.table(), request) {
+            Ok(sent) => Ok(sent),
+            Err(fault) => Err(BeginFault::Submit(fault)),
+        }
+    }
+
+    /// Submits a request, sends it once, and gives its number without waiting.
+    pub fn begin(&mut self, rt: &impl Wait, via: u64, request: Request) -> Result<u64, BeginFault>
+        ensures answer { BeginIs request self.old.caller result self.new.caller }
+        ensures placed { J.name.slots ≤ via → MaySubmit request self.old.caller → result ≡ Err BeginFault.NoSuchNode }
+        ensures messages { self.new.messages ≡ self.old.messages }
+        ensures shown { CallerShown self.new }
+    {
+        let begun = match self.submit(via, request) {
+            Ok((number, envelope)) => {
+                self.ring.post(rt, Target::Node(via), envelope);
+                Ok(number)
+            }
+            Err(fault) => Err(fault),
+        };
+        self.look();
+        begun
+    }
+
+    /// Waits for one message, no longer than `limit`. None: none came.
+    fn hear<R: Wait + Clock>(
+        &mut self,
+        rt: &R,
+        limit: Duration,
+        number: u64,
+    ) -> Option<Result<Reply, WaitFault>>
+        ensures some { IfSome result (λ heard. Ended C.ends number self.old heard self.new) }
+        ensures none { result ≡ None → self.new ≡ self.old }
+    {
+        let ring = self.ring;
+        match ring.hear(rt, self.number, limit) {
+            Some(envelope) => Some(self.own.take(ring.table(), envelope, number)),
+            None => None,
+        }
+    }
+
+    /// Waits for the reply to a request, as long as one try may wait.
+    pub(crate) fn wait<R: Wait + Clock>(&mut self, rt: &R, number: u64) -> Result<Reply, WaitFault>
+        ensures { Ended C.ends number self.old result self.new }
+    {
+        let start = Instant::now(rt).ok();
+        for _ in 0..u64::MAX {
+            let left = self.ring.time_left(rt, &start);
+            match self.hear(rt, left, number) {
+                Some(Err(WaitFault::NoAnswer)) => {}
+                Some(ended) => return ended,
+                None => return Err(WaitFault::NoAnswer),
+            }
+        }
+        Err(WaitFault::NoAnswer)
+    }
+
+    /// Takes in the answer to a carried call. One to another caller is passed on.
+    fn take_carried(
+        &mut self,
+        rt: &impl Wait,
+        carried: Carried<J>,
+        number: u64,
+    ) -> Result<Reply, WaitFault>
+        ensures { Ended C.ends number self.old result self.new }
+    {
+        let ring = self.ring;
+        if carried.caller == self.number {
+            return self.own.take(ring.table(), carried.envelope, number);
+        }
+        ring.post(rt, Target::Caller(carried.caller), carried.envelope);
+        Err(WaitFault::NoAnswer)
+    }
+
+    /// The node that answered last near this identifier, else `via`.
+    fn first_node(&self, id: Id, via: u64) -> u64 {
+        match self.guesses.guess(id) {
+            Some(number) if self.ring.is_live(number) => number,
+            _ => via,
+        }
+    }
+
+    /// Remembers which node answered, or forgets the guess if none did.
+    fn remember_node(&mut self, id: Id, node: Option<u64>)
+        ensures { self.new ≡ self.old }
+    {
+        match node {
+            Some(number) => self.guesses.remember(id, number),
+            None => self.guesses.forget(id),
+        }
+    }
+
+    /// Carries an envelope from node to node, each event under that node's lock, and takes the
+    /// reply. It begins at the guessed node; if that leads to no answer, the next time at `via`.
+    fn carry(
+        &mut self,
+        rt: &impl Wait,
+        via: u64,
+        envelope: Envelope<J>,
+        number: u64,
+    ) -> Result<Reply, WaitFault>
+        ensures { Ended C.ends number self.old result self.new }
+    {
+        let keyed = Keyed::new(envelope);
+        let id = keyed.id;
+        match self.ring.carry_keyed(rt, self.first_node(id, via), keyed) {
+            Some(carried) => {
+                self.remember_node(id, Some(carried.from));
+                self.take_carried(rt, carried, number)
+            }
+            None => {
+                self.remember_node(id, None);
+                Err(WaitFault::NoAnswer)
+            }
+        }
+    }
+
+    /// Sends an envelope, and waits if its reply does not come back at once.
+    fn send<R: Wait + Clock>(
+        &mut self,
+        rt: &R,
+        route: Route,
+        via: u64,
+        envelope: Envelope<J>,
+        number: u64,
+    ) -> Result<Reply, WaitFault>
+        ensures { Ended C.ends number self.old result self.new }
+    {
+        match route {
+            Route::Inbox => self.ring.post(rt, Target::Node(via), envelope),
+            Route::Carried => match self.carry(rt, via, envelope, number) {
+                Err(WaitFault::NoAnswer) => {}
+                ended => return ended,
+            },
+        }
+        self.wait(rt, number)
+    }
+
+    /// Sends a pending request again, and waits for its reply.
+    fn send_again<R: Wait + Clock>(
+        &mut self,
+        rt: &R,
+        route: Route,
+        via: u64,
+        number: u64,
+    ) -> Result<Reply, WaitFault>
+        requires { is_pending number self.old.caller ≡ true }
+        ensures { Ended C.ends number self.old result self.new }
+    {
+        match self.own.resend(self.ring.table(), number) {
+            Ok(envelope) => self.send(rt, route, via, envelope, number),
+            Err(_) => Err(WaitFault::Memory),
+        }
+    }
+
+    /// Sends a pending request again, at most `times` times.
+    fn send_repeatedly<R: Wait + Clock>(
+        &mut self,
+        rt: &R,
+        route: Route,
+        via: u64,
+        number: u64,
+        times: u64,
+    ) -> Result<Reply, WaitFault>
+        requires { is_pending number self.old.caller ≡ true }
+        ensures { Ended C.ends number self.old result self.new }
+    {
+        for _ in 0..times {
+            match self.send_again(rt, route, via, number) {
+                Err(WaitFault::NoAnswer) if !self.ring.is_stopped() => {}
+                ended => return ended,
+            }
+        }
+        Err(WaitFault::NoAnswer)
+    }
+
+    /// Sends a new request, as often as the ring's settings allow.
+    fn send_until_answered<R: Wait + Clock>(
+        &mut self,
+        rt: &R,
+        route: Route,
+        via: u64,
+        envelope: Envelope<J>,
+        number: u64,
+    ) -> Result<Reply, WaitFault>
+        requires { is_pending number self.old.caller ≡ true }
+        ensures { Ended C.ends number self.old result self.new }
+    {
+        let more = self.ring.tries() - 1;
+        match self.send(rt, route, via, envelope, number) {
+            Err(WaitFault::NoAnswer) => {}
+            ended => return ended,
+        }
+        self.send_repeatedly(rt, route, via, number, more)
+    }
+
+    /// Submits a request, and sends it until it is answered.
+    fn submit_and_send<R: Wait + Clock>(
+        &mut self,
+        rt: &R,
+        route: Route,
+        via: u64,
+        request: Request,
+    ) -> Result<Reply, AskFault>
+        ensures answer { CallIs C.ends request self.old result self.new }
+        ensures placed { J.name.slots ≤ via → MaySubmit request self.old.caller → result ≡ Err (AskFault.Begin BeginFault.NoSuchNode) }
+    {
+        let (number, envelope) = match self.submit(via, request) {
+            Ok(sent) => sent,
+            Err(fault) => return Err(AskFault::Begin(fault)),
+        };
+        match self.send_until_answered(rt, route, via, envelope, number) {
+            Ok(reply) => Ok(reply),
+            Err(fault) => Err(AskFault::Wait(fault)),
+        }
+    }
+
+    /// Sends a pending request again until it is answered, as often as the ring's settings allow.
+    fn send_pending<R: Wait + Clock>(
+        &mut self,
+        rt: &R,
+        route: Route,
+        via: u64,
+        number: u64,
+    ) -> Result<Reply, RetryFault>
+        ensures answer { RetryIs C.ends number self.old result self.new }
+        ensures placed { J.name.slots ≤ via → is_pending number self.old.caller ≡ true → result ≡ Err RetryFault.NoSuchNode }
+    {
+        if !self.own.is_pending(number) {
+            return Err(RetryFault::Idle);
+        }
+        if !self.ring.was_admitted(via) {
+            return Err(RetryFault::NoSuchNode);
+        }
+        let tries = self.ring.tries();
+        match self.send_repeatedly(rt, route, via, number, tries) {
+            Ok(reply) => Ok(reply),
+            Err(fault) => Err(RetryFault::Wait(fault)),
+        }
+    }
+
+    /// Submits a request and waits for its reply. The calling thread itself does each node's event,
+    /// under that node's lock: no worker is needed. It begins at the node that answered last for
+    /// identifiers with the same first byte, else at `via`. If no reply comes back, as while a
+    /// handover is under way, it waits and tries again. A request without its reply stays pending.
+    pub fn call<R: Wait + Clock>(
+        &mut self,
+        rt: &R,
+        via: u64,
+        request: Request,
+    ) -> Result<Reply, AskFault>
+        ensures answer { CallIs C.ends request self.old result self.new }
+        ensures placed { J.name.slots ≤ via → MaySubmit request self.old.caller → result ≡ Err (AskFault.Begin BeginFault.NoSuchNode) }
+        ensures shown { CallerShown self.new }
+    {
+        let answered = self.submit_and_send(rt, Route::Carried, via, request);
+        self.look();
+        answered
+    }
+
+    /// Sends a pending request again, under its number, and waits for its reply as `call` does. It
+    /// acts once, however often it is sent: if it was executed before, the holder answers with its
+    /// kept reply.
+    pub fn call_again<R: Wait + Clock>(
+        &mut self,
+        rt: &R,
+        via: u64,
+        number: u64,
+    ) -> Result<Reply, RetryFault>
+        ensures answer { RetryIs C.ends number self.old result self.new }
+        ensures placed { J.name.slots ≤ via → is_pending number self.old.caller ≡ true → result ≡ Err RetryFault.NoSuchNode }
+        ensures shown { CallerShown self.new }
+    {
+        let answered = self.send_pending(rt, Route::Carried, via, number);
+        self.look();
+        answered
+    }
+
+    /// Submits a request and waits for its reply. It is sent up to as many times as the ring's
+    /// settings say, with a wait after each; a worker of the node has to run.
+    pub fn ask<R: Wait + Clock>(
+        &mut self,
+        rt: &R,
+        via: u64,
+        request: Request,
+    ) -> Result<Reply, AskFault>
+        ensures answer { CallIs C.ends request self.old result self.new }
+        ensures placed { J.name.slots ≤ via → MaySubmit request self.old.caller → result ≡ Err (AskFault.Begin BeginFault.NoSuchNode) }
+        ensures shown { CallerShown self.new }
+    {
+        let answered = self.submit_and_send(rt, Route::Inbox, via, request);
+        self.look();
+        answered
+    }
+
+    /// Sends a pending request again, under its number, and waits for its reply as `ask` does.
+    pub fn retry<R: Wait + Clock>(
+        &mut self,
+        rt: &R,
+        via: u64,
+        number: u64,
+    ) -> Result<Reply, RetryFault>
+        ensures answer { RetryIs C.ends number self.old result self.new }
+        ensures placed { J.name.slots ≤ via → is_pending number self.old.caller ≡ true → result ≡ Err RetryFault.NoSuchNode }
+        ensures shown { CallerShown self.new }
+    {
+        let answered = self.send_pending(rt, Route::Inbox, via, number);
+        self.look();
+        answered
+    }
+}
