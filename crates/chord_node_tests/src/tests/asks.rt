@@ -1,14 +1,14 @@
-//! Calls.
-ghost use Rattle.std.specs.Prelude.{◌<◌, ◌≤◌};
+//! What a node does with calls. Each test is a script of calls about `abc`, sent by caller 0.
 
-use super::{A, C, answered, ask, found, inserted, newborn};
+use super::{A, C, founder, newborn};
 use chord_caller::Ask;
 use chord_ident::Id;
 use chord_links::{Links, Peer, SuccList};
-use chord_map::{Bytes, Done, Reply, Request, Values};
+use chord_map::{Bytes, Done, Reply, Request};
 use chord_node::{Answered, Node, Phase};
 use chord_store::CappedStore;
-use std::alloc::Global;
+use std::alloc::{AllocError, Global};
+use std::process::Abort;
 
 const ME: Peer = Peer {
     number: 1,
@@ -20,156 +20,189 @@ const OTHER: Peer = Peer {
     id: Id { number: A },
 };
 
-/// Whether the answer is this reply to this call, with memory for it.
-fn is_told(answered: Option<Answered>, number: u64, reply: &Reply) -> Option<bool> {
-    let answered = answered?;
-    let is_told = match &answered {
-        Answered::Told(told) => told.number == number && told.reply == *reply,
-        _ => false,
+#[derive(Clone, Copy, Debug, PartialEq, Eq)]
+enum Asked {
+    /// Insert this value under `abc`.
+    Insert(&'static [u8]),
+    /// Retrieve `abc`.
+    Retrieve,
+}
+
+#[derive(Clone, Copy, Debug, PartialEq, Eq)]
+struct Call {
+    number: u64,
+    floor: u64,
+    hops: u8,
+    asked: Asked,
+}
+
+/// A reply, without its values.
+#[derive(Clone, Copy, Debug, PartialEq, Eq)]
+enum Said {
+    Added,
+    Present,
+    SetFull,
+    /// The value x alone.
+    OnlyX,
+    OtherValues,
+    Removed,
+    Absent,
+}
+
+/// A reply to the call of this caller and number.
+#[derive(Clone, Copy, Debug, PartialEq, Eq)]
+struct Told {
+    caller: u64,
+    number: u64,
+    said: Said,
+}
+
+#[derive(Clone, Copy, Debug, PartialEq, Eq)]
+enum Answer {
+    Told(Told),
+    /// The call of this number goes on to a node.
+    Forward { to: u64, number: u64, hops: u8 },
+    Dropped,
+    Full,
+}
+
+/// What a node does with a call: what it answers, and the call that it records as executed.
+#[derive(Clone, Copy, Debug, PartialEq, Eq)]
+struct Seen {
+    answer: Answer,
+    executed: Option<Told>,
+}
+
+/// A call, and what the node must do with it by this rule.
+#[derive(Clone, Copy)]
+struct Step {
+    rule: &'static str,
+    call: Call,
+    seen: Seen,
+}
+
+/// How a call comes to a node.
+#[derive(Clone, Copy, Debug, PartialEq, Eq)]
+enum Way {
+    /// By `on_ask`, which records what it executes.
+    Lent,
+    /// By `take_ask`, which takes the call over and records nothing.
+    TakenOver,
+}
+
+fn said_in(reply: &Reply) -> Said {
+    match reply {
+        Reply::Added => Said::Added,
+        Reply::Present => Said::Present,
+        Reply::SetFull => Said::SetFull,
+        Reply::Values(values) => match values.as_slice() {
+            [value] if value.as_slice() == b"x".as_slice() => Said::OnlyX,
+            _ => Said::OtherValues,
+        },
+        Reply::Removed => Said::Removed,
+        Reply::Absent => Said::Absent,
+    }
+}
+
+fn answer_of(answered: Answered) -> Answer {
+    let answer = match &answered {
+        Answered::Told(told) => Answer::Told(Told {
+            caller: told.caller,
+            number: told.number,
+            said: said_in(&told.reply),
+        }),
+        Answered::Forward(to, passed) => Answer::Forward {
+            to: *to,
+            number: passed.number,
+            hops: passed.hops,
+        },
+        Answered::Dropped => Answer::Dropped,
+        Answered::Full => Answer::Full,
     };
     drop(answered);
-    Some(is_told)
+    answer
 }
 
-fn is_full(answered: Option<Answered>) -> Option<bool> {
-    let answered = answered?;
-    let is_full = matches!(&answered, Answered::Full);
-    drop(answered);
-    Some(is_full)
-}
-
-fn is_dropped(answered: Option<Answered>) -> Option<bool> {
-    let answered = answered?;
-    let is_dropped = matches!(&answered, Answered::Dropped);
-    drop(answered);
-    Some(is_dropped)
-}
-
-/// Whether the insert of x under `abc`, as call 1, is answered Added.
-fn adds_x(alloc: Global, node: &mut Node<CappedStore>) -> Option<bool> {
-    is_told(inserted(alloc, node, 1, b"abc", b"x"), 1, &Reply::Added)
-}
-
-/// Whether the insert of x under `abc`, as call 1, is dropped.
-fn drops_x(alloc: Global, node: &mut Node<CappedStore>) -> Option<bool> {
-    is_dropped(inserted(alloc, node, 1, b"abc", b"x"))
-}
-
-/// Whether the first call is answered Added, also when it comes again.
-fn acts_once(alloc: Global) -> Option<(Option<bool>, Option<bool>)> {
-    let mut node = found(alloc, CappedStore::new(alloc, 1))?;
-    let first = adds_x(alloc, &mut node);
-    let again = adds_x(alloc, &mut node);
-    drop(node);
-    Some((first, again))
-}
-
-/// A call is executed once however often it comes.
-#[test]
-fn a_call_acts_once(rt: HostRuntime) {
-    assert!(rt; acts_once(rt.alloc()) == Some((Some(true), Some(true))));
-}
-
-/// Whether the executed call is the third one, answered Present.
-fn is_third(done: Option<Done>) -> Option<bool> {
+fn executed_of(done: Option<Done>) -> Option<Told> {
     let done = done?;
-    let is_third = done.number == 3 && done.reply == Reply::Present;
+    let told = Told {
+        caller: done.caller,
+        number: done.number,
+        said: said_in(&done.reply),
+    };
     drop(done);
-    Some(is_third)
+    Some(told)
 }
 
-/// Whether the third call is answered Present, and whether it is recorded so.
-type Present = (Option<bool>, Option<bool>);
-
-fn is_present(node: &mut Node<CappedStore>, call: &Ask) -> Option<Present> {
-    let (answered, done) = node.on_ask(call).ok()?;
-    let told = is_told(Some(answered), 3, &Reply::Present);
-    Some((told, is_third(done)))
+fn request_of(alloc: Global, asked: Asked) -> Result<Request, AllocError> {
+    match asked {
+        Asked::Insert(value) => Request::insert(alloc, b"abc", value),
+        Asked::Retrieve => Ok(Request::Retrieve {
+            key: Bytes::from_slice(alloc, b"abc")?,
+        }),
+    }
 }
 
-/// Whether the insert of x under `abc`, as call 3, is answered Present and recorded so.
-fn has_x(alloc: Global, node: &mut Node<CappedStore>) -> Option<Present> {
-    let call = ask(3, 0, Request::insert(alloc, b"abc", b"x").ok()?);
-    let present = is_present(node, &call);
-    drop(call);
-    present
+fn ask_of(rt: &impl Abort, alloc: Global, call: Call) -> Ask {
+    assert!(rt; call.floor < call.number, "a call is above its floor");
+    assert!(rt; call.number - call.floor <= 16, "and at most 16 above it");
+    Ask {
+        caller: 0,
+        number: call.number,
+        floor: call.floor,
+        request: request_of(alloc, call.asked).expect(rt, "memory for a request"),
+        hops: call.hops,
+    }
 }
 
-/// A node with room for one pair: whether it adds one, whether it refuses another, and whether it
-/// answers Present to the first again and records it so.
-fn fills_up(alloc: Global) -> Option<(Option<bool>, Option<bool>, Option<Present>)> {
-    let mut node = found(alloc, CappedStore::new(alloc, 1))?;
-    let added = adds_x(alloc, &mut node);
-    let full = is_full(inserted(alloc, &mut node, 2, b"abc", b"y"));
-    let present = has_x(alloc, &mut node);
+fn lend(rt: &impl Abort, node: &mut Node<CappedStore>, ask: Ask) -> Seen {
+    let (answered, done) = node.on_ask(&ask).expect(rt, "memory for a call");
+    drop(ask);
+    let executed = executed_of(done);
+    Seen {
+        answer: answer_of(answered),
+        executed,
+    }
+}
+
+fn hand_over(rt: &impl Abort, node: &mut Node<CappedStore>, ask: Ask) -> Answer {
+    let id = Id::of_bytes(ask.request.key());
+    answer_of(node.take_ask(id, ask).expect(rt, "memory for a call"))
+}
+
+/// What the node does with the call.
+fn send(
+    rt: &impl Abort,
+    alloc: Global,
+    node: &mut Node<CappedStore>,
+    way: Way,
+    call: Call,
+) -> Seen {
+    let ask = ask_of(rt, alloc, call);
+    match way {
+        Way::Lent => lend(rt, node, ask),
+        Way::TakenOver => Seen {
+            answer: hand_over(rt, node, ask),
+            executed: None,
+        },
+    }
+}
+
+/// Sends the calls of a script to the node in turn.
+fn follow(rt: &impl Abort, alloc: Global, mut node: Node<CappedStore>, way: Way, steps: &[Step]) {
+    for step in steps {
+        let seen = send(rt, alloc, &mut node, way, step.call);
+        let wanted = match way {
+            Way::Lent => step.seen,
+            Way::TakenOver => Seen {
+                executed: None,
+                ..step.seen
+            },
+        };
+        let rule = step.rule;
+        assert!(rt; seen == wanted, "{rule}: {seen:?}");
+    }
     drop(node);
-    Some((added, full, present))
-}
-
-/// A full store refuses to add a pair.
-#[test]
-fn a_full_store_adds_nothing(rt: HostRuntime) {
-    let present = (Some(true), Some(true));
-    let full = (Some(true), Some(true), Some(present));
-    assert!(rt; fills_up(rt.alloc()) == Some(full));
-}
-
-/// What a node answers to the retrieve of `abc` as call 2, with floor 1.
-fn retrieved(alloc: Global, node: &mut Node<CappedStore>) -> Option<Answered> {
-    let key = Bytes::from_slice(alloc, b"abc").ok()?;
-    let call = ask(2, 1, Request::Retrieve { key });
-    let told = answered(node, &call);
-    drop(call);
-    told
-}
-
-/// The set with only x.
-fn only_x(alloc: Global) -> Option<Reply> {
-    let value = Bytes::from_slice(alloc, b"x").ok()?;
-    let mut values = Values::new(alloc);
-    let is_there = values.push(value).is_ok();
-    is_there.then_some(Reply::Values(values))
-}
-
-/// Whether that retrieve is answered with only x.
-fn tells_x(alloc: Global, node: &mut Node<CappedStore>) -> Option<bool> {
-    let values = only_x(alloc)?;
-    let told = is_told(retrieved(alloc, node), 2, &values);
-    drop(values);
-    told
-}
-
-/// Whether an insert is answered Added, a retrieve with the
-/// value, and the first call, then below the floor, dropped.
-fn tells_values(alloc: Global) -> Option<(Option<bool>, Option<bool>, Option<bool>)> {
-    let mut node = found(alloc, CappedStore::new(alloc, 1))?;
-    let first = adds_x(alloc, &mut node);
-    let told = tells_x(alloc, &mut node);
-    let dropped = drops_x(alloc, &mut node);
-    drop(node);
-    Some((first, told, dropped))
-}
-
-/// A retrieve is answered with the values; a call at or below its caller's floor is dropped.
-#[test]
-fn values_are_told_and_seen_calls_dropped(rt: HostRuntime) {
-    let told = (Some(true), Some(true), Some(true));
-    assert!(rt; tells_values(rt.alloc()) == Some(told));
-}
-
-/// The phase and the number of a newborn node, and whether it drops a call.
-fn drops(alloc: Global) -> (Phase, u64, Option<bool>) {
-    let mut node = newborn(alloc, 1);
-    let (phase, number) = (node.phase(), node.number());
-    let dropped = drops_x(alloc, &mut node);
-    drop(node);
-    (phase, number, dropped)
-}
-
-/// A node that holds nothing and knows no other drops a call.
-#[test]
-fn a_newborn_node_drops_a_call(rt: HostRuntime) {
-    assert!(rt; drops(rt.alloc()) == (Phase::Staying, 1, Some(true)));
 }
 
 /// Node 1, which holds nothing, with node 0 in its list.
@@ -182,92 +215,188 @@ fn neighbour(alloc: Global) -> Node<CappedStore> {
     node
 }
 
-/// Whether the answer sends the call on to node 0 with one hop less than the most.
-fn is_passed(answered: Option<Answered>) -> Option<bool> {
-    let answered = answered?;
-    let is_passed = matches!(&answered, Answered::Forward(0, passed) if passed.hops == 254);
-    drop(answered);
-    Some(is_passed)
+/// Insert x, as call 1, with the most hops.
+const INSERT_X: Call = Call {
+    number: 1,
+    floor: 0,
+    hops: 255,
+    asked: Asked::Insert(b"x"),
+};
+
+/// Insert y, as call 2.
+const INSERT_Y: Call = Call {
+    number: 2,
+    floor: 0,
+    hops: 255,
+    asked: Asked::Insert(b"y"),
+};
+
+const ADDED: Told = Told {
+    caller: 0,
+    number: 1,
+    said: Said::Added,
+};
+
+const ADDED_FIRST: Step = Step {
+    rule: "a call for a held key is executed, and its reply told",
+    call: INSERT_X,
+    seen: Seen {
+        answer: Answer::Told(ADDED),
+        executed: Some(ADDED),
+    },
+};
+
+const ACTS_ONCE: &[Step] = &[
+    ADDED_FIRST,
+    Step {
+        rule: "a call that comes again gets the same reply, and is not executed",
+        call: INSERT_X,
+        seen: Seen {
+            answer: Answer::Told(ADDED),
+            executed: None,
+        },
+    },
+];
+
+#[test]
+fn a_call_acts_once(rt: HostRuntime) {
+    let alloc = rt.alloc();
+    follow(&rt, alloc, founder(&rt, alloc, 1), Way::Lent, ACTS_ONCE);
 }
 
-/// Whether the insert of x under `abc` is dropped if no hops are left.
-fn drops_spent(alloc: Global, node: &mut Node<CappedStore>) -> Option<bool> {
-    let mut spent = ask(1, 0, Request::insert(alloc, b"abc", b"x").ok()?);
-    spent.hops = 0;
-    let dropped = answered(node, &spent);
-    drop(spent);
-    is_dropped(dropped)
+const PRESENT: Told = Told {
+    caller: 0,
+    number: 3,
+    said: Said::Present,
+};
+
+const FILLS_UP: &[Step] = &[
+    ADDED_FIRST,
+    Step {
+        rule: "a full store refuses a call that would add a pair",
+        call: INSERT_Y,
+        seen: Seen {
+            answer: Answer::Full,
+            executed: None,
+        },
+    },
+    Step {
+        rule: "a full store executes a call that adds no pair",
+        call: Call {
+            number: 3,
+            floor: 0,
+            hops: 255,
+            asked: Asked::Insert(b"x"),
+        },
+        seen: Seen {
+            answer: Answer::Told(PRESENT),
+            executed: Some(PRESENT),
+        },
+    },
+];
+
+#[test]
+fn a_full_store_adds_nothing(rt: HostRuntime) {
+    let alloc = rt.alloc();
+    follow(&rt, alloc, founder(&rt, alloc, 1), Way::Lent, FILLS_UP);
 }
 
-/// The first entry of the list, whether a call is sent on
-/// to it, and whether one with no hops left is dropped.
-fn passes_on(alloc: Global) -> (Peer, Option<bool>, Option<bool>) {
-    let mut node = neighbour(alloc);
-    let first = node.links().first();
-    let passed = is_passed(inserted(alloc, &mut node, 1, b"abc", b"x"));
-    let dropped = drops_spent(alloc, &mut node);
-    drop(node);
-    (first, passed, dropped)
+const VALUES: Told = Told {
+    caller: 0,
+    number: 2,
+    said: Said::OnlyX,
+};
+
+const TAKES_REPLIES: &[Step] = &[
+    ADDED_FIRST,
+    Step {
+        rule: "a retrieve is answered with the values",
+        call: Call {
+            number: 2,
+            floor: 1,
+            hops: 255,
+            asked: Asked::Retrieve,
+        },
+        seen: Seen {
+            answer: Answer::Told(VALUES),
+            executed: Some(VALUES),
+        },
+    },
+    Step {
+        rule: "a call at its caller's floor is dropped",
+        call: INSERT_X,
+        seen: DROPPED,
+    },
+];
+
+const DROPPED: Seen = Seen {
+    answer: Answer::Dropped,
+    executed: None,
+};
+
+#[test]
+fn values_are_told_and_seen_calls_dropped(rt: HostRuntime) {
+    let alloc = rt.alloc();
+    follow(&rt, alloc, founder(&rt, alloc, 1), Way::Lent, TAKES_REPLIES);
 }
 
-/// With another node in its list it passes a call on to that
-/// with one hop less, and drops it if no hops are left.
+const LOST: &[Step] = &[Step {
+    rule: "a node that holds nothing and knows no other drops a call",
+    call: INSERT_X,
+    seen: DROPPED,
+}];
+
+#[test]
+fn a_newborn_node_drops_a_call(rt: HostRuntime) {
+    let node = newborn(rt.alloc(), 1);
+    assert!(rt; node.phase() == Phase::Staying, "a newborn node stays");
+    assert!(rt; node.number() == 1, "a node has the number of its links");
+    follow(&rt, rt.alloc(), node, Way::Lent, LOST);
+}
+
+const PASSED_ON: &[Step] = &[
+    Step {
+        rule: "a call for another's key goes on to the first entry, with one hop less",
+        call: INSERT_X,
+        seen: Seen {
+            answer: Answer::Forward {
+                to: 0,
+                number: 1,
+                hops: 254,
+            },
+            executed: None,
+        },
+    },
+    Step {
+        rule: "a call for another's key is dropped if no hops are left",
+        call: Call {
+            number: 1,
+            floor: 0,
+            hops: 0,
+            asked: Asked::Insert(b"x"),
+        },
+        seen: DROPPED,
+    },
+];
+
 #[test]
 fn a_call_is_passed_on(rt: HostRuntime) {
-    assert!(rt; passes_on(rt.alloc()) == (OTHER, Some(true), Some(true)));
+    let node = neighbour(rt.alloc());
+    assert!(rt; node.links().first() == OTHER, "the links are set");
+    follow(&rt, rt.alloc(), node, Way::Lent, PASSED_ON);
 }
 
-/// What the node answers to an insert of this value under
-/// `abc`, as call `number` of caller 0, which it takes over.
-fn taken(alloc: Global, node: &mut Node<CappedStore>, number: u64, value: &[u8]) -> Option<Answered>
-    requires some { 0 < number }
-    requires near { number ≤ 16 }
-{
-    let call = ask(number, 0, Request::insert(alloc, b"abc", value).ok()?);
-    let id = Id::of_bytes(call.request.key());
-    node.take_ask(id, call).ok()
-}
-
-/// Whether call 1 with x, which the node takes over, is answered Added.
-fn takes_x(alloc: Global, node: &mut Node<CappedStore>) -> Option<bool> {
-    is_told(taken(alloc, node, 1, b"x"), 1, &Reply::Added)
-}
-
-/// A node with room for one pair: whether a call that it takes over is answered Added, also when it
-/// comes again, and whether one that would add a second pair is refused.
-fn takes_calls(alloc: Global) -> Option<(Option<bool>, Option<bool>, Option<bool>)> {
-    let mut node = found(alloc, CappedStore::new(alloc, 1))?;
-    let first = takes_x(alloc, &mut node);
-    let again = takes_x(alloc, &mut node);
-    let full = is_full(taken(alloc, &mut node, 2, b"y"));
-    drop(node);
-    Some((first, again, full))
-}
-
-/// A call that a node takes over is answered as any other.
 #[test]
-fn a_call_is_taken(rt: HostRuntime) {
-    let taken = (Some(true), Some(true), Some(true));
-    assert!(rt; takes_calls(rt.alloc()) == Some(taken));
+fn a_call_that_is_taken_over_is_answered_as_any_other(rt: HostRuntime) {
+    let alloc = rt.alloc();
+    for script in [ACTS_ONCE, FILLS_UP, TAKES_REPLIES] {
+        follow(&rt, alloc, founder(&rt, alloc, 1), Way::TakenOver, script);
+    }
 }
 
-/// What the node answers to an insert of x under `abc`
-/// that it takes over. The node is dropped then.
-fn taken_astray(alloc: Global, mut node: Node<CappedStore>) -> Option<Answered> {
-    let answered = taken(alloc, &mut node, 1, b"x");
-    drop(node);
-    answered
-}
-
-/// Whether a call that a node takes over is sent on with
-/// one hop less, and dropped if the node knows no other.
-fn takes_calls_astray(alloc: Global) -> (Option<bool>, Option<bool>) {
-    let passed = is_passed(taken_astray(alloc, neighbour(alloc)));
-    (passed, is_dropped(taken_astray(alloc, newborn(alloc, 1))))
-}
-
-/// A call that a node takes over is sent on if the node does not hold its key.
 #[test]
-fn a_taken_call_goes_on(rt: HostRuntime) {
-    assert!(rt; takes_calls_astray(rt.alloc()) == (Some(true), Some(true)));
+fn a_call_that_is_taken_over_goes_on_if_its_key_is_anothers(rt: HostRuntime) {
+    let alloc = rt.alloc();
+    follow(&rt, alloc, neighbour(alloc), Way::TakenOver, PASSED_ON);
+    follow(&rt, alloc, newborn(alloc, 1), Way::TakenOver, LOST);
 }

@@ -1,342 +1,498 @@
 //! What a node cuts, merges, gives and takes back.
 
-use super::{A, B, C, back, found, given_away, given_empty, newborn, put, span, ticket};
-use chord_handover::Part;
-use chord_ident::{Id, Span};
+use super::scripts::{
+    A_A, A_B, A_C, B_A, B_C, C_A, Deed, EmptyPart, FIRST, FIRST_PART, Item, Outcome, Pairs,
+    PartShown, State, Step, WHOLE, follow_founder, giver,
+};
+use super::{A, B, C, newborn};
+use chord_handover::{Part, Ticket};
 use chord_map::Bytes;
 use chord_node::{
     Back, CutAtFault, GiveFault, MergeFault, Node, PartAnswer, Phase, ResendPartFault,
 };
 use chord_store::{CappedStore, EntryStore, Inserted, StoreFault};
 use std::alloc::Global;
+use std::process::Abort;
 
-/// Node 0, with room for one pair, which holds the whole circle.
-fn founder(alloc: Global) -> Option<Node<CappedStore>> {
-    found(alloc, CappedStore::new(alloc, 1))
-}
+/// Node 0 after a cut at B.
+const CUT_AT_B: State = State {
+    held: 2,
+    first: Some(A_B),
+    second: Some(B_A),
+    ..WHOLE
+};
 
-/// Node 0 after it gave (A, C], with x under `abc`, to node 1.
-fn giver(alloc: Global) -> Option<Node<CappedStore>> {
-    let (node, part) = given_away(alloc, 1)?;
-    drop(part);
-    Some(node)
-}
-
-/// What a node holds.
-type Spans = (Option<Span>, Option<Span>);
-
-fn spans(node: &Node<CappedStore>) -> Spans {
-    (node.span(0), node.span(1))
-}
-
-/// What a node holds after a cut at B, and after a merge of the two parts.
-fn cut_and_merge(node: &mut Node<CappedStore>) -> Option<(Spans, Spans)> {
-    node.cut_at(0, Id::new(B)).ok()?;
-    let cut = spans(node);
-    node.merge(0, 1).ok()?;
-    Some((cut, spans(node)))
-}
-
-/// What node 0 holds after the cut, and after the merge.
-fn cut_and_merged(alloc: Global) -> Option<(Spans, Spans)> {
-    let mut node = founder(alloc)?;
-    let spans = cut_and_merge(&mut node);
-    drop(node);
-    spans
-}
+pub const CUT_AND_MERGE: &[Step] = &[
+    Step {
+        rule: "a cut makes two segments, and the part behind the point gets the next index",
+        deed: Deed::Cut(0, B),
+        outcome: Outcome::Cut(Ok(())),
+        state: CUT_AT_B,
+    },
+    Step {
+        rule: "a merge makes one segment of two neighbours",
+        deed: Deed::Merge(0, 1),
+        outcome: Outcome::Merge(Ok(())),
+        state: WHOLE,
+    },
+];
 
 #[test]
-fn cuts_and_merges(rt: HostRuntime) {
-    let cut = (Some(span(A, B)), Some(span(B, A)));
-    let merged = (Some(span(A, A)), None);
-    assert!(rt; cut_and_merged(rt.alloc()) == Some((cut, merged)));
+fn a_cut_makes_two_segments_and_a_merge_one(rt: HostRuntime) {
+    follow_founder(&rt, rt.alloc(), 1, &[CUT_AND_MERGE]);
 }
 
-/// The results of cutting at a missing index and at an end
-/// of the segment, and how many segments are held then.
-fn refused_cuts(alloc: Global) -> Option<(Result<(), CutAtFault>, Result<(), CutAtFault>, usize)> {
-    let mut node = founder(alloc)?;
-    let nothing = node.cut_at(1, Id::new(B));
-    let outside = node.cut_at(0, Id::new(A));
-    let held = node.held_count();
-    drop(node);
-    Some((nothing, outside, held))
-}
-
-#[test]
-fn refuses_cuts(rt: HostRuntime) {
-    let (nothing, outside) = (Err(CutAtFault::NoSegment), Err(CutAtFault::NotInside));
-    assert!(rt; refused_cuts(rt.alloc()) == Some((nothing, outside, 1)));
-}
-
-/// Cuts the circle into (A, B], (B, C] and (C, A], and merges the first segment with this one.
-fn cut_twice(node: &mut Node<CappedStore>, other: usize) -> Option<Result<(), MergeFault>> {
-    node.cut_at(0, Id::new(C)).ok()?;
-    node.cut_at(0, Id::new(B)).ok()?;
-    Some(node.merge(0, other))
-}
-
-/// Why the merge of the first segment with this one
-/// is refused, and how many segments are held then.
-fn refused_merge(alloc: Global, other: usize) -> Option<(Option<Result<(), MergeFault>>, usize)> {
-    let mut node = founder(alloc)?;
-    let merged = cut_twice(&mut node, other);
-    let held = node.held_count();
-    drop(node);
-    Some((merged, held))
-}
+const REFUSED_CUTS: &[Step] = &[
+    Step {
+        rule: "a segment that is not held is not cut",
+        deed: Deed::Cut(1, B),
+        outcome: Outcome::Cut(Err(CutAtFault::NoSegment)),
+        state: WHOLE,
+    },
+    Step {
+        rule: "a segment is not cut at its end",
+        deed: Deed::Cut(0, A),
+        outcome: Outcome::Cut(Err(CutAtFault::NotInside)),
+        state: WHOLE,
+    },
+];
 
 #[test]
-fn refuses_merges(rt: HostRuntime) {
-    for (other, fault) in [
-        (0, MergeFault::NoSegment),
-        (3, MergeFault::NoSegment),
-        (2, MergeFault::NotAdjacent),
-    ] {
-        let refused = refused_merge(rt.alloc(), other);
-        assert!(rt; refused == Some((Some(Err(fault)), 3)), "at {other}");
-    }
+fn a_refused_cut_changes_nothing(rt: HostRuntime) {
+    follow_founder(&rt, rt.alloc(), 1, &[REFUSED_CUTS]);
 }
 
-/// Cuts at C and merges the two segments, with the same call in each.
-fn keep_twice(alloc: Global, node: &mut Node<CappedStore>) -> Option<Result<(), MergeFault>> {
-    node.cut_at(0, Id::new(C)).ok()?;
-    put(alloc, node, 1, b"abc")?;
-    put(alloc, node, 1, b"b")?;
-    Some(node.merge(0, 1))
-}
+/// Node 0 after a cut at C.
+const CUT_AT_C: State = State {
+    held: 2,
+    first: Some(A_C),
+    second: Some(C_A),
+    ..WHOLE
+};
 
-/// Why the merge of two segments with the same call is refused, and what the second one then is.
-fn kept_twice(alloc: Global) -> Option<(Option<Result<(), MergeFault>>, Option<Span>)> {
-    let mut node = found(alloc, CappedStore::new(alloc, 2))?;
-    let merged = keep_twice(alloc, &mut node);
-    let second = node.span(1);
-    drop(node);
-    Some((merged, second))
+/// Cuts at C.
+const CUT_C: Step = Step {
+    rule: "the circle is cut at C",
+    deed: Deed::Cut(0, C),
+    outcome: Outcome::Cut(Ok(())),
+    state: CUT_AT_C,
+};
+
+/// Node 0 after it cut the circle into (A, B], (B, C] and (C, A].
+const CUT_TWICE: State = State {
+    held: 3,
+    first: Some(A_B),
+    second: Some(B_C),
+    ..WHOLE
+};
+
+/// Merges the first segment with another one, and is refused.
+const REFUSED_MERGE: Step = Step {
+    rule: "a segment is not merged with itself",
+    deed: Deed::Merge(0, 0),
+    outcome: Outcome::Merge(Err(MergeFault::NoSegment)),
+    state: CUT_TWICE,
+};
+
+const REFUSED_MERGES: &[Step] = &[
+    CUT_C,
+    Step {
+        rule: "the first half is cut at B",
+        deed: Deed::Cut(0, B),
+        outcome: Outcome::Cut(Ok(())),
+        state: CUT_TWICE,
+    },
+    REFUSED_MERGE,
+    Step {
+        rule: "a segment is not merged with one that is not held",
+        deed: Deed::Merge(0, 3),
+        ..REFUSED_MERGE
+    },
+    Step {
+        rule: "a segment is not merged with one that does not begin where it ends",
+        deed: Deed::Merge(0, 2),
+        outcome: Outcome::Merge(Err(MergeFault::NotAdjacent)),
+        ..REFUSED_MERGE
+    },
+];
+
+#[test]
+fn a_refused_merge_changes_nothing(rt: HostRuntime) {
+    follow_founder(&rt, rt.alloc(), 1, &[REFUSED_MERGES]);
 }
 
 /// The same call under two keys, each kept in its own segment.
+const KEPT_TWICE: &[Step] = &[
+    CUT_C,
+    Step {
+        rule: "the call is executed for a key of the first segment",
+        deed: Deed::Put(1, b"abc"),
+        outcome: Outcome::Added,
+        state: CUT_AT_C,
+    },
+    Step {
+        rule: "the call is executed for a key of the second segment",
+        deed: Deed::Put(1, b"b"),
+        outcome: Outcome::Added,
+        state: CUT_AT_C,
+    },
+    Step {
+        rule: "segments that keep the same call are not merged",
+        deed: Deed::Merge(0, 1),
+        outcome: Outcome::Merge(Err(MergeFault::Twice)),
+        state: CUT_AT_C,
+    },
+];
+
 #[test]
 fn no_call_is_kept_twice(rt: HostRuntime) {
-    let twice = (Some(Err(MergeFault::Twice)), Some(span(C, A)));
-    assert!(rt; kept_twice(rt.alloc()) == Some(twice));
+    follow_founder(&rt, rt.alloc(), 2, &[KEPT_TWICE]);
 }
 
-/// Why the giving of a segment that is not held is refused.
-fn gives_nothing(alloc: Global) -> Option<(Result<(), GiveFault>, Option<GiveFault>)> {
-    let mut node = founder(alloc)?;
-    let faults = (node.may_give(1, 1), node.give(1, 1).err());
-    drop(node);
-    Some(faults)
-}
+const GIVES_NOTHING: &[Step] = &[
+    Step {
+        rule: "a segment that is not held may not be given",
+        deed: Deed::MayGive(1, 1),
+        outcome: Outcome::MayGive(Err(GiveFault::NoSegment)),
+        state: WHOLE,
+    },
+    Step {
+        rule: "a segment that is not held is not given",
+        deed: Deed::Give(1, 1),
+        outcome: Outcome::Give(Err(GiveFault::NoSegment)),
+        state: WHOLE,
+    },
+];
 
 #[test]
 fn gives_no_segment_that_it_does_not_hold(rt: HostRuntime) {
-    let fault = GiveFault::NoSegment;
-    assert!(rt; gives_nothing(rt.alloc()) == Some((Err(fault), Some(fault))));
+    follow_founder(&rt, rt.alloc(), 1, &[GIVES_NOTHING]);
 }
 
-/// Whether a node may give its whole circle to node 1, and whether it holds identifier 0.
-type Before = (Result<(), GiveFault>, bool);
+/// Node 0 after it gave the whole circle to node 1.
+const GAVE_ALL: State = State {
+    held: 0,
+    first: None,
+    kept: 1,
+    item: Some(Item {
+        to: 1,
+        number: 1,
+        span: A_A,
+    }),
+    ..WHOLE
+};
 
-fn may_give(node: &Node<CappedStore>) -> Before {
-    (node.may_give(0, 1), node.holds(Id::new(0)))
-}
+/// The only part of the first handover of node 0 to node 1, without pairs.
+const ONLY_PART: PartShown = PartShown {
+    ticket: FIRST,
+    place: 1,
+    of: 1,
+    span: Some(A_A),
+    pairs: Pairs::None,
+};
 
-/// The sender, the receiver and the handover's number of
-/// a part; its own number; and how many parts there are.
-type Names = (u64, u64, u64, u64, u64);
-
-fn names(part: &Part) -> Names {
-    (part.from, part.to, part.number, part.place, part.of)
-}
-
-/// The names of the part that the node gives.
-fn given_names(node: &mut Node<CappedStore>) -> Option<Names> {
-    let part = node.give(0, 1).ok()?;
-    let names = names(&part);
-    drop(part);
-    Some(names)
-}
-
-/// Whether node 0 may give its whole circle, the names
-/// of the part, and whether it holds identifier 0 then.
-fn gives(alloc: Global) -> Option<(Before, Option<Names>, bool)> {
-    let mut node = founder(alloc)?;
-    let before = may_give(&node);
-    let names = given_names(&mut node);
-    let holds = node.holds(Id::new(0));
-    drop(node);
-    Some((before, names, holds))
-}
+pub const GIVES_ALL: &[Step] = &[
+    Step {
+        rule: "a segment that is held may be given",
+        deed: Deed::MayGive(0, 1),
+        outcome: Outcome::MayGive(Ok(())),
+        state: WHOLE,
+    },
+    Step {
+        rule: "the whole circle has each identifier",
+        deed: Deed::Find(0),
+        outcome: Outcome::IsHeld,
+        state: WHOLE,
+    },
+    Step {
+        rule: "a handover without pairs has one part, and is kept in the outbox",
+        deed: Deed::Give(0, 1),
+        outcome: Outcome::Give(Ok(ONLY_PART)),
+        state: GAVE_ALL,
+    },
+    Step {
+        rule: "what is given is not held",
+        deed: Deed::Find(0),
+        outcome: Outcome::IsNotHeld,
+        state: GAVE_ALL,
+    },
+];
 
 #[test]
 fn gives_what_it_holds(rt: HostRuntime) {
-    let (before, names) = ((Ok(()), true), Some((0, 1, 1, 1, 1)));
-    assert!(rt; gives(rt.alloc()) == Some((before, names, false)));
+    follow_founder(&rt, rt.alloc(), 1, &[GIVES_ALL]);
 }
 
-/// The first item in the outbox, and the second.
-fn kept(alloc: Global) -> Option<(Option<(u64, u64, Span)>, Option<(u64, u64, Span)>)> {
-    let node = giver(alloc)?;
-    let kept = (node.outbox_item(0), node.outbox_item(1));
-    drop(node);
-    Some(kept)
-}
+/// Node 0 after it gave (A, C] to node 1.
+const GAVE_HALF: State = State {
+    held: 1,
+    first: Some(C_A),
+    kept: 1,
+    item: Some(Item {
+        to: 1,
+        number: 1,
+        span: A_C,
+    }),
+    ..WHOLE
+};
+
+/// The only part of that handover, with x under `abc`.
+const X_PART: PartShown = PartShown {
+    span: Some(A_C),
+    pairs: Pairs::X,
+    ..ONLY_PART
+};
+
+/// Node 0 gives (A, C], with x under `abc`, to node 1.
+pub const GIVES_HALF: &[Step] = &[
+    Step {
+        rule: "x is added under `abc`",
+        deed: Deed::Put(1, b"abc"),
+        outcome: Outcome::Added,
+        state: WHOLE,
+    },
+    CUT_C,
+    Step {
+        rule: "what is given is kept in the outbox, once",
+        deed: Deed::Give(0, 1),
+        outcome: Outcome::Give(Ok(X_PART)),
+        state: GAVE_HALF,
+    },
+];
 
 #[test]
 fn what_is_given_is_kept(rt: HostRuntime) {
-    let item = (1, 1, span(A, C));
-    assert!(rt; kept(rt.alloc()) == Some((Some(item), None)));
+    follow_founder(&rt, rt.alloc(), 1, &[GIVES_HALF]);
 }
 
-/// Whether the parts have equal segments, how many pairs there are, and whether those are equal.
-fn have_the_same(part: &Part, other: &Part) -> Option<(bool, usize, bool)> {
-    let (first, second) = part.segment.as_ref().zip(other.segment.as_ref())?;
-    let segment = first.equals(second);
-    let pairs = part.pairs == other.pairs;
-    Some((segment, part.pairs.len(), pairs))
+/// Sends the only part again.
+const RESEND: Step = Step {
+    rule: "a part of an item of the outbox is sent again",
+    deed: Deed::Resend {
+        to: 1,
+        number: 1,
+        place: 1,
+    },
+    outcome: Outcome::Resend(Ok(X_PART)),
+    state: GAVE_HALF,
+};
+
+/// Sends a part again that there is not.
+const NO_RESEND: Step = Step {
+    outcome: Outcome::Resend(Err(ResendPartFault::NoPart)),
+    ..RESEND
+};
+
+pub const RESENDS: &[Step] = &[
+    Step {
+        rule: "there is no part 0",
+        deed: Deed::Resend {
+            to: 1,
+            number: 1,
+            place: 0,
+        },
+        ..NO_RESEND
+    },
+    Step {
+        rule: "there is no part behind the last",
+        deed: Deed::Resend {
+            to: 1,
+            number: 1,
+            place: 2,
+        },
+        ..NO_RESEND
+    },
+    Step {
+        rule: "a handover that was not given has no part",
+        deed: Deed::Resend {
+            to: 1,
+            number: 2,
+            place: 1,
+        },
+        ..NO_RESEND
+    },
+    Step {
+        rule: "a node that was given nothing gets no part",
+        deed: Deed::Resend {
+            to: 2,
+            number: 1,
+            place: 1,
+        },
+        ..NO_RESEND
+    },
+    RESEND,
+];
+
+#[test]
+fn no_other_part_goes_again(rt: HostRuntime) {
+    follow_founder(&rt, rt.alloc(), 1, &[GIVES_HALF, RESENDS]);
 }
 
-/// The names of the part sent again, and what it has in common with the first.
-type Again = (Names, Option<(bool, usize, bool)>);
-
-fn sent_again(node: &Node<CappedStore>, first: &Part) -> Option<Again> {
-    let part = node.resend_part(1, 1, 1).ok()?;
-    let again = (names(&part), have_the_same(&part, first));
-    drop(part);
-    Some(again)
+/// What a part that is sent again has in common with the first one.
+#[derive(Clone, Copy)]
+struct Compared {
+    has_its_ticket: bool,
+    has_its_place: bool,
+    has_its_segment: bool,
+    has_its_pairs: bool,
+    pairs: usize,
 }
 
-fn resent(alloc: Global) -> Option<Again> {
-    let (node, first) = given_away(alloc, 1)?;
-    let again = sent_again(&node, &first);
+fn compare(part: &Part, first: &Part) -> Compared {
+    let has_its_segment = match (&part.segment, &first.segment) {
+        (Some(segment), Some(other)) => segment.equals(other),
+        _ => false,
+    };
+    Compared {
+        has_its_ticket: Ticket::of(part) == Ticket::of(first),
+        has_its_place: part.place == first.place && part.of == first.of,
+        has_its_segment,
+        has_its_pairs: part.pairs == first.pairs,
+        pairs: part.pairs.len(),
+    }
+}
+
+/// The part with x under `abc` that node 0 gives, compared with the one that it sends again.
+fn sent_again(rt: &impl Abort, alloc: Global) -> Compared {
+    let (node, first) = giver(alloc).expect(rt, "memory for a giver");
+    let again = node
+        .resend_part(1, 1, 1)
+        .expect(rt, "the part, and memory for it");
     drop(node);
+    let compared = compare(&again, &first);
+    drop(again);
     drop(first);
-    again
+    compared
 }
 
 #[test]
 fn a_part_goes_again(rt: HostRuntime) {
-    let same = Some((true, 1, true));
-    assert!(rt; resent(rt.alloc()) == Some(((0, 1, 1, 1, 1), same)));
+    let again = sent_again(&rt, rt.alloc());
+    assert!(rt; again.has_its_ticket, "it is of the same handover");
+    assert!(rt; again.has_its_place, "it is the same part of it");
+    assert!(rt; again.has_its_segment, "it has the same segment");
+    assert!(rt; again.has_its_pairs, "it has the same pairs");
+    assert!(rt; again.pairs == 1, "that is one pair");
 }
 
-/// Why sending again a part that was not given is refused.
-fn unsent(alloc: Global, to: u64, number: u64, part: u64) -> Option<ResendPartFault> {
-    let node = giver(alloc)?;
-    let fault = node.resend_part(to, number, part).err();
-    drop(node);
-    fault
-}
-
-#[test]
-fn no_other_part_goes_again(rt: HostRuntime) {
-    for (to, number, part) in [(1, 1, 0), (1, 1, 2), (1, 2, 1), (2, 1, 1)] {
-        let fault = unsent(rt.alloc(), to, number, part);
-        assert!(rt; fault == Some(ResendPartFault::NoPart));
-    }
-}
-
-/// How many segments a node holds, and how many items its outbox has.
-fn counts(node: &Node<CappedStore>) -> (usize, usize) {
-    (node.held_count(), node.outbox_len())
-}
-
-/// The counts, and what the node answers to a Declined for an item that was not given.
-type Unknown = ((usize, usize), Option<Back>);
-
-/// These, what the node answers to a Declined for the item it
-/// gave, the span at index 1, and how many items are left.
-fn held_again(alloc: Global) -> Option<(Unknown, Option<Back>, Option<Span>, usize)> {
-    let mut node = giver(alloc)?;
-    let before = counts(&node);
-    let unknown = back(&mut node, ticket(0, 1, 2));
-    let held = back(&mut node, ticket(0, 1, 1));
-    let (place, kept) = (node.span(1), node.outbox_len());
-    drop(node);
-    Some(((before, unknown), held, place, kept))
-}
+pub const DECLINED: &[Step] = &[
+    Step {
+        rule: "a Declined for what was not given changes nothing",
+        deed: Deed::Declined(Ticket { number: 2, ..FIRST }),
+        outcome: Outcome::Back(Back::Unknown),
+        state: GAVE_HALF,
+    },
+    Step {
+        rule: "what is declined is held again, and leaves the outbox",
+        deed: Deed::Declined(FIRST),
+        outcome: Outcome::Back(Back::Held),
+        state: State {
+            first: Some(C_A),
+            second: Some(A_C),
+            ..CUT_AT_C
+        },
+    },
+];
 
 #[test]
 fn what_is_declined_is_held_again(rt: HostRuntime) {
-    let unknown = ((1, 1), Some(Back::Unknown));
-    let held = (unknown, Some(Back::Held), Some(span(A, C)), 0);
-    assert!(rt; held_again(rt.alloc()) == Some(held));
+    follow_founder(&rt, rt.alloc(), 1, &[GIVES_HALF, DECLINED]);
 }
 
-/// What the node answers to a Declined after x was added under `b`.
-fn back_after_b(alloc: Global, node: &mut Node<CappedStore>) -> Option<Back> {
-    put(alloc, node, 2, b"b")?;
-    back(node, ticket(0, 1, 1))
-}
+const DECLINED_TO_A_FULL_STORE: &[Step] = &[
+    Step {
+        rule: "the store has room for x under `b` once x under `abc` was given away",
+        deed: Deed::Put(2, b"b"),
+        outcome: Outcome::Added,
+        state: GAVE_HALF,
+    },
+    Step {
+        rule: "if the store is full, a declined item stays in the outbox",
+        deed: Deed::Declined(FIRST),
+        outcome: Outcome::Back(Back::Full),
+        state: GAVE_HALF,
+    },
+];
 
-/// What the node answers to a Declined if its store is full, and then the first item of its outbox
-/// and how many segments it holds.
-fn back_to_a_full_store(alloc: Global) -> Option<(Option<Back>, Option<(u64, u64, Span)>, usize)> {
-    let mut node = giver(alloc)?;
-    let full = back_after_b(alloc, &mut node);
-    let (kept, held) = (node.outbox_item(0), node.held_count());
-    drop(node);
-    Some((full, kept, held))
-}
-
-/// If the store is full, a declined item stays in the outbox.
 #[test]
 fn a_full_store_takes_nothing_back(rt: HostRuntime) {
-    let full = (Some(Back::Full), Some((1, 1, span(A, C))), 1);
-    assert!(rt; back_to_a_full_store(rt.alloc()) == Some(full));
+    follow_founder(&rt, rt.alloc(), 1, &[GIVES_HALF, DECLINED_TO_A_FULL_STORE]);
 }
 
-/// What a node answers to a handover of a part of what it gave,
-/// what it answers to the Declined, and its outbox's item.
-fn back_to_another(
-    alloc: Global,
-) -> Option<(Option<PartAnswer>, Option<Back>, Option<(u64, u64, Span)>)> {
-    let mut node = giver(alloc)?;
-    let got = given_empty(alloc, &mut node, ticket(2, 0, 1), span(A, B));
-    let clash = back(&mut node, ticket(0, 1, 1));
-    let kept = node.outbox_item(0);
-    drop(node);
-    Some((got, clash, kept))
-}
+/// Node 0 after it gave (A, C] and took (A, B] from node 2.
+const TOOK_A_B: State = State {
+    held: 2,
+    second: Some(A_B),
+    taken: [0, 0, 1],
+    ..GAVE_HALF
+};
+
+const DECLINED_TO_ANOTHER: &[Step] = &[
+    Step {
+        rule: "a handover of what was given away is taken",
+        deed: Deed::Take(EmptyPart {
+            ticket: Ticket {
+                from: 2,
+                to: 0,
+                number: 1,
+            },
+            ..FIRST_PART
+        }),
+        outcome: Outcome::Part(PartAnswer::Got),
+        state: TOOK_A_B,
+    },
+    Step {
+        rule: "a declined item that meets what is held stays in the outbox",
+        deed: Deed::Declined(FIRST),
+        outcome: Outcome::Back(Back::Clash),
+        state: TOOK_A_B,
+    },
+];
 
 /// A handover made by hand overlaps what was given away.
 #[test]
 fn what_is_held_again_meets_nothing(rt: HostRuntime) {
-    let (got, clash) = (Some(PartAnswer::Got), Some(Back::Clash));
-    let kept = Some((1, 1, span(A, C)));
-    assert!(rt; back_to_another(rt.alloc()) == Some((got, clash, kept)));
+    follow_founder(&rt, rt.alloc(), 1, &[GIVES_HALF, DECLINED_TO_ANOTHER]);
 }
 
-/// The result of an insert into a store.
-type Put = Result<Inserted, StoreFault>;
+/// A store that came back: how many pairs it has, and the results of two inserts.
+#[derive(Clone, Copy)]
+struct GivenBack {
+    count: u64,
+    first: Result<Inserted, StoreFault>,
+    second: Result<Inserted, StoreFault>,
+}
 
-/// How many pairs a store has, and the results of two inserts.
-fn stores(mut store: CappedStore, key: Bytes) -> (u64, Put, Put) {
+fn use_store(mut store: CappedStore, key: Bytes) -> GivenBack {
     let count = store.count();
     let first = store.insert(&key, b"x");
     let second = store.insert(&key, b"y");
     drop(store);
     drop(key);
-    (count, first, second)
-}
-
-/// How many pairs the store has that a newborn node with room
-/// for one pair gives back, and the results of two inserts.
-fn given_back(alloc: Global) -> Option<(u64, Put, Put)> {
-    let key = Bytes::from_slice(alloc, b"a").ok()?;
-    let node = newborn(alloc, 1);
-    if node.phase() == Phase::Gone {
-        drop(node);
-        return None;
+    GivenBack {
+        count,
+        first,
+        second,
     }
-    Some(stores(node.into_store(), key))
 }
 
-/// A node that was not admitted gives its store back, with its limit.
+/// The store that a node gives back which was not admitted.
+fn give_back(rt: &impl Abort, alloc: Global, node: Node<CappedStore>) -> GivenBack {
+    let key = Bytes::from_slice(alloc, b"a").expect(rt, "memory for a key");
+    assert!(rt;
+        node.phase() != Phase::Gone,
+        "a node that is not gone has a store"
+    );
+    use_store(node.into_store(), key)
+}
+
 #[test]
 fn a_store_comes_back(rt: HostRuntime) {
-    let one = (0, Ok(Inserted::Added), Err(StoreFault::Full));
-    assert!(rt; given_back(rt.alloc()) == Some(one));
+    let store = give_back(&rt, rt.alloc(), newborn(rt.alloc(), 1));
+    assert!(rt; store.count == 0, "it is empty");
+    assert!(rt;
+        store.first == Ok(Inserted::Added),
+        "it has room for a pair"
+    );
+    assert!(rt; store.second == Err(StoreFault::Full), "it has its limit");
 }

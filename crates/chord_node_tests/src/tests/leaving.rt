@@ -1,51 +1,66 @@
 //! Nodes that leave.
 
-use super::{A, B, C, found, freed, given_empty, newborn, put, span, ticket};
-use chord_node::{Node, NotStaying, PartAnswer, Phase, RetireFault};
-use chord_store::{CappedStore, NotedStore};
+use super::counted_store::CountedStore;
+use super::found;
+use super::scripts::{
+    A_A, A_B, B_C, Deed, EmptyPart, FIRST, FIRST_PART, Item, NEWBORN, Outcome, Pairs, PartShown,
+    State, Step, WHOLE, follow, follow_founder, follow_newborn,
+};
+use chord_handover::Ticket;
+use chord_node::{NotStaying, PartAnswer, Phase, RetireFault};
+use chord_store::NotedStore;
 use std::alloc::{AllocError, Global};
+use std::process::Abort;
+use std::sync::atomic::{AtomicU64, Ordering};
 use std::sync::{Arc, OnceLock};
 
-/// Whether a staying node can retire, whether it begins to leave, twice, and then its phase.
-fn leaves(
-    alloc: Global,
-) -> Option<
-    (
-        Result<(), RetireFault>,
-        Result<(), NotStaying>,
-        Result<(), NotStaying>,
-        Phase,
-    ),
-> {
-    let mut node = found(alloc, CappedStore::new(alloc, 1))?;
-    let early = node.retire();
-    let first = node.begin_leave();
-    let again = node.begin_leave();
-    let phase = node.phase();
-    drop(node);
-    Some((early, first, again, phase))
-}
+/// Node 0, leaving, while it holds the whole circle.
+const LEAVING: State = State {
+    phase: Phase::Leaving,
+    ..WHOLE
+};
+
+const BEGIN_LEAVE: Step = Step {
+    rule: "a staying node begins to leave",
+    deed: Deed::Leave,
+    outcome: Outcome::Leave(Ok(())),
+    state: LEAVING,
+};
+
+const LEAVES: &[Step] = &[
+    Step {
+        rule: "a staying node does not retire",
+        deed: Deed::Retire,
+        outcome: Outcome::Retire(Err(RetireFault::NotLeaving)),
+        state: WHOLE,
+    },
+    BEGIN_LEAVE,
+    Step {
+        rule: "a leaving node does not begin to leave",
+        deed: Deed::Leave,
+        outcome: Outcome::Leave(Err(NotStaying)),
+        state: LEAVING,
+    },
+];
 
 #[test]
 fn leaves_once(rt: HostRuntime) {
-    let early = Err(RetireFault::NotLeaving);
-    let once = (early, Ok(()), Err(NotStaying), Phase::Leaving);
-    assert!(rt; leaves(rt.alloc()) == Some(once));
+    follow_founder(&rt, rt.alloc(), 1, &[LEAVES]);
 }
 
-/// Whether a node begins to leave, and whether it can retire while it holds the circle.
-fn retires_early(alloc: Global) -> Option<(Result<(), NotStaying>, Result<(), RetireFault>)> {
-    let mut node = found(alloc, CappedStore::new(alloc, 1))?;
-    let leaving = node.begin_leave();
-    let early = node.retire();
-    drop(node);
-    Some((leaving, early))
-}
+const HOLDS: &[Step] = &[
+    BEGIN_LEAVE,
+    Step {
+        rule: "a node that holds a segment does not retire",
+        deed: Deed::Retire,
+        outcome: Outcome::Retire(Err(RetireFault::NotEmpty)),
+        state: LEAVING,
+    },
+];
 
 #[test]
 fn holds_nothing_when_it_retires(rt: HostRuntime) {
-    let early = (Ok(()), Err(RetireFault::NotEmpty));
-    assert!(rt; retires_early(rt.alloc()) == Some(early));
+    follow_founder(&rt, rt.alloc(), 1, &[HOLDS]);
 }
 
 #[test]
@@ -55,88 +70,243 @@ fn says_that_it_does_not_stay(rt: HostRuntime) -> Result<(), AllocError> {
     Ok(())
 }
 
-/// Puts x under `abc`, begins to leave and gives the whole circle to node 1.
-fn leave(alloc: Global, node: &mut Node<NotedStore>) -> Option<()> {
-    put(alloc, node, 1, b"abc")?;
-    node.begin_leave().ok()?;
-    drop(node.give(0, 1).ok()?);
-    Some(())
+/// Node 0 after it gave the whole circle, with x under `abc`, to node 1.
+const GAVE_ALL: State = State {
+    held: 0,
+    first: None,
+    kept: 1,
+    item: Some(Item {
+        to: 1,
+        number: 1,
+        span: A_A,
+    }),
+    ..LEAVING
+};
+
+/// Node 0 once node 1 took the circle.
+const HOLDS_NOTHING: State = State {
+    kept: 0,
+    item: None,
+    ..GAVE_ALL
+};
+
+const HANDS_OVER: &[Step] = &[
+    Step {
+        rule: "x is added under `abc`",
+        deed: Deed::Put(1, b"abc"),
+        outcome: Outcome::Added,
+        state: WHOLE,
+    },
+    BEGIN_LEAVE,
+    Step {
+        rule: "a leaving node gives what it holds",
+        deed: Deed::Give(0, 1),
+        outcome: Outcome::Give(Ok(PartShown {
+            ticket: FIRST,
+            place: 1,
+            of: 1,
+            span: Some(A_A),
+            pairs: Pairs::X,
+        })),
+        state: GAVE_ALL,
+    },
+    Step {
+        rule: "a node with an item in its outbox does not retire",
+        deed: Deed::Retire,
+        outcome: Outcome::Retire(Err(RetireFault::NotEmpty)),
+        state: GAVE_ALL,
+    },
+    Step {
+        rule: "a Got frees the item that it names",
+        deed: Deed::Got(FIRST),
+        outcome: Outcome::Freed,
+        state: HOLDS_NOTHING,
+    },
+    Step {
+        rule: "a Got that comes again finds nothing",
+        deed: Deed::Got(FIRST),
+        outcome: Outcome::NotThere,
+        state: HOLDS_NOTHING,
+    },
+];
+
+const RETIRES: &[Step] = &[Step {
+    rule: "a leaving node retires once its handovers were taken",
+    deed: Deed::Retire,
+    outcome: Outcome::Retire(Ok(())),
+    state: State {
+        phase: Phase::Gone,
+        ..HOLDS_NOTHING
+    },
+}];
+
+/// What a cell has to which a store reports: before its node retires, and between that and the drop
+/// of the node.
+#[derive(Clone, Copy)]
+struct Noted {
+    before: Option<u64>,
+    retired: Option<u64>,
 }
 
-/// Node 0 after it gave the whole circle, with x under `abc`,
-/// to node 1 and began to leave. Its store reports to `note`.
-fn left(alloc: Global, note: &Arc<OnceLock<u64>>) -> Option<Node<NotedStore>> {
-    let mut node = found(alloc, NotedStore::new(alloc, note.clone().ok()?))?;
-    let is_left = leave(alloc, &mut node).is_some();
-    is_left.then_some(node)
-}
-
-/// Whether a node can retire before node 1 took its segment,
-/// and whether a Got finds the item, once and twice.
-type Handover = (Result<(), RetireFault>, Option<bool>, Option<bool>);
-
-fn hands_over(node: &mut Node<NotedStore>) -> Handover {
-    let early = node.retire();
-    let got = freed(node, ticket(0, 1, 1));
-    (early, got, freed(node, ticket(0, 1, 1)))
-}
-
-/// Whether a node retires, and its store's count of pairs in the cell before and after.
-type Retirement = (Option<u64>, Result<(), RetireFault>, Option<u64>);
-
-fn retires(alloc: Global) -> Option<(Handover, Retirement)> {
-    let note = Arc::new(alloc, OnceLock::new()).ok()?;
-    let mut node = left(alloc, &note)?;
-    let handover = hands_over(&mut node);
+/// A node hands over what it holds and retires. Its store puts its count into a cell when it is
+/// dropped.
+fn note_retirement(rt: &impl Abort, alloc: Global, note: &Arc<OnceLock<u64>>) -> Noted {
+    let store = NotedStore::new(alloc, note.clone().expect(rt, "room for a clone"));
+    let mut node = found(alloc, store).expect(rt, "memory for a node");
+    follow(rt, alloc, &mut node, HANDS_OVER);
     let before = note.get().copied();
-    let retired = node.retire();
+    follow(rt, alloc, &mut node, RETIRES);
+    let retired = note.get().copied();
     drop(node);
-    Some((handover, (before, retired, note.get().copied())))
+    Noted { before, retired }
 }
 
-/// A node retires once its handover was taken, and drops its empty store.
 #[test]
 fn a_store_is_dropped_at_retirement(rt: HostRuntime) {
-    let handover = (Err(RetireFault::NotEmpty), Some(true), Some(false));
-    let retirement = (None, Ok(()), Some(0));
-    assert!(rt; retires(rt.alloc()) == Some((handover, retirement)));
+    let note = Arc::new(rt.alloc(), OnceLock::new()).expect(&rt, "memory for a cell");
+    let noted = note_retirement(&rt, rt.alloc(), &note);
+    assert!(rt; noted.before == None, "a leaving node has its store");
+    assert!(rt;
+        noted.retired == Some(0),
+        "a node that retires drops its store, which is empty"
+    );
 }
 
-/// Takes a handover of node 0 and gives it to node 2; whether the Got then finds the item.
-fn give_on(alloc: Global, node: &mut Node<CappedStore>) -> Option<bool> {
-    given_empty(alloc, node, ticket(0, 1, 1), span(A, B))?;
-    drop(node.give(0, 2).ok()?);
-    freed(node, ticket(1, 2, 1))
+/// How often a store was dropped: before its node retires, between that and the drop of the node,
+/// and after both.
+#[derive(Clone, Copy)]
+struct Drops {
+    before: u64,
+    retired: u64,
+    after: u64,
 }
 
-/// The phase of a node after it begins to leave and retires.
-fn phase_when_left(node: &mut Node<CappedStore>) -> Option<Phase> {
-    node.begin_leave().ok()?;
-    node.retire().ok()?;
-    Some(node.phase())
-}
-
-/// What a node answers to three handovers.
-type Answers = (Option<PartAnswer>, Option<PartAnswer>, Option<PartAnswer>);
-
-/// Whether node 1 gave on its segment, its phase after
-/// it left, and then what it answers to three handovers.
-fn answers(alloc: Global) -> (Option<bool>, Option<Phase>, Answers) {
-    let mut node = newborn(alloc, 1);
-    let given = give_on(alloc, &mut node);
-    let phase = phase_when_left(&mut node);
-    let taken = given_empty(alloc, &mut node, ticket(0, 1, 1), span(A, B));
-    let next = given_empty(alloc, &mut node, ticket(0, 1, 2), span(B, C));
-    let later = given_empty(alloc, &mut node, ticket(0, 1, 3), span(B, C));
+/// A node hands over what it holds and retires. Its store counts its drops.
+fn count_drops(rt: &impl Abort, alloc: Global, drops: &AtomicU64) -> Drops {
+    let store = CountedStore::new(alloc, drops);
+    let mut node = found(alloc, store).expect(rt, "memory for a node");
+    follow(rt, alloc, &mut node, HANDS_OVER);
+    let before = drops.load(Ordering::SeqCst);
+    follow(rt, alloc, &mut node, RETIRES);
+    let retired = drops.load(Ordering::SeqCst);
     drop(node);
-    (given, phase, (taken, next, later))
+    Drops {
+        before,
+        retired,
+        after: drops.load(Ordering::SeqCst),
+    }
 }
 
-/// A gone node answers Got to what it took, and Declined to the rest.
+#[test]
+fn a_store_is_dropped_once(rt: HostRuntime) {
+    let drops = count_drops(&rt, rt.alloc(), &AtomicU64::new(0));
+    assert!(rt; drops.before == 0, "a leaving node has its store");
+    assert!(rt; drops.retired == 1, "a node that retires drops its store");
+    assert!(rt; drops.after == 1, "a gone node has no store to drop");
+}
+
+/// Node 1 once it holds nothing, after it took one handover of node 0.
+const TOOK_ONE: State = State {
+    taken: [1, 0, 0],
+    ..NEWBORN
+};
+
+const GONE: State = State {
+    phase: Phase::Gone,
+    ..TOOK_ONE
+};
+
+/// A later handover of node 0 comes to node 1, which is gone.
+const LATER: Step = Step {
+    rule: "a gone node declines the next handover",
+    deed: Deed::Take(EmptyPart {
+        ticket: Ticket { number: 2, ..FIRST },
+        span: B_C,
+        ..FIRST_PART
+    }),
+    outcome: Outcome::Part(PartAnswer::Declined),
+    state: GONE,
+};
+
+const GONE_NODE: &[Step] = &[
+    Step {
+        rule: "node 1 takes a handover",
+        deed: Deed::Take(FIRST_PART),
+        outcome: Outcome::Part(PartAnswer::Got),
+        state: State {
+            held: 1,
+            first: Some(A_B),
+            ..TOOK_ONE
+        },
+    },
+    Step {
+        rule: "it gives it on",
+        deed: Deed::Give(0, 2),
+        outcome: Outcome::Give(Ok(PartShown {
+            ticket: Ticket {
+                from: 1,
+                to: 2,
+                number: 1,
+            },
+            place: 1,
+            of: 1,
+            span: Some(A_B),
+            pairs: Pairs::None,
+        })),
+        state: State {
+            kept: 1,
+            item: Some(Item {
+                to: 2,
+                number: 1,
+                span: A_B,
+            }),
+            ..TOOK_ONE
+        },
+    },
+    Step {
+        rule: "a Got frees it",
+        deed: Deed::Got(Ticket {
+            from: 1,
+            to: 2,
+            number: 1,
+        }),
+        outcome: Outcome::Freed,
+        state: TOOK_ONE,
+    },
+    Step {
+        rule: "it begins to leave",
+        deed: Deed::Leave,
+        outcome: Outcome::Leave(Ok(())),
+        state: State {
+            phase: Phase::Leaving,
+            ..TOOK_ONE
+        },
+    },
+    Step {
+        rule: "it retires",
+        deed: Deed::Retire,
+        outcome: Outcome::Retire(Ok(())),
+        state: GONE,
+    },
+    Step {
+        rule: "a gone node answers Got to what it took",
+        deed: Deed::Take(FIRST_PART),
+        outcome: Outcome::Part(PartAnswer::Got),
+        state: GONE,
+    },
+    LATER,
+    Step {
+        rule: "a gone node declines a later handover too",
+        deed: Deed::Take(EmptyPart {
+            ticket: Ticket { number: 3, ..FIRST },
+            span: B_C,
+            ..FIRST_PART
+        }),
+        ..LATER
+    },
+];
+
 #[test]
 fn a_gone_node_answers_parts(rt: HostRuntime) {
-    let declined = Some(PartAnswer::Declined);
-    let answered = (Some(PartAnswer::Got), declined, declined);
-    let gone = (Some(true), Some(Phase::Gone), answered);
-    assert!(rt; answers(rt.alloc()) == gone);
+    follow_newborn(&rt, rt.alloc(), 1, GONE_NODE);
 }

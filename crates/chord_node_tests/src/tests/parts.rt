@@ -1,144 +1,158 @@
 //! Arriving parts.
 
-ghost use Rattle.std.specs.Prelude.{◌<◌, ◌≤◌};
-
-use super::{
-    A, B, C, first_part, found, give_away, given, given_empty, given_once, newborn, span, ticket,
+use super::scripts::{
+    A_B, A_C, B_C, Deed, EmptyPart, FIRST, FIRST_PART, NEWBORN, Outcome, State, Step, WHOLE,
+    follow_founder, follow_newborn,
 };
-use chord_handover::{Part, Ticket};
-use chord_ident::Span;
-use chord_node::{Node, PartAnswer};
-use chord_store::CappedStore;
-use std::alloc::Global;
+use chord_handover::Ticket;
+use chord_node::PartAnswer;
 
-/// The last handover that a node took from node 0, and how many segments it holds.
-fn taken(node: &Node<CappedStore>) -> (u64, usize) {
-    (node.last_taken(0), node.held_count())
-}
+/// Node 1 after it took (A, C] from node 0.
+const TOOK_X: State = State {
+    held: 1,
+    first: Some(A_C),
+    taken: [1, 0, 0],
+    ..NEWBORN
+};
 
-/// The part with one pair that node 0 gives to node 1.
-fn one_pair(alloc: Global) -> Option<Part> {
-    let mut node = found(alloc, CappedStore::new(alloc, 1))?;
-    let part = give_away(alloc, &mut node);
-    drop(node);
-    part
-}
-
-/// What a node answers to two parts, with memory for each.
-type Answers = (Option<PartAnswer>, Option<PartAnswer>);
-
-/// What a node answers to two parts, what it took, and then the span that it holds.
-type Taking = (Answers, (u64, usize), Option<Span>);
-
-/// What a node answers to a part that comes twice, what it took, and then the span that it holds.
-fn take_twice(node: &mut Node<CappedStore>, part: &Part) -> Taking {
-    let first = given(node, part);
-    let again = given(node, part);
-    ((first, again), taken(node), node.span(0))
-}
-
-/// `take_twice` of node 1, with room for `limit` pairs, and a part with one pair.
-fn twice(alloc: Global, limit: u64) -> Option<Taking> {
-    let part = one_pair(alloc)?;
-    let mut node = newborn(alloc, limit);
-    let taking = take_twice(&mut node, &part);
-    drop(node);
-    drop(part);
-    Some(taking)
-}
+pub const TAKES_X: &[Step] = &[
+    Step {
+        rule: "the next handover of its giver is taken and held",
+        deed: Deed::TakeX,
+        outcome: Outcome::Part(PartAnswer::Got),
+        state: TOOK_X,
+    },
+    Step {
+        rule: "a handover that comes again is answered Got and not taken again",
+        deed: Deed::TakeX,
+        outcome: Outcome::Part(PartAnswer::Got),
+        state: TOOK_X,
+    },
+];
 
 #[test]
-fn takes_what_is_given(rt: HostRuntime) {
-    let got = (Some(PartAnswer::Got), Some(PartAnswer::Got));
-    let held = Some(span(A, C));
-    assert!(rt; twice(rt.alloc(), 1) == Some((got, (1, 1), held)));
+fn takes_what_is_given_once(rt: HostRuntime) {
+    follow_newborn(&rt, rt.alloc(), 1, TAKES_X);
 }
 
-/// A store with too little room takes nothing, however often the part comes.
+/// A handover with a pair comes to a store with no room.
+const REFUSED_X: Step = Step {
+    rule: "a store with too little room takes nothing, however often the part comes",
+    deed: Deed::TakeX,
+    outcome: Outcome::Part(PartAnswer::Full),
+    state: NEWBORN,
+};
+
 #[test]
 fn a_full_store_takes_no_handover(rt: HostRuntime) {
-    let full = (Some(PartAnswer::Full), Some(PartAnswer::Full));
-    assert!(rt; twice(rt.alloc(), 0) == Some((full, (0, 0), None)));
+    follow_newborn(&rt, rt.alloc(), 0, &[REFUSED_X, REFUSED_X]);
 }
 
-/// What a node answers to a second handover, to the first,
-/// and to the second again, and the last number taken.
-fn in_order(alloc: Global) -> (Option<PartAnswer>, Answers, u64) {
-    let mut node = newborn(alloc, 1);
-    let early = given_empty(alloc, &mut node, ticket(0, 1, 2), span(B, C));
-    let first = given_empty(alloc, &mut node, ticket(0, 1, 1), span(A, B));
-    let again = given_empty(alloc, &mut node, ticket(0, 1, 2), span(B, C));
-    let last = node.last_taken(0);
-    drop(node);
-    (early, (first, again), last)
-}
+/// The only part of the second handover of node 0 to node 1.
+const SECOND_PART: EmptyPart = EmptyPart {
+    ticket: Ticket { number: 2, ..FIRST },
+    span: B_C,
+    ..FIRST_PART
+};
+
+/// Node 1 after it took (A, B] from node 0.
+const TOOK_FIRST: State = State {
+    held: 1,
+    first: Some(A_B),
+    taken: [1, 0, 0],
+    ..NEWBORN
+};
+
+const IN_ORDER: &[Step] = &[
+    Step {
+        rule: "a handover that is not the next one of its giver is early",
+        deed: Deed::Take(SECOND_PART),
+        outcome: Outcome::Part(PartAnswer::Early),
+        state: NEWBORN,
+    },
+    Step {
+        rule: "the first handover is taken",
+        deed: Deed::Take(FIRST_PART),
+        outcome: Outcome::Part(PartAnswer::Got),
+        state: TOOK_FIRST,
+    },
+    Step {
+        rule: "the second handover is taken once the first was",
+        deed: Deed::Take(SECOND_PART),
+        outcome: Outcome::Part(PartAnswer::Got),
+        state: State {
+            held: 2,
+            second: Some(B_C),
+            taken: [2, 0, 0],
+            ..TOOK_FIRST
+        },
+    },
+];
 
 #[test]
 fn handovers_come_in_order(rt: HostRuntime) {
-    let got = (Some(PartAnswer::Got), Some(PartAnswer::Got));
-    assert!(rt; in_order(rt.alloc()) == (Some(PartAnswer::Early), got, 2));
+    follow_newborn(&rt, rt.alloc(), 1, IN_ORDER);
 }
 
-/// What node 0 answers to a handover that it already holds,
-/// the last number taken, and how many segments it holds.
-fn meets(alloc: Global) -> Option<(Option<PartAnswer>, u64, usize)> {
-    let mut node = found(alloc, CappedStore::new(alloc, 1))?;
-    let given = given_empty(alloc, &mut node, ticket(1, 0, 1), span(A, B));
-    let (last, held) = (node.last_taken(1), node.held_count());
-    drop(node);
-    Some((given, last, held))
-}
+const MEETS: &[Step] = &[Step {
+    rule: "a handover of what the node holds is not taken",
+    deed: Deed::Take(EmptyPart {
+        ticket: Ticket {
+            from: 1,
+            to: 0,
+            number: 1,
+        },
+        ..FIRST_PART
+    }),
+    outcome: Outcome::Part(PartAnswer::Clash),
+    state: WHOLE,
+}];
 
 #[test]
 fn a_handover_meets_nothing_held(rt: HostRuntime) {
-    assert!(rt; meets(rt.alloc()) == Some((Some(PartAnswer::Clash), 0, 1)));
+    follow_founder(&rt, rt.alloc(), 1, &[MEETS]);
 }
 
-/// A later one of `of` parts, with no pairs.
-fn later_part(alloc: Global, ticket: Ticket, part: u64, of: u64) -> Part
-    requires later { 1 < part }
-    requires within { part ≤ of }
-{
-    Part {
-        from: ticket.from,
-        to: ticket.to,
-        number: ticket.number,
-        place: part,
-        of,
-        segment: None,
-        pairs: Vec::new(alloc),
-    }
-}
+/// A part that does not fit the first of two, which is buffered.
+const MISFIT: Step = Step {
+    rule: "a part of a handover with another count does not fit",
+    deed: Deed::Take(EmptyPart {
+        place: 2,
+        of: 3,
+        ..FIRST_PART
+    }),
+    outcome: Outcome::Part(PartAnswer::Clash),
+    state: NEWBORN,
+};
 
-/// What a node answers to the first part of two.
-fn given_first(alloc: Global, node: &mut Node<CappedStore>) -> Option<PartAnswer> {
-    given_once(node, first_part(alloc, ticket(0, 1, 1), span(A, B), 2))
-}
+pub const MISFITS: &[Step] = &[
+    Step {
+        rule: "the first part of two is buffered",
+        deed: Deed::Take(EmptyPart {
+            of: 2,
+            ..FIRST_PART
+        }),
+        outcome: Outcome::Part(PartAnswer::Part),
+        state: NEWBORN,
+    },
+    MISFIT,
+    Step {
+        rule: "a last part of two without pairs does not fit",
+        deed: Deed::Take(EmptyPart {
+            place: 2,
+            of: 2,
+            ..FIRST_PART
+        }),
+        ..MISFIT
+    },
+    Step {
+        rule: "the buffered part stays, so an only part does not fit",
+        deed: Deed::Take(FIRST_PART),
+        ..MISFIT
+    },
+];
 
-/// What a node answers to the second of `of` parts.
-fn given_second(alloc: Global, node: &mut Node<CappedStore>, of: u64) -> Option<PartAnswer>
-    requires { 2 ≤ of }
-{
-    given_once(node, later_part(alloc, ticket(0, 1, 1), 2, of))
-}
-
-/// What node 1 answers to the first part of two and to three others, the last of them with nothing
-/// buffered; and what it took and holds then.
-fn unfit(alloc: Global) -> (Answers, Answers, (u64, usize)) {
-    let mut node = newborn(alloc, 1);
-    let first = given_first(alloc, &mut node);
-    let other_count = given_second(alloc, &mut node, 3);
-    let no_pairs = given_second(alloc, &mut node, 2);
-    let alone = given_empty(alloc, &mut node, ticket(0, 1, 1), span(A, B));
-    let taken = taken(&node);
-    drop(node);
-    ((first, other_count), (no_pairs, alone), taken)
-}
-
-/// Parts that make no handover together are not taken, and the buffered parts stay.
 #[test]
-fn parts_that_do_not_fit(rt: HostRuntime) {
-    let clash = Some(PartAnswer::Clash);
-    let first = (Some(PartAnswer::Part), clash);
-    assert!(rt; unfit(rt.alloc()) == (first, (clash, clash), (0, 0)));
+fn parts_that_do_not_fit_are_not_taken(rt: HostRuntime) {
+    follow_newborn(&rt, rt.alloc(), 1, MISFITS);
 }

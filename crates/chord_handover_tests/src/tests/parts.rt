@@ -1,0 +1,194 @@
+//! Parts of handovers of the whole circle to node 1. Their pairs are under `abc`, with the numbers
+//! from some number on as values.
+ghost use Rattle.std.specs.Prelude.{◌≤◌};
+
+use super::{CIRCLE, PartShown, empty_payload, show_part};
+use chord_handover::{Part, Ticket};
+use chord_map::{Bytes, Pair};
+use chord_segment::Segment;
+use std::alloc::{AllocError, Global};
+use std::process::Abort;
+
+/// Part `place` of `of` of a handover of node `from`. It has `count` pairs, whose values are the
+/// numbers from `first` on.
+#[derive(Clone, Copy, Debug, PartialEq, Eq)]
+pub struct PartRow {
+    pub from: u64,
+    pub number: u64,
+    pub place: u64,
+    pub of: u64,
+    pub first: u64,
+    pub count: u64,
+}
+
+/// The first of the two parts of 65 pairs, in the first handover of node 0.
+pub const FIRST: PartRow = PartRow {
+    from: 0,
+    number: 1,
+    place: 1,
+    of: 2,
+    first: 0,
+    count: 64,
+};
+
+/// The second one.
+pub const SECOND: PartRow = PartRow {
+    place: 2,
+    first: 64,
+    count: 1,
+    ..FIRST
+};
+
+fn pair(alloc: Global, value: u64) -> Result<Pair, AllocError> {
+    Ok(Pair {
+        key: Bytes::from_slice(alloc, b"abc")?,
+        value: Bytes::from_slice(alloc, &value.to_be_bytes())?,
+    })
+}
+
+fn pairs_of(alloc: Global, row: PartRow) -> Result<Vec<Pair>, AllocError> {
+    let mut pairs = Vec::new(alloc);
+    for value in row.first..row.first.saturating_add(row.count) {
+        pairs.push(pair(alloc, value)?)?;
+    }
+    Ok(pairs)
+}
+
+fn with_pairs(alloc: Global, row: PartRow, pairs: Vec<Pair>) -> Part
+    requires low { 1 ≤ row.place }
+    requires high { row.place ≤ row.of }
+{
+    let segment = if row.place == 1 {
+        Some(Segment::empty(alloc, CIRCLE))
+    } else {
+        None
+    };
+    Part {
+        from: row.from,
+        to: 1,
+        number: row.number,
+        place: row.place,
+        of: row.of,
+        segment,
+        pairs,
+    }
+}
+
+/// The part of this row, made again if memory was refused.
+pub fn part_of(rt: &impl Abort, alloc: Global, row: PartRow) -> Part {
+    assert!(rt;
+        1 <= row.place && row.place <= row.of,
+        "parts are counted from 1"
+    );
+    let pairs = match pairs_of(alloc, row) {
+        Ok(pairs) => pairs,
+        Err(_) => pairs_of(alloc, row).expect(rt, "memory for pairs"),
+    };
+    with_pairs(alloc, row, pairs)
+}
+
+/// Whether the values of these pairs under `abc` are the numbers from 0 on.
+pub fn are_from_zero(pairs: &[Pair]) -> bool {
+    pairs.iter().enumerate().all(|(place, pair)| {
+        let value = (place as u64).to_be_bytes();
+        pair.key.as_slice() == b"abc".as_slice() && pair.value.as_slice() == value.as_slice()
+    })
+}
+
+/// A part, and whether it equals the first part by this rule.
+struct ComparedRow {
+    rule: &'static str,
+    row: PartRow,
+    is_equal: bool,
+}
+
+const COMPARED: &[ComparedRow] = &[
+    ComparedRow {
+        rule: "a part equals one made alike",
+        row: FIRST,
+        is_equal: true,
+    },
+    ComparedRow {
+        rule: "a part does not equal one with fewer pairs",
+        row: PartRow { count: 63, ..FIRST },
+        is_equal: false,
+    },
+    ComparedRow {
+        rule: "a part does not equal one with other pairs",
+        row: PartRow { first: 1, ..FIRST },
+        is_equal: false,
+    },
+    ComparedRow {
+        rule: "a part does not equal another one of its handover",
+        row: PartRow { place: 2, ..FIRST },
+        is_equal: false,
+    },
+    ComparedRow {
+        rule: "a part does not equal one of more parts",
+        row: PartRow { of: 3, ..FIRST },
+        is_equal: false,
+    },
+    ComparedRow {
+        rule: "a part does not equal one of another handover",
+        row: PartRow { number: 2, ..FIRST },
+        is_equal: false,
+    },
+    ComparedRow {
+        rule: "a part does not equal one of another giver",
+        row: PartRow { from: 2, ..FIRST },
+        is_equal: false,
+    },
+];
+
+/// Whether the part equals the other, which is dropped.
+fn equals(part: &Part, other: Part) -> bool {
+    let is_equal = part.equals(&other);
+    drop(other);
+    is_equal
+}
+
+/// Compares the part with a copy of it, and with the part of each row.
+fn compare(rt: &impl Abort, alloc: Global, part: Part) {
+    let copy = part.try_copy().expect(rt, "memory for a copy");
+    let is_copied = equals(&part, copy);
+    assert!(rt; is_copied, "a part equals its copy");
+    for row in COMPARED {
+        let is_equal = equals(&part, part_of(rt, alloc, row.row));
+        let rule = row.rule;
+        assert!(rt; is_equal == row.is_equal, "{rule}");
+    }
+    drop(part);
+}
+
+#[test]
+fn parts_are_compared(rt: HostRuntime) {
+    compare(&rt, rt.alloc(), part_of(&rt, rt.alloc(), FIRST));
+}
+
+/// The name of a handover of node 0 to node 1.
+const TICKET: Ticket = Ticket {
+    from: 0,
+    to: 1,
+    number: 1,
+};
+
+/// The only part of the empty payload.
+fn only_part(rt: &impl Abort, alloc: Global) -> PartShown {
+    let payload = empty_payload(alloc);
+    let part = payload.part(TICKET, 1).expect(rt, "memory for a part");
+    drop(payload);
+    show_part(part)
+}
+
+#[test]
+fn the_only_part_of_an_empty_payload_has_its_segment(rt: HostRuntime) {
+    let part = only_part(&rt, rt.alloc());
+    assert!(rt;
+        part.ticket == TICKET,
+        "a part has the name of its handover"
+    );
+    assert!(rt; part.place == 1, "it is the first part");
+    assert!(rt; part.of == 1, "it is the only part");
+    assert!(rt; part.span == Some(CIRCLE), "it has the segment");
+    assert!(rt; part.pairs == 0, "it has no pairs");
+}
