@@ -29,6 +29,7 @@ fn give_in<S: EntryStore>(
 
 impl<S: EntryStore> World<S> {
     /// The node gives the held segment at the index `place` to another, and sends the first part.
+    #[tactic(auto, using(crate::proofs::Handing::acts_within))]
     pub(crate) fn give(&mut self, node: u64, place: u64, to: u64) -> Result<Outcome, Refusal>
         ensures answer { GiveStepIs node place to self.old result self.new }
         ensures step { Advances self.old result self.new }
@@ -44,6 +45,7 @@ impl<S: EntryStore> World<S> {
     }
 
     /// The node sends a part of an item of its outbox again.
+    #[tactic(auto, using(crate::proofs::Handing::acts_within))]
     pub(crate) fn send_part(
         &mut self,
         node: u64,

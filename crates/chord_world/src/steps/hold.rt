@@ -51,6 +51,7 @@ fn leave_in<S: EntryStore>(nodes: &mut Vec<Node<S>>, number: usize) -> Result<()
 
 impl<S: EntryStore> World<S> {
     /// The node cuts the held segment at the index `place`.
+    #[tactic(auto, using(crate::proofs::Handing::acts_within, crate::proofs::Handing::move_not))]
     pub(crate) fn cut(&mut self, node: u64, place: u64, at: Id) -> Result<Outcome, Refusal>
         ensures answer { MoveIs (CutAtIs place at) refusal_of_cut node self.old result self.new }
         ensures step { Advances self.old result self.new }
@@ -62,6 +63,7 @@ impl<S: EntryStore> World<S> {
     }
 
     /// The node joins the held segment at the index `behind` behind the one at `place`.
+    #[tactic(auto, using(crate::proofs::Handing::acts_within, crate::proofs::Handing::move_not))]
     pub(crate) fn merge(&mut self, node: u64, place: u64, behind: u64) -> Result<Outcome, Refusal>
         ensures answer { MoveIs (MergeIs place behind) refusal_of_merge node self.old result self.new }
         ensures step { Advances self.old result self.new }
@@ -78,6 +80,7 @@ impl<S: EntryStore> World<S> {
     }
 
     /// The node begins to leave.
+    #[tactic(auto, using(crate::proofs::Handing::acts_within, crate::proofs::Handing::move_not))]
     pub(crate) fn leave(&mut self, node: u64) -> Result<Outcome, Refusal>
         ensures answer { MoveIs LeaveIs refusal_of_leave node self.old result self.new }
         ensures step { Advances self.old result self.new }

@@ -36,6 +36,7 @@ impl<S: EntryStore> World<S> {
     }
 
     /// A leaving node, which holds nothing and has an empty outbox, is gone.
+    #[tactic(auto, using(crate::proofs::Handing::acts_within))]
     pub(crate) fn retire(&mut self, node: u64) -> Result<Outcome, Refusal>
         ensures answer { RetireStepIs node self.old result self.new }
         ensures step { Advances self.old result self.new }

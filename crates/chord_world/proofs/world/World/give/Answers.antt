@@ -16,11 +16,6 @@ pub returns-in_err-can_act-clause-answer : goal.returns-in_err-can_act-clause-an
 returns-in_err-can_act-clause-answer g c =
     give_not c.args.node c.args.to c.args.place c.args.self.now c.in_err-can_act.field-0.0 c.from_residual-in_err-can_act.result c.in_ok-is_there.ensures c.in_err-can_act.ensures c.from_residual-in_err-can_act.ensures.1
 
-pub index-requires : goal.index-requires
-index-requires g c =
-    let within = acts_within c.args.node _ c.args.self.now c.self.view_is c.self.invariant c.in_ok-can_act.ensures.0 in
-    omega arith
-
 pub returns-in_err-may_give-clause-answer : goal.returns-in_err-may_give-clause-answer
 returns-in_err-may_give-clause-answer g c =
     let view : WorldState = state_of c.self.inside in
@@ -35,11 +30,6 @@ returns-in_err-reserve-clause-answer g c =
     give_refused c.args.node c.args.to c.args.place c.index.result.now Memory view c.args.self.now _ c.from_residual-in_err-reserve.result c.self.view_is c.self.invariant c.in_ok-is_there.ensures c.in_ok-can_act.ensures.1 here
     c.in_ok-may_give.ensures c.from_residual-in_err-reserve.ensures.1
     ((λ i. after_giving view.world.nodes (messages_of (c.reserve.ensures.items i)) (targets_of (c.reserve.ensures.items i)) view) ∙ c.self.view_is)
-
-pub give_in-requires : goal.give_in-requires
-give_in-requires g c =
-    let within = acts_within c.args.node _ c.args.self.now c.self.view_is c.self.invariant c.in_ok-can_act.ensures.0 in
-    omega arith
 
 pub invariant_of-self-in_err-part : goal.invariant_of-self-in_err-part
 invariant_of-self-in_err-part g c =

@@ -1,18 +1,8 @@
-use Rattle.std.proofs.Common.{arith}
 use Rattle.chord_node.specs.Moves.{MoveSteps, MergeIs}
 use Rattle.chord_world.specs.Handing.{refusal_of_merge}
 use Rattle.chord_world.specs.View.{state_of}
-use Rattle.chord_world.proofs.Handing.{acts_within, move_not, left_world, move_refuses, move_does, moved_world, still_merge, kept_merge}
+use Rattle.chord_world.proofs.Handing.{left_world, move_refuses, move_does, moved_world, still_merge, kept_merge}
 use Rattle.chord_world.proofs.world.World.merge.Goals as goal
-
-pub merge_in-requires : goal.merge_in-requires
-merge_in-requires g c =
-    let within = acts_within c.args.node _ c.args.self.now c.self.view_is c.self.invariant c.in_ok-can_act.ensures.0 in
-    omega arith
-
-pub returns-in_err-can_act-clause-answer : goal.returns-in_err-can_act-clause-answer
-returns-in_err-can_act-clause-answer g c =
-    move_not (MergeIs c.args.place c.args.behind) refusal_of_merge c.args.node c.args.self.now c.in_err-can_act.field-0.0 c.from_residual.result c.in_err-can_act.ensures c.from_residual.ensures.1
 
 pub invariant_of-self : goal.invariant_of-self
 invariant_of-self g c =

@@ -4,7 +4,7 @@ use Rattle.chord_world.specs.Handing.{NeededIs, DoesAt}
 use Rattle.chord_world.specs.Handing.CannotAct.{Is_missing}
 use Rattle.chord_world.specs.View.{state_of}
 use Rattle.chord_world.specs.State.{WorldState}
-use Rattle.chord_world.proofs.Handing.{acts_within, moved, left_world, left_step, retire_not, kept_retire, retire_refused, unneeded, can_retire, retires_after, retire_number}
+use Rattle.chord_world.proofs.Handing.{moved, left_world, left_step, retire_not, kept_retire, retire_refused, unneeded, can_retire, retires_after, retire_number}
 use Rattle.chord_world.proofs.world.World.retire.Goals as goal
 
 pub returns-in_err-is_there-clause-answer : goal.returns-in_err-is_there-clause-answer
@@ -17,11 +17,6 @@ returns-then-is_needed-clause-answer g c = ((c.in_ok-is_there.ensures, subst (Ne
 pub returns-in_err-can_act-clause-answer : goal.returns-in_err-can_act-clause-answer
 returns-in_err-can_act-clause-answer g c =
     retire_not c.args.node c.args.self.now c.in_err-can_act.field-0.0 c.from_residual-in_err-can_act.result c.in_err-can_act.ensures c.from_residual-in_err-can_act.ensures.1
-
-pub retire_in-requires : goal.retire_in-requires
-retire_in-requires g c =
-    let within = acts_within c.args.node _ c.args.self.now c.self.view_is c.self.invariant c.in_ok-can_act.ensures.0 in
-    omega arith
 
 pub invariant_of-self : goal.invariant_of-self
 invariant_of-self g c =

@@ -4,7 +4,7 @@ use Rattle.chord_node.specs.declared.fault.ResendPartFault.TheVariants.{Memory}
 use Rattle.chord_model.specs.declared.message.Message.TheVariants.{Part as PartMessage}
 use Rattle.chord_world.specs.View.{state_of}
 use Rattle.chord_world.specs.State.{messages_of, targets_of}
-use Rattle.chord_world.proofs.Handing.{acts_within, part_not, part_refused, sends_again}
+use Rattle.chord_world.proofs.Handing.{part_not, part_refused, sends_again}
 use Rattle.chord_world.proofs.Pointing.{node_missing}
 use Rattle.chord_world.proofs.Speaking.{sent_not}
 use Rattle.chord_world.proofs.world.World.send_part.Goals as goal
@@ -16,11 +16,6 @@ returns-in_err-can_act-clause-answer g c =
 pub returns-then-to-len-clause-answer : goal.returns-then-to-len-clause-answer
 returns-then-to-len-clause-answer g c =
     (inr (inl (c.in_ok-can_act.ensures, node_missing c.args.to _ c.args.self.now c.self.view_is c.self.invariant (omega arith), refl)), refl)
-
-pub index-requires : goal.index-requires
-index-requires g c =
-    let within = acts_within c.args.node _ c.args.self.now c.self.view_is c.self.invariant c.in_ok-can_act.ensures.0 in
-    omega arith
 
 pub returns-in_err-part-clause-answer : goal.returns-in_err-part-clause-answer
 returns-in_err-part-clause-answer g c =
