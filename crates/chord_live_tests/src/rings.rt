@@ -7,10 +7,11 @@ use chord_ident::Id;
 use chord_live::Caller;
 use chord_live_ring::{Ring, RingParts, Settings};
 use chord_live_types::{AskFault, BeginFault, WaitFault};
-use chord_map::{Reply, Request};
+use chord_map::{Done, Reply, Request, Values};
 use chord_store::EntryStore;
 use chord_table::Naming;
 use std::alloc::{AllocError, Global};
+use std::process::Abort;
 use std::sync::Wait;
 use std::time::Clock;
 
@@ -30,14 +31,67 @@ pub const C: u128 = 0xc0000000000000000000000000000000;
 /// A boxed store, as in the program.
 pub type Store = Box<dyn EntryStore + Send>;
 
-/// Checks that the reply is a set of this value alone.
-pub fn is_one_value(reply: &Reply, value: &[u8]) -> bool {
+/// A reply, without its values.
+#[derive(Clone, Copy, Debug, PartialEq, Eq)]
+pub enum Said {
+    Added,
+    Present,
+    SetFull,
+    /// The value x alone.
+    OnlyX,
+    /// The value y alone.
+    OnlyY,
+    OtherValues,
+    Removed,
+    Absent,
+}
+
+fn values_in(values: &Values) -> Said {
+    match values.as_slice() {
+        [one] if one.as_slice() == b"x".as_slice() => Said::OnlyX,
+        [one] if one.as_slice() == b"y".as_slice() => Said::OnlyY,
+        _ => Said::OtherValues,
+    }
+}
+
+pub fn said_in(reply: &Reply) -> Said {
     match reply {
-        Reply::Values(values) => match values.as_slice() {
-            [one] => one.as_slice() == value,
-            _ => false,
-        },
-        _ => false,
+        Reply::Added => Said::Added,
+        Reply::Present => Said::Present,
+        Reply::SetFull => Said::SetFull,
+        Reply::Values(values) => values_in(values),
+        Reply::Removed => Said::Removed,
+        Reply::Absent => Said::Absent,
+    }
+}
+
+/// What was answered, or why nothing was.
+pub fn said_by<F: Copy>(answer: Result<Reply, F>) -> Result<Said, F> {
+    let said = match &answer {
+        Ok(reply) => Ok(said_in(reply)),
+        Err(fault) => Err(*fault),
+    };
+    drop(answer);
+    said
+}
+
+/// A call that a caller knows of.
+#[derive(Clone, Copy, Debug, PartialEq, Eq)]
+pub struct Known {
+    pub caller: u64,
+    pub number: u64,
+    pub said: Said,
+}
+
+/// The only call of the list.
+pub fn only_call(done: &[Done]) -> Option<Known> {
+    match done {
+        [done] => Some(Known {
+            caller: done.caller,
+            number: done.number,
+            said: said_in(&done.reply),
+        }),
+        _ => None,
     }
 }
 
@@ -46,23 +100,6 @@ pub fn succeeds<T: Drop, F: Drop>(done: Result<T, F>) -> bool {
     let is_ok = done.is_ok();
     drop(done);
     is_ok
-}
-
-/// Checks that the answer is Added.
-pub fn is_added<F: Copy>(answer: Result<Reply, F>) -> bool {
-    let is_added = matches!(&answer, Ok(Reply::Added));
-    drop(answer);
-    is_added
-}
-
-/// Checks that the answer is this value alone.
-pub fn is_told<F: Copy>(answer: Result<Reply, F>, value: &[u8]) -> bool {
-    let is_told = match &answer {
-        Ok(reply) => is_one_value(reply, value),
-        Err(_) => false,
-    };
-    drop(answer);
-    is_told
 }
 
 pub fn settings(slots: usize, callers: usize, tries: u64, wait_ms: u64) -> Settings {
@@ -76,20 +113,18 @@ pub fn settings(slots: usize, callers: usize, tries: u64, wait_ms: u64) -> Setti
 }
 
 /// A ring whose node A has this store.
-pub fn founded<J: Naming, S: EntryStore, R: Wait>(
+pub fn founded<J: Naming, S: EntryStore, R: Abort + Wait>(
     rt: &R,
     parts: RingParts,
     store: S,
-) -> Option<Ring<J, S>>
+) -> Ring<J, S>
     requires name { parts ≡ J.name }
     requires vacant { S.content store ≡ [] }
 {
-    let ring = parts.assemble::<J, S>().ok()?;
-    if succeeds(ring.create(rt, Id::new(A), store)) {
-        return Some(ring);
-    }
-    ring.close();
-    None
+    let ring = parts.assemble::<J, S>().expect(rt, "memory for a ring");
+    let is_created = succeeds(ring.create(rt, Id::new(A), store));
+    assert!(rt; is_created, "a ring without a node creates one");
+    ring
 }
 
 /// The answer at node `via` to an insert of this pair.
@@ -99,9 +134,9 @@ pub fn inserted<J: Naming, S: EntryStore, R: Wait + Clock>(
     caller: &mut Caller<'_, J, S>,
     via: u64,
     (key, value): (&[u8], &[u8]),
-) -> Result<Reply, AskFault> {
+) -> Result<Said, AskFault> {
     match Request::insert(alloc, key, value) {
-        Ok(request) => caller.ask(rt, via, request),
+        Ok(request) => said_by(caller.ask(rt, via, request)),
         Err(_) => Err(AskFault::Wait(WaitFault::Memory)),
     }
 }
@@ -113,9 +148,9 @@ pub fn retrieved<J: Naming, S: EntryStore, R: Wait + Clock>(
     caller: &mut Caller<'_, J, S>,
     via: u64,
     key: &[u8],
-) -> Result<Reply, AskFault> {
+) -> Result<Said, AskFault> {
     match Request::retrieve(alloc, key) {
-        Ok(request) => caller.ask(rt, via, request),
+        Ok(request) => said_by(caller.ask(rt, via, request)),
         Err(_) => Err(AskFault::Wait(WaitFault::Memory)),
     }
 }
@@ -126,9 +161,9 @@ pub fn call<J: Naming, S: EntryStore, R: Wait + Clock>(
     caller: &mut Caller<'_, J, S>,
     via: u64,
     request: Result<Request, AllocError>,
-) -> Result<Reply, AskFault> {
+) -> Result<Said, AskFault> {
     match request {
-        Ok(request) => caller.call(rt, via, request),
+        Ok(request) => said_by(caller.call(rt, via, request)),
         Err(_) => Err(AskFault::Wait(WaitFault::Memory)),
     }
 }

@@ -2,15 +2,18 @@
 ghost use Rattle.std.specs.Prelude.{◌≡◌, [], ◌∷◌};
 ghost use Rattle.chord_table.specs.Shown.{WitnessShown};
 
-use super::{Store, begin, call, founded, inserted, is_added, is_told, retrieved, settings};
+use super::{
+    Known, Said, Store, begin, call, founded, inserted, only_call, retrieved, said_by, settings,
+};
 use chord_live::{Caller, OpenCaller};
 use chord_live_ring::{NoProbe, Ring, RingParts};
 use chord_live_types::{AskFault, CollectFault, LeaveFault, WaitFault};
-use chord_map::{Reply, Request};
+use chord_map::Request;
 use chord_store::{CappedStore, EntryStore};
 use chord_table::{Naming, Witness};
 use std::alloc::Global;
 use std::marker::Brand;
+use std::process::Abort;
 use std::sync::Wait;
 use std::test::Fail;
 use std::thread;
@@ -21,162 +24,181 @@ use std::time::Clock;
 fn a_capped_ring(rt: HostRuntime) -> Result<(), Fail> {
     let alloc = rt.alloc();
     let store: Store = Box::new(alloc, CappedStore::new(alloc, 1))?;
-    let done = match RingParts::new(alloc, settings(1, 3, 1, 2_000)) {
+    match RingParts::new(alloc, settings(1, 3, 1, 2_000)) {
         Ok(parts) => capped_boxed::<Brand, _>(&rt, alloc, parts, store),
         Err(_) => {
             drop(store);
-            None
+            assert!(rt; false, "these settings are within their limits");
         }
-    };
-    assert!(rt; done == Some((true, Some([true; 5]))));
+    }
     Ok(())
 }
 
-fn capped_boxed<J: Naming + Send + Sync, R: Threads + Wait + Clock + Sync>(
+fn capped_boxed<J: Naming + Send + Sync, R: Abort + Threads + Wait + Clock + Sync>(
     rt: &R,
     alloc: Global,
     parts: RingParts,
     store: Store,
-) -> Option<(bool, Option<[bool; 5]>)>
+)
     requires name { parts ≡ J.name }
     requires vacant { content store ≡ [] }
 {
     capped::<J, Store, R>(rt, alloc, parts, store)
 }
 
-/// A node with room for one pair has a worker while three callers ask. Gives whether the worker
-/// ended, and the five results of `use_the_ring`.
-fn capped<J: Naming + Send + Sync, S: EntryStore + Send, R: Threads + Wait + Clock + Sync>(
+/// A node with room for one pair has a worker while three callers ask.
+fn capped<J: Naming + Send + Sync, S: EntryStore + Send, R: Abort + Threads + Wait + Clock + Sync>(
     rt: &R,
     alloc: Global,
     parts: RingParts,
     store: S,
-) -> Option<(bool, Option<[bool; 5]>)>
+)
     requires name { parts ≡ J.name }
     requires vacant { S.content store ≡ [] }
 {
-    let founded = founded::<J, S, R>(rt, parts, store)?;
+    let founded = founded::<J, S, R>(rt, parts, store);
     let ring = &founded;
-    let done = thread::join(
+    let (ended, _) = thread::join(
         rt,
         move || ring.work(rt, 0, &NoProbe).is_ok(),
         move || {
-            let done = use_the_ring(rt, alloc, ring);
+            use_the_ring(rt, alloc, ring);
             ring.stop();
-            done
         },
     );
     founded.close();
-    Some(done)
+    assert!(rt; ended, "a worker ends when its ring is stopped");
 }
 
-/// Checks five things that callers do while the worker runs, and gives a result for each.
-fn use_the_ring<J: Naming, S: EntryStore, R: Wait + Clock>(
+fn use_the_ring<J: Naming, S: EntryStore, R: Abort + Wait + Clock>(
     rt: &R,
     alloc: Global,
     ring: &Ring<J, S>,
-) -> Option<[bool; 5]> {
-    let mut zero = ring.open_caller(rt, 4).ok()?;
-    let Ok(mut one) = ring.open_caller(rt, 4) else {
-        drop(zero);
-        return None;
-    };
-    let filled = fill(rt, alloc, &mut zero, &mut one);
-    let made = make_room(rt, alloc, &mut zero, &mut one);
-    let collected = collect_turned(rt, alloc, ring);
-    let told = tell(&mut zero, &mut one);
+) {
+    let mut zero = ring.open_caller(rt, 4).expect(rt, "a caller");
+    let mut one = ring.open_caller(rt, 4).expect(rt, "a second caller");
+    fill(rt, alloc, &mut zero, &mut one);
+    make_room(rt, alloc, &mut zero, &mut one);
+    collect_turned(rt, alloc, ring);
+    tell(rt, &mut zero, &mut one);
     share_a_world(ring, &mut zero, &mut one);
-    let crashed = crash(rt, alloc, ring, &mut zero);
+    crash(rt, alloc, ring, &mut zero);
     drop(one);
     drop(zero);
-    Some([filled, made, collected, told, crashed])
 }
 
-/// Checks that a full store answers Full, and that the request stays pending.
-fn fill<J: Naming, S: EntryStore, R: Wait + Clock>(
+fn fill<J: Naming, S: EntryStore, R: Abort + Wait + Clock>(
     rt: &R,
     alloc: Global,
     zero: &mut Caller<'_, J, S>,
     one: &mut Caller<'_, J, S>,
-) -> bool {
-    let first = is_added(inserted(rt, alloc, zero, 0, (b"a", b"x")));
-    let full = inserted(rt, alloc, one, 0, (b"a", b"y")).err();
-    first & (full == Some(AskFault::Wait(WaitFault::Full))) & one.is_pending(1)
+) {
+    let added = inserted(rt, alloc, zero, 0, (b"a", b"x"));
+    assert!(rt; added == Ok(Said::Added), "a node with room adds a pair");
+    let full = inserted(rt, alloc, one, 0, (b"a", b"y"));
+    assert!(rt;
+        full == Err(AskFault::Wait(WaitFault::Full)),
+        "a full store answers Full"
+    );
+    let is_pending = one.is_pending(1);
+    assert!(rt;
+        is_pending,
+        "a request that was answered Full stays pending"
+    );
 }
 
-/// Checks that the answer is Removed.
-fn is_removed<F: Copy>(answer: Result<Reply, F>) -> bool {
-    let is_removed = matches!(&answer, Ok(Reply::Removed));
-    drop(answer);
-    is_removed
-}
-
-/// Checks that node 0 answers Removed for `a` and x.
-fn removes<J: Naming, S: EntryStore, R: Wait + Clock>(
+/// The answer of node 0 to the remove of `a` and x.
+fn removed<J: Naming, S: EntryStore, R: Wait + Clock>(
     rt: &R,
     alloc: Global,
     caller: &mut Caller<'_, J, S>,
-) -> bool {
+) -> Result<Said, AskFault> {
     match Request::remove(alloc, b"a", b"x") {
-        Ok(request) => is_removed(caller.ask(rt, 0, request)),
-        Err(_) => false,
+        Ok(request) => said_by(caller.ask(rt, 0, request)),
+        Err(_) => Err(AskFault::Wait(WaitFault::Memory)),
     }
 }
 
-/// Removes a pair. Checks that the request that found the store full is answered now.
-fn make_room<J: Naming, S: EntryStore, R: Wait + Clock>(
+/// Caller 0 removes its pair, and caller 1 asks again.
+fn make_room<J: Naming, S: EntryStore, R: Abort + Wait + Clock>(
     rt: &R,
     alloc: Global,
     zero: &mut Caller<'_, J, S>,
     one: &mut Caller<'_, J, S>,
-) -> bool {
-    let removed = removes(rt, alloc, zero);
-    let retried = is_added(one.retry(rt, 0, 1));
-    let collected = is_added(one.collect(rt, 1));
-    let counts = (zero.mine().len(), zero.floor(), one.mine().len());
-    removed & retried & collected & (counts == (2, 2, 1))
+) {
+    let removed = removed(rt, alloc, zero);
+    assert!(rt; removed == Ok(Said::Removed), "a pair is removed");
+    let retried = said_by(one.retry(rt, 0, 1));
+    assert!(rt;
+        retried == Ok(Said::Added),
+        "there is room for a request that was Full"
+    );
+    let collected = said_by(one.collect(rt, 1));
+    assert!(rt;
+        collected == Ok(Said::Added),
+        "a reply that came can be collected"
+    );
+    assert!(rt; zero.floor() == 2, "both replies of caller 0 came");
+    assert!(rt; zero.mine().len() == 2, "and it keeps both calls");
+    assert!(rt;
+        one.mine().len() == 1,
+        "a request that was sent again is one call"
+    );
 }
 
-/// A third caller begins two requests. Checks that it can collect the second before the first.
-fn collect_turned<J: Naming, S: EntryStore, R: Wait + Clock>(
+/// A third caller begins two requests, and collects the second before the first.
+fn collect_turned<J: Naming, S: EntryStore, R: Abort + Wait + Clock>(
     rt: &R,
     alloc: Global,
     ring: &Ring<J, S>,
-) -> bool {
-    let Ok(mut two) = ring.open_caller(rt, 2) else {
-        return false;
-    };
+) {
+    let mut two = ring.open_caller(rt, 2).expect(rt, "a third caller");
     let first = begin(rt, alloc, &mut two, 0, b"a");
+    assert!(rt; first == Ok(1), "the first request has number 1");
     let second = begin(rt, alloc, &mut two, 0, b"a");
-    let collected = collects(rt, &mut two);
-    let called = is_told(call(rt, &mut two, 0, Request::retrieve(alloc, b"a")), b"y");
+    assert!(rt; second == Ok(2), "the second request has number 2");
+    let collected = said_by(two.collect(rt, 2));
+    assert!(rt;
+        collected == Ok(Said::OnlyY),
+        "the second may be collected first"
+    );
+    let collected = said_by(two.collect(rt, 1));
+    assert!(rt;
+        collected == Ok(Said::OnlyY),
+        "the first may be collected later"
+    );
+    let collected = said_by(two.collect(rt, 3));
+    assert!(rt;
+        collected == Err(CollectFault::NotBegun),
+        "a request that was not begun is not collected"
+    );
+    let called = call(rt, &mut two, 0, Request::retrieve(alloc, b"a"));
+    assert!(rt;
+        called == Ok(Said::OnlyY),
+        "a request that is carried is answered"
+    );
     drop(two);
-    collected & called & ((first, second) == (Ok(1), Ok(2)))
 }
 
-/// Checks that requests 2 and 1 are collected, and that request 3 was not begun.
-fn collects<J: Naming, S: EntryStore, R: Wait + Clock>(rt: &R, two: &mut Caller<'_, J, S>) -> bool {
-    let second = is_told(two.collect(rt, 2), b"y");
-    let first = is_told(two.collect(rt, 1), b"y");
-    let third = two.collect(rt, 3).err();
-    second & first & (third == Some(CollectFault::NotBegun))
-}
-
-/// Caller 0 meets a note of caller 1. Checks that it learned one call.
-fn tell<J: Naming, S: EntryStore>(zero: &mut Caller<'_, J, S>, one: &mut Caller<'_, J, S>) -> bool {
-    let Ok(note) = one.show() else {
-        return false;
+/// Caller 0 meets a note of caller 1.
+fn tell<J: Naming, S: EntryStore, R: Abort>(
+    rt: &R,
+    zero: &mut Caller<'_, J, S>,
+    one: &mut Caller<'_, J, S>,
+) {
+    let note = one.show().expect(rt, "memory for a note");
+    let is_met = zero.meet(note).is_ok();
+    assert!(rt; is_met, "there is memory to meet a note");
+    let told = only_call(zero.told());
+    let added = Known {
+        caller: 1,
+        number: 1,
+        said: Said::Added,
     };
-    if zero.meet(note).is_err() {
-        return false;
-    }
-    match zero.told() {
-        [done] => {
-            let is_first = (done.caller == 1) & (done.number == 1);
-            is_first & matches!(&done.reply, Reply::Added)
-        }
-        _ => false,
-    }
+    assert!(rt;
+        told == Some(added),
+        "a caller learns the calls of a note that it meets"
+    );
 }
 
 /// Proves that what both took and learned is in one history of one world.
@@ -194,25 +216,29 @@ fn share_a_world<J: Naming, S: EntryStore>(
     drop(all);
 }
 
-/// Checks that caller 0 is answered, and that it is not once the node has crashed.
-fn crash<J: Naming, S: EntryStore, R: Wait + Clock>(
+fn crash<J: Naming, S: EntryStore, R: Abort + Wait + Clock>(
     rt: &R,
     alloc: Global,
     ring: &Ring<J, S>,
     zero: &mut Caller<'_, J, S>,
-) -> bool {
-    let seen = is_told(retrieved(rt, alloc, zero, 0, b"a"), b"y");
+) {
+    let seen = retrieved(rt, alloc, zero, 0, b"a");
+    assert!(rt; seen == Ok(Said::OnlyY), "a node that lives answers");
     zero.look();
-    let crashed = crashes(rt, ring);
-    let unheard = retrieved(rt, alloc, zero, 0, b"a").err();
-    seen & crashed & (unheard == Some(AskFault::Wait(WaitFault::NoAnswer)))
-}
-
-/// Checks that a crashed node can crash again and be ticked, and does not leave.
-fn crashes<J: Naming, S: EntryStore, R: Wait + Clock>(rt: &R, ring: &Ring<J, S>) -> bool {
-    let first = ring.crash(rt, 0).is_ok();
-    let second = ring.crash(rt, 0).is_ok();
-    let leaves = ring.leave(rt, 0) == Err(LeaveFault::NotStaying);
-    let ticked = ring.tick(rt, 0).is_ok();
-    first & second & leaves & ticked
+    let crashed = ring.crash(rt, 0);
+    assert!(rt; crashed == Ok(()), "a node crashes");
+    let again = ring.crash(rt, 0);
+    assert!(rt; again == Ok(()), "a crashed node may crash again");
+    let left = ring.leave(rt, 0);
+    assert!(rt;
+        left == Err(LeaveFault::NotStaying),
+        "a crashed node does not leave"
+    );
+    let ticked = ring.tick(rt, 0);
+    assert!(rt; ticked == Ok(()), "a crashed node may be ticked");
+    let unheard = retrieved(rt, alloc, zero, 0, b"a");
+    assert!(rt;
+        unheard == Err(AskFault::Wait(WaitFault::NoAnswer)),
+        "a crashed node does not answer"
+    );
 }

@@ -1,14 +1,13 @@
 //! One node's events, without a lock.
 ghost use Rattle.std.specs.Prelude.{◌≤◌};
 
-use super::{A, C};
-use chord_caller::{Ask, Told};
-use chord_handover::Ticket;
+use super::{A, C, Said, said_in};
+use chord_caller::Ask;
 use chord_ident::Id;
 use chord_links::{Links, Peer};
 use chord_live_ring::{Target, Tidied, deal, tidy};
-use chord_map::{Reply, Request};
-use chord_node::{Message, Node};
+use chord_map::Request;
+use chord_node::{Message, Node, NotStaying};
 use chord_store::CappedStore;
 use std::alloc::{AllocError, Global};
 
@@ -41,94 +40,147 @@ fn founder(alloc: Global, limit: u64) -> Option<Node<CappedStore>> {
     Node::found(alloc, ZERO, 3, CappedStore::new(alloc, limit)).ok()
 }
 
-/// What tidying does at a node alone, the first time, the second, and once it leaves; and whether
-/// it leaves.
-fn tidies(alloc: Global) -> Option<([Option<Tidied>; 3], bool)> {
+/// What tidying does at a node alone.
+#[derive(Clone, Copy)]
+struct TidiedAlone {
+    first: Option<Tidied>,
+    second: Option<Tidied>,
+    leaves: Result<(), NotStaying>,
+    /// What it does once the node leaves.
+    third: Option<Tidied>,
+}
+
+fn tidies(alloc: Global) -> Option<TidiedAlone> {
     let mut node = founder(alloc, 4)?;
     let first = tidy(&mut node, Id::new(C)).ok();
     let second = tidy(&mut node, Id::new(C)).ok();
-    let leaves = node.begin_leave().is_ok();
+    let leaves = node.begin_leave();
     let third = tidy(&mut node, Id::new(C)).ok();
     drop(node);
-    Some(([first, second, third], leaves))
+    Some(TidiedAlone {
+        first,
+        second,
+        leaves,
+        third,
+    })
 }
 
 #[test]
 fn a_node_alone_tidies(rt: HostRuntime) {
-    let steps = [
-        Some(Tidied::Cut),
-        Some(Tidied::Give(0)),
-        Some(Tidied::Nothing),
-    ];
-    assert!(rt; tidies(rt.alloc()) == Some((steps, true)));
+    let tidied = tidies(rt.alloc()).expect(&rt, "memory for a node");
+    assert!(rt;
+        tidied.first == Some(Tidied::Cut),
+        "a segment around the predecessor is cut there"
+    );
+    assert!(rt;
+        tidied.second == Some(Tidied::Give(0)),
+        "a segment that is not its own is to be given"
+    );
+    assert!(rt; tidied.leaves == Ok(()), "a staying node begins to leave");
+    assert!(rt;
+        tidied.third == Some(Tidied::Nothing),
+        "a leaving node tidies nothing"
+    );
 }
 
 /// What a node sends for a call.
 type Sent = Result<Option<(Target, Message)>, AllocError>;
 
+/// The answer that a node sends for a call, and to which caller.
+#[derive(Clone, Copy, Debug, PartialEq, Eq)]
+enum Dealt {
+    /// The reply to this call of a caller, sent to that one.
+    Told {
+        to: u64,
+        caller: u64,
+        number: u64,
+        said: Said,
+    },
+    Full {
+        to: u64,
+        caller: u64,
+        number: u64,
+    },
+    Nothing,
+    Other,
+    Memory,
+}
+
+fn dealt_by(sent: Sent) -> Dealt {
+    let dealt = match &sent {
+        Ok(Some((Target::Caller(to), Message::Told(told)))) => Dealt::Told {
+            to: *to,
+            caller: told.caller,
+            number: told.number,
+            said: said_in(&told.reply),
+        },
+        Ok(Some((Target::Caller(to), Message::Full { caller, number }))) => Dealt::Full {
+            to: *to,
+            caller: *caller,
+            number: *number,
+        },
+        Ok(Some(_)) => Dealt::Other,
+        Ok(None) => Dealt::Nothing,
+        Err(_) => Dealt::Memory,
+    };
+    drop(sent);
+    dealt
+}
+
 /// What the node sends for the call with this number and key.
-fn dealt(alloc: Global, node: &mut Node<CappedStore>, number: u64, key: &[u8]) -> Sent
+fn deal_ask(alloc: Global, node: &mut Node<CappedStore>, number: u64, key: &[u8]) -> Dealt
     requires some { 1 ≤ number }
     requires near { number ≤ 16 }
 {
-    deal(node, Message::Ask(ask(alloc, number, key)?))
+    match ask(alloc, number, key) {
+        Ok(ask) => dealt_by(deal(node, Message::Ask(ask))),
+        Err(_) => Dealt::Memory,
+    }
 }
 
-/// Checks that call 1 of caller 7 is answered Added, to that caller.
-fn is_added(sent: Sent) -> bool {
-    let is_added = match &sent {
-        Ok(Some((Target::Caller(7), Message::Told(told)))) => {
-            let is_first = (told.caller == 7) & (told.number == 1);
-            is_first & matches!(&told.reply, Reply::Added)
-        }
-        _ => false,
-    };
-    drop(sent);
-    is_added
+/// What a node with room for one pair sends for two calls that would each add one.
+#[derive(Clone, Copy)]
+struct DealtInTurn {
+    first: Dealt,
+    second: Dealt,
 }
 
-/// Checks that call 2 of caller 7 is answered Full, to that caller.
-fn is_full(sent: Sent) -> bool {
-    let is_full = match &sent {
-        Ok(Some((Target::Caller(7), Message::Full { caller, number }))) => {
-            (*caller == 7) & (*number == 2)
-        }
-        _ => false,
-    };
-    drop(sent);
-    is_full
-}
-
-/// Gives whether a node with room for one pair answers call 1 with Added, and call 2 with Full.
-fn answers(alloc: Global) -> Option<(bool, bool)> {
+fn answers(alloc: Global) -> Option<DealtInTurn> {
     let mut node = founder(alloc, 1)?;
-    let told = is_added(dealt(alloc, &mut node, 1, b"abc"));
-    let full = is_full(dealt(alloc, &mut node, 2, b"b"));
+    let first = deal_ask(alloc, &mut node, 1, b"abc");
+    let second = deal_ask(alloc, &mut node, 2, b"b");
     drop(node);
-    Some((told, full))
+    Some(DealtInTurn { first, second })
 }
 
 #[test]
 fn a_call_is_answered_to_its_caller(rt: HostRuntime) {
-    assert!(rt; answers(rt.alloc()) == Some((true, true)));
+    let dealt = answers(rt.alloc()).expect(&rt, "memory for a node");
+    let added = Dealt::Told {
+        to: 7,
+        caller: 7,
+        number: 1,
+        said: Said::Added,
+    };
+    assert!(rt; dealt.first == added, "a reply goes to its caller");
+    let full = Dealt::Full {
+        to: 7,
+        caller: 7,
+        number: 2,
+    };
+    assert!(rt; dealt.second == full, "so does that the store is full");
 }
 
-/// Checks that nothing is sent.
-fn is_nothing(sent: Sent) -> bool {
-    let is_nothing = matches!(&sent, Ok(None));
-    drop(sent);
-    is_nothing
-}
-
-/// Checks that a node that holds nothing and knows no other sends nothing for a call.
-fn drops(alloc: Global) -> bool {
+/// What a node that holds nothing and knows no other sends for a call.
+fn drops(alloc: Global) -> Dealt {
     let mut node = Node::newborn(alloc, Links::alone(ONE, 3), CappedStore::new(alloc, 4));
-    let sends_nothing = is_nothing(dealt(alloc, &mut node, 1, b"abc"));
+    let dealt = deal_ask(alloc, &mut node, 1, b"abc");
     drop(node);
-    sends_nothing
+    dealt
 }
 
 #[test]
 fn a_newborn_node_drops_a_call(rt: HostRuntime) {
-    assert!(rt; drops(rt.alloc()));
+    let dealt = drops(rt.alloc());
+    assert!(rt; dealt == Dealt::Nothing, "it sends nothing");
 }

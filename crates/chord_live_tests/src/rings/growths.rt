@@ -2,7 +2,7 @@
 //! With ample memory nothing is refused; the tests are run with each growth refused in turn too.
 ghost use Rattle.std.specs.Prelude.{◌≡◌, []};
 
-use super::{A, C, begin, inserted, is_added, is_told, settings, succeeds};
+use super::{A, C, Known, Said, begin, inserted, only_call, said_by, settings, succeeds};
 use chord_caller::SubmitFault;
 use chord_ident::Id;
 use chord_live::{Caller, OpenCaller};
@@ -15,6 +15,7 @@ use chord_store::{CappedStore, EntryStore};
 use chord_table::Naming;
 use std::alloc::Global;
 use std::marker::Brand;
+use std::process::Abort;
 use std::sync::Wait;
 use std::thread;
 use std::thread::Threads;
@@ -22,11 +23,10 @@ use std::time::Clock;
 
 #[test]
 fn refused_growths_of_a_ring(rt: HostRuntime) {
-    let done = match unnamed(rt.alloc()) {
+    match unnamed(rt.alloc()) {
         Ok(parts) => two_nodes::<Brand, _>(&rt, rt.alloc(), parts),
-        Err(_) => false,
-    };
-    assert!(rt; done);
+        Err(_) => assert!(rt; false, "a ring is made at the second try"),
+    }
 }
 
 /// A ring for two nodes and two callers, tried twice if out of memory.
@@ -60,179 +60,184 @@ fn joined<J: Naming, S: EntryStore>(rt: &impl Wait, ring: &Ring<J, S>, store: S)
     }
 }
 
-/// Ticks a node, again if out of memory. Says whether it did.
-fn ticked<J: Naming, S: EntryStore>(rt: &impl Wait, ring: &Ring<J, S>, number: u64) -> bool {
+/// Ticks a node, again if out of memory.
+fn ticked<J: Naming, S: EntryStore>(
+    rt: &impl Wait,
+    ring: &Ring<J, S>,
+    number: u64,
+) -> Result<(), TickFault> {
     match ring.tick(rt, number) {
-        Ok(()) => true,
-        Err(TickFault::Memory) => ring.tick(rt, number).is_ok(),
-        Err(_) => false,
+        Err(TickFault::Memory) => ring.tick(rt, number),
+        ticked => ticked,
     }
 }
 
-/// Adds two nodes, and does three rounds of ticks. Says whether all succeeded.
-fn settled<J: Naming, R: Wait>(rt: &R, alloc: Global, ring: &Ring<J, CappedStore>) -> bool {
-    if !created(rt, ring, CappedStore::new(alloc, 4)) {
-        return false;
-    }
-    if !joined(rt, ring, CappedStore::new(alloc, 4)) {
-        return false;
-    }
+/// Adds two nodes, and does three rounds of ticks.
+fn settle<J: Naming, R: Abort + Wait>(rt: &R, alloc: Global, ring: &Ring<J, CappedStore>) {
+    let is_created = created(rt, ring, CappedStore::new(alloc, 4));
+    assert!(rt; is_created, "node 0 is created at the second try");
+    let is_joined = joined(rt, ring, CappedStore::new(alloc, 4));
+    assert!(rt; is_joined, "node 1 joins at the second try");
     for _ in 0..3u64 {
-        if !ticked(rt, ring, 0) || !ticked(rt, ring, 1) {
-            return false;
-        }
+        let zero = ticked(rt, ring, 0);
+        assert!(rt; zero == Ok(()), "node 0 is ticked at the second try");
+        let one = ticked(rt, ring, 1);
+        assert!(rt; one == Ok(()), "node 1 is ticked at the second try");
     }
-    true
 }
 
-/// Checks that callers are answered by two nodes, the first of which has a worker and holds `b`.
-fn two_nodes<J: Naming + Send + Sync, R: Threads + Wait + Clock + Sync>(
+/// Callers are answered by two nodes, the first of which has a worker and holds `b`.
+fn two_nodes<J: Naming + Send + Sync, R: Abort + Threads + Wait + Clock + Sync>(
     rt: &R,
     alloc: Global,
     parts: RingParts,
-) -> bool
+)
     requires { parts ≡ J.name }
 {
     let Ok(opened) = parts.assemble::<J, CappedStore>() else {
-        return true;
+        return;
     };
     let ring = &opened;
-    if !settled(rt, alloc, ring) {
-        opened.close();
-        return false;
-    }
-    let (ended, done) = thread::join(
+    settle(rt, alloc, ring);
+    let (ended, _) = thread::join(
         rt,
         move || ring.work(rt, 0, &NoProbe).is_ok(),
         move || {
-            let done = use_the_ring(rt, alloc, ring);
+            use_the_ring(rt, alloc, ring);
             ring.stop();
-            done
         },
     );
     opened.close();
-    done & ended
+    assert!(rt; ended, "a worker ends when its ring is stopped");
 }
 
-/// Checks that two callers are answered, and that a note of one reaches the other.
-fn use_the_ring<J: Naming, S: EntryStore, R: Wait + Clock>(
+/// Two callers are answered, and a note of one reaches the other.
+fn use_the_ring<J: Naming, S: EntryStore, R: Abort + Wait + Clock>(
     rt: &R,
     alloc: Global,
     ring: &Ring<J, S>,
-) -> bool {
+) {
     let Ok(mut zero) = ring.open_caller(rt, 4) else {
-        return false;
+        assert!(rt; false, "a caller is opened");
+        return;
     };
     let Ok(mut one) = ring.open_caller(rt, 4) else {
+        assert!(rt; false, "a second caller is opened");
         drop(zero);
-        return false;
+        return;
     };
-    let added = adds(rt, alloc, &mut zero);
-    let seen = sees(rt, alloc, &mut one);
+    let added = added(rt, alloc, &mut zero);
+    assert!(rt;
+        added == Some(Said::Added),
+        "an insert is answered, at the third try at most"
+    );
+    assert!(rt; zero.floor() == 1, "it was one request");
+    see(rt, alloc, &mut one);
     let told = told(&mut zero, &mut one);
     drop(one);
     drop(zero);
-    added & seen & told
-}
-
-/// Checks that an insert is answered Added, at once or after a refused growth.
-fn adds<J: Naming, S: EntryStore, R: Wait + Clock>(
-    rt: &R,
-    alloc: Global,
-    caller: &mut Caller<'_, J, S>,
-) -> bool {
-    let answered = inserted(rt, alloc, caller, 0, (b"b", b"x"));
-    let is_refused = matches!(
-        &answered,
-        Err(AskFault::Wait(WaitFault::Memory))
-            | Err(AskFault::Begin(BeginFault::Submit(SubmitFault::Memory)))
+    let insert = Known {
+        caller: 0,
+        number: 1,
+        said: Said::Added,
+    };
+    assert!(rt;
+        told == Some(insert),
+        "a caller learns the call of the other's note"
     );
-    let mut added = is_added(answered);
-    if is_refused {
-        added = adds_again(rt, alloc, caller);
-    }
-    added & (caller.floor() == 1)
 }
 
-/// Sends the request again if it is pending, else asks another one. Checks for Added.
-fn adds_again<J: Naming, S: EntryStore, R: Wait + Clock>(
+/// The answer to an insert, which is sent again after a refused growth.
+fn added<J: Naming, S: EntryStore, R: Wait + Clock>(
     rt: &R,
     alloc: Global,
     caller: &mut Caller<'_, J, S>,
-) -> bool {
+) -> Option<Said> {
+    match inserted(rt, alloc, caller, 0, (b"b", b"x")) {
+        Err(AskFault::Wait(WaitFault::Memory))
+        | Err(AskFault::Begin(BeginFault::Submit(SubmitFault::Memory))) => {
+            added_again(rt, alloc, caller)
+        }
+        answer => answer.ok(),
+    }
+}
+
+/// Sends the request again if it is pending, else asks another one.
+fn added_again<J: Naming, S: EntryStore, R: Wait + Clock>(
+    rt: &R,
+    alloc: Global,
+    caller: &mut Caller<'_, J, S>,
+) -> Option<Said> {
     if caller.is_pending(1) {
-        return is_retried(rt, caller);
+        return retried(rt, caller);
     }
-    is_added(inserted(rt, alloc, caller, 0, (b"b", b"x")))
+    inserted(rt, alloc, caller, 0, (b"b", b"x")).ok()
 }
 
-/// Sends the pending request again, twice if out of memory. Checks for Added.
-fn is_retried<J: Naming, S: EntryStore, R: Wait + Clock>(
+/// Sends the pending request again, twice if out of memory.
+fn retried<J: Naming, S: EntryStore, R: Wait + Clock>(
     rt: &R,
     caller: &mut Caller<'_, J, S>,
-) -> bool {
-    let answered = caller.retry(rt, 0, 1);
-    let is_refused = matches!(&answered, Err(RetryFault::Wait(WaitFault::Memory)));
-    let added = is_added(answered);
-    if is_refused {
-        return is_added(caller.retry(rt, 0, 1));
+) -> Option<Said> {
+    match said_by(caller.retry(rt, 0, 1)) {
+        Err(RetryFault::Wait(WaitFault::Memory)) => said_by(caller.retry(rt, 0, 1)).ok(),
+        answer => answer.ok(),
     }
-    added
 }
 
-/// Checks that a caller that begins a retrieve collects x.
-fn sees<J: Naming, S: EntryStore, R: Wait + Clock>(
+/// A caller that begins a retrieve collects x.
+fn see<J: Naming, S: EntryStore, R: Abort + Wait + Clock>(
     rt: &R,
     alloc: Global,
     caller: &mut Caller<'_, J, S>,
-) -> bool {
+) {
     let mut begun = begin(rt, alloc, caller, 0, b"b");
     if begun == Err(BeginFault::Submit(SubmitFault::Memory)) {
         begun = begin(rt, alloc, caller, 0, b"b");
     }
-    begun == Ok(1) && collects(rt, caller)
-}
-
-/// Collects the reply to request 1, and sends the request again if that is lost. Checks for x.
-fn collects<J: Naming, S: EntryStore, R: Wait + Clock>(
-    rt: &R,
-    caller: &mut Caller<'_, J, S>,
-) -> bool {
-    let told = caller.collect(rt, 1);
-    let is_lost = matches!(
-        &told,
-        Err(CollectFault::Wait(WaitFault::NoAnswer)) | Err(CollectFault::Wait(WaitFault::Memory))
+    assert!(rt; begun == Ok(1), "a retrieve is begun at the second try");
+    let seen = collected(rt, caller);
+    assert!(rt;
+        seen == Some(Said::OnlyX),
+        "its reply comes, at the third try at most"
     );
-    let seen = is_told(told, b"x");
-    if is_lost {
-        return collects_again(rt, caller);
-    }
-    seen
 }
 
-/// Sends request 1 again, and collects its reply if none came. Checks for x.
-fn collects_again<J: Naming, S: EntryStore, R: Wait + Clock>(
+/// Collects the reply to request 1, and sends the request again if that is lost.
+fn collected<J: Naming, S: EntryStore, R: Wait + Clock>(
     rt: &R,
     caller: &mut Caller<'_, J, S>,
-) -> bool {
-    let told = caller.retry(rt, 0, 1);
-    let is_lost = told.is_err();
-    let seen = is_told(told, b"x");
-    if is_lost {
-        return is_told(caller.collect(rt, 1), b"x");
+) -> Option<Said> {
+    match said_by(caller.collect(rt, 1)) {
+        Err(CollectFault::Wait(WaitFault::NoAnswer)) | Err(CollectFault::Wait(WaitFault::Memory)) =>
+            collected_again(rt, caller),
+        answer => answer.ok(),
     }
-    seen
 }
 
-/// Takes up to three notes of one caller until the other has met one. Checks that it learned one
-/// call.
-fn told<J: Naming, S: EntryStore>(from: &mut Caller<'_, J, S>, to: &mut Caller<'_, J, S>) -> bool {
+/// Sends request 1 again, and collects its reply if none came.
+fn collected_again<J: Naming, S: EntryStore, R: Wait + Clock>(
+    rt: &R,
+    caller: &mut Caller<'_, J, S>,
+) -> Option<Said> {
+    match said_by(caller.retry(rt, 0, 1)) {
+        Ok(said) => Some(said),
+        Err(_) => said_by(caller.collect(rt, 1)).ok(),
+    }
+}
+
+/// Takes up to three notes of one caller until the other has met one, and gives the only call that
+/// it learned.
+fn told<J: Naming, S: EntryStore>(
+    from: &mut Caller<'_, J, S>,
+    to: &mut Caller<'_, J, S>,
+) -> Option<Known> {
     for _ in 0..3u64 {
         if let Ok(note) = from.show() {
             if to.meet(note).is_ok() {
-                return to.told().len() == 1;
+                return only_call(to.told());
             }
         }
     }
-    false
+    None
 }

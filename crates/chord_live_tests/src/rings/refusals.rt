@@ -1,7 +1,7 @@
 //! Which calls are refused, and in which order.
 ghost use Rattle.std.specs.Prelude.{◌≡◌};
 
-use super::{A, B, C, begin, call, founded, is_added, retrieved, settings, succeeds};
+use super::{A, B, C, Said, begin, call, founded, retrieved, said_by, settings, succeeds};
 use chord_caller::SubmitFault;
 use chord_ident::Id;
 use chord_links::Peer;
@@ -12,10 +12,11 @@ use chord_live_types::{
     OpenFault, RetryFault, TickFault, WaitFault,
 };
 use chord_map::{Bytes, Request, RequestFault};
-use chord_store::{CappedStore, EntryStore, Inserted};
+use chord_store::{CappedStore, EntryStore, Inserted, StoreFault};
 use chord_table::Naming;
 use std::alloc::Global;
 use std::marker::Brand;
+use std::process::Abort;
 use std::sync::Wait;
 use std::time::Clock;
 
@@ -63,281 +64,384 @@ fn settings_at_their_limits_are_good(rt: HostRuntime) {
     }
 }
 
-/// Checks that the store is empty and has room for just one pair.
-fn has_room_for_one(alloc: Global, mut store: CappedStore) -> bool {
-    let has_room = takes_one(alloc, &mut store);
-    drop(store);
-    has_room
+/// What a store that came back shows: how many pairs it has, and the results of two inserts.
+#[derive(Clone, Copy, Debug, PartialEq, Eq)]
+struct StoreShown {
+    count: u64,
+    first: Result<Inserted, StoreFault>,
+    second: Result<Inserted, StoreFault>,
 }
 
-/// Checks that the store takes one pair and no second one.
-fn takes_one(alloc: Global, store: &mut CappedStore) -> bool {
-    let Ok(key) = Bytes::from_slice(alloc, b"a") else {
-        return false;
-    };
+/// An empty store with room for one pair.
+const ROOM_FOR_ONE: StoreShown = StoreShown {
+    count: 0,
+    first: Ok(Inserted::Added),
+    second: Err(StoreFault::Full),
+};
+
+fn show_store(rt: &impl Abort, alloc: Global, mut store: CappedStore) -> StoreShown {
+    let key = Bytes::from_slice(alloc, b"a").expect(rt, "memory for a key");
+    let count = store.count();
     let first = store.insert(&key, b"x".as_slice());
     let second = store.insert(&key, b"y".as_slice());
     drop(key);
-    (first == Ok(Inserted::Added)) & second.is_err()
+    drop(store);
+    StoreShown {
+        count,
+        first,
+        second,
+    }
 }
 
-/// Checks that no node was admitted, for this reason, and that its store came back.
-fn is_refused<F: PartialEq + Copy>(
+/// The node that entered, or why none did; then its store must come back.
+fn entered<F: Copy>(
+    rt: &impl Abort,
     alloc: Global,
     entered: Result<Peer, (F, CappedStore)>,
-    why: F,
-) -> bool {
+) -> Result<Peer, F> {
     match entered {
-        Err((fault, store)) => has_room_for_one(alloc, store) && fault == why,
-        Ok(_) => false,
+        Ok(peer) => Ok(peer),
+        Err((fault, store)) => {
+            let shown = show_store(rt, alloc, store);
+            assert!(rt; shown == ROOM_FOR_ONE, "a refused node's store comes back");
+            Err(fault)
+        }
     }
+}
+
+fn create<J: Naming, R: Abort + Wait>(
+    rt: &R,
+    alloc: Global,
+    ring: &Ring<J, CappedStore>,
+    id: u128,
+) -> Result<Peer, CreateFault> {
+    let created = ring.create(rt, Id::new(id), CappedStore::new(alloc, 1));
+    entered(rt, alloc, created)
+}
+
+fn join<J: Naming, R: Abort + Wait>(
+    rt: &R,
+    alloc: Global,
+    ring: &Ring<J, CappedStore>,
+    id: u128,
+    via: u64,
+) -> Result<Peer, JoinFault> {
+    let joined = ring.join(rt, Id::new(id), via, CappedStore::new(alloc, 1));
+    entered(rt, alloc, joined)
 }
 
 #[test]
 fn a_ring_refuses(rt: HostRuntime) {
-    let refused = match RingParts::new(rt.alloc(), settings(2, 1, 1, 10)) {
+    match RingParts::new(rt.alloc(), settings(2, 1, 1, 10)) {
         Ok(parts) => refusals::<Brand, _>(&rt, rt.alloc(), parts),
-        Err(_) => None,
-    };
-    assert!(rt; refused == Some([true; 6]));
+        Err(_) => assert!(rt; false, "these settings are within their limits"),
+    }
 }
 
-/// Checks the refusals of a ring in six states: with no node, with the first, with two, with calls
-/// for unknown nodes, with one that left, and stopped. Gives a result for each.
-fn refusals<J: Naming, R: Wait + Clock>(
-    rt: &R,
-    alloc: Global,
-    parts: RingParts,
-) -> Option<[bool; 6]>
+/// A ring with no node, with the first, with two, with calls for unknown nodes, with one that left,
+/// and stopped.
+fn refusals<J: Naming, R: Abort + Wait + Clock>(rt: &R, alloc: Global, parts: RingParts)
     requires { parts ≡ J.name }
 {
-    let ring = parts.assemble::<J, CappedStore>().ok()?;
-    let without_a_node = has_no_node(rt, &ring);
-    let created = is_created_once(rt, alloc, &ring);
-    let filled = fills_its_slots(rt, alloc, &ring);
-    let known = knows_its_nodes(rt, &ring);
-    let departed = departures(rt, &ring);
+    let ring = parts
+        .assemble::<J, CappedStore>()
+        .expect(rt, "memory for a ring");
+    has_no_node(rt, &ring);
+    is_created_once(rt, alloc, &ring);
+    fills_its_slots(rt, alloc, &ring);
+    knows_its_nodes(rt, &ring);
+    departures(rt, &ring);
     ring.stop();
-    let stopped = is_stopped(rt, alloc, &ring);
+    is_stopped(rt, alloc, &ring);
     ring.close();
-    Some([without_a_node, created, filled, known, departed, stopped])
 }
 
-/// Checks that there is no node 0 yet.
-fn has_no_node<J: Naming, R: Wait + Clock>(rt: &R, ring: &Ring<J, CappedStore>) -> bool {
-    let ticked = ring.tick(rt, 0) == Err(TickFault::NoSuchNode);
-    let crashed = ring.crash(rt, 0) == Err(NoSuchNode);
-    let worked = ring.work(rt, 0, &NoProbe) == Err(NoSuchNode);
-    ticked & crashed & worked
+fn has_no_node<J: Naming, R: Abort + Wait + Clock>(rt: &R, ring: &Ring<J, CappedStore>) {
+    let ticked = ring.tick(rt, 0);
+    assert!(rt;
+        ticked == Err(TickFault::NoSuchNode),
+        "there is no node 0 to tick yet"
+    );
+    let crashed = ring.crash(rt, 0);
+    assert!(rt; crashed == Err(NoSuchNode), "nor one to crash");
+    let worked = ring.work(rt, 0, &NoProbe);
+    assert!(rt; worked == Err(NoSuchNode), "nor one to work for");
 }
 
-/// Checks that the node has this number and identifier.
-fn is_node<F: Copy>(entered: Result<Peer, (F, CappedStore)>, number: u64, id: u128) -> bool {
-    let is_node = match &entered {
-        Ok(peer) => peer.number == number && peer.id == Id::new(id),
-        Err(_) => false,
-    };
-    drop(entered);
-    is_node
+fn peer(number: u64, id: u128) -> Peer {
+    Peer {
+        number,
+        id: Id::new(id),
+    }
 }
 
-/// Creates the first node, which gets number 0, and checks that a second one is refused.
-fn is_created_once<J: Naming, R: Wait + Clock>(
+fn is_created_once<J: Naming, R: Abort + Wait + Clock>(
     rt: &R,
     alloc: Global,
     ring: &Ring<J, CappedStore>,
-) -> bool {
-    let first = ring.create(rt, Id::new(A), CappedStore::new(alloc, 1));
-    let first = is_node(first, 0, A);
-    let again = ring.create(rt, Id::new(A), CappedStore::new(alloc, 1));
-    is_refused(alloc, again, CreateFault::AlreadyCreated) && first
+) {
+    let first = create(rt, alloc, ring, A);
+    assert!(rt; first == Ok(peer(0, A)), "the first node has number 0");
+    let again = create(rt, alloc, ring, A);
+    assert!(rt;
+        again == Err(CreateFault::AlreadyCreated),
+        "a ring is created once"
+    );
 }
 
-/// Checks that joining by this node is refused, for this reason.
-fn joins_not<J: Naming, R: Wait + Clock>(
+fn fills_its_slots<J: Naming, R: Abort + Wait + Clock>(
     rt: &R,
     alloc: Global,
     ring: &Ring<J, CappedStore>,
-    (id, via): (u128, u64),
-    why: JoinFault,
-) -> bool {
-    let joined = ring.join(rt, Id::new(id), via, CappedStore::new(alloc, 1));
-    is_refused(alloc, joined, why)
+) {
+    let taken = join(rt, alloc, ring, A, 0);
+    assert!(rt;
+        taken == Err(JoinFault::IdTaken),
+        "two nodes have two identifiers"
+    );
+    let nowhere = join(rt, alloc, ring, C, 5);
+    assert!(rt;
+        nowhere == Err(JoinFault::NoSuchNode),
+        "a node joins by one that exists"
+    );
+    let joined = join(rt, alloc, ring, C, 0);
+    assert!(rt; joined == Ok(peer(1, C)), "the second node has number 1");
+    let full = join(rt, alloc, ring, B, 0);
+    assert!(rt;
+        full == Err(JoinFault::NoSlot),
+        "a ring of two slots has no third node"
+    );
 }
 
-/// A second node joins by the first, under an identifier of its own. Checks that a third has no
-/// slot.
-fn fills_its_slots<J: Naming, R: Wait + Clock>(
+fn knows_its_nodes<J: Naming, R: Abort + Wait + Clock>(rt: &R, ring: &Ring<J, CappedStore>) {
+    let ticked = ring.tick(rt, 0);
+    assert!(rt; ticked == Ok(()), "a node that exists is ticked");
+    let left = ring.leave(rt, 2);
+    assert!(rt;
+        left == Err(LeaveFault::NoSuchNode),
+        "an unknown node does not leave"
+    );
+    let retired = ring.retire(rt, 2);
+    assert!(rt;
+        retired == Err(RingRetireFault::NoSuchNode),
+        "nor does it retire"
+    );
+}
+
+/// Node 1, which holds nothing, departs; node 0 holds the circle.
+fn departures<J: Naming, R: Abort + Wait + Clock>(rt: &R, ring: &Ring<J, CappedStore>) {
+    let staying = ring.retire(rt, 0);
+    assert!(rt;
+        staying == Err(RingRetireFault::NotLeaving),
+        "a staying node does not retire"
+    );
+    let leaves = ring.leave(rt, 1);
+    assert!(rt; leaves == Ok(()), "a staying node begins to leave");
+    let again = ring.leave(rt, 1);
+    assert!(rt; again == Err(LeaveFault::NotStaying), "once");
+    let retires = ring.retire(rt, 1);
+    assert!(rt;
+        retires == Ok(()),
+        "a leaving node that holds nothing retires"
+    );
+    let leaves = ring.leave(rt, 0);
+    assert!(rt;
+        leaves == Ok(()),
+        "a node that holds the circle begins to leave too"
+    );
+    let stays = ring.retire(rt, 0);
+    assert!(rt;
+        stays == Err(RingRetireFault::NotEmpty),
+        "but it does not retire"
+    );
+}
+
+fn is_stopped<J: Naming, R: Abort + Wait + Clock>(
     rt: &R,
     alloc: Global,
     ring: &Ring<J, CappedStore>,
-) -> bool {
-    let taken = joins_not(rt, alloc, ring, (A, 0), JoinFault::IdTaken);
-    let nowhere = joins_not(rt, alloc, ring, (C, 5), JoinFault::NoSuchNode);
-    let joined = ring.join(rt, Id::new(C), 0, CappedStore::new(alloc, 1));
-    let joined = is_node(joined, 1, C);
-    let full = joins_not(rt, alloc, ring, (B, 0), JoinFault::NoSlot);
-    taken & nowhere & joined & full
-}
-
-/// Checks that node 0 is ticked, and that node 2 is unknown.
-fn knows_its_nodes<J: Naming, R: Wait + Clock>(rt: &R, ring: &Ring<J, CappedStore>) -> bool {
-    let ticked = ring.tick(rt, 0) == Ok(());
-    let left = ring.leave(rt, 2) == Err(LeaveFault::NoSuchNode);
-    let retired = ring.retire(rt, 2) == Err(RingRetireFault::NoSuchNode);
-    ticked & left & retired
-}
-
-/// Checks that a node that holds nothing leaves and retires, and that one that holds the circle
-/// leaves but does not retire.
-fn departures<J: Naming, R: Wait + Clock>(rt: &R, ring: &Ring<J, CappedStore>) -> bool {
-    let staying = ring.retire(rt, 0) == Err(RingRetireFault::NotLeaving);
-    let leaves = ring.leave(rt, 1) == Ok(());
-    let left = ring.leave(rt, 1) == Err(LeaveFault::NotStaying);
-    let retires = ring.retire(rt, 1) == Ok(());
-    let holder_leaves = ring.leave(rt, 0) == Ok(());
-    let holder_stays = ring.retire(rt, 0) == Err(RingRetireFault::NotEmpty);
-    [staying, leaves, left, retires, holder_leaves, holder_stays] == [true; 6]
-}
-
-/// Checks that a stopped ring admits nobody and does not tick.
-fn is_stopped<J: Naming, R: Wait + Clock>(
-    rt: &R,
-    alloc: Global,
-    ring: &Ring<J, CappedStore>,
-) -> bool {
-    let joined = joins_not(rt, alloc, ring, (B, 0), JoinFault::Stopped);
-    let created = ring.create(rt, Id::new(B), CappedStore::new(alloc, 1));
-    let created = is_refused(alloc, created, CreateFault::Stopped);
-    let ticked = ring.tick(rt, 0) == Err(TickFault::Stopped);
-    let opened = ring.open_caller(rt, 1).err() == Some(OpenFault::Stopped);
-    joined & created & ticked & opened
+) {
+    let joined = join(rt, alloc, ring, B, 0);
+    assert!(rt;
+        joined == Err(JoinFault::Stopped),
+        "nobody joins a stopped ring"
+    );
+    let created = create(rt, alloc, ring, B);
+    assert!(rt;
+        created == Err(CreateFault::Stopped),
+        "no node of it is created"
+    );
+    let ticked = ring.tick(rt, 0);
+    assert!(rt; ticked == Err(TickFault::Stopped), "none is ticked");
+    let opened = ring.open_caller(rt, 1).err();
+    assert!(rt; opened == Some(OpenFault::Stopped), "no caller is admitted");
 }
 
 #[test]
 fn a_caller_refuses(rt: HostRuntime) {
-    let refused = match RingParts::new(rt.alloc(), settings(1, 1, 1, 1)) {
+    match RingParts::new(rt.alloc(), settings(1, 1, 1, 1)) {
         Ok(parts) => caller_refusals::<Brand, _>(&rt, rt.alloc(), parts),
-        Err(_) => None,
-    };
-    assert!(rt; refused == Some([true; 6]));
+        Err(_) => assert!(rt; false, "these settings are within their limits"),
+    }
 }
 
-/// Checks that a ring with one caller refuses a second one, and five refusals of that caller. Gives
-/// a result for each.
-fn caller_refusals<J: Naming, R: Wait + Clock>(
-    rt: &R,
-    alloc: Global,
-    parts: RingParts,
-) -> Option<[bool; 6]>
+/// A ring with one caller, whose window has two requests.
+fn caller_refusals<J: Naming, R: Abort + Wait + Clock>(rt: &R, alloc: Global, parts: RingParts)
     requires { parts ≡ J.name }
 {
-    let ring = founded::<J, CappedStore, R>(rt, parts, CappedStore::new(alloc, 1))?;
-    let Ok(mut caller) = ring.open_caller(rt, 1) else {
-        ring.close();
-        return None;
-    };
-    let spent = ring.open_caller(rt, 1).err() == Some(OpenFault::CallersSpent);
-    let bad = bad_requests(rt, alloc, &mut caller);
-    let unknown = unknown_nodes(rt, alloc, &mut caller);
-    let nothing = nothing_pending(rt, &mut caller);
-    let full = a_full_window(rt, alloc, &mut caller);
-    let unanswered = no_answers(rt, &mut caller);
+    let ring = founded::<J, CappedStore, R>(rt, parts, CappedStore::new(alloc, 1));
+    let mut caller = ring.open_caller(rt, 2).expect(rt, "a caller");
+    let spent = ring.open_caller(rt, 1).err();
+    assert!(rt;
+        spent == Some(OpenFault::CallersSpent),
+        "a ring for one caller admits no second one"
+    );
+    bad_requests(rt, alloc, &mut caller);
+    unknown_nodes(rt, alloc, &mut caller);
+    nothing_pending(rt, &mut caller);
+    a_full_window(rt, alloc, &mut caller);
+    no_answers(rt, &mut caller);
     drop(caller);
     ring.close();
-    Some([spent, bad, unknown, nothing, full, unanswered])
 }
 
-/// Checks that a request with an empty key is refused before its node is looked for.
-fn bad_requests<J: Naming, R: Wait + Clock>(
+/// Requests at node 5, which does not exist, with an empty key.
+fn bad_requests<J: Naming, R: Abort + Wait + Clock>(
     rt: &R,
     alloc: Global,
     caller: &mut Caller<'_, J, CappedStore>,
-) -> bool {
+) {
+    let bad = BeginFault::Submit(SubmitFault::Bad(RequestFault::KeyEmpty));
     let begun = begin(rt, alloc, caller, 5, b"");
-    let asked = retrieved(rt, alloc, caller, 5, b"").err();
-    let not_begun = begun == Err(BeginFault::Submit(SubmitFault::Bad(RequestFault::KeyEmpty)));
-    not_begun
-        & (asked
-            == Some(AskFault::Begin(BeginFault::Submit(SubmitFault::Bad(RequestFault::KeyEmpty)))))
+    assert!(rt;
+        begun == Err(bad),
+        "a request is judged before its node is looked for"
+    );
+    let asked = retrieved(rt, alloc, caller, 5, b"");
+    assert!(rt;
+        asked == Err(AskFault::Begin(bad)),
+        "also where the caller waits"
+    );
 }
 
-/// Checks that requests at node 5, which does not exist, are refused.
-fn unknown_nodes<J: Naming, R: Wait + Clock>(
+/// Requests at node 5, which does not exist.
+fn unknown_nodes<J: Naming, R: Abort + Wait + Clock>(
     rt: &R,
     alloc: Global,
     caller: &mut Caller<'_, J, CappedStore>,
-) -> bool {
+) {
     let begun = begin(rt, alloc, caller, 5, b"a");
-    let called = call(rt, caller, 5, Request::retrieve(alloc, b"a")).err();
-    (begun == Err(BeginFault::NoSuchNode))
-        & (called == Some(AskFault::Begin(BeginFault::NoSuchNode)))
+    assert!(rt;
+        begun == Err(BeginFault::NoSuchNode),
+        "an unknown node is asked nothing"
+    );
+    let called = call(rt, caller, 5, Request::retrieve(alloc, b"a"));
+    assert!(rt;
+        called == Err(AskFault::Begin(BeginFault::NoSuchNode)),
+        "no request is carried from it"
+    );
 }
 
-/// Checks that no request is pending, begun or idle before the first is sent.
-fn nothing_pending<J: Naming, R: Wait + Clock>(
+/// A caller that sent no request yet.
+fn nothing_pending<J: Naming, R: Abort + Wait + Clock>(
     rt: &R,
     caller: &mut Caller<'_, J, CappedStore>,
-) -> bool {
-    let pending = caller.pending();
-    let collected = caller.collect(rt, 1).err();
-    let retried = caller.retry(rt, 0, 1).err();
-    let is_collected = collected == Some(CollectFault::NotBegun);
-    pending.is_none() & is_collected & (retried == Some(RetryFault::Idle))
+) {
+    assert!(rt;
+        caller.pending() == None,
+        "a refused request is not pending"
+    );
+    let collected = said_by(caller.collect(rt, 1));
+    assert!(rt;
+        collected == Err(CollectFault::NotBegun),
+        "it was not begun"
+    );
+    let retried = said_by(caller.retry(rt, 0, 1));
+    assert!(rt; retried == Err(RetryFault::Idle), "it is not sent again");
 }
 
-/// One request fills the window. Checks that a second one is refused before its node is looked for.
-fn a_full_window<J: Naming, R: Wait + Clock>(
+/// Two requests fill the window.
+fn a_full_window<J: Naming, R: Abort + Wait + Clock>(
     rt: &R,
     alloc: Global,
     caller: &mut Caller<'_, J, CappedStore>,
-) -> bool {
-    let begun = begin(rt, alloc, caller, 0, b"a");
-    let stands = (caller.is_pending(1), caller.pending(), caller.floor());
+) {
+    let full = BeginFault::Submit(SubmitFault::WindowFull);
+    let first = begin(rt, alloc, caller, 0, b"a");
+    assert!(rt; first == Ok(1), "the first request has number 1");
+    let second = begin(rt, alloc, caller, 0, b"b");
+    assert!(rt;
+        second == Ok(2),
+        "a window of two has room for a second one"
+    );
+    assert!(rt; caller.is_pending(1), "the first waits for its reply");
+    assert!(rt; caller.is_pending(2), "so does the second");
+    assert!(rt; !caller.is_pending(3), "there is no third");
+    assert!(rt;
+        caller.pending() == Some(1),
+        "the first is the least pending one"
+    );
+    assert!(rt; caller.floor() == 0, "no reply came");
     let more = begin(rt, alloc, caller, 5, b"a");
-    let asked = retrieved(rt, alloc, caller, 5, b"a").err();
-    let is_begun = (begun, more) == (Ok(1), Err(BeginFault::Submit(SubmitFault::WindowFull)));
-    let is_asked = asked == Some(AskFault::Begin(BeginFault::Submit(SubmitFault::WindowFull)));
-    is_begun & is_asked & (stands == (true, Some(1), 0))
+    assert!(rt;
+        more == Err(full),
+        "a full window is seen before the node is looked for"
+    );
+    let asked = retrieved(rt, alloc, caller, 5, b"a");
+    assert!(rt;
+        asked == Err(AskFault::Begin(full)),
+        "also where the caller waits"
+    );
 }
 
-/// Checks that the request gets no answer and stays pending, since node 0 has no worker.
-fn no_answers<J: Naming, R: Wait + Clock>(rt: &R, caller: &mut Caller<'_, J, CappedStore>) -> bool {
-    let nowhere = caller.retry(rt, 5, 1).err() == Some(RetryFault::NoSuchNode);
-    let retried = caller.retry(rt, 0, 1).err() == Some(RetryFault::Wait(WaitFault::NoAnswer));
-    let collected = caller.collect(rt, 1).err() == Some(CollectFault::Wait(WaitFault::NoAnswer));
-    nowhere & retried & collected & caller.is_pending(1)
+/// Node 0 has no worker, so it answers nothing.
+fn no_answers<J: Naming, R: Abort + Wait + Clock>(rt: &R, caller: &mut Caller<'_, J, CappedStore>) {
+    let nowhere = said_by(caller.retry(rt, 5, 1));
+    assert!(rt;
+        nowhere == Err(RetryFault::NoSuchNode),
+        "a request goes to a node that exists"
+    );
+    let retried = said_by(caller.retry(rt, 0, 1));
+    assert!(rt;
+        retried == Err(RetryFault::Wait(WaitFault::NoAnswer)),
+        "a node without a worker does not answer"
+    );
+    let collected = said_by(caller.collect(rt, 2));
+    assert!(rt;
+        collected == Err(CollectFault::Wait(WaitFault::NoAnswer)),
+        "nor is there a reply to collect"
+    );
+    assert!(rt;
+        caller.is_pending(1),
+        "a request without a reply stays pending"
+    );
+    assert!(rt; caller.is_pending(2), "each of them does");
 }
 
 #[test]
 fn a_stopped_ring_does_not_answer(rt: HostRuntime) {
-    let unheard = match RingParts::new(rt.alloc(), settings(1, 1, 1_000, 60_000)) {
+    match RingParts::new(rt.alloc(), settings(1, 1, 1_000, 60_000)) {
         Ok(parts) => stopped::<Brand, _>(&rt, rt.alloc(), parts),
-        Err(_) => None,
-    };
-    assert!(rt; unheard == Some((true, Some(AskFault::Wait(WaitFault::NoAnswer)), true)));
+        Err(_) => assert!(rt; false, "these settings are within their limits"),
+    }
 }
 
-/// Asks once, then stops the ring twice and asks again. Gives whether the first is answered, why
-/// the second is not, and whether it is pending.
-fn stopped<J: Naming, R: Wait + Clock>(
-    rt: &R,
-    alloc: Global,
-    parts: RingParts,
-) -> Option<(bool, Option<AskFault>, bool)>
+/// Asks once, then stops the ring twice and asks again.
+fn stopped<J: Naming, R: Abort + Wait + Clock>(rt: &R, alloc: Global, parts: RingParts)
     requires { parts ≡ J.name }
 {
-    let ring = founded::<J, CappedStore, R>(rt, parts, CappedStore::new(alloc, 1))?;
-    let Ok(mut caller) = ring.open_caller(rt, 2) else {
-        ring.close();
-        return None;
-    };
-    let called = is_added(call(rt, &mut caller, 0, Request::insert(alloc, b"abc", b"x")));
+    let ring = founded::<J, CappedStore, R>(rt, parts, CappedStore::new(alloc, 1));
+    let mut caller = ring.open_caller(rt, 2).expect(rt, "a caller");
+    let called = call(rt, &mut caller, 0, Request::insert(alloc, b"abc", b"x"));
+    assert!(rt; called == Ok(Said::Added), "a ring that runs answers");
     ring.stop();
     ring.stop();
-    let unheard = retrieved(rt, alloc, &mut caller, 0, b"abc").err();
-    let is_pending = caller.is_pending(2);
+    let unheard = retrieved(rt, alloc, &mut caller, 0, b"abc");
+    assert!(rt;
+        unheard == Err(AskFault::Wait(WaitFault::NoAnswer)),
+        "a stopped ring does not answer"
+    );
+    assert!(rt; caller.is_pending(2), "the request stays pending");
     drop(caller);
     ring.close();
-    Some((called, unheard, is_pending))
 }

@@ -4,87 +4,117 @@ ghost use Rattle.std.specs.Prelude.{◌≡◌, ◌<◌, None, Some, IfSome};
 ghost use Rattle.chord_caller.specs.Caller.{CallerStep};
 ghost use Rattle.chord_caller.specs.Caller.Letter.{AskLetter};
 
-use super::{founded, settings};
+use super::{Said, founded, said_in, settings};
 use chord_caller::{Ask, CallerCore};
 use chord_live_ring::{Ring, RingParts, Target};
 use chord_live_types::OpenFault;
-use chord_map::{Reply, Request};
+use chord_map::Request;
 use chord_node::Message;
 use chord_store::CappedStore;
 use chord_table::{CallerSeat, Envelope, Naming};
 use std::alloc::Global;
 use std::marker::Brand;
+use std::process::Abort;
 use std::sync::Wait;
 use std::time::{Clock, Duration};
 
 #[test]
 fn a_core_and_its_seat(rt: HostRuntime) {
-    let stood = match RingParts::new(rt.alloc(), settings(2, 1, 3, 5)) {
+    match RingParts::new(rt.alloc(), settings(2, 1, 3, 5)) {
         Ok(parts) => stands::<Brand, _>(&rt, rt.alloc(), parts),
-        Err(_) => None,
-    };
-    assert!(rt; stood == Some([true; 4]));
+        Err(_) => assert!(rt; false, "these settings are within their limits"),
+    }
 }
 
-/// Checks the state of a ring of one node, that it admits and answers one caller, refuses a second,
-/// and stops. Gives a result for each.
-fn stands<J: Naming, R: Wait + Clock>(rt: &R, alloc: Global, parts: RingParts) -> Option<[bool; 4]>
+/// A ring of one node admits and answers one caller, and is stopped.
+fn stands<J: Naming, R: Abort + Wait + Clock>(rt: &R, alloc: Global, parts: RingParts)
     requires { parts ≡ J.name }
 {
-    let ring = founded::<J, CappedStore, R>(rt, parts, CappedStore::new(alloc, 1))?;
-    let runs = runs(rt, &ring);
-    let admitted = admits(rt, alloc, &ring);
-    let spent = ring.admit_caller(rt, 1).err() == Some(OpenFault::CallersSpent);
+    let ring = founded::<J, CappedStore, R>(rt, parts, CappedStore::new(alloc, 1));
+    runs(rt, &ring);
+    admits(rt, alloc, &ring);
+    let spent = ring.admit_caller(rt, 1).err();
+    assert!(rt;
+        spent == Some(OpenFault::CallersSpent),
+        "a ring for one caller admits no second one"
+    );
     ring.stop();
-    let stopped = ring.is_stopped() & (ring.time_left(rt, &None) == Duration::from_millis(0));
+    let (is_stopped, left) = (ring.is_stopped(), ring.time_left(rt, &None));
     ring.close();
-    Some([runs, admitted, spent, stopped])
+    assert!(rt; is_stopped, "a ring that was stopped is stopped");
+    assert!(rt;
+        left == Duration::from_millis(0),
+        "in a stopped ring nobody waits"
+    );
 }
 
-/// Checks that node 0 was admitted and node 1 was not, and that a request is sent three times, with
-/// waits of five milliseconds.
-fn runs<J: Naming, R: Wait + Clock>(rt: &R, ring: &Ring<J, CappedStore>) -> bool {
-    let was = [
-        ring.was_admitted(0),
-        ring.was_admitted(1),
-        ring.is_stopped(),
-    ] == [true, false, false];
-    was & (ring.tries() == 3) & (ring.time_left(rt, &None) == Duration::from_millis(5))
+fn runs<J: Naming, R: Abort + Wait + Clock>(rt: &R, ring: &Ring<J, CappedStore>) {
+    assert!(rt; ring.was_admitted(0), "node 0 was created");
+    assert!(rt; !ring.was_admitted(1), "node 1 was not");
+    assert!(rt; !ring.is_stopped(), "the ring runs");
+    assert!(rt;
+        ring.tries() == 3,
+        "a request is sent as often as the settings say"
+    );
+    let left = ring.time_left(rt, &None);
+    assert!(rt;
+        left == Duration::from_millis(5),
+        "and waits as long as they say"
+    );
 }
 
-/// Checks that the first caller has number 0, and is answered.
-fn admits<J: Naming, R: Wait + Clock>(rt: &R, alloc: Global, ring: &Ring<J, CappedStore>) -> bool {
+fn admits<J: Naming, R: Abort + Wait + Clock>(rt: &R, alloc: Global, ring: &Ring<J, CappedStore>) {
     let Ok((mut core, mut seat)) = ring.admit_caller(rt, 1) else {
-        return false;
+        assert!(rt; false, "a ring for one caller admits one");
+        return;
     };
     let number = core.number();
-    let answered = is_answered(rt, alloc, ring, number, &mut core, &mut seat);
+    let told = answered(rt, alloc, ring, number, &mut core, &mut seat);
     drop(seat);
     drop(core);
-    answered & (number == 0)
+    assert!(rt; number == 0, "the first caller has number 0");
+    let added = Told {
+        caller: 0,
+        number: 1,
+        said: Said::Added,
+    };
+    assert!(rt;
+        told == Some(added),
+        "its insert is carried, and the reply comes to it"
+    );
+    let more = is_there(ring.hear(rt, number, Duration::from_millis(0)));
+    assert!(rt; !more, "nothing else comes");
 }
 
-/// Checks that a caller's insert is carried, and answered Added under its number.
-fn is_answered<J: Naming, R: Wait + Clock>(
+/// Whether there is a value.
+fn is_there<T: Drop>(value: Option<T>) -> bool {
+    value.is_some()
+}
+
+/// A reply that came to a caller.
+#[derive(Clone, Copy, Debug, PartialEq, Eq)]
+struct Told {
+    caller: u64,
+    number: u64,
+    said: Said,
+}
+
+/// The reply to the insert of a caller that is carried.
+fn answered<J: Naming, R: Wait + Clock>(
     rt: &R,
     alloc: Global,
     ring: &Ring<J, CappedStore>,
     number: u64,
     core: &mut CallerCore,
     seat: &mut CallerSeat<J>,
-) -> bool
+) -> Option<Told>
     requires shown { core.old ≡ seat.old.caller }
     requires own { number < J.name.callers }
 {
-    let Some(ask) = submitted(alloc, core) else {
-        return false;
-    };
+    let ask = submitted(alloc, core)?;
     let envelope = seat.send(ring.table(), core, Message::Ask(ask));
-    let Some(came) = carried(rt, ring, number, envelope) else {
-        return false;
-    };
-    let added = is_added(seat.receive(ring.table(), came), number);
-    added & ring.hear(rt, number, Duration::from_millis(0)).is_none()
+    let came = carried(rt, ring, number, envelope)?;
+    told_in(seat.receive(ring.table(), came))
 }
 
 /// A caller's call to insert x under `a`.
@@ -112,14 +142,15 @@ fn carried<J: Naming, R: Wait + Clock>(
     ring.hear(rt, number, Duration::from_millis(1_000))
 }
 
-/// Checks that the message is Added to request 1 of this caller.
-fn is_added(message: Message, number: u64) -> bool {
-    let is_added = match &message {
-        Message::Told(told) => {
-            matches!(&told.reply, Reply::Added) & (told.caller == number) & (told.number == 1)
-        }
-        _ => false,
+fn told_in(message: Message) -> Option<Told> {
+    let told = match &message {
+        Message::Told(told) => Some(Told {
+            caller: told.caller,
+            number: told.number,
+            said: said_in(&told.reply),
+        }),
+        _ => None,
     };
     drop(message);
-    is_added
+    told
 }

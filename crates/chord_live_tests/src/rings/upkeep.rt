@@ -2,16 +2,18 @@
 ghost use Rattle.std.specs.Prelude.{◌≡◌, [], ◌∷◌};
 ghost use Rattle.chord_table.specs.Shown.{WitnessShown};
 
-use super::{call, founded, inserted, is_added, is_told, retrieved, settings, succeeds};
+use super::{Said, call, founded, inserted, retrieved, said_by, settings, succeeds};
 use chord_ident::Id;
 use chord_links::Links;
 use chord_live::{OpenCaller, RingClient};
 use chord_live_ring::{NoProbe, Probe, Ring, RingParts};
+use chord_live_types::{AskFault, WaitFault};
 use chord_map::Request;
 use chord_store::{CappedStore, EntryStore};
 use chord_table::{Naming, Witness};
 use std::alloc::Global;
 use std::marker::Brand;
+use std::process::Abort;
 use std::sync::Wait;
 use std::sync::atomic::{AtomicBool, Ordering};
 use std::thread;
@@ -64,70 +66,67 @@ impl<'a, R: Clock> Probe for Held<'a, R> {
 
 #[test]
 fn two_locks_at_once(rt: HostRuntime) {
-    assert!(rt; is_kept(&rt, rt.alloc(), Then::TwoLocks));
+    is_kept(&rt, rt.alloc(), Then::TwoLocks);
 }
 
 #[test]
 fn a_ring_without_a_crashed_node(rt: HostRuntime) {
-    assert!(rt; is_kept(&rt, rt.alloc(), Then::Crash));
+    is_kept(&rt, rt.alloc(), Then::Crash);
 }
 
 #[test]
 fn a_node_leaves_and_retires(rt: HostRuntime) {
-    assert!(rt; is_kept(&rt, rt.alloc(), Then::Leave));
+    is_kept(&rt, rt.alloc(), Then::Leave);
 }
 
 #[test]
 fn a_client_begins_where_it_was_answered(rt: HostRuntime) {
-    assert!(rt; is_kept(&rt, rt.alloc(), Then::Guess));
+    is_kept(&rt, rt.alloc(), Then::Guess);
 }
 
 #[test]
 fn a_client_asks_no_crashed_node(rt: HostRuntime) {
-    assert!(rt; is_kept(&rt, rt.alloc(), Then::GuessCrashed));
+    is_kept(&rt, rt.alloc(), Then::GuessCrashed);
 }
 
-/// Checks a ring of two nodes in which this is done once it is settled.
-fn is_kept<R: Threads + Wait + Clock + Sync>(rt: &R, alloc: Global, then: Then) -> bool {
-    match RingParts::new(alloc, settings(2, 3, 20, 1_000)) {
+/// How often a request is sent. A client that may ask once is not answered if it asks a crashed
+/// node first.
+fn tries_of(then: Then) -> u64 {
+    if then == Then::GuessCrashed { 1 } else { 20 }
+}
+
+/// A ring of two nodes in which this is done once it is settled.
+fn is_kept<R: Abort + Threads + Wait + Clock + Sync>(rt: &R, alloc: Global, then: Then) {
+    match RingParts::new(alloc, settings(2, 3, tries_of(then), 1_000)) {
         Ok(parts) => two_nodes::<Brand, _>(rt, alloc, parts, then),
-        Err(_) => false,
+        Err(_) => assert!(rt; false, "these settings are within their limits"),
     }
 }
 
-/// Node M joins by node A. Says whether it did.
-fn joined<J: Naming, R: Wait>(rt: &R, alloc: Global, ring: &Ring<J, CappedStore>) -> bool {
-    succeeds(ring.join(rt, Id::new(M), 0, CappedStore::new(alloc, 4)))
-}
-
-/// Starts node A, and then checks the ring as `joined_and_worked` does.
-fn two_nodes<J: Naming + Send + Sync, R: Threads + Wait + Clock + Sync>(
+/// Starts node A, and node M, which joins by it.
+fn two_nodes<J: Naming + Send + Sync, R: Abort + Threads + Wait + Clock + Sync>(
     rt: &R,
     alloc: Global,
     parts: RingParts,
     then: Then,
-) -> bool
+)
     requires { parts ≡ J.name }
 {
     let store = CappedStore::new(alloc, 4);
-    let Some(ring) = founded::<J, CappedStore, R>(rt, parts, store) else {
-        return false;
-    };
-    let done = joined_and_worked(rt, alloc, &ring, then);
+    let ring = founded::<J, CappedStore, R>(rt, parts, store);
+    let joined = succeeds(ring.join(rt, Id::new(M), 0, CappedStore::new(alloc, 4)));
+    assert!(rt; joined, "a second node joins by the first");
+    worked(rt, alloc, &ring, then);
     ring.close();
-    done
 }
 
-/// Adds node M and a worker for each node, settles the ring, and checks what is done then.
-fn joined_and_worked<J: Naming + Send + Sync, R: Threads + Wait + Clock + Sync>(
+/// Each node has a worker while the ring is settled and this is done.
+fn worked<J: Naming + Send + Sync, R: Abort + Threads + Wait + Clock + Sync>(
     rt: &R,
     alloc: Global,
     ring: &Ring<J, CappedStore>,
     then: Then,
-) -> bool {
-    if !joined(rt, alloc, ring) {
-        return false;
-    }
+) {
     let probe = Held {
         rt,
         stands: AtomicBool::new(false),
@@ -135,7 +134,7 @@ fn joined_and_worked<J: Naming + Send + Sync, R: Threads + Wait + Clock + Sync>(
         spent: AtomicBool::new(false),
     };
     let probe = &probe;
-    let (ended, (other, done)) = thread::join(
+    let (first, (second, _)) = thread::join(
         rt,
         move || ring.work(rt, 0, probe).is_ok(),
         move || {
@@ -143,34 +142,32 @@ fn joined_and_worked<J: Naming + Send + Sync, R: Threads + Wait + Clock + Sync>(
                 rt,
                 move || ring.work(rt, 1, &NoProbe).is_ok(),
                 move || {
-                    let done = settle_and_then(rt, alloc, ring, probe, then);
+                    settle_and_then(rt, alloc, ring, probe, then);
                     ring.stop();
-                    done
                 },
             )
         },
     );
-    done & ended & other
+    assert!(rt; first, "worker 0 ends when the ring is stopped");
+    assert!(rt; second, "worker 1 ends when the ring is stopped");
 }
 
-/// Does a round of ticks. Says whether all succeeded.
-fn ticked<J: Naming, S: EntryStore, R: Wait + Clock>(rt: &R, ring: &Ring<J, S>) -> bool {
-    let zero = ring.tick(rt, 0).is_ok();
-    ring.tick(rt, 1).is_ok() & zero
+/// Does a round of ticks.
+fn tick<J: Naming, S: EntryStore, R: Abort + Wait + Clock>(rt: &R, ring: &Ring<J, S>) {
+    let zero = ring.tick(rt, 0);
+    assert!(rt; zero == Ok(()), "node 0 is ticked");
+    let one = ring.tick(rt, 1);
+    assert!(rt; one == Ok(()), "node 1 is ticked");
 }
 
-/// Does eight rounds of ticks, and checks what is done then.
-fn settle_and_then<J: Naming + Send + Sync, S: EntryStore + Send, R: Threads + Wait + Clock + Sync>(
-    rt: &R,
-    alloc: Global,
-    ring: &Ring<J, S>,
-    probe: &Held<'_, R>,
-    then: Then,
-) -> bool {
+/// Does eight rounds of ticks, and what is done then.
+fn settle_and_then<
+    J: Naming + Send + Sync,
+    S: EntryStore + Send,
+    R: Abort + Threads + Wait + Clock + Sync,
+>(rt: &R, alloc: Global, ring: &Ring<J, S>, probe: &Held<'_, R>, then: Then) {
     for _ in 0..8u64 {
-        if !ticked(rt, ring) {
-            return false;
-        }
+        tick(rt, ring);
         thread::sleep(rt, Duration::from_millis(5));
     }
     match then {
@@ -182,132 +179,177 @@ fn settle_and_then<J: Naming + Send + Sync, S: EntryStore + Send, R: Threads + W
     }
 }
 
-/// Checks that a new caller's insert is answered Added.
-fn adds_alone<J: Naming, S: EntryStore, R: Wait + Clock>(
+/// The answer to a new caller's insert.
+fn inserted_alone<J: Naming, S: EntryStore, R: Abort + Wait + Clock>(
     rt: &R,
     alloc: Global,
     ring: &Ring<J, S>,
     via: u64,
     pair: (&[u8], &[u8]),
-) -> bool {
-    let Ok(mut caller) = ring.open_caller(rt, 4) else {
-        return false;
-    };
-    let added = is_added(inserted(rt, alloc, &mut caller, via, pair));
+) -> Result<Said, AskFault> {
+    let mut caller = ring.open_caller(rt, 4).expect(rt, "a caller");
+    let answer = inserted(rt, alloc, &mut caller, via, pair);
     drop(caller);
-    added
+    answer
 }
 
-/// `b` is held by node 0, `abc` by node 1. Checks that a caller of `abc` is answered while worker 0
-/// is held, and then the caller of `b`.
-fn two_locks<J: Naming + Send + Sync, S: EntryStore + Send, R: Threads + Wait + Clock + Sync>(
+/// What a caller finds while worker 0 is held in its lock.
+#[derive(Clone, Copy)]
+struct WhileHeld {
+    is_held_before: bool,
+    answer: Option<Result<Said, AskFault>>,
+    is_held_after: bool,
+}
+
+/// Asks node 1, which holds `abc`, once worker 0 is held, and then opens worker 0.
+fn ask_while_held<J: Naming, S: EntryStore, R: Abort + Wait + Clock>(
     rt: &R,
     alloc: Global,
     ring: &Ring<J, S>,
     probe: &Held<'_, R>,
-) -> bool {
+) -> WhileHeld {
+    for _ in 0..10_000u64 {
+        if !probe.stands.load(Ordering::SeqCst) {
+            thread::sleep(rt, Duration::from_millis(1));
+        }
+    }
+    let is_held_before = probe.stands.load(Ordering::SeqCst);
+    let mut answer = None;
+    if is_held_before {
+        answer = Some(inserted_alone(rt, alloc, ring, 1, (b"abc", b"x")));
+    }
+    let is_held_after = !probe.spent.load(Ordering::SeqCst);
+    probe.opened.store(true, Ordering::SeqCst);
+    WhileHeld {
+        is_held_before,
+        answer,
+        is_held_after,
+    }
+}
+
+/// `b` is held by node 0, `abc` by node 1. Each is asked for while worker 0 is held.
+fn two_locks<
+    J: Naming + Send + Sync,
+    S: EntryStore + Send,
+    R: Abort + Threads + Wait + Clock + Sync,
+>(rt: &R, alloc: Global, ring: &Ring<J, S>, probe: &Held<'_, R>) {
     probe.stands.store(false, Ordering::SeqCst);
     probe.opened.store(false, Ordering::SeqCst);
     let (zero, one) = thread::join(
         rt,
-        move || adds_alone(rt, alloc, ring, 0, (b"b", b"y")),
-        move || {
-            for _ in 0..10_000u64 {
-                if !probe.stands.load(Ordering::SeqCst) {
-                    thread::sleep(rt, Duration::from_millis(1));
-                }
-            }
-            let answered = probe.stands.load(Ordering::SeqCst)
-                && adds_alone(rt, alloc, ring, 1, (b"abc", b"x"));
-            let held = !probe.spent.load(Ordering::SeqCst);
-            probe.opened.store(true, Ordering::SeqCst);
-            answered && held
-        },
+        move || inserted_alone(rt, alloc, ring, 0, (b"b", b"y")),
+        move || ask_while_held(rt, alloc, ring, probe),
     );
-    zero & one
+    assert!(rt;
+        one.is_held_before,
+        "worker 0 is held in its lock by the call for `b`"
+    );
+    assert!(rt;
+        one.answer == Some(Ok(Said::Added)),
+        "node 1 answers while node 0 is locked"
+    );
+    assert!(rt;
+        one.is_held_after,
+        "worker 0 was held until that was answered"
+    );
+    assert!(rt; zero == Ok(Said::Added), "node 0 answers once it is opened");
 }
 
-/// Node 0, which held nothing of `abc`, crashes. Checks that node 1 drops it and answers.
-fn crash<J: Naming, S: EntryStore, R: Wait + Clock>(
+/// Node 0, which held nothing of `abc`, crashes.
+fn crash<J: Naming, S: EntryStore, R: Abort + Wait + Clock>(
     rt: &R,
     alloc: Global,
     ring: &Ring<J, S>,
-) -> bool {
-    let Ok(mut caller) = ring.open_caller(rt, 1) else {
-        return false;
-    };
-    let added = is_added(inserted(rt, alloc, &mut caller, 0, (b"abc", b"x")));
-    let crashed = ring.crash(rt, 0).is_ok();
-    let dropped = ring.tick(rt, 1).is_ok();
-    let seen = is_told(retrieved(rt, alloc, &mut caller, 1, b"abc"), b"x");
+) {
+    let mut caller = ring.open_caller(rt, 1).expect(rt, "a caller");
+    let added = inserted(rt, alloc, &mut caller, 0, (b"abc", b"x"));
+    assert!(rt;
+        added == Ok(Said::Added),
+        "a call is passed on to the node that holds its key"
+    );
+    let crashed = ring.crash(rt, 0);
+    assert!(rt; crashed == Ok(()), "node 0 crashes");
+    let ticked = ring.tick(rt, 1);
+    assert!(rt; ticked == Ok(()), "node 1 drops it");
+    let seen = retrieved(rt, alloc, &mut caller, 1, b"abc");
+    assert!(rt; seen == Ok(Said::OnlyX), "node 1 answers for what it holds");
     drop(caller);
-    added & crashed & dropped & seen
 }
 
-/// Node 1 leaves. Checks that node 0 then has what node 1 held.
-fn leave<J: Naming, S: EntryStore, R: Wait + Clock>(
+/// Node 1, which holds `abc`, leaves and retires.
+fn leave<J: Naming, S: EntryStore, R: Abort + Wait + Clock>(
     rt: &R,
     alloc: Global,
     ring: &Ring<J, S>,
-) -> bool {
-    let Ok(mut caller) = ring.open_caller(rt, 1) else {
-        return false;
-    };
-    let added = is_added(inserted(rt, alloc, &mut caller, 0, (b"abc", b"x")));
-    let called = is_told(
-        call(rt, &mut caller, 0, Request::retrieve(alloc, b"abc")),
-        b"x",
+) {
+    let mut caller = ring.open_caller(rt, 1).expect(rt, "a caller");
+    let added = inserted(rt, alloc, &mut caller, 0, (b"abc", b"x"));
+    assert!(rt;
+        added == Ok(Said::Added),
+        "a call is passed on to the node that holds its key"
     );
-    let retired = retires(rt, ring);
-    let forgotten = forgets(rt, ring);
-    let seen = is_told(retrieved(rt, alloc, &mut caller, 0, b"abc"), b"x");
+    let called = call(rt, &mut caller, 0, Request::retrieve(alloc, b"abc"));
+    assert!(rt; called == Ok(Said::OnlyX), "so is one that is carried");
+    retire(rt, ring);
+    forget(rt, ring);
+    let seen = retrieved(rt, alloc, &mut caller, 0, b"abc");
+    assert!(rt; seen == Ok(Said::OnlyX), "node 0 has what node 1 held");
     drop(caller);
-    added & called & retired & forgotten & seen
 }
 
-/// Checks that a client's insert by node 0 is answered Added.
-fn client_adds<J: Naming, S: EntryStore, R: Wait + Clock>(
+/// The answer to a client's insert by node 0.
+fn client_inserted<J: Naming, S: EntryStore, R: Wait + Clock>(
     rt: &R,
     alloc: Global,
     client: &mut RingClient<'_, J, S>,
     (key, value): (&[u8], &[u8]),
-) -> bool {
+) -> Result<Said, AskFault> {
     match Request::insert(alloc, key, value) {
-        Ok(request) => is_added(client.call(rt, 0, request)),
-        Err(_) => false,
+        Ok(request) => said_by(client.call(rt, 0, request)),
+        Err(_) => Err(AskFault::Wait(WaitFault::Memory)),
     }
 }
 
-/// Checks that a client's retrieve of `abc` by node 0 is answered with x alone.
-fn client_sees<J: Naming, S: EntryStore, R: Wait + Clock>(
+/// The answer to a client's retrieve of `abc` by node 0.
+fn client_retrieved<J: Naming, S: EntryStore, R: Wait + Clock>(
     rt: &R,
     alloc: Global,
     client: &mut RingClient<'_, J, S>,
-) -> bool {
+) -> Result<Said, AskFault> {
     match Request::retrieve(alloc, b"abc") {
-        Ok(request) => is_told(client.call(rt, 0, request), b"x"),
-        Err(_) => false,
+        Ok(request) => said_by(client.call(rt, 0, request)),
+        Err(_) => Err(AskFault::Wait(WaitFault::Memory)),
     }
 }
 
-/// `abc` is held by node 1, `eq` by node 0. Checks that calls with a wrong guess are passed on, and
-/// that the client, which node 1 answered last, is still answered after node 0 crashed.
-fn guess<J: Naming, S: EntryStore, R: Wait + Clock>(
+/// `abc` is held by node 1, `eq` by node 0, and the identifiers of both have the same first byte.
+fn guess<J: Naming, S: EntryStore, R: Abort + Wait + Clock>(
     rt: &R,
     alloc: Global,
     ring: &Ring<J, S>,
-) -> bool {
-    let Ok(mut client) = ring.open_client(rt, 1) else {
-        return false;
-    };
-    let added = client_adds(rt, alloc, &mut client, (b"abc", b"x"));
-    let other = client_adds(rt, alloc, &mut client, (b"eq", b"y"));
-    let seen = client_sees(rt, alloc, &mut client);
-    let crashed = ring.crash(rt, 0).is_ok();
-    let again = client_sees(rt, alloc, &mut client);
+) {
+    let mut client = ring.open_client(rt, 1).expect(rt, "a client");
+    let added = client_inserted(rt, alloc, &mut client, (b"abc", b"x"));
+    assert!(rt;
+        added == Ok(Said::Added),
+        "a call is passed on to the node that holds its key"
+    );
+    let other = client_inserted(rt, alloc, &mut client, (b"eq", b"y"));
+    assert!(rt;
+        other == Ok(Said::Added),
+        "a call with a wrong guess is passed on too"
+    );
+    let seen = client_retrieved(rt, alloc, &mut client);
+    assert!(rt; seen == Ok(Said::OnlyX), "node 1 answers for `abc`");
+    let crashed = ring.crash(rt, 0);
+    assert!(rt; crashed == Ok(()), "node 0 crashes");
+    let again = client_retrieved(rt, alloc, &mut client);
+    assert!(rt;
+        again == Ok(Said::OnlyX),
+        "the client begins at node 1, which answered last"
+    );
     stands_in_one_world(ring, &mut client);
     drop(client);
-    added & other & seen & crashed & again
 }
 
 /// Proves that what the client was handed out is in one history of one world.
@@ -323,56 +365,81 @@ fn stands_in_one_world<J: Naming, S: EntryStore>(
     drop(all);
 }
 
-/// Node 1 answers for `abc` and crashes. Checks that `eq`, for which node 1 is the guess, is
-/// answered by node 0.
-fn guess_crashed<J: Naming, S: EntryStore, R: Wait + Clock>(
+/// A client inserts x under `abc` by node 0, and calls again as long as no answer comes.
+fn insert_x_until_answered<J: Naming, S: EntryStore, R: Wait + Clock>(
+    rt: &R,
+    alloc: Global,
+    client: &mut RingClient<'_, J, S>,
+) -> Option<Said> {
+    let mut said = client_inserted(rt, alloc, client, (b"abc", b"x")).ok();
+    for _ in 0..20u64 {
+        if said.is_none() {
+            said = said_by(client.call_again(rt, 0, 1)).ok();
+        }
+    }
+    said
+}
+
+/// Node 1 answers for `abc` and crashes. It is the guess for `eq`, which node 0 holds.
+fn guess_crashed<J: Naming, S: EntryStore, R: Abort + Wait + Clock>(
     rt: &R,
     alloc: Global,
     ring: &Ring<J, S>,
-) -> bool {
-    let Ok(mut client) = ring.open_client(rt, 1) else {
-        return false;
-    };
-    let added = client_adds(rt, alloc, &mut client, (b"abc", b"x"));
-    let crashed = ring.crash(rt, 1).is_ok();
-    let other = client_adds(rt, alloc, &mut client, (b"eq", b"y"));
+) {
+    assert!(rt; ring.tries() == 1, "a request is sent once");
+    let mut client = ring.open_client(rt, 1).expect(rt, "a client");
+    let added = insert_x_until_answered(rt, alloc, &mut client);
+    assert!(rt; added == Some(Said::Added), "x is added under `abc`");
+    let seen = client_retrieved(rt, alloc, &mut client);
+    assert!(rt;
+        seen == Ok(Said::OnlyX),
+        "the first call for `abc` is answered"
+    );
+    let crashed = ring.crash(rt, 1);
+    assert!(rt; crashed == Ok(()), "node 1 crashes");
+    let other = client_inserted(rt, alloc, &mut client, (b"eq", b"y"));
+    assert!(rt;
+        other == Ok(Said::Added),
+        "the first node that is asked for `eq` is not node 1"
+    );
+    let lost = client_retrieved(rt, alloc, &mut client);
+    assert!(rt;
+        lost == Err(AskFault::Wait(WaitFault::NoAnswer)),
+        "node 1 was the one that answered for `abc`"
+    );
     drop(client);
-    added & crashed & other
 }
 
-/// Node 1 leaves. Checks that it retires once node 0 holds all that it held.
-fn retires<J: Naming, S: EntryStore, R: Wait + Clock>(rt: &R, ring: &Ring<J, S>) -> bool {
-    if ring.leave(rt, 1).is_err() {
-        return false;
-    }
+/// Node 1 leaves, and retires once node 0 holds all that it held.
+fn retire<J: Naming, S: EntryStore, R: Abort + Wait + Clock>(rt: &R, ring: &Ring<J, S>) {
+    let leaves = ring.leave(rt, 1);
+    assert!(rt; leaves == Ok(()), "node 1 begins to leave");
+    let mut is_retired = false;
     for _ in 0..1_000u64 {
-        if !ticked(rt, ring) {
-            return false;
-        }
-        thread::sleep(rt, Duration::from_millis(1));
-        if ring.retire(rt, 1).is_ok() {
-            return true;
+        if !is_retired {
+            tick(rt, ring);
+            thread::sleep(rt, Duration::from_millis(1));
+            is_retired = ring.retire(rt, 1).is_ok();
         }
     }
-    false
+    assert!(rt; is_retired, "node 1 retires once what it held was taken");
 }
 
-/// Checks that after its next tick node 0 has no finger at node 1.
-fn forgets<J: Naming, S: EntryStore, R: Wait + Clock>(rt: &R, ring: &Ring<J, S>) -> bool {
-    if ring.tick(rt, 0).is_err() {
-        return false;
-    }
-    match ring.links_of(rt, 0) {
-        Some(links) => has_no_finger_at_1(&links),
-        None => false,
-    }
+/// After its next tick node 0 has no finger at node 1.
+fn forget<J: Naming, S: EntryStore, R: Abort + Wait + Clock>(rt: &R, ring: &Ring<J, S>) {
+    let ticked = ring.tick(rt, 0);
+    assert!(rt; ticked == Ok(()), "node 0 is ticked");
+    let links = ring.links_of(rt, 0).expect(rt, "the links of node 0");
+    let finger = finger_at_1(&links);
+    assert!(rt; finger == None, "no finger is at a node that retired");
 }
 
-fn has_no_finger_at_1(links: &Links) -> bool {
+/// The first finger that is at node 1.
+fn finger_at_1(links: &Links) -> Option<usize> {
     for finger in 1..129 {
         if matches!(links.fingers().get(finger), Some(peer) if peer.number == 1) {
-            return false;
+            return Some(finger);
         }
     }
-    true
+    None
 }
