@@ -18,6 +18,7 @@ use std::time::Clock;
 mod callers;
 mod dealing;
 mod growths;
+mod kinds;
 mod refusals;
 mod standing;
 mod upkeep;

@@ -1,0 +1,164 @@
+//! A client and a caller that stores replies ask a ring by the same calls.
+ghost use Rattle.std.specs.Prelude.{◌≡◌};
+
+use super::{Said, founded, said_by, settings};
+use chord_live::{AskingCore, Caller, OpenCaller, RingCaller};
+use chord_live_ring::{NoProbe, RingParts};
+use chord_live_types::{AskFault, RetryFault, WaitFault};
+use chord_map::Request;
+use chord_store::{CappedStore, EntryStore};
+use chord_table::Naming;
+use std::alloc::Global;
+use std::marker::Brand;
+use std::process::Abort;
+use std::sync::Wait;
+use std::thread;
+use std::thread::Threads;
+use std::time::Clock;
+
+#[test]
+fn a_client_is_answered_again_once_there_is_room(rt: HostRuntime) {
+    let alloc = rt.alloc();
+    match RingParts::new(alloc, settings(1, 2, 1, 2)) {
+        Ok(parts) => client_without_room::<Brand, _>(&rt, alloc, parts),
+        Err(_) => assert!(rt; false, "these settings are within their limits"),
+    }
+}
+
+#[test]
+fn a_caller_is_answered_again_once_there_is_room(rt: HostRuntime) {
+    let alloc = rt.alloc();
+    match RingParts::new(alloc, settings(1, 2, 1, 2)) {
+        Ok(parts) => caller_without_room::<Brand, _>(&rt, alloc, parts),
+        Err(_) => assert!(rt; false, "these settings are within their limits"),
+    }
+}
+
+#[test]
+fn a_client_asks_through_inboxes(rt: HostRuntime) {
+    let alloc = rt.alloc();
+    match RingParts::new(alloc, settings(1, 1, 1, 2_000)) {
+        Ok(parts) => client_with_a_worker::<Brand, _>(&rt, alloc, parts),
+        Err(_) => assert!(rt; false, "these settings are within their limits"),
+    }
+}
+
+fn client_without_room<J: Naming, R: Abort + Wait + Clock>(rt: &R, alloc: Global, parts: RingParts)
+    requires name { parts ≡ J.name }
+{
+    let ring = founded::<J, CappedStore, R>(rt, parts, CappedStore::new(alloc, 1));
+    let mut filler = ring.open_caller(rt, 1).expect(rt, "a caller");
+    let mut client = ring.open_client(rt, 1).expect(rt, "a client");
+    ask_until_there_is_room(rt, alloc, &mut filler, &mut client);
+    drop(client);
+    drop(filler);
+    ring.close();
+}
+
+fn caller_without_room<J: Naming, R: Abort + Wait + Clock>(rt: &R, alloc: Global, parts: RingParts)
+    requires name { parts ≡ J.name }
+{
+    let ring = founded::<J, CappedStore, R>(rt, parts, CappedStore::new(alloc, 1));
+    let mut filler = ring.open_caller(rt, 1).expect(rt, "a caller");
+    let mut caller = ring.open_caller(rt, 1).expect(rt, "a second caller");
+    ask_until_there_is_room(rt, alloc, &mut filler, &mut caller);
+    drop(caller);
+    drop(filler);
+    ring.close();
+}
+
+/// The answer at node 0 to a request that is carried.
+fn carried<J: Naming, S: EntryStore, C: AskingCore, R: Abort + Wait + Clock>(
+    rt: &R,
+    asker: &mut RingCaller<'_, J, S, C>,
+    request: Request,
+) -> Result<Said, AskFault> {
+    said_by(asker.call(rt, 0, request))
+}
+
+/// The node has room for one pair, which the filler inserts and removes again.
+fn ask_until_there_is_room<J: Naming, S: EntryStore, C: AskingCore, R: Abort + Wait + Clock>(
+    rt: &R,
+    alloc: Global,
+    filler: &mut Caller<'_, J, S>,
+    asker: &mut RingCaller<'_, J, S, C>,
+) {
+    let x = Request::insert(alloc, b"a", b"x").expect(rt, "memory for a request");
+    let added = carried(rt, filler, x);
+    assert!(rt; added == Ok(Said::Added), "a node with room adds a pair");
+    let y = Request::insert(alloc, b"a", b"y").expect(rt, "memory for a request");
+    let full = carried(rt, asker, y);
+    assert!(rt;
+        full == Err(AskFault::Wait(WaitFault::Full)),
+        "a full store answers Full"
+    );
+    let still_full = said_by(asker.call_again(rt, 0, 1));
+    assert!(rt;
+        still_full == Err(RetryFault::Wait(WaitFault::Full)),
+        "sent again, it is still Full"
+    );
+    let nowhere = said_by(asker.call_again(rt, 5, 1));
+    assert!(rt;
+        nowhere == Err(RetryFault::NoSuchNode),
+        "no node has number 5"
+    );
+    let remove = Request::remove(alloc, b"a", b"x").expect(rt, "memory for a request");
+    let removed = carried(rt, filler, remove);
+    assert!(rt; removed == Ok(Said::Removed), "a pair is removed");
+    let answered = said_by(asker.call_again(rt, 0, 1));
+    assert!(rt; answered == Ok(Said::Added), "now there is room for it");
+    let over = said_by(asker.call_again(rt, 0, 1));
+    assert!(rt;
+        over == Err(RetryFault::Idle),
+        "what was answered is not pending"
+    );
+    assert!(rt; asker.floor() == 1, "the floor rises to an answered number");
+    assert!(rt; asker.pending() == None, "nothing is pending");
+}
+
+fn client_with_a_worker<J: Naming + Send + Sync, R: Abort + Threads + Wait + Clock + Sync>(
+    rt: &R,
+    alloc: Global,
+    parts: RingParts,
+)
+    requires name { parts ≡ J.name }
+{
+    let founded = founded::<J, CappedStore, R>(rt, parts, CappedStore::new(alloc, 2));
+    let ring = &founded;
+    let (ended, _) = thread::join(
+        rt,
+        move || ring.work(rt, 0, &NoProbe).is_ok(),
+        move || {
+            let mut client = ring.open_client(rt, 2).expect(rt, "a client");
+            ask_through_inboxes(rt, alloc, &mut client);
+            drop(client);
+            ring.stop();
+        },
+    );
+    founded.close();
+    assert!(rt; ended, "a worker ends when its ring is stopped");
+}
+
+/// A worker of node 0 runs.
+fn ask_through_inboxes<J: Naming, S: EntryStore, C: AskingCore, R: Abort + Wait + Clock>(
+    rt: &R,
+    alloc: Global,
+    asker: &mut RingCaller<'_, J, S, C>,
+) {
+    let insert = Request::insert(alloc, b"a", b"x").expect(rt, "memory for a request");
+    let added = said_by(asker.ask(rt, 0, insert));
+    assert!(rt; added == Ok(Said::Added), "a worker answers");
+    let retrieve = Request::retrieve(alloc, b"a").expect(rt, "memory for a request");
+    let begun = asker.begin(rt, 0, retrieve);
+    assert!(rt; begun == Ok(2), "the second request has number 2");
+    assert!(rt;
+        asker.is_pending(2),
+        "it is pending until its reply is taken"
+    );
+    let retried = said_by(asker.retry(rt, 0, 2));
+    assert!(rt;
+        retried == Ok(Said::OnlyX),
+        "its reply comes, also where it came before it was awaited"
+    );
+    assert!(rt; asker.floor() == 2, "both were answered");
+}
