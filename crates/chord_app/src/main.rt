@@ -11,7 +11,7 @@ use chord_app_options::{
 };
 use chord_app_plan::{Plan, PlanFault, StoreKind, read_plan};
 use chord_app_serve::{run, serve, stay};
-use chord_app_sockets::{ServerSetup, listen};
+use chord_app_sockets::{Host, ServerSetup, listen};
 use chord_app_text::Finish;
 use chord_app_world::{empty_ones, world};
 use chord_store::{CappedStore, EntryStore, ListStore, NotedStore, TreeStore};
@@ -70,16 +70,7 @@ struct ServeOptions<'a> {
 
 /// Does the command `run`, or `serve` if there is a listener, with a store for each node of the
 /// plan.
-fn start_ring<
-    T: Threads
-        + Wait
-        + Clock
-        + Net<Listener = TcpListener, Stream = TcpStream>
-        + Copy
-        + Send
-        + Sync
-        + 'static,
->(
+fn start_ring<T: Host>(
     rt: &HostRuntime,
     threads: &T,
     plan: &Plan,
@@ -109,23 +100,18 @@ fn start_ring<
         notes: &options.notes,
     };
     match options.connections {
-        Some(count) => serve(threads, &setup, stores, count, &mut rt.stdout())?,
+        Some(count) => serve(threads, &setup, stores, count, rt.stdout())?,
         None => stay(threads, &setup, stores, rt.stdin(), rt.stdout())?,
     }
     Ok(Finish::Done)
 }
 
 /// Does the command `serve`.
-fn start_serve<
-    T: Threads
-        + Wait
-        + Clock
-        + Net<Listener = TcpListener, Stream = TcpStream>
-        + Copy
-        + Send
-        + Sync
-        + 'static,
->(rt: &HostRuntime, threads: &T, found: &ArgMatches) -> Result<Finish, Finish> {
+fn start_serve<T: Host>(
+    rt: &HostRuntime,
+    threads: &T,
+    found: &ArgMatches,
+) -> Result<Finish, Finish> {
     let line = match serve_line_of(rt.alloc(), found) {
         Ok(line) => line,
         Err(fault) => return print_fault(rt, fault),
@@ -141,16 +127,7 @@ fn start_serve<
 }
 
 /// Does the command `run`.
-fn start_run<
-    T: Threads
-        + Wait
-        + Clock
-        + Net<Listener = TcpListener, Stream = TcpStream>
-        + Copy
-        + Send
-        + Sync
-        + 'static,
->(rt: &HostRuntime, threads: &T, found: &ArgMatches) -> Result<Finish, Finish> {
+fn start_run<T: Host>(rt: &HostRuntime, threads: &T, found: &ArgMatches) -> Result<Finish, Finish> {
     let plan = plan_of(rt, plan_path_of(found))?;
     start_ring(rt, threads, &plan, None)
 }
@@ -185,16 +162,11 @@ fn matched<'a>(rt: &HostRuntime, words: &'a [String]) -> Result<ArgMatches<'a>, 
 }
 
 /// Does the command that was matched. `clap` refuses a line that has none.
-fn do_command<
-    T: Threads
-        + Wait
-        + Clock
-        + Net<Listener = TcpListener, Stream = TcpStream>
-        + Copy
-        + Send
-        + Sync
-        + 'static,
->(rt: &HostRuntime, threads: &T, matches: &ArgMatches) -> Result<Finish, Finish> {
+fn do_command<T: Host>(
+    rt: &HostRuntime,
+    threads: &T,
+    matches: &ArgMatches,
+) -> Result<Finish, Finish> {
     match matches.subcommand() {
         Some((name, found)) if name == "run" => start_run(rt, threads, found),
         Some((name, found)) if name == "serve" => start_serve(rt, threads, found),

@@ -10,5 +10,4 @@ mod plan_run;
 mod serving;
 
 pub use plan_run::run;
-pub use serving::server::serve;
-pub use serving::stay::stay;
+pub use serving::commands::{serve, stay};

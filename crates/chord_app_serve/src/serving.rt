@@ -2,7 +2,7 @@
 
 pub mod asker;
 pub mod caller_pool;
+pub mod commands;
 pub mod idle;
 pub mod server;
 pub mod service;
-pub mod stay;

@@ -2,10 +2,10 @@
 //! the others are answered. With ample memory nothing is refused; the toolchain's failing
 //! allocations refuse one.
 
+use crate::stays::stay_over;
 use chord_app_plan::Plan;
-use chord_app_serve::stay;
-use chord_app_serve_testkit::{bound, plan_with, two_stores};
-use chord_app_sockets::ServerSetup;
+use chord_app_serve_testkit::{bound, plan_with};
+use chord_app_sockets::Host;
 use chord_app_text::Finish;
 use log::sink::Discard;
 use std::alloc::Global;
@@ -22,16 +22,7 @@ use std::time::Clock;
 const INSERT: &[u8] = b"\x00\x00\x00\x0f\x01\x01\x00\x00\x00\x00\x00\x00\x00\x01\x01a\x00\x01x";
 
 /// Serves until the input ends, writing into these bytes, and then frees the port.
-fn stays<
-    R: Threads
-        + Wait
-        + Clock
-        + Net<Listener = TcpListener, Stream = TcpStream>
-        + Copy
-        + Send
-        + Sync
-        + 'static,
->(
+fn stays<R: Host>(
     rt: &R,
     alloc: Global,
     plan: &Plan,
@@ -39,14 +30,7 @@ fn stays<
     input: PipeReader,
     written: &mut [u8],
 ) -> Result<(), Finish> {
-    let stores = two_stores(alloc, 4)?;
-    let setup = ServerSetup {
-        alloc,
-        plan,
-        listener: &listener,
-        notes: &Discard,
-    };
-    stay(rt, &setup, stores, input, written)
+    stay_over(rt, alloc, plan, &listener, 4, input, &Discard, written)
 }
 
 /// Checks that the server answers an insert, and then closes the connection.

@@ -5,7 +5,7 @@ use chord_app_serve::stay;
 use chord_app_serve_testkit::{
     Act, Acts, Answer, Ask, bound, do_acts, is_served, leave, plan_with, two_stores,
 };
-use chord_app_sockets::ServerSetup;
+use chord_app_sockets::{Host, ServerSetup};
 use chord_app_text::{Fault, Finish};
 use chord_wire::FaultCode;
 use log::Log;
@@ -20,18 +20,7 @@ use std::thread::Threads;
 use std::time::Clock;
 
 /// Serves until the input ends, over two stores with room for `limit` pairs.
-fn stay_over<
-    R: Threads
-        + Wait
-        + Clock
-        + Net<Listener = TcpListener, Stream = TcpStream>
-        + Copy
-        + Send
-        + Sync
-        + 'static,
-    L: Log + Sync,
-    W: Write + Send + Drop,
->(
+pub fn stay_over<R: Host, L: Log + Sync, W: Write + Send + Drop>(
     rt: &R,
     alloc: Global,
     plan: &Plan,
@@ -52,17 +41,7 @@ fn stay_over<
 }
 
 /// Serves until the input ends, and gives what was written.
-fn stayed_and_noted<
-    R: Threads
-        + Wait
-        + Clock
-        + Net<Listener = TcpListener, Stream = TcpStream>
-        + Copy
-        + Send
-        + Sync
-        + 'static,
-    L: Log + Sync,
->(
+fn stayed_and_noted<R: Host, L: Log + Sync>(
     rt: &R,
     alloc: Global,
     plan: &Plan,
@@ -77,16 +56,7 @@ fn stayed_and_noted<
 }
 
 /// Serves until the input ends, and writes into 32 bytes, which have room for the address only.
-fn stayed_in_32_bytes<
-    R: Threads
-        + Wait
-        + Clock
-        + Net<Listener = TcpListener, Stream = TcpStream>
-        + Copy
-        + Send
-        + Sync
-        + 'static,
->(
+fn stayed_in_32_bytes<R: Host>(
     rt: &R,
     alloc: Global,
     plan: &Plan,
@@ -159,26 +129,22 @@ fn writes<
 const IN_TURN: Script = Script {
     before: &[
         (0, Act::Connect),
-        (0, Act::Ask(1, Ask::Insert(b"x"))),
-        (0, Act::Hear(1, Answer::Added)),
-        (0, Act::Ask(2, Ask::Insert(b"x"))),
-        (0, Act::Hear(2, Answer::Present)),
+        (0, Act::Call(1, Ask::Insert(b"x"), Answer::Added)),
+        (0, Act::Call(2, Ask::Insert(b"x"), Answer::Present)),
         (0, Act::Leave),
         (1, Act::Connect),
-        (1, Act::Ask(1, Ask::Retrieve)),
-        (1, Act::Hear(1, Answer::Values(&[b"x"]))),
-        (1, Act::Ask(3, Ask::Insert(b"x"))),
-        (1, Act::Hear(3, Answer::Fault(FaultCode::BadNumber))),
+        (1, Act::Call(1, Ask::Retrieve, Answer::Values(&[b"x"]))),
+        (
+            1,
+            Act::Call(3, Ask::Insert(b"x"), Answer::Fault(FaultCode::BadNumber)),
+        ),
         (1, Act::Leave),
         (2, Act::Connect),
-        (2, Act::Ask(1, Ask::Remove(b"x"))),
-        (2, Act::Hear(1, Answer::Removed)),
-        (2, Act::Ask(1, Ask::Remove(b"x"))),
-        (2, Act::Hear(1, Answer::Removed)),
+        (2, Act::Call(1, Ask::Remove(b"x"), Answer::Removed)),
+        (2, Act::Call(1, Ask::Remove(b"x"), Answer::Removed)),
         (2, Act::Leave),
         (3, Act::Connect),
-        (3, Act::Ask(1, Ask::Remove(b"x"))),
-        (3, Act::Hear(1, Answer::Absent)),
+        (3, Act::Call(1, Ask::Remove(b"x"), Answer::Absent)),
     ],
     after: &[(3, Act::End)],
 };
@@ -198,14 +164,12 @@ fn one_caller_for_all(rt: HostRuntime) -> Result<(), Fail> {
 const CROWDED: Script = Script {
     before: &[
         (0, Act::Connect),
-        (0, Act::Ask(1, Ask::Insert(b"x"))),
-        (0, Act::Hear(1, Answer::Added)),
+        (0, Act::Call(1, Ask::Insert(b"x"), Answer::Added)),
         (1, Act::Connect),
         (1, Act::End),
         (0, Act::Leave),
         (2, Act::Connect),
-        (2, Act::Ask(1, Ask::Insert(b"x"))),
-        (2, Act::Hear(1, Answer::Present)),
+        (2, Act::Call(1, Ask::Insert(b"x"), Answer::Present)),
         (2, Act::Leave),
     ],
     after: &[],
@@ -234,29 +198,29 @@ fn a_caller_that_is_taken(rt: HostRuntime) -> Result<(), Fail> {
 const FULL_AND_AGAIN: Script = Script {
     before: &[
         (0, Act::Connect),
-        (0, Act::Ask(1, Ask::Insert(b"x"))),
-        (0, Act::Hear(1, Answer::Added)),
-        (0, Act::Ask(2, Ask::Insert(b"y"))),
-        (0, Act::Hear(2, Answer::Fault(FaultCode::Full))),
+        (0, Act::Call(1, Ask::Insert(b"x"), Answer::Added)),
+        (
+            0,
+            Act::Call(2, Ask::Insert(b"y"), Answer::Fault(FaultCode::Full)),
+        ),
         (0, Act::Leave),
         (1, Act::Connect),
-        (1, Act::Ask(1, Ask::Insert(b"x"))),
-        (1, Act::Hear(1, Answer::Present)),
+        (1, Act::Call(1, Ask::Insert(b"x"), Answer::Present)),
         (2, Act::Connect),
         (2, Act::End),
-        (1, Act::Ask(2, Ask::Remove(b"x"))),
-        (1, Act::Hear(2, Answer::Removed)),
+        (1, Act::Call(2, Ask::Remove(b"x"), Answer::Removed)),
         (3, Act::Connect),
-        (3, Act::Ask(1, Ask::Retrieve)),
-        (3, Act::Hear(1, Answer::Values(&[b"y"]))),
-        (3, Act::Ask(2, Ask::Insert(b"z"))),
-        (3, Act::Hear(2, Answer::Fault(FaultCode::Full))),
-        (3, Act::Ask(2, Ask::Insert(b"z"))),
-        (3, Act::Hear(2, Answer::Fault(FaultCode::Full))),
-        (1, Act::Ask(3, Ask::Remove(b"y"))),
-        (1, Act::Hear(3, Answer::Removed)),
-        (3, Act::Ask(2, Ask::Insert(b"z"))),
-        (3, Act::Hear(2, Answer::Added)),
+        (3, Act::Call(1, Ask::Retrieve, Answer::Values(&[b"y"]))),
+        (
+            3,
+            Act::Call(2, Ask::Insert(b"z"), Answer::Fault(FaultCode::Full)),
+        ),
+        (
+            3,
+            Act::Call(2, Ask::Insert(b"z"), Answer::Fault(FaultCode::Full)),
+        ),
+        (1, Act::Call(3, Ask::Remove(b"y"), Answer::Removed)),
+        (3, Act::Call(2, Ask::Insert(b"z"), Answer::Added)),
         (3, Act::Leave),
         (1, Act::Leave),
     ],

@@ -70,6 +70,8 @@ pub enum Act {
     Say(&'static [u8]),
     /// It expects this answer to the request of the number.
     Hear(u64, Answer),
+    /// It sends a request under this number, and expects this answer.
+    Call(u64, Ask, Answer),
     /// It closes its sending side.
     Hush,
     /// It expects the server to close the connection.
@@ -86,6 +88,10 @@ impl Act {
             Act::Ask(number, ask) => send(alloc, stream, number, ask),
             Act::Say(bytes) => stream.write_all(bytes),
             Act::Hear(number, answer) => hear(alloc, stream, number, answer),
+            Act::Call(number, ask, answer) => {
+                send(alloc, stream, number, ask)?;
+                hear(alloc, stream, number, answer)
+            }
             Act::Hush => stream.shutdown(Shutdown::Write),
             Act::End => expect_end(stream),
             Act::Leave => leave(stream),

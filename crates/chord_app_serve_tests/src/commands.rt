@@ -1,12 +1,9 @@
 //! The commands `ask` and `load` over loopback, with a ring of two nodes behind the server.
 
+use crate::servers::serve_over;
 use chord_app_ask::{ClientOptions, Kind, Load, Until, ask_lines, run_load};
-use chord_app_plan::Plan;
-use chord_app_serve::serve;
 use chord_app_serve_testkit::{bound, plan_with, two_stores};
-use chord_app_sockets::ServerSetup;
 use chord_app_text::{Fault, Finish};
-use chord_store::EntryStore;
 use log::sink::Discard;
 use std::alloc::Global;
 use std::net::{Net, TcpListener, TcpStream};
@@ -14,25 +11,6 @@ use std::sync::Wait;
 use std::thread;
 use std::thread::Threads;
 use std::time::Clock;
-
-/// Serves `connections` connections over these stores, without a log.
-fn served_by<R: Threads + Wait + Clock + Sync, S: EntryStore + Send>(
-    rt: &R,
-    alloc: Global,
-    plan: &Plan,
-    listener: &TcpListener,
-    stores: Vec<S>,
-    connections: usize,
-    written: &mut Vec<u8>,
-) -> Result<(), Finish> {
-    let setup = ServerSetup {
-        alloc,
-        plan,
-        listener,
-        notes: &Discard,
-    };
-    serve(rt, &setup, stores, connections, written)
-}
 
 /// Each kind of request, with text and digits.
 const REQUESTS: &str =
@@ -43,7 +21,16 @@ const REPLIES: &str =
 
 /// Asks a ring of two nodes over `connections` connections, one after another; each store has room
 /// for `room` pairs. Gives how asking ended, and whether it wrote the right lines.
-fn asks_a_ring<R: Threads + Wait + Clock + Net<Listener = TcpListener, Stream = TcpStream> + Sync>(
+fn asks_a_ring<
+    R: Threads
+        + Wait
+        + Clock
+        + Net<Listener = TcpListener, Stream = TcpStream>
+        + Copy
+        + Send
+        + Sync
+        + 'static,
+>(
     rt: &R,
     alloc: Global,
     room: u64,
@@ -65,7 +52,16 @@ fn asks_a_ring<R: Threads + Wait + Clock + Net<Listener = TcpListener, Stream = 
     let mut written: Vec<u8> = Vec::new(alloc);
     let (served, asked) = thread::join(
         rt,
-        || served_by(rt, alloc, &plan, &listener, stores, connections, &mut ends),
+        || serve_over(
+            rt,
+            alloc,
+            &plan,
+            &listener,
+            stores,
+            connections,
+            &Discard,
+            &mut ends,
+        ),
         || ask_lines(rt, alloc, client_options, &mut reader, &mut written),
     );
     let is_written = written.as_slice() == wanted.as_bytes();
@@ -125,7 +121,16 @@ fn is_table(table: &[u8], answered: &str, faults: &str) -> bool {
 
 /// How a load of 21 requests ended on a ring whose stores have room for `room` pairs, and whether
 /// its table has these counts of answers and faults.
-fn loaded<R: Threads + Wait + Clock + Net<Listener = TcpListener, Stream = TcpStream> + Sync>(
+fn loaded<
+    R: Threads
+        + Wait
+        + Clock
+        + Net<Listener = TcpListener, Stream = TcpStream>
+        + Copy
+        + Send
+        + Sync
+        + 'static,
+>(
     rt: &R,
     alloc: Global,
     room: u64,
@@ -149,7 +154,7 @@ fn loaded<R: Threads + Wait + Clock + Net<Listener = TcpListener, Stream = TcpSt
     let lines: Vec<u8> = Vec::new(alloc);
     let (served, ended) = thread::join(
         rt,
-        || served_by(rt, alloc, &plan, &listener, stores, 2, &mut ends),
+        || serve_over(rt, alloc, &plan, &listener, stores, 2, &Discard, &mut ends),
         || run_load(rt, alloc, load, Some(lines), &mut table),
     );
     let is_told = is_table(&table, answered, faults);

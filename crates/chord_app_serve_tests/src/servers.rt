@@ -6,9 +6,10 @@ use chord_app_serve_testkit::{
     Act, Acts, Answer, Ask, ask, ask_insert, bound, changed, do_acts, expect, insert, is_served,
     leave, plan_of, plan_with, request_frame, retrieve, two_stores,
 };
-use chord_app_sockets::{ServerSetup, listen};
+use chord_app_sockets::{Host, ServerSetup, listen};
 use chord_app_text::{Fault, Finish};
 use chord_map::{Bytes, Reply, Request, Values};
+use chord_store::EntryStore;
 use chord_wire::FaultCode;
 use log::Log;
 use log::sink::{Discard, Locked};
@@ -59,8 +60,28 @@ impl Clients {
     }
 }
 
+/// Serves `connections` connections over these stores.
+pub fn serve_over<R: Host, S: EntryStore + Send, L: Log + Sync>(
+    rt: &R,
+    alloc: Global,
+    plan: &Plan,
+    listener: &TcpListener,
+    stores: Vec<S>,
+    connections: usize,
+    notes: &L,
+    written: &mut Vec<u8>,
+) -> Result<(), Finish> {
+    let setup = ServerSetup {
+        alloc,
+        plan,
+        listener,
+        notes,
+    };
+    serve(rt, &setup, stores, connections, written)
+}
+
 /// Serves `connections` connections over two stores with room, and gives what was written.
-fn served<R: Threads + Wait + Clock + Sync, L: Log + Sync>(
+fn served<R: Host, L: Log + Sync>(
     rt: &R,
     alloc: Global,
     plan: &Plan,
@@ -69,21 +90,31 @@ fn served<R: Threads + Wait + Clock + Sync, L: Log + Sync>(
     notes: &L,
 ) -> Result<Vec<u8>, Finish> {
     let stores = two_stores(alloc, 1_000)?;
-    let setup = ServerSetup {
+    let mut written: Vec<u8> = Vec::new(alloc);
+    serve_over(
+        rt,
         alloc,
         plan,
         listener,
+        stores,
+        connections,
         notes,
-    };
-    let mut written: Vec<u8> = Vec::new(alloc);
-    serve(rt, &setup, stores, connections, &mut written)?;
+        &mut written,
+    )?;
     Ok(written)
 }
 
 /// Checks that the clients are answered, and these lines written, by a server with this many
 /// callers and connections.
 fn writes<
-    R: Threads + Wait + Clock + Net<Listener = TcpListener, Stream = TcpStream> + Sync,
+    R: Threads
+        + Wait
+        + Clock
+        + Net<Listener = TcpListener, Stream = TcpStream>
+        + Copy
+        + Send
+        + Sync
+        + 'static,
     L: Log + Sync,
 >(
     rt: &R,
@@ -153,8 +184,7 @@ fn faulty_clients(rt: HostRuntime) {
 /// One client is served while others, one after another, send frames that are refused.
 const HOSTILE: Acts = &[
     (0, Act::Connect),
-    (0, Act::Ask(1, Ask::Insert(b"x"))),
-    (0, Act::Hear(1, Answer::Added)),
+    (0, Act::Call(1, Ask::Insert(b"x"), Answer::Added)),
     (1, Act::Connect),
     (1, Act::Say(b"\x00\x00\x00\x0b")),
     (1, Act::Hear(0, Answer::Fault(FaultCode::BadLength))),
@@ -203,16 +233,14 @@ const HOSTILE: Acts = &[
     ),
     (7, Act::Hear(1, Answer::Fault(FaultCode::Trailing))),
     (7, Act::End),
-    (0, Act::Ask(2, Ask::Insert(b"x"))),
-    (0, Act::Hear(2, Answer::Present)),
+    (0, Act::Call(2, Ask::Insert(b"x"), Answer::Present)),
     (0, Act::Leave),
 ];
 
 /// A client changes the version: its request 2, with floor 1, retrieves the set of `a`.
 const TWO_VERSIONS: Acts = &[
     (0, Act::Connect),
-    (0, Act::Ask(1, Ask::Insert(b"x"))),
-    (0, Act::Hear(1, Answer::Added)),
+    (0, Act::Call(1, Ask::Insert(b"x"), Answer::Added)),
     (
         0,
         Act::Say(
@@ -315,7 +343,14 @@ fn sixty_four_ends(alloc: Global) -> Option<String> {
 
 /// Checks that 64 clients are answered at once, and their lines written.
 fn writes_sixty_four<
-    R: Threads + Wait + Clock + Net<Listener = TcpListener, Stream = TcpStream> + Sync,
+    R: Threads
+        + Wait
+        + Clock
+        + Net<Listener = TcpListener, Stream = TcpStream>
+        + Copy
+        + Send
+        + Sync
+        + 'static,
 >(rt: &R, alloc: Global) -> Option<bool> {
     let ends = sixty_four_ends(alloc)?;
     let clients = Clients::SixtyFour;
@@ -333,8 +368,7 @@ const HALF_A_FRAME: Acts = &[
     (0, Act::Connect),
     (0, Act::Say(b"\x00\x00\x00\x11\x01\x01\x00\x00\x00\x00")),
     (1, Act::Connect),
-    (1, Act::Ask(1, Ask::Insert(b"x"))),
-    (1, Act::Hear(1, Answer::Added)),
+    (1, Act::Call(1, Ask::Insert(b"x"), Answer::Added)),
     (1, Act::Leave),
     (0, Act::Leave),
 ];
@@ -351,8 +385,7 @@ fn fill<S: Read + Write>(alloc: Global, stream: &mut S) -> io::Result<()> {
 /// A client that is served.
 const ANOTHER: Acts = &[
     (0, Act::Connect),
-    (0, Act::Ask(1, Ask::Remove(b"x"))),
-    (0, Act::Hear(1, Answer::Absent)),
+    (0, Act::Call(1, Ask::Remove(b"x"), Answer::Absent)),
     (0, Act::Leave),
 ];
 
@@ -369,10 +402,16 @@ fn never_reads<R: Net>(rt: &R, alloc: Global, address: SocketAddr) -> io::Result
 }
 
 /// Why a plan is not served whose second node the ring refuses.
-fn not_served<R: Threads + Wait + Clock + Net<Listener = TcpListener, Stream = TcpStream> + Sync>(
-    rt: &R,
-    alloc: Global,
-) -> Option<Finish> {
+fn not_served<
+    R: Threads
+        + Wait
+        + Clock
+        + Net<Listener = TcpListener, Stream = TcpStream>
+        + Copy
+        + Send
+        + Sync
+        + 'static,
+>(rt: &R, alloc: Global) -> Option<Finish> {
     let twice = changed(alloc, "id = \"c0", "id = \"40").ok()?;
     let plan = plan_of(alloc, twice.as_str());
     drop(twice);

@@ -2,18 +2,21 @@
 
 use std::alloc::{AllocError, Global};
 use std::net::{Shutdown, TcpStream};
-use std::sync::{Arc, Mutex, Wait};
+use std::sync::{Arc, Condvar, Mutex, Wait};
 
 /// The streams of the connections that are open, each with its number.
 #[derive(Drop)]
 pub struct Clients {
     open: Mutex<Vec<(u64, Arc<TcpStream>)>>,
+    /// Is notified when a connection is removed.
+    removed: Condvar,
 }
 
 impl Clients {
     pub fn new(alloc: Global) -> Clients {
         Clients {
             open: Mutex::new(Vec::new(alloc)),
+            removed: Condvar::new(),
         }
     }
 
@@ -32,6 +35,13 @@ impl Clients {
     /// Removes a connection.
     pub fn forget(&self, rt: &impl Wait, number: u64) {
         self.open.lock(rt).retain(|client| client.0 != number);
+        self.removed.notify_all();
+    }
+
+    /// Waits until each connection was removed.
+    pub fn wait_for_all(&self, rt: &impl Wait) {
+        let open = self.open.lock(rt);
+        drop(self.removed.wait_while(rt, open, |open| !open.is_empty()));
     }
 
     /// Shuts all connections down, so that nothing more is read or written.

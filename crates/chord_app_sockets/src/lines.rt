@@ -1,7 +1,8 @@
-//! What `serve --stay` writes.
+//! What a server writes.
 
 use crate::ended::Ended;
 use chord_app_text::Finish;
+use std::alloc::Global;
 use std::io::{self, Write};
 use std::net::TcpListener;
 use std::sync::{Mutex, Wait};
@@ -11,48 +12,76 @@ use std::sync::{Mutex, Wait};
 struct Out<W> {
     writer: W,
     failed: Option<Finish>,
+    /// How the connections ended whose lines are written at the end, by number.
+    kept: Vec<Option<Ended>>,
 }
 
-/// The lines of connections, in the order in which they end. After one that failed no more are
-/// written.
+/// The lines of connections. After one that failed no more are written.
 #[derive(Drop)]
 pub struct Lines<W> {
+    /// The lines of how many connections are kept for the end.
+    most_kept: usize,
     out: Mutex<Out<W>>,
 }
 
 /// Writes the address at which clients are served.
-pub fn write_address<W: Write>(listener: &TcpListener, writer: &mut W) -> io::Result<()> {
+fn write_address<W: Write>(listener: &TcpListener, writer: &mut W) -> io::Result<()> {
     let address = listener.local_addr()?;
     writeln!(writer, "listening on {address}")?;
     writer.flush()
 }
 
 /// Writes how a connection ended.
-pub fn write_end<W: Write>(number: u64, ended: &Ended, writer: &mut W) -> io::Result<()> {
+fn write_end<W: Write>(number: u64, ended: &Ended, writer: &mut W) -> io::Result<()> {
     writeln!(writer, "connection {number} {ended}")?;
     writer.flush()
 }
 
+/// Writes how each connection ended that did, by number.
+fn write_ends<W: Write>(ends: &[Option<Ended>], writer: &mut W) -> io::Result<()> {
+    for (number, ended) in ends.iter().enumerate() {
+        if let Some(ended) = ended {
+            write_end(number as u64, ended, writer)?;
+        }
+    }
+    Ok(())
+}
+
 impl<W: Write> Lines<W> {
-    pub fn new(writer: W) -> Lines<W> {
+    /// Each is written as its connection ends.
+    pub fn as_they_end(alloc: Global, writer: W) -> Lines<W> {
+        Lines::by_number(alloc, writer, 0)
+    }
+
+    /// Those of the first `connections` connections are written at the end, by number.
+    pub fn by_number(alloc: Global, writer: W, connections: usize) -> Lines<W> {
         Lines {
+            most_kept: connections,
             out: Mutex::new(Out {
                 writer,
                 failed: None,
+                kept: Vec::new(alloc),
             }),
         }
     }
 
-    /// Writes the address at which clients are served.
-    pub fn begin(&self, rt: &impl Wait, listener: &TcpListener) -> io::Result<()> {
-        write_address(listener, &mut self.out.lock(rt).writer)
+    /// Writes the address at which clients are served, and makes room for the lines to be kept.
+    pub fn begin(&self, rt: &impl Wait, listener: &TcpListener) -> Result<(), Finish> {
+        let mut out = self.out.lock(rt);
+        write_address(listener, &mut out.writer)?;
+        out.kept.resize(self.most_kept, None)?;
+        Ok(())
     }
 
-    /// Writes how a connection ended. Says whether it was written.
+    /// Writes how a connection ended, or keeps it for the end. Says false if writing failed.
     pub fn tell(&self, rt: &impl Wait, number: u64, ended: &Ended) -> bool {
         let mut out = self.out.lock(rt);
         if out.failed.is_some() {
             return false;
+        }
+        if let Some(kept) = out.kept.get_mut(number as usize) {
+            *kept = Some(*ended);
+            return true;
         }
         match write_end(number, ended, &mut out.writer) {
             Ok(()) => true,
@@ -63,16 +92,21 @@ impl<W: Write> Lines<W> {
         }
     }
 
-    /// Succeeds if all lines were written.
+    /// Writes the lines that were kept. Succeeds if all lines were written.
     pub fn finish(self) -> Result<(), Finish>
     where
         W: Drop,
     {
-        let Lines { out } = self;
-        let Out { writer: _, failed } = out.into_inner();
-        match failed {
-            None => Ok(()),
-            Some(finish) => Err(finish),
+        let Lines { most_kept: _, out } = self;
+        let Out {
+            mut writer,
+            failed,
+            kept,
+        } = out.into_inner();
+        if let Some(finish) = failed {
+            return Err(finish);
         }
+        write_ends(&kept, &mut writer)?;
+        Ok(())
     }
 }

@@ -29,15 +29,16 @@ impl<'r, J: Naming, S: EntryStore> Resting<'r, J, S> {
     }
 }
 
-/// Gives each connection a caller, and takes it back afterwards.
+/// Gives each connection a caller, and keeps it afterwards if there is room for any.
 #[derive(Drop)]
 pub struct CallerPool<'r, J: Naming, S: EntryStore> {
     ring: &'r Ring<J, S>,
+    keeps_callers: bool,
     resting: Mutex<Resting<'r, J, S>>,
 }
 
 impl<'r, J: Naming, S: EntryStore> CallerPool<'r, J, S> {
-    /// A pool of no callers, with room for `callers`, which is how many the ring may have.
+    /// A pool of no callers. It has room for `callers`: as many as the ring may have, or none.
     pub fn new(
         alloc: Global,
         ring: &'r Ring<J, S>,
@@ -46,7 +47,11 @@ impl<'r, J: Naming, S: EntryStore> CallerPool<'r, J, S> {
         let idle = Vec::with_capacity(alloc, callers)?;
         let pending = VecDeque::with_capacity(alloc, callers)?;
         let resting = Mutex::new(Resting { idle, pending });
-        Ok(CallerPool { ring, resting })
+        Ok(CallerPool {
+            ring,
+            keeps_callers: callers > 0,
+            resting,
+        })
     }
 
     /// Takes an idle caller out, if there is one.
@@ -81,8 +86,12 @@ impl<'r, J: Naming, S: EntryStore> CallerPool<'r, J, S> {
         }
     }
 
-    /// Takes a caller back, for later connections.
+    /// Takes a caller back, for later connections. Drops it if there is room for none.
     pub fn give_back<R: Wait>(&self, rt: &R, caller: RingClient<'r, J, S>) {
-        self.resting.lock(rt).add(caller);
+        if self.keeps_callers {
+            self.resting.lock(rt).add(caller);
+        } else {
+            drop(caller);
+        }
     }
 }

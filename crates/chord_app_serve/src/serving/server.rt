@@ -1,172 +1,213 @@
-//! A server for a fixed number of connections.
+//! The server of both forms of `serve`.
 ghost use Rattle.std.specs.Prelude.{◌≡◌};
 
-use crate::plan_run::blank_of;
-use crate::serving::idle::IdleCaller;
+use crate::serving::caller_pool::CallerPool;
 use crate::serving::service::{Service, node_of};
-use chord_app_sockets::{Ended, ServerSetup, write_address, write_end};
+use chord_app_sockets::{Clients, Ended, Host, Lines, ServerSetup, Until};
 use chord_app_text::Finish;
-use chord_live_ring::RingParts;
+use chord_live_ring::{Ring, RingParts};
 use chord_serve::Served;
 use chord_store::EntryStore;
 use chord_table::Naming;
 use log::Log;
-use std::alloc::Global;
 use std::io::{self, Write};
-use std::marker::Brand;
 use std::net::{TcpListener, TcpStream};
-use std::sync::Wait;
+use std::sync::Arc;
 use std::thread;
-use std::thread::{JoinHandle, Scope, Threads};
-use std::time::Clock;
+use std::thread::Scope;
+use std::time::Duration;
 
-/// How many reads a connection makes at most.
-const TURNS: u64 = 65_536;
-
-/// The thread of a connection, or how it ended without one.
-type Connection = Result<JoinHandle<Ended>, Ended>;
-
-/// Serves a connection by a caller of its own. Logs how it ended before it is closed.
-fn serve_client<J: Naming, S: EntryStore, R: Wait + Clock, L: Log>(
-    service: &Service<'_, J, S, R, L>,
-    number: u64,
-    stream: TcpStream,
-) -> Ended {
-    let via = node_of(number, service.nodes);
-    let ended = match IdleCaller::open(service.rt, service.ring) {
-        Ok(idle) => Ended::Served(service.serve_by(idle, via, &stream, TURNS).0),
-        Err(none) => none,
-    };
-    service.log_end(number, &ended);
-    ended
+/// What all connections of a server share.
+#[derive(Drop)]
+struct Server<'s, 'r, J: Naming, S: EntryStore, R, L, W> {
+    service: &'s Service<'r, J, S, R, L>,
+    pool: CallerPool<'r, J, S>,
+    clients: Clients,
+    lines: &'s Lines<W>,
+    until: Until<'s>,
 }
 
-/// Starts the thread of a connection.
-fn start_client<
-    's,
-    E: 's,
-    J: Naming + Send + Sync + 's,
-    S: EntryStore + Send + 's,
-    R: Threads + Wait + Clock + Sync + 's,
-    L: Log + Sync + 's,
->(
-    service: &'s Service<'s, J, S, R, L>,
-    scope: &'s Scope<'s, E>,
-    number: u64,
-    accepted: io::Result<TcpStream>,
-) -> Connection {
-    let Ok(stream) = accepted else {
-        return Err(Ended::NotAccepted);
-    };
-    match scope.spawn(move || serve_client(service, number, stream)) {
-        Ok(client) => Ok(client),
-        Err(_) => Err(Ended::Served(Served::Memory)),
-    }
-}
-
-/// Accepts `--connections` connections, each on a thread of its own and at the next node.
-fn start_clients<
-    's,
-    E: 's,
-    J: Naming + Send + Sync + 's,
-    S: EntryStore + Send + 's,
-    R: Threads + Wait + Clock + Sync + 's,
-    L: Log + Sync + 's,
->(
-    service: &'s Service<'s, J, S, R, L>,
-    scope: &'s Scope<'s, E>,
-    listener: &TcpListener,
-    connections: usize,
-) -> Result<Vec<Connection>, Finish> {
-    let mut clients = Vec::with_capacity(service.alloc, connections)?;
-    for (number, accepted) in listener.incoming().take(connections).enumerate() {
-        let number = number as u64;
-        let client = start_client(service, scope, number, accepted);
-        if let Err(ended) = &client {
-            service.log_end(number, ended);
+impl<'s, 'r, J: Naming, S: EntryStore, R: Host, L: Log, W: Write> Server<'s, 'r, J, S, R, L, W> {
+    /// Notes and logs how a connection ended. If writing fails, the server stops.
+    fn tell(&self, number: u64, ended: &Ended) {
+        self.service.log_end(number, ended);
+        if !self.lines.tell(self.service.rt, number, ended) {
+            self.until.stop(self.service.rt);
         }
-        clients.push(client)?;
     }
-    Ok(clients)
-}
 
-/// How each connection ended, once all have.
-fn join_clients(
-    rt: &(impl Threads + Wait),
-    alloc: Global,
-    clients: Vec<Connection>,
-) -> Result<Vec<Ended>, Finish> {
-    let mut ends = Vec::with_capacity(alloc, clients.len())?;
-    for client in clients {
-        ends.push(match client {
-            Ok(client) => client.join(rt),
-            Err(ended) => ended,
-        })?;
+    /// Serves a client by a caller of the pool.
+    fn serve_client(&self, number: u64, stream: &TcpStream) -> Ended {
+        let service = self.service;
+        let via = node_of(number, service.nodes);
+        let idle = match self.pool.take(service.rt, via) {
+            Ok(idle) => idle,
+            Err(none) => return none,
+        };
+        let (served, caller) = service.serve_by(idle, via, stream, self.until.turns());
+        self.pool.give_back(service.rt, caller);
+        Ended::Served(served)
     }
-    Ok(ends)
+
+    /// Serves a connection to its end. Notes how it ended before closing it.
+    fn run_client(&self, number: u64, stream: Arc<TcpStream>) {
+        let ended = self.serve_client(number, &stream);
+        self.tell(number, &ended);
+        self.clients.forget(self.service.rt, number);
+        drop(stream);
+    }
 }
 
-/// Starts the nodes, writes the address at which clients are served, and serves the connections.
-fn start_and_accept<
-    's,
-    E: 's,
-    J: Naming + Send + Sync + 's,
-    S: EntryStore + Send + 's,
-    R: Threads + Wait + Clock + Sync + 's,
-    L: Log + Sync + 's,
-    W: Write,
->(
-    service: &'s Service<'s, J, S, R, L>,
-    setup: &'s ServerSetup<'s, L>,
-    scope: &'s Scope<'s, E>,
-    stores: Vec<S>,
-    connections: usize,
-    writer: &mut W,
-) -> Result<Vec<Ended>, Finish> {
-    service.start(scope, setup.plan.nodes.as_slice(), stores)?;
-    write_address(setup.listener, writer)?;
-    let clients = start_clients(service, scope, setup.listener, connections)?;
-    join_clients(service.rt, service.alloc, clients)
+impl<
+    't,
+    's: 't,
+    'r: 's,
+    J: Naming + Send + Sync + 't,
+    S: EntryStore + Send + 't,
+    R: Host,
+    L: Log + Sync + 't,
+    W: Write + Send + 't,
+> Server<'s, 'r, J, S, R, L, W> {
+    /// Serves a connection on a thread of its own. Says false if there was no memory for that.
+    fn run_beside<E: 't>(
+        &'t self,
+        scope: &'t Scope<'t, E>,
+        number: u64,
+        stream: TcpStream,
+    ) -> bool {
+        let Ok(stream) = Arc::new(self.service.alloc, stream) else {
+            return false;
+        };
+        if self.clients.add(self.service.rt, number, &stream).is_err() {
+            drop(stream);
+            return false;
+        }
+        scope.spawn(move || self.run_client(number, stream)).is_ok()
+    }
+
+    /// Starts the thread of a connection, or ends it if there is no memory for that.
+    fn start_client<E: 't>(&'t self, scope: &'t Scope<'t, E>, number: u64, stream: TcpStream) {
+        if !self.run_beside(scope, number, stream) {
+            self.tell(number, &Ended::Served(Served::Memory));
+            self.clients.forget(self.service.rt, number);
+        }
+    }
+
+    /// Serves an accepted connection, or notes that it could not be accepted.
+    fn meet<E: 't>(
+        &'t self,
+        scope: &'t Scope<'t, E>,
+        number: u64,
+        accepted: io::Result<TcpStream>,
+    ) {
+        match accepted {
+            Ok(stream) => self.start_client(scope, number, stream),
+            Err(_) => {
+                self.tell(number, &Ended::NotAccepted);
+                thread::sleep(self.service.rt, Duration::from_millis(10));
+            }
+        }
+    }
+
+    /// Accepts connections, each on a thread of its own, as long as the server takes any. Then
+    /// waits for those that are open, or ends them if the server was stopped.
+    fn accept<E: 't>(&'t self, scope: &'t Scope<'t, E>, listener: &TcpListener) {
+        for (number, accepted) in (0..self.until.most()).zip(listener.incoming()) {
+            if self.until.is_stopped() {
+                drop(accepted);
+                break;
+            }
+            self.meet(scope, number, accepted);
+        }
+        match self.until {
+            Until::Connections(_) => self.clients.wait_for_all(self.service.rt),
+            Until::Stopped(_) => self.clients.end_all(self.service.rt),
+        }
+    }
+
+    /// Starts the nodes, writes the address at which clients are served, and serves them.
+    fn start_and_accept<E: 't>(
+        &'t self,
+        setup: &'t ServerSetup<'t, L>,
+        scope: &'t Scope<'t, E>,
+        stores: Vec<S>,
+    ) -> Result<(), Finish> {
+        self.service
+            .start(scope, setup.plan.nodes.as_slice(), stores)?;
+        self.lines.begin(self.service.rt, setup.listener)?;
+        self.accept(scope, setup.listener);
+        Ok(())
+    }
 }
 
-/// Serves the connections, and then stops the ring. The handle starts the threads.
+/// Serves, and then stops the ring. The handle starts the threads.
 fn serve_ring<
-    'x,
+    't,
+    's: 't,
+    'r: 's,
     J: Naming + Send + Sync,
     S: EntryStore + Send,
-    R: Threads + Wait + Clock + Sync,
+    R: Host,
     L: Log + Sync,
-    W: Write,
+    W: Write + Send,
 >(
     starter: &R,
-    service: &'x Service<'x, J, S, R, L>,
-    setup: &'x ServerSetup<'x, L>,
+    server: &'t Server<'s, 'r, J, S, R, L, W>,
+    setup: &'t ServerSetup<'t, L>,
     stores: Vec<S>,
-    connections: usize,
-    writer: &mut W,
-) -> Result<Vec<Ended>, Finish> {
+) -> Result<(), Finish> {
     thread::scope(thread::scope_env(), starter, |scope| {
-        let ends = start_and_accept(service, setup, scope, stores, connections, writer);
-        service.ring.stop();
-        ends
+        let ended = server.start_and_accept(setup, scope, stores);
+        server.service.ring.stop();
+        ended
     })
 }
 
-/// Gives the ring its name, and serves.
-fn serve_named<
+/// Serves with this ring.
+fn serve_with<
     J: Naming + Send + Sync,
     S: EntryStore + Send,
-    R: Threads + Wait + Clock + Sync,
+    R: Host,
     L: Log + Sync,
-    W: Write,
+    W: Write + Send,
 >(
     rt: &R,
     setup: &ServerSetup<'_, L>,
     stores: Vec<S>,
-    connections: usize,
-    writer: &mut W,
+    until: Until<'_>,
+    lines: &Lines<W>,
+    ring: &Ring<J, S>,
+) -> Result<(), Finish> {
+    let service = Service::new(rt, ring, setup);
+    let kept = until.kept_callers(setup.plan.settings.callers);
+    let pool = CallerPool::new(setup.alloc, ring, kept)?;
+    let server = Server {
+        service: &service,
+        pool,
+        clients: Clients::new(setup.alloc),
+        lines,
+        until,
+    };
+    let served = serve_ring(rt, &server, setup, stores);
+    drop(server);
+    served
+}
+
+/// Gives the ring its name, and serves.
+pub fn serve_named<
+    J: Naming + Send + Sync,
+    S: EntryStore + Send,
+    R: Host,
+    L: Log + Sync,
+    W: Write + Send,
+>(
+    rt: &R,
+    setup: &ServerSetup<'_, L>,
+    stores: Vec<S>,
+    until: Until<'_>,
+    lines: &Lines<W>,
     parts: RingParts,
-) -> Result<Vec<Ended>, Finish>
+) -> Result<(), Finish>
     requires { parts ≡ J.name }
 {
     let ring = match parts.assemble::<J, S>() {
@@ -176,31 +217,7 @@ fn serve_named<
             return Err(Finish::OutOfMemory);
         }
     };
-    let service = Service::new(rt, &ring, setup);
-    let ends = serve_ring(rt, &service, setup, stores, connections, writer);
+    let served = serve_with(rt, setup, stores, until, lines, &ring);
     ring.close();
-    ends
-}
-
-/// Writes how each connection ended, by number.
-fn write_ends<W: Write>(ends: &[Ended], writer: &mut W) -> io::Result<()> {
-    for (number, ended) in ends.iter().enumerate() {
-        write_end(number as u64, ended, writer)?;
-    }
-    Ok(())
-}
-
-/// The command `serve --connections`: a ring of the plan's nodes over these stores, one for each,
-/// serves that many connections.
-pub fn serve<S: EntryStore + Send, R: Threads + Wait + Clock + Sync, L: Log + Sync, W: Write>(
-    rt: &R,
-    setup: &ServerSetup<'_, L>,
-    stores: Vec<S>,
-    connections: usize,
-    writer: &mut W,
-) -> Result<(), Finish> {
-    let parts = blank_of(setup.alloc, setup.plan)?;
-    let ends = serve_named::<Brand, S, R, L, W>(rt, setup, stores, connections, writer, parts)?;
-    write_ends(ends.as_slice(), writer)?;
-    Ok(())
+    served
 }

@@ -1,0 +1,97 @@
+//! The two forms of the command `serve`.
+
+use crate::plan_run::blank_of;
+use crate::serving::server::serve_named;
+use chord_app_sockets::{Host, Lines, ServerSetup, Stop, Until};
+use chord_app_text::Finish;
+use chord_live_ring::RingParts;
+use chord_store::EntryStore;
+use log::Log;
+use std::io::{Read, Write};
+use std::marker::Brand;
+use std::sync::Arc;
+use std::thread;
+
+/// Serves until then, and writes the lines that are left.
+fn serve_until<S: EntryStore + Send, R: Host, L: Log + Sync, W: Write + Send + Drop>(
+    rt: &R,
+    setup: &ServerSetup<'_, L>,
+    stores: Vec<S>,
+    until: Until<'_>,
+    lines: Lines<W>,
+    parts: RingParts,
+) -> Result<(), Finish> {
+    match serve_named::<Brand, S, R, L, W>(rt, setup, stores, until, &lines, parts) {
+        Ok(()) => lines.finish(),
+        Err(finish) => {
+            drop(lines);
+            Err(finish)
+        }
+    }
+}
+
+/// The command `serve --connections`: a ring of the plan's nodes over these stores, one for each,
+/// serves that many connections.
+pub fn serve<S: EntryStore + Send, R: Host, L: Log + Sync, W: Write + Send + Drop>(
+    rt: &R,
+    setup: &ServerSetup<'_, L>,
+    stores: Vec<S>,
+    connections: usize,
+    writer: W,
+) -> Result<(), Finish> {
+    let parts = blank_of(setup.alloc, setup.plan)?;
+    let lines = Lines::by_number(setup.alloc, writer, connections);
+    let until = Until::Connections(connections);
+    serve_until(rt, setup, stores, until, lines, parts)
+}
+
+/// Starts a thread that stops the server at the end of the input. Nothing waits for that thread.
+fn stop_behind<R: Host, I: Read + Send + Drop + 'static>(
+    rt: &R,
+    stop: &Arc<Stop>,
+    input: I,
+) -> Result<(), Finish> {
+    let rt = *rt;
+    let stop = Arc::try_clone(stop)?;
+    let mut input = input;
+    match thread::spawn(&rt, move || stop.stop_behind(&rt, &mut input)) {
+        Ok(_) => Ok(()),
+        Err(_) => Err(Finish::OutOfMemory),
+    }
+}
+
+/// What stops a server of this setup at the end of the input.
+fn stop_at_end<R: Host, L, I: Read + Send + Drop + 'static>(
+    rt: &R,
+    setup: &ServerSetup<'_, L>,
+    input: I,
+) -> Result<Arc<Stop>, Finish> {
+    let stop = Arc::new(setup.alloc, Stop::new(setup.listener.local_addr()?))?;
+    stop_behind(rt, &stop, input)?;
+    Ok(stop)
+}
+
+/// The command `serve --stay`: a ring of the plan's nodes over these stores, one for each, serves
+/// until the input ends.
+pub fn stay<
+    S: EntryStore + Send,
+    R: Host,
+    L: Log + Sync,
+    W: Write + Send + Drop,
+    I: Read + Send + Drop + 'static,
+>(rt: &R, setup: &ServerSetup<'_, L>, stores: Vec<S>, input: I, writer: W) -> Result<(), Finish> {
+    let parts = blank_of(setup.alloc, setup.plan)?;
+    let stop = match stop_at_end(rt, setup, input) {
+        Ok(stop) => stop,
+        Err(finish) => {
+            drop(stores);
+            drop(writer);
+            drop(parts);
+            return Err(finish);
+        }
+    };
+    let lines = Lines::as_they_end(setup.alloc, writer);
+    let stayed = serve_until(rt, setup, stores, Until::Stopped(&stop), lines, parts);
+    drop(stop);
+    stayed
+}
