@@ -6,7 +6,7 @@ use chord_app_plan::{Plan, PlanAsk};
 use chord_app_text::{Finish, ReplyText};
 use chord_caller::SubmitFault;
 use chord_live::{OpenCaller, RingClient};
-use chord_live_ring::{NewFault, OpenClientFault, Ring, RingParts, Settings};
+use chord_live_ring::{NewFault, OpenClientFault, Ring, RingParts};
 use chord_live_types::{AskFault, BeginFault, WaitFault};
 use chord_map::Reply;
 use chord_store::EntryStore;
@@ -215,16 +215,8 @@ fn run_named<J: Naming + Send + Sync, S: EntryStore + Send, R: Threads + Wait + 
 }
 
 /// A ring of the plan's size that has no name yet.
-pub fn blank_of(alloc: Global, plan: &Plan) -> Result<RingParts, Finish> {
-    let numbers = &plan.settings;
-    let settings = Settings {
-        slots: numbers.slots,
-        callers: numbers.callers,
-        successors: numbers.successors,
-        tries: numbers.tries,
-        wait_ms: numbers.wait_ms,
-    };
-    match RingParts::new(alloc, settings) {
+pub fn ring_parts_of(alloc: Global, plan: &Plan) -> Result<RingParts, Finish> {
+    match RingParts::new(alloc, plan.settings) {
         Ok(parts) => Ok(parts),
         Err(NewFault::BadSettings) => Err(Finish::BadPlan),
         Err(NewFault::Memory) => Err(Finish::OutOfMemory),
@@ -251,7 +243,7 @@ fn run_and_write<S: EntryStore + Send, R: Threads + Wait + Clock + Sync, W: Writ
     stores: Vec<S>,
     writer: W,
 ) -> Result<(), Finish> {
-    let parts = blank_of(alloc, plan)?;
+    let parts = ring_parts_of(alloc, plan)?;
     let all = run_named::<Brand, S, R>(rt, alloc, plan, stores, parts)?;
     let written = write_buffered(alloc, all.as_slice(), writer);
     drop(all);

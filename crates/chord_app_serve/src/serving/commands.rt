@@ -1,6 +1,6 @@
 //! The two forms of the command `serve`.
 
-use crate::plan_run::blank_of;
+use crate::plan_run::ring_parts_of;
 use crate::serving::server::serve_named;
 use chord_app_sockets::{Host, Lines, ServerSetup, Stop, Until};
 use chord_app_text::Finish;
@@ -39,7 +39,7 @@ pub fn serve<S: EntryStore + Send, R: Host, L: Log + Sync, W: Write + Send + Dro
     connections: usize,
     writer: W,
 ) -> Result<(), Finish> {
-    let parts = blank_of(setup.alloc, setup.plan)?;
+    let parts = ring_parts_of(setup.alloc, setup.plan)?;
     let lines = Lines::by_number(setup.alloc, writer, connections);
     let until = Until::Connections(connections);
     serve_until(rt, setup, stores, until, lines, parts)
@@ -80,7 +80,7 @@ pub fn stay<
     W: Write + Send + Drop,
     I: Read + Send + Drop + 'static,
 >(rt: &R, setup: &ServerSetup<'_, L>, stores: Vec<S>, input: I, writer: W) -> Result<(), Finish> {
-    let parts = blank_of(setup.alloc, setup.plan)?;
+    let parts = ring_parts_of(setup.alloc, setup.plan)?;
     let stop = match stop_at_end(rt, setup, input) {
         Ok(stop) => stop,
         Err(finish) => {
