@@ -6,8 +6,9 @@ ghost use Rattle.chord_caller.specs.Caller.Letter.{AskLetter};
 
 use super::{Said, founded, said_in, settings};
 use chord_caller::{Ask, CallerCore};
-use chord_live_ring::{Ring, RingParts, Target};
-use chord_live_types::OpenFault;
+use chord_ident::Id;
+use chord_live_ring::{Keyed, Ring, RingParts, Target};
+use chord_live_types::{OpenClientFault, OpenFault};
 use chord_map::Request;
 use chord_node::Message;
 use chord_store::CappedStore;
@@ -24,6 +25,77 @@ fn a_core_and_its_seat(rt: HostRuntime) {
         Ok(parts) => stands::<Brand, _>(&rt, rt.alloc(), parts),
         Err(_) => assert!(rt; false, "these settings are within their limits"),
     }
+}
+
+#[test]
+fn a_call_with_its_identifier_is_carried(rt: HostRuntime) {
+    match RingParts::new(rt.alloc(), settings(1, 2, 3, 5)) {
+        Ok(parts) => carries::<Brand, _>(&rt, rt.alloc(), parts),
+        Err(_) => assert!(rt; false, "these settings are within their limits"),
+    }
+}
+
+/// A ring of one node carries the call of its first caller, admits a client, and has no room for a
+/// third; then its node crashes.
+fn carries<J: Naming, R: Abort + Wait + Clock>(rt: &R, alloc: Global, parts: RingParts)
+    requires { parts ≡ J.name }
+{
+    let ring = founded::<J, CappedStore, R>(rt, parts, CappedStore::new(alloc, 1));
+    let told = told_by_id(rt, alloc, &ring);
+    let added = Told {
+        caller: 0,
+        number: 1,
+        said: Said::Added,
+    };
+    assert!(rt;
+        told == Some(added),
+        "the reply to a call comes back to its caller"
+    );
+    admits_a_client(rt, &ring);
+    assert!(rt; ring.is_live(0), "node 0 is a member");
+    assert!(rt; !ring.is_live(1), "there is no node 1");
+    let crashed = ring.crash(rt, 0).is_ok();
+    let is_live = ring.is_live(0);
+    ring.close();
+    assert!(rt; crashed, "a member can crash");
+    assert!(rt; !is_live, "a node that crashed is no member");
+}
+
+/// The reply to an insert of the first caller, which is carried with the identifier of its key.
+fn told_by_id<J: Naming, R: Abort + Wait + Clock>(
+    rt: &R,
+    alloc: Global,
+    ring: &Ring<J, CappedStore>,
+) -> Option<Told> {
+    let (mut core, mut seat) = ring.admit_caller(rt, 1).ok()?;
+    let ask = submitted(alloc, &mut core)?;
+    let keyed = Keyed::new(seat.send(ring.table(), &core, Message::Ask(ask)));
+    assert!(rt;
+        keyed.id == Id::of_bytes(b"a"),
+        "a call goes with the identifier of its key"
+    );
+    let carried = ring.carry_keyed(rt, 0, keyed)?;
+    assert!(rt; carried.from == 0, "node 0 answers");
+    assert!(rt; carried.caller == 0, "the first caller has number 0");
+    told_in(seat.receive(ring.table(), carried.envelope))
+}
+
+fn admits_a_client<J: Naming, R: Abort + Wait>(rt: &R, ring: &Ring<J, CappedStore>) {
+    let Ok((core, seat)) = ring.admit_client(rt, 2) else {
+        assert!(rt; false, "a ring for two callers admits a client too");
+        return;
+    };
+    let (number, floor, pending) = (core.number(), core.floor(), core.pending());
+    drop(seat);
+    drop(core);
+    assert!(rt; number == 1, "it has the next number");
+    assert!(rt; floor == 0, "it took no reply");
+    assert!(rt; pending == None, "and waits for none");
+    let spent = ring.admit_client(rt, 2).err();
+    assert!(rt;
+        spent == Some(OpenClientFault::CallersSpent),
+        "a ring for two callers admits no third one"
+    );
 }
 
 /// A ring of one node admits and answers one caller, and is stopped.
