@@ -67,31 +67,143 @@ pub fn one(alloc: Global, span: Span, key: &[u8]) -> Result<Segment, AllocError>
     }
 }
 
-/// The segment's interval, and whether it keeps the first call of caller 0.
-fn shape(segment: &Segment) -> (Span, bool) {
-    (segment.span(), keeps(segment, 0, 1))
+/// What a segment says of a call.
+#[derive(Clone, Copy, Debug, PartialEq, Eq)]
+enum Found {
+    New,
+    /// The call is at or below its caller's floor.
+    Seen,
+    Kept,
+}
+
+fn find(segment: &Segment, caller: u64, number: u64) -> Found {
+    match segment.find(caller, number) {
+        Past::New => Found::New,
+        Past::Seen => Found::Seen,
+        Past::Kept(_) => Found::Kept,
+    }
+}
+
+/// What a segment has of the callers 0 and 1: their floors, and what it says of their calls.
+#[derive(Clone, Copy, Debug, PartialEq, Eq)]
+struct Shape {
+    span: Span,
+    floor_of_0: u64,
+    floor_of_1: u64,
+    /// Call 3 of caller 0, with the key `abc`.
+    abc_of_0: Found,
+    /// Call 4 of caller 0, with the key `f`.
+    f_of_0: Found,
+    /// Call 2 of caller 1, with the key `f`.
+    f_of_1: Found,
+}
+
+fn shape_of(segment: &Segment) -> Shape {
+    Shape {
+        span: segment.span(),
+        floor_of_0: segment.floor(0),
+        floor_of_1: segment.floor(1),
+        abc_of_0: find(segment, 0, 3),
+        f_of_0: find(segment, 0, 4),
+        f_of_1: find(segment, 1, 2),
+    }
+}
+
+/// The whole circle with the floors 2 and 1 of the callers 0 and 1, and three calls above them.
+const WHOLE: Shape = Shape {
+    span: Span {
+        after: Id { number: A },
+        upto: Id { number: A },
+    },
+    floor_of_0: 2,
+    floor_of_1: 1,
+    abc_of_0: Found::Kept,
+    f_of_0: Found::Kept,
+    f_of_1: Found::Kept,
+};
+
+/// Keeps the call of this caller, number, key and floor.
+fn keep_call(
+    segment: &mut Segment,
+    alloc: Global,
+    (caller, number): (u64, u64),
+    key: &[u8],
+    floor: u64,
+) -> Result<(), AllocError> {
+    let done = added(alloc, caller, number, key)?;
+    if keep(segment, done, floor) {
+        Ok(())
+    } else {
+        Err(AllocError)
+    }
+}
+
+/// A segment of that shape.
+fn with_floors(alloc: Global) -> Result<Segment, AllocError> {
+    let mut segment = Segment::empty(alloc, span(A, A));
+    keep_call(&mut segment, alloc, (0, 3), b"abc", 2)?;
+    keep_call(&mut segment, alloc, (0, 4), b"f", 2)?;
+    keep_call(&mut segment, alloc, (1, 2), b"f", 1)?;
+    Ok(segment)
+}
+
+/// The shapes of a segment, of the parts of its cut at B, and of these joined.
+#[derive(Clone, Copy)]
+struct CutAndJoined {
+    whole: Shape,
+    before: Shape,
+    behind: Shape,
+    joined: Option<Shape>,
 }
 
 /// The shape of the two segments joined.
-fn joined_shape(first: Segment, second: Segment) -> Option<(Span, bool)> {
+fn joined_shape(first: Segment, second: Segment) -> Option<Shape> {
     let whole = first.join(second).ok()?;
-    let shape = shape(&whole);
+    let shape = shape_of(&whole);
     drop(whole);
     Some(shape)
 }
 
-/// The shapes of the two parts of a cut at B, and of the parts joined again.
-fn shapes(segment: Segment) -> Option<((Span, bool), (Span, bool), Option<(Span, bool)>)> {
-    let (before, behind) = segment.cut(Id::new(B)).ok()?;
-    let (first, second) = (shape(&before), shape(&behind));
-    Some((first, second, joined_shape(before, behind)))
+fn cut_and_join(segment: Segment) -> Option<CutAndJoined> {
+    let whole = shape_of(&segment);
+    let (first, second) = segment.cut(Id::new(B)).ok()?;
+    let (before, behind) = (shape_of(&first), shape_of(&second));
+    Some(CutAndJoined {
+        whole,
+        before,
+        behind,
+        joined: joined_shape(first, second),
+    })
 }
 
+/// The identifier of `f` is in (A, B], that of `abc` is not.
 #[test]
 fn what_is_kept_goes_by_key(rt: HostRuntime) -> Result<(), Fail> {
-    let shapes = shapes(one(rt.alloc(), span(A, A), b"abc")?);
-    let (before, behind) = ((span(A, B), false), (span(B, A), true));
-    assert!(rt; shapes == Some((before, behind, Some((span(A, A), true)))));
+    let found = cut_and_join(with_floors(rt.alloc())?).expect(&rt, "a cut at B, and memory for it");
+    let before = Shape {
+        span: span(A, B),
+        abc_of_0: Found::New,
+        ..WHOLE
+    };
+    let behind = Shape {
+        span: span(B, A),
+        f_of_0: Found::New,
+        f_of_1: Found::New,
+        ..WHOLE
+    };
+    assert!(rt;
+        found.whole == WHOLE,
+        "a segment has the floors and the calls that it was given"
+    );
+    assert!(rt;
+        found.before == before,
+        "the first part has all floors, and its keys' calls"
+    );
+    assert!(rt; found.behind == behind, "so has the second part");
+    assert!(rt;
+        found.joined == Some(WHOLE),
+        "the parts joined are the whole again"
+    );
     Ok(())
 }
 
@@ -243,36 +355,188 @@ fn floors_drop_what_was_taken(rt: HostRuntime) -> Result<(), Fail> {
 fn kept_of(alloc: Global, span: Span, callers: &[u64], key: &[u8]) -> Result<Segment, AllocError> {
     let mut segment = Segment::empty(alloc, span);
     for caller in callers {
-        let done = added(alloc, *caller, 1, key)?;
-        if !keep(&mut segment, done, 0) {
-            return Err(AllocError);
-        }
+        keep_call(&mut segment, alloc, (*caller, 1), key, 0)?;
     }
     Ok(segment)
 }
 
-/// Whether the segment keeps exactly the first calls of these callers under `abc`.
-fn keeps_of(segment: &Segment, alloc: Global, callers: &[u64]) -> Option<bool> {
-    equals(segment, kept_of(alloc, span(A, A), callers, b"abc").ok())
+/// A call that adds x under a key.
+#[derive(Clone, Copy)]
+struct Call {
+    caller: u64,
+    number: u64,
+    key: &'static [u8],
 }
 
-/// Whether the segment keeps each of three callers' calls, whether
-/// any of three others', and whether it equals a segment that keeps
-/// the three in another order, and one that keeps two of them.
-fn keeps_apart(segment: Segment, alloc: Global) -> (bool, bool, Option<bool>, Option<bool>) {
-    let each = keeps(&segment, 3, 1) & keeps(&segment, 5, 1) & keeps(&segment, 9, 1);
-    let any = keeps(&segment, 4, 1) | keeps(&segment, 6, 1) | keeps(&segment, 10, 1);
-    let same = keeps_of(&segment, alloc, &[9, 5, 3]);
-    let fewer = keeps_of(&segment, alloc, &[3, 5]);
+/// Calls of three callers under three keys, each with floor 0.
+const CALLS: &[Call] = &[
+    Call {
+        caller: 5,
+        number: 1,
+        key: b"abc",
+    },
+    Call {
+        caller: 3,
+        number: 1,
+        key: b"b",
+    },
+    Call {
+        caller: 9,
+        number: 1,
+        key: b"abc",
+    },
+    Call {
+        caller: 5,
+        number: 2,
+        key: b"f",
+    },
+    Call {
+        caller: 3,
+        number: 3,
+        key: b"abc",
+    },
+];
+
+/// The same calls, those of one caller in the same order.
+const IN_ANOTHER_ORDER: &[Call] = &[
+    Call {
+        caller: 9,
+        number: 1,
+        key: b"abc",
+    },
+    Call {
+        caller: 3,
+        number: 1,
+        key: b"b",
+    },
+    Call {
+        caller: 3,
+        number: 3,
+        key: b"abc",
+    },
+    Call {
+        caller: 5,
+        number: 1,
+        key: b"abc",
+    },
+    Call {
+        caller: 5,
+        number: 2,
+        key: b"f",
+    },
+];
+
+/// The same calls, but the call of caller 9 is caller 4's.
+const OF_ANOTHER_CALLER: &[Call] = &[
+    Call {
+        caller: 5,
+        number: 1,
+        key: b"abc",
+    },
+    Call {
+        caller: 3,
+        number: 1,
+        key: b"b",
+    },
+    Call {
+        caller: 4,
+        number: 1,
+        key: b"abc",
+    },
+    Call {
+        caller: 5,
+        number: 2,
+        key: b"f",
+    },
+    Call {
+        caller: 3,
+        number: 3,
+        key: b"abc",
+    },
+];
+
+/// The callers and numbers of calls that are none of these.
+const OTHER_CALLS: &[(u64, u64)] = &[(3, 2), (4, 1), (5, 3), (6, 1), (9, 2), (10, 1)];
+
+/// The whole circle, which keeps these calls.
+fn kept_calls(alloc: Global, calls: &[Call]) -> Result<Segment, AllocError> {
+    let mut segment = Segment::empty(alloc, span(A, A));
+    for call in calls {
+        keep_call(&mut segment, alloc, (call.caller, call.number), call.key, 0)?;
+    }
+    Ok(segment)
+}
+
+/// Whether the segment keeps exactly these calls.
+fn keeps_exactly(segment: &Segment, alloc: Global, calls: &[Call]) -> Option<bool> {
+    equals(segment, kept_calls(alloc, calls).ok())
+}
+
+/// What a segment with the calls has in common with others.
+#[derive(Clone, Copy)]
+struct Apart {
+    /// The first of the calls that it does not keep under its key.
+    lost: Option<(u64, u64)>,
+    /// The first of the other calls that it does not find new.
+    invented: Option<(u64, u64)>,
+    equals_another_order: Option<bool>,
+    equals_another_caller: Option<bool>,
+    equals_fewer: Option<bool>,
+}
+
+/// The first of the calls that the segment does not keep under its key.
+fn lost_call(segment: &Segment) -> Option<(u64, u64)> {
+    for call in CALLS {
+        let is_kept = match segment.find(call.caller, call.number) {
+            Past::Kept(done) => done.request.key() == call.key,
+            _ => false,
+        };
+        if !is_kept {
+            return Some((call.caller, call.number));
+        }
+    }
+    None
+}
+
+/// The first of the other calls that the segment does not find new.
+fn invented_call(segment: &Segment) -> Option<(u64, u64)> {
+    for (caller, number) in OTHER_CALLS {
+        if find(segment, *caller, *number) != Found::New {
+            return Some((*caller, *number));
+        }
+    }
+    None
+}
+
+fn keep_apart(segment: Segment, alloc: Global) -> Apart {
+    let apart = Apart {
+        lost: lost_call(&segment),
+        invented: invented_call(&segment),
+        equals_another_order: keeps_exactly(&segment, alloc, IN_ANOTHER_ORDER),
+        equals_another_caller: keeps_exactly(&segment, alloc, OF_ANOTHER_CALLER),
+        equals_fewer: keeps_exactly(&segment, alloc, &CALLS[..4]),
+    };
     drop(segment);
-    (each, any, same, fewer)
+    apart
 }
 
 #[test]
 fn callers_are_kept_apart(rt: HostRuntime) -> Result<(), Fail> {
-    let segment = kept_of(rt.alloc(), span(A, A), &[5, 3, 9], b"abc")?;
-    let apart = (true, false, Some(true), Some(false));
-    assert!(rt; keeps_apart(segment, rt.alloc()) == apart);
+    let apart = keep_apart(kept_calls(rt.alloc(), CALLS)?, rt.alloc());
+    assert!(rt;
+        apart.lost == None,
+        "each call is found under its caller and number"
+    );
+    assert!(rt; apart.invented == None, "no other call is found");
+    assert!(rt;
+        apart.equals_another_order == Some(true),
+        "calls of several callers have no order among them"
+    );
+    assert!(rt;
+        apart.equals_another_caller == Some(false),
+        "a call is its caller's alone"
+    );
+    assert!(rt; apart.equals_fewer == Some(false), "each call counts");
     Ok(())
 }
 

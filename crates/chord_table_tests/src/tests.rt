@@ -256,10 +256,12 @@ fn a_call_comes_as_it_was_sent(rt: HostRuntime) -> Result<(), Fail> {
     Ok(())
 }
 
-/// Admits a node beside another, and records an event of it.
-fn enters_later<J: Naming>(alloc: Global, parts: TableParts) -> Result<(), Fail>
+/// Admits a node beside another, and records an event of it. Checks that it takes in what a caller
+/// sends then.
+fn enters_later<J: Naming>(alloc: Global, parts: TableParts) -> Result<bool, Fail>
     requires name { parts ≡ J.name }
     requires slots { parts.slots ≡ 2 }
+    requires callers { parts.callers ≡ 1 }
 {
     let first = founded(alloc, 1, CappedStore::new(alloc, 4))?;
     let (table, mut registrar) = parts.assemble::<J>();
@@ -272,18 +274,28 @@ fn enters_later<J: Naming>(alloc: Global, parts: TableParts) -> Result<(), Fail>
     let links = Links::alone(other, 3);
     let mut node = Node::newborn(alloc, links, CappedStore::new(alloc, 4));
     let mut seat = registrar.admit_node(&table, 0, &node);
+    let mut core = CallerCore::new(alloc, 0, 1);
+    let mut caller = registrar.admit_caller(&table, 0, &core);
     node.set_links(links);
     seat.local(&table, &node);
     seat.look(&table);
+    let comes = comes(alloc, &table, &mut seat, &mut core, &mut caller);
+    drop(caller);
+    drop(core);
     drop(seat);
     drop(node);
     drop(registrar);
     drop(table);
-    Ok(())
+    comes
 }
 
 #[test]
 fn a_node_enters_later(rt: HostRuntime) -> Result<(), Fail> {
-    let parts = Registrar::open(rt.alloc(), 2, 0)?;
-    enters_later::<Brand>(rt.alloc(), parts)
+    let parts = Registrar::open(rt.alloc(), 2, 1)?;
+    let comes = enters_later::<Brand>(rt.alloc(), parts)?;
+    assert!(rt;
+        comes,
+        "a call comes to a node that was admitted beside another"
+    );
+    Ok(())
 }
