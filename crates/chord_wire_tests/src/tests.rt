@@ -9,6 +9,7 @@ use chord_wire::{
 };
 use std::alloc::{AllocError, Global};
 use std::fmt::Display;
+use std::process::Abort;
 
 // Insert x under a, number 1.
 const INSERT: [u8; 19] = [
@@ -183,12 +184,10 @@ fn is_written(alloc: Global, version: u8, frame: &[u8]) -> Option<bool> {
 
 #[test]
 fn writes_requests(rt: HostRuntime) {
-    let alloc = rt.alloc();
-    let are_written = [
-        is_written(alloc, 1, &INSERT),
-        is_written(alloc, 2, &INSERT_2),
-    ];
-    assert!(rt; are_written == [Some(true); 2]);
+    for (version, frame) in [(1, INSERT.as_slice()), (2, &INSERT_2)] {
+        let written = is_written(rt.alloc(), version, frame);
+        assert!(rt; written == Some(true), "version {version}: {written:?}");
+    }
 }
 
 fn reply_frame(alloc: Global, number: u64, reply: &Reply) -> Option<Vec<u8>> {
@@ -214,11 +213,10 @@ fn is_reply_written(
 #[test]
 fn writes_replies(rt: HostRuntime) {
     let alloc = rt.alloc();
-    let are_written = [
-        is_reply_written(alloc, 1, Ok(Reply::Added), &ADDED),
-        is_reply_written(alloc, 2, values(alloc, &[b"x"]), &ONE_VALUE),
-    ];
-    assert!(rt; are_written == [Some(true); 2]);
+    let added = is_reply_written(alloc, 1, Ok(Reply::Added), &ADDED);
+    assert!(rt; added == Some(true), "Added is written as its frame");
+    let one_value = is_reply_written(alloc, 2, values(alloc, &[b"x"]), &ONE_VALUE);
+    assert!(rt; one_value == Some(true), "a set is written as its frame");
 }
 
 /// Whether a fault is written as this frame.
@@ -247,16 +245,21 @@ fn has_frame(reply: Result<Reply, AllocError>) -> Option<bool> {
 fn tells_what_has_a_frame(rt: HostRuntime) {
     let alloc = rt.alloc();
     let long = [7u8; 4097];
-    let have_frames = [
-        has_frame(Ok(Reply::Absent)),
-        has_frame(values(alloc, &[])),
-        has_frame(values(alloc, &[&long[..4096]])),
-        has_frame(values(alloc, &[&long])),
-        has_frame(values(alloc, &[b"x", b"x"])),
-        has_frame(values(alloc, &[b"y", b"x"])),
-    ];
-    let (has, has_none) = (Some(true), Some(false));
-    assert!(rt; have_frames == [has, has, has, has_none, has_none, has_none]);
+    let absent = has_frame(Ok(Reply::Absent));
+    assert!(rt; absent == Some(true), "a reply without values has a frame");
+    for (all, has) in [
+        ([].as_slice(), true),
+        (&[&long[..4096]], true),
+        (&[&long], false),
+        (&[b"x", b"x"], false),
+        (&[b"y", b"x"], false),
+    ] {
+        let found = has_frame(values(alloc, all));
+        assert!(rt;
+            found == Some(has),
+            "values of at most 4,096 bytes, which rise: {all:?}"
+        );
+    }
 }
 
 /// Whether these bytes are the insert in this version.
@@ -266,12 +269,10 @@ fn reads_insert(alloc: Global, bytes: &[u8], version: u8) -> Option<bool> {
 
 #[test]
 fn reads_whole_requests(rt: HostRuntime) {
-    let alloc = rt.alloc();
-    let are_read = [
-        reads_insert(alloc, &INSERT, 1),
-        reads_insert(alloc, &INSERT_2, 2),
-    ];
-    assert!(rt; are_read == [Some(true); 2]);
+    for (version, frame) in [(1, INSERT.as_slice()), (2, &INSERT_2)] {
+        let read = reads_insert(rt.alloc(), frame, version);
+        assert!(rt; read == Some(true), "version {version}: {read:?}");
+    }
 }
 
 /// Whether the next request is the insert in this version.
@@ -279,25 +280,41 @@ fn next_is_insert(alloc: Global, frames: &mut Frames, version: u8) -> Option<boo
     is_insert(alloc, frames.next().ok()?, version)
 }
 
-/// Whether these bytes, fed one at a time, are the insert
-/// in this version; and how many bytes are left then.
-fn reads_pieces(alloc: Global, bytes: &[u8], version: u8) -> (bool, usize) {
+/// How a stream takes a frame that is fed byte by byte.
+#[derive(Clone, Copy, Debug, PartialEq, Eq)]
+struct InPieces {
+    /// Whether it stored each byte and gave no request before the last.
+    are_kept: bool,
+    is_insert: bool,
+    /// How many bytes are left then.
+    left: usize,
+}
+
+/// Feeds these bytes, which should be the insert in this version.
+fn read_pieces(alloc: Global, bytes: &[u8], version: u8) -> InPieces {
     let mut frames = Frames::new(alloc);
     let are_kept = matches!(keeps_pieces(&mut frames, bytes), Ok(true));
     let is_insert = next_is_insert(alloc, &mut frames, version) == Some(true);
     let left = frames.left();
     drop(frames);
-    (are_kept & is_insert, left)
+    InPieces {
+        are_kept,
+        is_insert,
+        left,
+    }
 }
 
 #[test]
 fn reads_requests_in_any_pieces(rt: HostRuntime) {
-    let alloc = rt.alloc();
-    let are_read = [
-        reads_pieces(alloc, &INSERT, 1),
-        reads_pieces(alloc, &INSERT_2, 2),
-    ];
-    assert!(rt; are_read == [(true, 0); 2]);
+    let whole = InPieces {
+        are_kept: true,
+        is_insert: true,
+        left: 0,
+    };
+    for (version, frame) in [(1, INSERT.as_slice()), (2, &INSERT_2)] {
+        let read = read_pieces(rt.alloc(), frame, version);
+        assert!(rt; read == whole, "version {version}: {read:?}");
+    }
 }
 
 fn next_of(answers: &mut Answers) -> Option<Answer> {
@@ -317,8 +334,10 @@ fn reads_answers_in_any_pieces(rt: HostRuntime) {
     let is_first = gives(&mut answers, 1, Ok(Reply::Added));
     let left = answers.left();
     drop(answers);
-    assert!(rt; are_fed);
-    assert!(rt; (before, is_first, left) == (60, Some(true), 45));
+    assert!(rt; are_fed, "there is memory for three answers");
+    assert!(rt; before == 60, "all bytes of three answers are kept");
+    assert!(rt; is_first == Some(true), "the first answer is the first fed");
+    assert!(rt; left == 45, "the first answer is consumed");
 }
 
 #[test]
@@ -328,17 +347,17 @@ fn reads_values_in_any_pieces(rt: HostRuntime) {
     let are_fed = feed_in_pieces(&mut answers).is_ok();
     let first = gives(&mut answers, 1, Ok(Reply::Added));
     let second = gives(&mut answers, 2, values(alloc, &[b"x"]));
-    let is_third_left = answers.left() == 24;
+    let left = answers.left();
     let third = gives(&mut answers, 2, values(alloc, &[b"x", b"y"]));
-    let is_end = (answers.left() == 0) & is_nothing(answers.next());
+    let (end, is_end) = (answers.left(), is_nothing(answers.next()));
     drop(answers);
-    assert!(rt; are_fed & is_third_left & is_end);
-    assert!(rt; [first, second, third] == [Some(true); 3]);
-}
-
-/// The fault of these bytes.
-fn fault_of(alloc: Global, bytes: &[u8]) -> Option<WireFault> {
-    request_of(alloc, bytes).err()
+    assert!(rt; are_fed, "there is memory for three answers");
+    assert!(rt; first == Some(true), "the first answer is Added");
+    assert!(rt; second == Some(true), "the second has one value");
+    assert!(rt; left == 24, "the third is left then");
+    assert!(rt; third == Some(true), "the third has two values");
+    assert!(rt; end == 0, "no byte is left at the end");
+    assert!(rt; is_end, "nor is an answer");
 }
 
 // Bytes, and the code and the number of their fault.
@@ -372,9 +391,19 @@ const ROWS: [(&[u8], FaultCode, u64); 6] = [
 fn tells_the_faults_of_the_rows(rt: HostRuntime) {
     for (bytes, code, number) in &ROWS {
         let (code, number) = (*code, *number);
-        let fault = fault_of(rt.alloc(), bytes);
-        assert!(rt; fault == Some(WireFault { code, number }));
+        let fault = request_of(rt.alloc(), bytes).err();
+        let wanted = WireFault { code, number };
+        assert!(rt; fault == Some(wanted), "not {wanted:?}, but {fault:?}");
     }
+}
+
+/// What reads the bytes.
+#[derive(Clone, Copy)]
+enum Reader {
+    /// `Frames`, which must tell a fault again and consume nothing.
+    OfRequests,
+    /// `Answers`.
+    OfAnswers,
 }
 
 /// The fault of these bytes, if a second call gives it again and nothing is consumed.
@@ -382,40 +411,48 @@ fn fault_told_again(frames: &mut Frames, bytes: &[u8]) -> Option<WireFault> {
     frames.feed(bytes).ok()?;
     let fault = frames.next().err()?;
     let again = frames.next().err()?;
-    if (again == fault) & (frames.left() == bytes.len()) {
-        Some(fault)
-    } else {
-        None
-    }
+    let is_unread = frames.left() == bytes.len();
+    (again == fault && is_unread).then_some(fault)
 }
 
-/// The fault of a request with `byte` at the index `place`.
-fn request_fault(alloc: Global, frame: &[u8], place: usize, byte: u8) -> Option<WireFault> {
-    let bytes = changed(alloc, frame, place, byte).ok()?;
+fn request_fault(alloc: Global, bytes: &[u8]) -> Option<WireFault> {
     let mut frames = Frames::new(alloc);
-    let fault = fault_told_again(&mut frames, &bytes);
+    let fault = fault_told_again(&mut frames, bytes);
     drop(frames);
     fault
 }
 
-/// The first index at which a changed byte gives the request another fault than its row says.
-fn other_request_fault(
+/// The fault of the frame with `byte` at the index `place`.
+fn changed_fault(
     alloc: Global,
+    reader: Reader,
     frame: &[u8],
-    rows: &[(usize, u8, FaultCode, u64)],
-) -> Option<usize> {
-    for (place, byte, code, number) in rows {
-        let (code, number) = (*code, *number);
-        let fault = request_fault(alloc, frame, *place, *byte);
-        if fault != Some(WireFault { code, number }) {
-            return Some(*place);
-        }
+    (place, byte): (usize, u8),
+) -> Option<WireFault> {
+    let bytes = changed(alloc, frame, place, byte).ok()?;
+    match reader {
+        Reader::OfRequests => request_fault(alloc, &bytes),
+        Reader::OfAnswers => answer_of(alloc, &bytes).err(),
     }
-    None
 }
 
-// An index, the byte put there, and the code and the number of the fault.
-const INSERT_FAULTS: [(usize, u8, FaultCode, u64); 12] = [
+/// An index, the byte put there, and the code and the number of the fault.
+type FaultRow = (usize, u8, FaultCode, u64);
+
+/// Compares the faults of the frame with those of the rows.
+fn has_faults(rt: &impl Abort, alloc: Global, reader: Reader, frame: &[u8], rows: &[FaultRow]) {
+    for (place, byte, code, number) in rows {
+        let (place, byte, code, number) = (*place, *byte, *code, *number);
+        let fault = changed_fault(alloc, reader, frame, (place, byte));
+        let wanted = WireFault { code, number };
+        assert!(rt;
+            fault == Some(wanted),
+            "with {byte} at {place}: not {wanted:?}, but {fault:?}"
+        );
+    }
+}
+
+const INSERT_FAULTS: &[FaultRow] = &[
     (3, 0x0b, FaultCode::BadLength, 0),
     (2, 0x12, FaultCode::BadLength, 0),
     (4, 9, FaultCode::BadVersion, 0),
@@ -430,7 +467,7 @@ const INSERT_FAULTS: [(usize, u8, FaultCode, u64); 12] = [
     (17, 0, FaultCode::Trailing, 1),
 ];
 
-const RETRIEVE_FAULTS: [(usize, u8, FaultCode, u64); 5] = [
+const RETRIEVE_FAULTS: &[FaultRow] = &[
     (4, 9, FaultCode::BadVersion, 0),
     (5, 4, FaultCode::BadOperation, 0),
     (5, 1, FaultCode::BadValue, 1),
@@ -438,7 +475,7 @@ const RETRIEVE_FAULTS: [(usize, u8, FaultCode, u64); 5] = [
     (14, 2, FaultCode::BadKey, 1),
 ];
 
-const INSERT_2_FAULTS: [(usize, u8, FaultCode, u64); 10] = [
+const INSERT_2_FAULTS: &[FaultRow] = &[
     (3, 0x0b, FaultCode::BadLength, 0),
     (4, 3, FaultCode::BadVersion, 0),
     (4, 1, FaultCode::BadKey, 1),
@@ -453,38 +490,16 @@ const INSERT_2_FAULTS: [(usize, u8, FaultCode, u64); 10] = [
 
 #[test]
 fn each_field_of_a_request_has_its_faults(rt: HostRuntime) {
-    let alloc = rt.alloc();
-    let others = [
-        other_request_fault(alloc, &INSERT, &INSERT_FAULTS),
-        other_request_fault(alloc, &RETRIEVE, &RETRIEVE_FAULTS),
-        other_request_fault(alloc, &INSERT_2, &INSERT_2_FAULTS),
-    ];
-    assert!(rt; others == [None; 3]);
-}
-
-/// The fault of an answer with `byte` at the index `place`.
-fn answer_fault(alloc: Global, frame: &[u8], place: usize, byte: u8) -> Option<WireFault> {
-    let bytes = changed(alloc, frame, place, byte).ok()?;
-    answer_of(alloc, &bytes).err()
-}
-
-/// The first index at which a changed byte gives the answer another fault than its row says.
-fn other_answer_fault(
-    alloc: Global,
-    frame: &[u8],
-    rows: &[(usize, u8, FaultCode, u64)],
-) -> Option<usize> {
-    for (place, byte, code, number) in rows {
-        let (code, number) = (*code, *number);
-        let fault = answer_fault(alloc, frame, *place, *byte);
-        if fault != Some(WireFault { code, number }) {
-            return Some(*place);
-        }
+    for (frame, rows) in [
+        (INSERT.as_slice(), INSERT_FAULTS),
+        (&RETRIEVE, RETRIEVE_FAULTS),
+        (&INSERT_2, INSERT_2_FAULTS),
+    ] {
+        has_faults(&rt, rt.alloc(), Reader::OfRequests, frame, rows);
     }
-    None
 }
 
-const ADDED_FAULTS: [(usize, u8, FaultCode, u64); 7] = [
+const ADDED_FAULTS: &[FaultRow] = &[
     (3, 0x0a, FaultCode::BadLength, 0),
     (1, 0x3f, FaultCode::BadLength, 0),
     (4, 2, FaultCode::BadVersion, 0),
@@ -494,7 +509,7 @@ const ADDED_FAULTS: [(usize, u8, FaultCode, u64); 7] = [
     (5, 0x82, FaultCode::BadValue, 1),
 ];
 
-const ONE_VALUE_FAULTS: [(usize, u8, FaultCode, u64); 7] = [
+const ONE_VALUE_FAULTS: &[FaultRow] = &[
     (5, 0x83, FaultCode::Trailing, 2),
     (17, 0, FaultCode::Trailing, 2),
     (17, 2, FaultCode::BadValue, 2),
@@ -504,20 +519,20 @@ const ONE_VALUE_FAULTS: [(usize, u8, FaultCode, u64); 7] = [
     (19, 0, FaultCode::Trailing, 2),
 ];
 
-const TWO_VALUES_FAULTS: [(usize, u8, FaultCode, u64); 2] = [
+const TWO_VALUES_FAULTS: &[FaultRow] = &[
     (23, 0x78, FaultCode::BadValue, 2),
     (23, 0x77, FaultCode::BadValue, 2),
 ];
 
 #[test]
 fn each_field_of_an_answer_has_its_faults(rt: HostRuntime) {
-    let alloc = rt.alloc();
-    let others = [
-        other_answer_fault(alloc, &ADDED, &ADDED_FAULTS),
-        other_answer_fault(alloc, &ONE_VALUE, &ONE_VALUE_FAULTS),
-        other_answer_fault(alloc, &TWO_VALUES, &TWO_VALUES_FAULTS),
-    ];
-    assert!(rt; others == [None; 3]);
+    for (frame, rows) in [
+        (ADDED.as_slice(), ADDED_FAULTS),
+        (&ONE_VALUE, ONE_VALUE_FAULTS),
+        (&TWO_VALUES, TWO_VALUES_FAULTS),
+    ] {
+        has_faults(&rt, rt.alloc(), Reader::OfAnswers, frame, rows);
+    }
 }
 
 /// The number and the code in the frame of a fault of this number.
@@ -570,9 +585,13 @@ fn fault_of_number(alloc: Global, number: u8) -> Option<FaultCode> {
 #[test]
 fn no_other_code_is_a_fault(rt: HostRuntime) {
     for number in [0, 7, 13] {
-        assert!(rt; FaultCode::from_number(number) == None);
+        let code = FaultCode::from_number(number);
+        assert!(rt; code == None, "{number} is no code");
         let fault = fault_of_number(rt.alloc(), number);
-        assert!(rt; fault == Some(FaultCode::BadValue));
+        assert!(rt;
+            fault == Some(FaultCode::BadValue),
+            "{number} is a bad value"
+        );
     }
 }
 
@@ -587,21 +606,39 @@ fn longest_frame(alloc: Global, request: &Request) -> Option<Vec<u8>> {
     write_request_2(alloc, 17, 1, request).ok()
 }
 
-/// The length of the longest request's frame, whether it is read back, and its number and floor.
-fn longest(alloc: Global) -> Option<(usize, bool, (u64, u64))> {
+/// The longest request, as it is read back from its frame.
+#[derive(Clone, Copy)]
+struct Longest {
+    /// The length of the frame.
+    len: usize,
+    number: u64,
+    floor: u64,
+    is_same: bool,
+}
+
+fn read_back_longest(alloc: Global) -> Option<Longest> {
     let request = longest_request(alloc)?;
     let frame = longest_frame(alloc, &request);
     drop(request);
     let frame = frame?;
     let wire = request_of(alloc, &frame).ok()??;
-    let told = (wire.number, wire.floor);
-    let is_same = equal(Some(wire.request), longest_request(alloc));
-    Some((frame.len(), is_same?, told))
+    let (number, floor) = (wire.number, wire.floor);
+    let is_same = equal(Some(wire.request), longest_request(alloc))?;
+    Some(Longest {
+        len: frame.len(),
+        number,
+        floor,
+        is_same,
+    })
 }
 
 #[test]
 fn the_longest_request_is_read_back(rt: HostRuntime) {
-    assert!(rt; longest(rt.alloc()) == Some((4376, true, (17, 1))));
+    let longest = read_back_longest(rt.alloc()).expect(&rt, "memory for the longest request");
+    assert!(rt; longest.len == 4376, "the longest frame has 4,376 bytes");
+    assert!(rt; longest.number == 17, "it has its number");
+    assert!(rt; longest.floor == 1, "it has its floor");
+    assert!(rt; longest.is_same, "it is the request that was written");
 }
 
 #[test]
