@@ -72,12 +72,24 @@ fn fill<S: EntryStore>(rt: &impl Abort, alloc: Global, store: &mut S) -> Option<
     Some(())
 }
 
-// Whether these are 1,000 values, from 0001 to 1000.
-fn are_from_one(values: Values) -> bool {
-    let all = values.as_slice();
-    let are_from_one = all.len() == 1000
-        && all[0].as_slice() == b"0001".as_slice()
-        && all[999].as_slice() == b"1000".as_slice();
+// Whether the value is this number, as four digits.
+fn is_number(alloc: Global, value: &Bytes, number: usize) -> bool {
+    let Ok(digits) = format!(in alloc; "{number:04}") else {
+        return false;
+    };
+    let is_number = value.as_slice() == digits.as_bytes();
+    drop(digits);
+    is_number
+}
+
+// Whether these are the values from 0001 to 1000, in order.
+fn are_from_one(alloc: Global, values: Values) -> bool {
+    let mut next = 1usize;
+    let mut are_from_one = values.as_slice().len() == 1000;
+    for value in values.as_slice() {
+        are_from_one = are_from_one && is_number(alloc, value, next);
+        next = next.saturating_add(1);
+    }
     drop(values);
     are_from_one
 }
@@ -85,18 +97,33 @@ fn are_from_one(values: Values) -> bool {
 // A full set of 1,000 values takes no more, and takes one again after a remove.
 fn fill_a_set<S: EntryStore>(rt: &impl Abort, alloc: Global, store: S) {
     let mut store = store;
-    assert!(rt; fill(rt, alloc, &mut store).is_some());
+    assert!(rt;
+        fill(rt, alloc, &mut store).is_some(),
+        "there is memory for the values"
+    );
     insert(rt, alloc, &mut store, b"a", b"1000", Ok(Inserted::SetFull));
     insert(rt, alloc, &mut store, b"a", b"0999", Ok(Inserted::Present));
     let was_there = remove(alloc, &mut store, b"a", b"0000");
+    assert!(rt; was_there, "a value of a full set is removed");
     let is_there = remove(alloc, &mut store, b"a", b"0000");
+    assert!(rt; !is_there, "a value that was removed is not there");
+    fill_another(rt, alloc, &mut store);
     insert(rt, alloc, &mut store, b"a", b"1000", Ok(Inserted::Added));
-    let are_there = match values_under(alloc, &store, b"a") {
-        Ok(values) => are_from_one(values),
-        Err(_) => false,
-    };
-    assert!(rt; was_there & !is_there & are_there & (store.count() == 1000));
+    let values = values_under(alloc, &store, b"a").expect(rt, "memory for the values");
+    let are_there = are_from_one(alloc, values);
+    let count = store.count();
     drop(store);
+    assert!(rt; are_there, "the set has the values from 0001 to 1000");
+    assert!(rt; count == 1000, "they are all pairs of the store");
+}
+
+// A value under another key is in a set of its own, and is removed from there.
+fn fill_another<S: EntryStore>(rt: &impl Abort, alloc: Global, store: &mut S) {
+    insert(rt, alloc, store, b"b", b"0999", Ok(Inserted::Added));
+    assert!(rt; store.count() == 1000, "a pair under another key counts");
+    let was_there = remove(alloc, store, b"b", b"0999");
+    assert!(rt; was_there, "it is removed from its own set");
+    assert!(rt; store.count() == 999, "and no other pair is");
 }
 
 // A span that contains `a` and `abc`, but not `b`.
