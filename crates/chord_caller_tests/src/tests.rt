@@ -2,8 +2,9 @@
 ghost use Rattle.std.specs.Prelude.{◌≤◌};
 
 use chord_caller::{Ask, CallerCore, Heard, Note, ResendFault, SubmitFault, TakeFault, Told};
-use chord_map::{Reply, Request, RequestFault, Values};
+use chord_map::{Done, Reply, Request, RequestFault, Values};
 use std::alloc::{AllocError, Global};
+use std::process::Abort;
 
 mod clients;
 mod growths;
@@ -276,36 +277,124 @@ fn a_window_of_two(rt: HostRuntime) {
     assert!(rt; after_the_first(rt.alloc()) == Some((full, fresh, None, true)));
 }
 
-/// The note of caller 1 after its first reply, and how it judged that reply.
-fn shown(alloc: Global) -> Option<(Note, Option<Heard>)> {
-    let mut core = submitted(alloc, 1, 1, &[b"a"])?;
-    let heard = core.take(added(1, 1)).ok();
+/// The insert of x under this key by this caller, with its reply.
+fn done_of(
+    alloc: Global,
+    caller: u64,
+    number: u64,
+    key: &[u8],
+    reply: Reply,
+) -> Result<Done, AllocError> {
+    match insert(alloc, key) {
+        Ok(request) => Ok(Done {
+            caller,
+            number,
+            request,
+            reply,
+        }),
+        Err(_) => {
+            drop(reply);
+            Err(AllocError)
+        }
+    }
+}
+
+/// The two calls of caller 1, by number.
+fn calls_of_1(alloc: Global) -> Result<Vec<Done>, AllocError> {
+    let mut calls = Vec::new(alloc);
+    calls.push(done_of(alloc, 1, 1, b"a", Reply::Added)?)?;
+    calls.push(done_of(alloc, 1, 2, b"b", Reply::Present)?)?;
+    Ok(calls)
+}
+
+/// The only call of caller 0.
+fn call_of_0(alloc: Global) -> Result<Vec<Done>, AllocError> {
+    let mut calls = Vec::new(alloc);
+    calls.push(done_of(alloc, 0, 1, b"a", Reply::Added)?)?;
+    Ok(calls)
+}
+
+/// Caller 1 after it took its two replies.
+fn with_two_replies(alloc: Global) -> Option<CallerCore> {
+    let mut core = submitted(alloc, 1, 2, &[b"a", b"b"])?;
+    let second = Told {
+        caller: 1,
+        number: 2,
+        reply: Reply::Present,
+    };
+    let first = core.take(added(1, 1)).ok();
+    let second = core.take(second).ok();
+    if (first, second) == (Some(Heard::Fresh), Some(Heard::Fresh)) {
+        return Some(core);
+    }
+    drop(core);
+    None
+}
+
+/// The note of caller 1 after it took its two replies.
+fn note_of_1(alloc: Global) -> Option<Note> {
+    let core = with_two_replies(alloc)?;
     let note = core.show().ok();
     drop(core);
-    Some((note?, heard))
+    note
 }
 
-/// How many calls caller 0 was told of, and took itself, after it met the note twice.
-fn met_twice(alloc: Global, note: &Note) -> Option<(usize, usize)> {
-    let mut core = CallerCore::new(alloc, 0, 1);
+/// Caller 0 after it took its only reply and met the note twice.
+fn having_met(alloc: Global, note: &Note) -> Option<CallerCore> {
+    let mut core = submitted(alloc, 0, 1, &[b"a"])?;
+    let has_taken = core.take(added(0, 1)).is_ok();
     let has_met = core.meet(note).is_ok() && core.meet(note).is_ok();
-    let known = (core.told().len(), core.mine().len());
+    if has_taken && has_met {
+        return Some(core);
+    }
     drop(core);
-    if has_met { Some(known) } else { None }
+    None
 }
 
-/// How the reply was judged, how many calls the note has,
-/// and how many the caller that met it was told of and took.
-fn shows_and_meets(alloc: Global) -> Option<(Option<Heard>, usize, Option<(usize, usize)>)> {
-    let (note, heard) = shown(alloc)?;
-    let shows = note.done.len();
-    let met = met_twice(alloc, &note);
-    drop(note);
-    Some((heard, shows, met))
+/// Whether the note names caller 1 and has both of its calls.
+fn shows_both(rt: &impl Abort, alloc: Global, note: &Note) -> bool {
+    let calls = calls_of_1(alloc).expect(rt, "memory for two calls");
+    let shows_both = note.caller == 1 && note.done == calls;
+    drop(calls);
+    shows_both
+}
+
+/// Whether the caller was told of caller 1's calls alone, each once.
+fn was_told_of_both(rt: &impl Abort, alloc: Global, core: &CallerCore) -> bool {
+    let calls = calls_of_1(alloc).expect(rt, "memory for two calls");
+    let was_told = core.told() == calls.as_slice();
+    drop(calls);
+    was_told
+}
+
+/// Whether the caller took its own call alone.
+fn has_its_own(rt: &impl Abort, alloc: Global, core: &CallerCore) -> bool {
+    let calls = call_of_0(alloc).expect(rt, "memory for a call");
+    let has_its_own = core.mine() == calls.as_slice();
+    drop(calls);
+    has_its_own
 }
 
 #[test]
 fn notes_are_shown_and_met(rt: HostRuntime) {
-    let met = (Some(Heard::Fresh), 1, Some((1, 0)));
-    assert!(rt; shows_and_meets(rt.alloc()) == Some(met));
+    let alloc = rt.alloc();
+    let note = note_of_1(alloc).expect(&rt, "memory for a note");
+    let shows_both = shows_both(&rt, alloc, &note);
+    let core = having_met(alloc, &note).expect(&rt, "memory to meet a note");
+    drop(note);
+    let was_told = was_told_of_both(&rt, alloc, &core);
+    let has_its_own = has_its_own(&rt, alloc, &core);
+    drop(core);
+    assert!(rt;
+        shows_both,
+        "a note has all calls that its caller knows, by number"
+    );
+    assert!(rt;
+        was_told,
+        "who meets a note twice learns each of its calls once"
+    );
+    assert!(rt;
+        has_its_own,
+        "what a caller is told of is not among the replies that it took"
+    );
 }
