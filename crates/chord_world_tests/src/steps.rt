@@ -195,7 +195,7 @@ fn a_caller_knows_what_it_was_told_of(rt: HostRuntime) -> Result<(), Fail> {
     Ok(())
 }
 
-/// A call that is delivered twice; requests are sent again before and after it.
+/// Requests are sent again before there is one, while it is pending, and when its reply was taken.
 const RESENT: &[Deed] = &[
     Deed::Resend(0, None),
     Deed::Resend(0, Some(1)),
@@ -204,36 +204,74 @@ const RESENT: &[Deed] = &[
     Deed::Create(A),
     Deed::Open(17),
     Deed::Open(1),
+    Deed::Resend(0, None),
     Deed::Insert(0, b"abc", b"x"),
+    // The request is pending: it goes out again under its number, whichever way it is named.
+    Deed::Resend(0, None),
+    Deed::Resend(0, Some(1)),
+    Deed::Resend(0, Some(2)),
+    // Each of the three calls is answered, and one of them twice.
     Deed::Deliver(0),
     Deed::Deliver(1),
-    Deed::Deliver(0),
     Deed::Deliver(2),
+    Deed::Deliver(0),
+    // It goes out again as long as no answer came, and the first one to come is taken.
+    Deed::Resend(0, None),
     Deed::Deliver(3),
+    Deed::Deliver(4),
+    Deed::Deliver(7),
+    Deed::Deliver(8),
+    Deed::Deliver(9),
+    // No request is pending any more.
     Deed::Resend(0, Some(1)),
     Deed::Resend(0, None),
     Deed::Meet(0, 1),
 ];
 
-const ANSWERS_BEFORE: &[StepResult] = &[
-    StepResult::Refused(Refusal::NotCreated),
-    StepResult::Refused(Refusal::NotCreated),
-];
+const IDLE: StepResult = StepResult::Refused(Refusal::Step(StepFault::Idle));
 
-const ANSWERS_BEHIND: &[StepResult] = &[
-    StepResult::Refused(Refusal::Step(StepFault::Idle)),
-    StepResult::Refused(Refusal::Step(StepFault::Idle)),
+const ANSWERS_TO_RESENT: &[StepResult] = &[
+    StepResult::Refused(Refusal::NotCreated),
+    StepResult::Refused(Refusal::NotCreated),
+    StepResult::Refused(Refusal::NotCreated),
+    StepResult::Did(Outcome::Node(0)),
+    StepResult::Refused(Refusal::AlreadyCreated),
+    StepResult::Refused(Refusal::Step(StepFault::BadWindow)),
+    StepResult::Did(Outcome::Caller(0)),
+    IDLE,
+    StepResult::Did(Outcome::Message(0)),
+    StepResult::Did(Outcome::Message(1)),
+    StepResult::Did(Outcome::Message(2)),
+    IDLE,
+    StepResult::Did(Outcome::Told(3)),
+    StepResult::Did(Outcome::Told(4)),
+    StepResult::Did(Outcome::Told(5)),
+    StepResult::Did(Outcome::Told(6)),
+    StepResult::Did(Outcome::Message(7)),
+    StepResult::Did(Outcome::Fresh(0)),
+    StepResult::Did(Outcome::Known),
+    StepResult::Did(Outcome::Told(8)),
+    StepResult::Did(Outcome::Known),
+    StepResult::Refused(Refusal::NoSuchMessage),
+    IDLE,
+    IDLE,
     StepResult::Refused(Refusal::Step(StepFault::NotNote)),
 ];
 
-/// Pending requests are sent again; none is left in the end.
 #[test]
 fn a_request_goes_out_again(rt: HostRuntime) -> Result<(), Fail> {
     let answers = answers_to(rt.alloc(), RESENT)?;
-    let before = answers.get(..2) == Some(ANSWERS_BEFORE);
-    let behind = answers.get(13..) == Some(ANSWERS_BEHIND);
+    let are_wanted = answers.as_slice() == ANSWERS_TO_RESENT;
     drop(answers);
-    assert!(rt; before && behind);
+    assert!(rt;
+        are_wanted,
+        "a request is sent again while it is pending, and at no other time"
+    );
+    let world = world_of(rt.alloc(), RESENT)?;
+    assert!(rt;
+        world.history().len() == 1,
+        "however often it is sent, it acts once"
+    );
     Ok(())
 }
 
