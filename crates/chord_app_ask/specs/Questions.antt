@@ -3,7 +3,11 @@ use Rattle.std.specs.Prelude.{◌≡◌, ℕ, Bool, true, false, not, ◌&&◌, 
 use Rattle.chord_map.specs.declared.request.Request.{Request}
 use Rattle.chord_map.specs.declared.request.Request.TheVariants.{Insert, Retrieve, Remove}
 use Rattle.chord_app_ask.specs.declared.ask.outcome.AskOutcome.{AskOutcome}
+use Rattle.chord_app_ask.specs.declared.ask.outcome.AskOutcome.TheVariants as outcome
 use Rattle.chord_app_ask.specs.declared.ask.outcome.AskOutcome.TheVariants.{Lost}
+use Rattle.chord_wire.specs.declared.answer.Answer.{Answer}
+use Rattle.chord_wire.specs.declared.answer.Answer.TheVariants as answer
+use Rattle.chord_wire.specs.declared.fault.FaultCode.TheVariants as code
 
 -- inserts and removes
 abbrev pub may_change : Request → Bool
@@ -25,3 +29,21 @@ is_lost request times tries = nat_le tries times || (not (times == 0) && may_cha
 abbrev pub outcome_after_loss : Request → ℕ → ℕ → Option AskOutcome → Option AskOutcome
 outcome_after_loss request times tries None = if is_lost request times tries then Some Lost else None
 outcome_after_loss request times tries (Some outcome) = Some outcome
+
+-- how a request ended with this answer
+abbrev pub outcome_of : Answer → AskOutcome
+outcome_of (answer.Reply number reply) = outcome.Reply reply
+outcome_of (answer.Fault number code.Full) = outcome.Full
+outcome_of (answer.Fault number code.NoAnswer) = outcome.NoAnswer
+outcome_of (answer.Fault number fault) = outcome.Fault fault
+
+-- the request may be answered otherwise when it is sent again
+abbrev pub may_pass : Answer → Bool
+may_pass (answer.Fault number code.Full) = true
+may_pass (answer.Fault number code.NoAnswer) = true
+may_pass answer = false
+
+-- the outcome once no more is waited for
+abbrev pub outcome_given_up : Option AskOutcome → Option AskOutcome
+outcome_given_up None = Some Lost
+outcome_given_up (Some outcome) = Some outcome

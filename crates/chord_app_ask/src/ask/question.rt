@@ -1,7 +1,8 @@
 //! A request and its progress.
-ghost use Rattle.std.specs.Prelude.{◌≡◌, ◌≢◌, None, true};
+ghost use Rattle.std.specs.Prelude.{◌≡◌, ◌≢◌, ◌⊎◌, ◌↔◌, ◌+◌, ◌-◌, ◌^◌, ◌&&◌, IsTrue, None, Some, true, false, min, nat_lt, is_some, not};
+ghost use Rattle.std.specs.Option.{option_copied};
 ghost use Rattle.chord_map.specs.Checked.{IsRequest};
-ghost use Rattle.chord_app_ask.specs.Questions.{may_change, is_lost, outcome_after_loss, IsSentOnce};
+ghost use Rattle.chord_app_ask.specs.Questions.{may_change, is_lost, may_pass, outcome_given_up, outcome_of, outcome_after_loss, IsSentOnce};
 
 use crate::ask::link::{Link, LinkState};
 use crate::ask::outcome::AskOutcome;
@@ -45,6 +46,8 @@ impl Question {
     /// A request that was not sent yet.
     pub fn new(request: Request) -> Question
         requires { IsRequest request }
+        ensures request { result.request ≡ request }
+        ensures unsent { (result.number ≡ None) × (result.times ≡ 0) × (result.outcome ≡ None) }
     {
         Question {
             request,
@@ -54,16 +57,22 @@ impl Question {
         }
     }
 
-    pub fn outcome(&self) -> Option<&AskOutcome> {
+    pub fn outcome(&self) -> Option<&AskOutcome>
+        ensures { option_copied result ≡ self.now.outcome }
+    {
         self.outcome.as_ref()
     }
 
-    pub fn is_open(&self) -> bool {
+    pub fn is_open(&self) -> bool
+        ensures { result ≡ not (is_some self.now.outcome) }
+    {
         self.outcome.is_none()
     }
 
     /// Whether it was sent under this number.
-    pub fn has(&self, number: u64) -> bool {
+    pub fn has(&self, number: u64) -> bool
+        ensures { IsTrue result ↔ (self.now.number ≡ Some number) }
+    {
         self.number == Some(number)
     }
 
@@ -71,6 +80,8 @@ impl Question {
     pub fn send(&mut self, link: &mut Link) -> Result<LinkState, Finish>
         ensures sent { self.old.number ≢ None → self.new ≡ self.old }
         ensures done { self.old.outcome ≢ None → self.new ≡ self.old }
+        ensures same { (self.new.request ≡ self.old.request) × (self.new.outcome ≡ self.old.outcome) }
+        ensures counted { (self.new ≡ self.old) ⊎ ((is_some self.new.number ≡ true) × (self.new.times ≡ min (self.old.times + 1) (2 ^ 32 - 1))) }
     {
         if self.outcome.is_some() || self.number.is_some() {
             return Ok(LinkState::Open);
@@ -92,7 +103,12 @@ impl Question {
 
     /// Takes its answer. Says whether to send it again, which is done until it was sent `tries`
     /// times.
-    pub fn take(&mut self, answer: Answer, tries: u32) -> bool {
+    pub fn take(&mut self, answer: Answer, tries: u32) -> bool
+        ensures again { result ≡ (may_pass answer && (is_some self.old.number && nat_lt self.old.times tries)) }
+        ensures same { (self.new.request ≡ self.old.request) × (self.new.number ≡ self.old.number) }
+        ensures passed { result ≡ true → (self.new.times ≡ self.old.times + 1) × (self.new.outcome ≡ self.old.outcome) }
+        ensures ended { result ≡ false → (self.new.times ≡ self.old.times) × (self.new.outcome ≡ Some (outcome_of answer)) }
+    {
         let outcome = match answer {
             Answer::Reply { reply, .. } => AskOutcome::Reply(reply),
             Answer::Fault {
@@ -119,6 +135,7 @@ impl Question {
     pub fn lose(&mut self, tries: u32)
         ensures outcome { self.new.outcome ≡ outcome_after_loss self.old.request self.old.times tries self.old.outcome }
         ensures number { self.new.number ≡ None }
+        ensures same { (self.new.request ≡ self.old.request) × (self.new.times ≡ self.old.times) }
     {
         if self.outcome.is_none() && is_lost(&self.request, self.times, tries) {
             self.outcome = Some(AskOutcome::Lost);
@@ -127,7 +144,10 @@ impl Question {
     }
 
     /// Gives it up, if it has no outcome.
-    pub fn give_up(&mut self) {
+    pub fn give_up(&mut self)
+        ensures outcome { self.new.outcome ≡ outcome_given_up self.old.outcome }
+        ensures same { (self.new.request ≡ self.old.request) × (self.new.number ≡ self.old.number) × (self.new.times ≡ self.old.times) }
+    {
         if self.is_open() {
             self.outcome = Some(AskOutcome::Lost);
         }
