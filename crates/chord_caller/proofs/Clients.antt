@@ -12,11 +12,24 @@ use Rattle.chord_caller.specs.declared.request_state.RequestState.TheVariants.{W
 use Rattle.chord_caller.specs.declared.told.Told.{Told}
 use Rattle.chord_caller.specs.Caller.{Submission, Caller, submission_at, is_taken, floor_of, with_request, with_reply}
 use Rattle.chord_caller.specs.Slots.{all_states, state_of, request_waiting_in, is_over, IsRaised}
-use Rattle.chord_caller.specs.Client.{Client, client_of, IsClient, new_client, count_of, state_at, state_in, request_waiting_at, IsCoreOf}
+use Rattle.chord_caller.specs.Client.{Client, client_of, IsClient, count_of, state_at, state_in, IsCoreOf}
 use Rattle.chord_caller.specs.Answers.{new_caller, is_pending, PendingIs}
-use Rattle.chord_caller.specs.ClientAnswers.{with_waiting, IsEnded, ClientPendingIs}
 use Rattle.chord_caller.proofs.Floors.{upto_is}
 use Rattle.chord_caller.proofs.Places.{got_last, got_set_same, got_set_other, either_is}
+
+-- the client after it submitted a request
+abbrev pub with_waiting : Request → Client → Client
+with_waiting request client = record client { states = client.states ++ Waiting request ∷ [] }
+
+-- the pending request of this number is over, no other changed, and the floor is as high as it can be
+pub record IsEnded (number : ℕ) (request : Request) (old new : Client) : Type 0 where
+  pub place : ℕ
+  pub number_is : number ≡ suc place
+  pub waits : state_at number old ≡ Some (Waiting request)
+  pub caller_is : new.number ≡ old.number
+  pub window_is : new.window ≡ old.window
+  pub slots_are : all_states new.floor new.states ≡ slice_set (all_states old.floor old.states) place Over
+  pub next : is_over (slice_get new.states 0) ≡ false
 
 -- the slots up to the floor are over
 pub got_over : (floor : ℕ) (states : List RequestState) (place : ℕ) → place < floor → slice_get (all_states floor states) place ≡ Some Over
@@ -74,14 +87,14 @@ core_from client caller number window next count states = record {
   slots_are = states;
 }
 
-new_slots : (number window asked : ℕ) → state_at asked (new_client number window) ≡ state_in asked (new_caller number window)
+new_slots : (number window asked : ℕ) → state_at asked (client_of number window 0 []) ≡ state_in asked (new_caller number window)
 unfolding is_taken done_at
 new_slots number window zero = refl
 new_slots number window (suc place) = refl
 
 -- a new client is the core of a new caller
-pub new_core : (number window : ℕ) → IsCoreOf (new_client number window) (new_caller number window)
-new_core number window = core_from (new_client number window) (new_caller number window) refl refl refl refl (new_slots number window)
+pub new_core : (number window : ℕ) → IsCoreOf (client_of number window 0 []) (new_caller number window)
+new_core number window = core_from (client_of number window 0 []) (new_caller number window) refl refl refl refl (new_slots number window)
 
 got_push_other : {A : Type 0} (xs : List A) (last : A) (place : ℕ) → place ≢ length xs → slice_get (xs ++ last ∷ []) place ≡ slice_get xs place
 got_push_other [] last zero apart = absurd (apart refl)
@@ -89,7 +102,7 @@ got_push_other [] last (suc place) apart = refl
 got_push_other (x ∷ xs) last zero apart = refl
 got_push_other (x ∷ xs) last (suc place) apart = got_push_other xs last place (λ e. apart (ap suc e))
 
-next_pushed : (states : List RequestState) (request : Request) → is_over (slice_get states 0) ≡ false → is_over (slice_get (states ++ Waiting request ∷ []) 0) ≡ false
+pub next_pushed : (states : List RequestState) (request : Request) → is_over (slice_get states 0) ≡ false → is_over (slice_get (states ++ Waiting request ∷ []) 0) ≡ false
 next_pushed [] request next = refl
 next_pushed (state ∷ states) request next = next
 
@@ -122,6 +135,13 @@ pushed_slots request client caller core (suc place) =
     got_push_other caller.submitted (submission_now request caller) place (λ e. there (e ∙ sym count)) in
     grown ∙ got_push_other xs (Waiting request) place there ∙ core.slots_are (suc place) ∙ sym (ap₂ slot_by (same_taken request caller (suc place)) theirs))
     (same_or_not place (length xs))
+
+-- the request that is submitted last waits
+pub pushed_last : (request : Request) (client : Client) → state_at (suc (client.floor + length client.states)) (with_waiting request client) ≡ Some (Waiting request)
+pushed_last request client =
+    got_kept client.floor (client.states ++ Waiting request ∷ []) (client.floor + length client.states) (omega arith)
+    ∙ ap (slice_get (client.states ++ Waiting request ∷ [])) (omega arith)
+    ∙ got_last client.states (Waiting request)
 
 -- a client that submits a request is the core of the caller that does
 pub submit_core : (request : Request) (client : Client) (caller : Caller) → is_over (slice_get client.states 0) ≡ false → IsCoreOf client caller
@@ -234,33 +254,23 @@ set_above (suc floor) states (suc place) state high =
     ap (λ (all : List RequestState). Over ∷ all) (ap (λ p. all_states floor (slice_set states p state)) (omega arith) ∙ set_above floor states place state (omega arith))
 
 -- the floor is not lowered
-raised_rises : (floor : ℕ) (states : List RequestState) (floor' : ℕ) (states' : List RequestState) → IsRaised floor states floor' states' → floor ≤ floor'
-raised_rises floor states floor' states' raised =
+ended_rises : (number : ℕ) (request : Request) (old new : Client) → IsEnded number request old new → old.floor ≤ new.floor
+ended_rises number request old new ended =
     ⊎_elim
-    (λ (below : floor' < floor).
-    let first : slice_get states' 0 ≡ Some Over =
-    ap (slice_get states') (omega arith) ∙ sym (got_kept floor' states' floor' (omega arith)) ∙ ap (λ (all : List RequestState). slice_get all floor') raised.same ∙ got_over floor states floor' below in
-    absurd (true≢false (sym (ap is_over first) ∙ raised.next)))
+    (λ (below : new.floor < old.floor).
+    let past : new.floor ≢ ended.place = λ here. true≢false (sym (ap is_over (got_over old.floor old.states new.floor below)) ∙ ap is_over (waits_here here)) in
+    let first : slice_get new.states 0 ≡ Some Over =
+    ap (slice_get new.states) (omega arith) ∙ sym (got_kept new.floor new.states new.floor (omega arith)) ∙ ap (λ (all : List RequestState). slice_get all new.floor) ended.slots_are
+    ∙ got_set_other (all_states old.floor old.states) ended.place new.floor Over past ∙ got_over old.floor old.states new.floor below in
+    absurd (true≢false (sym (ap is_over first) ∙ ended.next)))
     (λ rises. rises)
-    (cases_lt floor' floor)
-
--- a client keeps its rules when a slot is settled
-pub settled_keeps : (window floor room : ℕ) (states : List RequestState) (place floor' room' : ℕ) (states' : List RequestState) → IsClient window floor room states
-    → IsRaised floor (slice_set states place Over) floor' states' → room' ≡ room → IsClient window floor' room' states'
-settled_keeps window floor room states place floor' room' states' h raised same =
-    let rises = raised_rises floor (slice_set states place Over) floor' states' raised in
-    let count : floor' + length states' ≡ floor + length states =
-    sym (count_all floor' states') ∙ ap (λ (all : List RequestState). length all) raised.same ∙ count_all floor (slice_set states place Over) ∙ ap (λ n. floor + n) (length-set states place Over) in
-    let near = h.near in
-    let numbered = h.numbered in
-    record {
-      some_window = h.some_window;
-      small_window = h.small_window;
-      near = omega arith;
-      room_is = same ∙ h.room_is;
-      numbered = rw count numbered;
-      next = raised.next;
-    }
+    (cases_lt new.floor old.floor)
+  where
+    waits_here : new.floor ≡ ended.place → slice_get (all_states old.floor old.states) new.floor ≡ Some (Waiting request)
+    waits_here here =
+        ap (slice_get (all_states old.floor old.states)) here
+        ∙ sym (ap (λ n. state_at n old) ended.number_is)
+        ∙ ended.waits
 
 -- the slot that is settled is that of the number
 pub settled_from : (number window floor : ℕ) (states : List RequestState) (asked : ℕ) (request : Request) (floor' : ℕ) (states' : List RequestState)
@@ -279,6 +289,26 @@ settled_from number window floor states (suc place) request floor' states' waits
       next = raised.next;
     }
 
+-- a client keeps its rules when a reply settles a slot
+pub settled_keeps : (room : ℕ) (told : Told) (request : Request) (old new : Client) → IsClient room old → told.caller ≡ old.number → IsEnded told.number request old new → (room' : ℕ) → room' ≡ room → IsClient room' new
+settled_keeps room told request old new h own ended room' same =
+    let count : new.floor + length new.states ≡ old.floor + length old.states =
+    sym (count_all new.floor new.states) ∙ ap (λ (all : List RequestState). length all) ended.slots_are ∙ length-set (all_states old.floor old.states) ended.place Over ∙ count_all old.floor old.states in
+    let rises = ended_rises told.number request old new ended in
+    let near = h.near in
+    let numbered = h.numbered in
+    let window = ended.window_is in
+    record {
+      some_window = rw window h.some_window;
+      small_window = rw window h.small_window;
+      near = omega arith;
+      room_is = same ∙ h.room_is ∙ sym window;
+      numbered = rw count numbered;
+      next = ended.next;
+      caller = with_reply told request h.caller;
+      core = settle_core told request old new h.caller own ended h.core;
+    }
+
 pending_by : (taken : Bool) (submission : Option Submission) → is_some (request_waiting_in (slot_by taken submission)) ≡ (is_some submission && not taken)
 pending_by true None = refl
 pending_by true (Some submission) = refl
@@ -286,28 +316,27 @@ pending_by false None = refl
 pending_by false (Some submission) = refl
 
 -- a number is pending in a client exactly if it is in each caller that the client is the core of
-pub pending_is : (client : Client) (caller : Caller) → IsCoreOf client caller → (number : ℕ) → is_some (request_waiting_at number client) ≡ is_pending number caller
+pub pending_is : (client : Client) (caller : Caller) → IsCoreOf client caller → (number : ℕ) → is_some (request_waiting_in (state_at number client)) ≡ is_pending number caller
 pending_is client caller core number =
     ap (λ o. is_some (request_waiting_in o)) (core.slots_are number) ∙ pending_by (is_taken caller number) (submission_at number caller.submitted)
 
-pub least_is : (client : Client) (caller : Caller) → IsCoreOf client caller → (least : Option ℕ) → ClientPendingIs client least → PendingIs caller least
-least_is client caller core None h = λ number. sym (pending_is client caller core number) ∙ ap is_some (h number)
-least_is client caller core (Some least) h =
-    (sym (pending_is client caller core least) ∙ h.0, λ number below. sym (pending_is client caller core number) ∙ ap is_some (h.1 number below))
-
-low_idle : (client : Client) (number : ℕ) → number ≤ client.floor → request_waiting_at number client ≡ None
+-- a number up to the floor does not wait
+low_idle : (client : Client) (number : ℕ) → number ≤ client.floor → is_some (request_waiting_in (state_at number client)) ≡ false
 low_idle client zero low = refl
-low_idle client (suc place) low = ap request_waiting_in (got_over client.floor client.states place (omega arith))
+low_idle client (suc place) low = ap (λ o. is_some (request_waiting_in o)) (got_over client.floor client.states place (omega arith))
 
 -- without a slot no request is pending
-pub none_waits : (client : Client) → length client.states ≡ 0 → ClientPendingIs client None
-none_waits client empty zero = refl
-none_waits client empty (suc place) =
-    let count = count_all client.floor client.states in
-    ⊎_elim
-    (λ (low : place < client.floor). low_idle client (suc place) (omega arith))
-    (λ (high : client.floor ≤ place). ap request_waiting_in (slice_get_past (all_states client.floor client.states) place (omega arith)))
-    (cases_lt place client.floor)
+pub none_pending : (client : Client) (caller : Caller) → IsCoreOf client caller → length client.states ≡ 0 → PendingIs caller None
+none_pending client caller core empty number = sym (pending_is client caller core number) ∙ idle number
+  where
+    idle : (number : ℕ) → is_some (request_waiting_in (state_at number client)) ≡ false
+    idle zero = refl
+    idle (suc place) =
+        let count = count_all client.floor client.states in
+        ⊎_elim
+        (λ (low : place < client.floor). low_idle client (suc place) (omega arith))
+        (λ (high : client.floor ≤ place). ap (λ o. is_some (request_waiting_in o)) (slice_get_past (all_states client.floor client.states) place (omega arith)))
+        (cases_lt place client.floor)
 
 first_waits : (states : List RequestState) → 0 < length states → is_over (slice_get states 0) ≡ false → is_some (request_waiting_in (slice_get states 0)) ≡ true
 first_waits [] some next = absurd (omega arith)
@@ -315,11 +344,13 @@ first_waits (Waiting request ∷ states) some next = refl
 first_waits (Over ∷ states) some next = absurd (true≢false next)
 
 -- with a slot the first above the floor is the least pending
-pub one_waits : (client : Client) → 0 < length client.states → is_over (slice_get client.states 0) ≡ false → ClientPendingIs client (Some (client.floor + 1))
-one_waits client some next =
+pub first_pending : (client : Client) (caller : Caller) → IsCoreOf client caller → 0 < length client.states → is_over (slice_get client.states 0) ≡ false → PendingIs caller (Some (client.floor + 1))
+first_pending client caller core some next =
     let shift : client.floor + 1 ≡ suc client.floor = omega arith in
-    let here : is_some (request_waiting_at (suc client.floor) client) ≡ true =
+    let here : is_some (request_waiting_in (state_at (suc client.floor) client)) ≡ true =
     ap (λ o. is_some (request_waiting_in o)) (got_kept client.floor client.states client.floor (omega arith))
     ∙ ap (λ n. is_some (request_waiting_in (slice_get client.states n))) (omega arith)
-    ∙ first_waits client.states some next in
-    (ap (λ n. is_some (request_waiting_at n client)) shift ∙ here, λ number below. low_idle client number (omega arith))
+    ∙ first_waits client.states some next in (
+      sym (pending_is client caller core (client.floor + 1)) ∙ ap (λ n. is_some (request_waiting_in (state_at n client))) shift ∙ here,
+      λ number below. sym (pending_is client caller core number) ∙ low_idle client number (omega arith),
+    )

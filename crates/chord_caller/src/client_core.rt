@@ -1,9 +1,8 @@
 //! The core of a client: a caller that stores only what is above its floor.
-ghost use Rattle.std.specs.Prelude.{◌≡◌, ◌≤◌, None, Some, is_some, IfOk};
+ghost use Rattle.std.specs.Prelude.{◌≡◌, ◌≤◌, None, Some, true, IfOk};
 ghost use Rattle.chord_caller.specs.Caller.{Caller, floor_of, AskLetter, ToldLetter};
 ghost use Rattle.chord_caller.specs.Answers.{new_caller, is_pending, PendingIs, RefusalIs, ResendIs};
-ghost use Rattle.chord_caller.specs.Client.{new_client, request_waiting_at, IsCoreOf, Simulates};
-ghost use Rattle.chord_caller.specs.ClientAnswers.{ClientPendingIs, ClientRefusalIs, ClientSubmitIs, ClientResendIs, ClientTakeIs, SubmitsAlike, TakesAlike};
+ghost use Rattle.chord_caller.specs.Client.{IsCoreOf, SubmitsAlike, TakesAlike, HandsOut, Simulates};
 
 use crate::ask::Ask;
 use crate::fault::{ResendFault, SubmitFault};
@@ -15,7 +14,8 @@ use std::alloc::{AllocError, Global};
 use std::collections::VecDeque;
 use std::marker::Model;
 
-/// The requests that wait, and which numbers above the floor are over: at most 16 together.
+/// The requests that wait, and which numbers above the floor are over: at most 16 together. What it
+/// answers is what each caller answers that it is the core of, and there is such a caller.
 #[derive(Debug, Drop)]
 pub struct ClientCore {
     number: u64,
@@ -32,7 +32,7 @@ impl Model for ClientCore {
 
     ghost view = { λ core. client_of core.number core.window core.floor core.states.items };
 
-    ghost invariant = { λ core. IsClient core.window core.floor (deque_capacity core.states) core.states.items };
+    ghost invariant = { λ core. IsClient (deque_capacity core.states) (client_of core.number core.window core.floor core.states.items) };
 }
 
 impl ClientCore {
@@ -41,8 +41,7 @@ impl ClientCore {
     pub fn new(alloc: Global, number: u64, window: u64) -> Result<ClientCore, AllocError>
         requires some { 1 ≤ window }
         requires small { window ≤ 16 }
-        ensures value { IfOk result (λ core. core ≡ new_client number window) }
-        ensures core { IfOk result (λ core. IsCoreOf core (new_caller number window)) }
+        ensures { IfOk result (λ core. IsCoreOf core (new_caller number window)) }
     {
         Ok(ClientCore {
             number,
@@ -54,32 +53,28 @@ impl ClientCore {
 
     /// The client's own number.
     pub fn number(&self) -> u64
-        ensures answer { result ≡ self.now.number }
-        ensures callers { (caller : Caller) → IsCoreOf self.now caller → result ≡ caller.number }
+        ensures { (caller : Caller) → IsCoreOf self.now caller → result ≡ caller.number }
     {
         self.number
     }
 
     /// The greatest number with the replies to all numbers up to it taken.
     pub fn floor(&self) -> u64
-        ensures answer { result ≡ self.now.floor }
-        ensures callers { (caller : Caller) → IsCoreOf self.now caller → result ≡ floor_of caller }
+        ensures { (caller : Caller) → IsCoreOf self.now caller → result ≡ floor_of caller }
     {
         self.floor
     }
 
     /// Whether the request of this number waits for its reply.
     pub fn is_pending(&self, number: u64) -> bool
-        ensures answer { result ≡ is_some (request_waiting_at number self.now) }
-        ensures callers { (caller : Caller) → IsCoreOf self.now caller → result ≡ is_pending number caller }
+        ensures { (caller : Caller) → IsCoreOf self.now caller → result ≡ is_pending number caller }
     {
         waiting_request(&self.states, self.floor, number).is_some()
     }
 
     /// The least pending number.
     pub fn pending(&self) -> Option<u64>
-        ensures answer { ClientPendingIs self.now result }
-        ensures callers { (caller : Caller) → IsCoreOf self.now caller → PendingIs caller result }
+        ensures { (caller : Caller) → IsCoreOf self.now caller → PendingIs caller result }
     {
         if self.states.is_empty() {
             None
@@ -90,8 +85,7 @@ impl ClientCore {
 
     /// Why the request would be refused now, apart from memory.
     pub fn refusal(&self, request: &Request) -> Option<SubmitFault>
-        ensures answer { ClientRefusalIs request.now self.now result }
-        ensures callers { (caller : Caller) → IsCoreOf self.now caller → RefusalIs request.now caller result }
+        ensures { (caller : Caller) → IsCoreOf self.now caller → RefusalIs request.now caller result }
     {
         if let Err(fault) = request.check() {
             return Some(SubmitFault::Bad(fault));
@@ -108,9 +102,8 @@ impl ClientCore {
 
     /// Submits a request under the next number. A refused request is dropped.
     pub fn submit(&mut self, request: Request) -> Result<Ask, SubmitFault>
-        ensures answer { ClientSubmitIs request self.old result self.new }
-        ensures waits { IfOk result (λ ask. request_waiting_at ask.number self.new ≡ Some request) }
-        ensures callers { SubmitsAlike request self.old result self.new }
+        ensures waits { (caller : Caller) → IsCoreOf self.new caller → IfOk result (λ ask. is_pending ask.number caller ≡ true) }
+        ensures answer { SubmitsAlike request self.old result self.new }
         ensures step { IfOk result (λ ask. Simulates self.old None self.new (Some (AskLetter ask))) }
     {
         if let Some(fault) = self.refusal(&request) {
@@ -131,8 +124,8 @@ impl ClientCore {
     /// Takes a reply and hands it out. One that is not
     /// the first reply to a pending request is dropped.
     pub fn take(&mut self, told: Told) -> TakeOutcome
-        ensures answer { ClientTakeIs told self.old result self.new }
-        ensures callers { TakesAlike told self.old result self.new }
+        ensures reply { HandsOut told result }
+        ensures answer { TakesAlike told self.old result self.new }
         ensures step { Simulates self.old (Some (ToldLetter told)) self.new None }
     {
         if told.caller != self.number {
@@ -153,8 +146,7 @@ impl ClientCore {
 
     /// Sends a pending request again, under its number and with the present floor.
     pub fn resend(&self, number: u64) -> Result<Ask, ResendFault>
-        ensures answer { ClientResendIs number self.now result }
-        ensures callers { (caller : Caller) → IsCoreOf self.now caller → ResendIs number caller result }
+        ensures answer { (caller : Caller) → IsCoreOf self.now caller → ResendIs number caller result }
         ensures step { IfOk result (λ ask. Simulates self.now None self.now (Some (AskLetter ask))) }
     {
         let Some(request) = waiting_request(&self.states, self.floor, number) else {

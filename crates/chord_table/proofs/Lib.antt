@@ -6,7 +6,6 @@ pub mod Events
 pub mod Keeping
 pub mod Taking
 pub mod Becoming
-pub mod Cores
 pub mod Histories
 pub mod Whole
 pub mod Telling

@@ -1,24 +1,18 @@
-use Rattle.std.proofs.Common.{rules, ◌≡◌, ◌<◌, ◌+◌, None, Some, length, subst}
-use Rattle.chord_caller.specs.Client.{Client, client_of}
-use Rattle.chord_caller.specs.ClientAnswers.{ClientPendingIs}
-use Rattle.chord_caller.proofs.Clients.{none_waits, one_waits, least_is}
+use Rattle.std.proofs.Common.{rules, ◌≡◌, ◌+◌, ◌<◌, Some, subst, length, slice_get, sym, ap, ◌∙◌}
+use Rattle.chord_caller.specs.Slots.{is_over}
+use Rattle.chord_caller.specs.Answers.{PendingIs}
+use Rattle.chord_caller.specs.Client.{Client}
+use Rattle.chord_caller.proofs.Clients.{none_pending, first_pending}
 use Rattle.chord_caller.proofs.client_core.ClientCore.pending.Goals as goal
 
-pub returns-then-is_empty-clause-answer : goal.returns-then-is_empty-clause-answer
-returns-then-is_empty-clause-answer c =
-    let core = c.self.inside in
-    let none : length core.states.items ≡ 0 = search rules in
-    subst (λ (client : Client). ClientPendingIs client None) c.self.view_is (none_waits (client_of core.number core.window core.floor core.states.items) none)
+pub returns-then-is_empty : goal.returns-then-is_empty
+returns-then-is_empty c caller core =
+    let none : length (c.args.self.now).states ≡ 0 = search rules in
+    none_pending c.args.self.now caller core none
 
-pub returns-then-is_empty-clause-callers : goal.returns-then-is_empty-clause-callers
-returns-then-is_empty-clause-callers c caller core = least_is c.args.self.now caller core None (returns-then-is_empty-clause-answer c)
-
-pub returns-else-is_empty-clause-answer : goal.returns-else-is_empty-clause-answer
-returns-else-is_empty-clause-answer c =
-    let core = c.self.inside in
-    let some : 0 < length core.states.items = search rules in
-    subst (λ (client : Client). ClientPendingIs client (Some (core.floor + 1))) c.self.view_is
-    (one_waits (client_of core.number core.window core.floor core.states.items) some c.self.invariant.next)
-
-pub returns-else-is_empty-clause-callers : goal.returns-else-is_empty-clause-callers
-returns-else-is_empty-clause-callers c caller core = least_is c.args.self.now caller core (Some (c.self.inside.floor + 1)) (returns-else-is_empty-clause-answer c)
+pub returns-else-is_empty : goal.returns-else-is_empty
+returns-else-is_empty c caller core =
+    let some : 0 < length (c.args.self.now).states = search rules in
+    let floor : (c.args.self.now).floor + 1 ≡ c.self.inside.floor + 1 = search rules in
+    subst (λ n. PendingIs caller (Some n)) floor
+    (first_pending c.args.self.now caller core some (ap (λ (client : Client). is_over (slice_get client.states 0)) (sym c.self.view_is) ∙ c.self.invariant.next))

@@ -1,12 +1,9 @@
-use Rattle.std.proofs.Common.{rules, Ok}
-use Rattle.chord_caller.proofs.ClientSteps.{resend_alike, resend_simulates}
+use Rattle.std.proofs.Common.{rules}
+use Rattle.chord_caller.proofs.ClientSteps.{resend_simulates}
 use Rattle.chord_caller.proofs.client_core.ClientCore.resend.Goals as goal
 
 pub returns-clause-answer : goal.returns-clause-answer
 returns-clause-answer c = search rules
-
-pub returns-clause-callers : goal.returns-clause-callers
-returns-clause-callers c caller core = resend_alike c.args.number c.args.self.now (Ok _) caller (returns-clause-answer c) core
 
 pub returns-clause-step : goal.returns-clause-step
 returns-clause-step c = resend_simulates c.args.number c.args.self.now _ (returns-clause-answer c)
