@@ -64,6 +64,13 @@ impl CallerReplies {
         self.floor
     }
 
+    /// The kept calls, in the order in which they were kept.
+    pub fn kept(&self) -> &[Done]
+        ensures { result.now ≡ self.now.kept }
+    {
+        self.kept.as_slice()
+    }
+
     /// The kept call of this caller and number, if any.
     pub fn find(&self, caller: u64, number: u64) -> Option<&Done>
         ensures { option_copied result ≡ done_at caller number self.now.kept }

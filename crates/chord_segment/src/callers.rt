@@ -39,6 +39,13 @@ impl Callers {
         }
     }
 
+    /// The entries, sorted by caller.
+    pub fn as_slice(&self) -> &[CallerReplies]
+        ensures { result.now ≡ self.now }
+    {
+        self.entries.as_slice()
+    }
+
     /// The index of the caller's entry, or the index at which to insert it.
     fn place_of(&self, caller: u64) -> Result<usize, usize>
         ensures found { IfOk result (λ place. IsOwnAt caller self.now place) }

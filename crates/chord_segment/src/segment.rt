@@ -1,12 +1,14 @@
 //! Segments.
 ghost use Rattle.std.specs.Prelude.{◌≡◌, ◌+◌, ◌^◌, ◌<◌, ◌≤◌, ◌↔◌, Some, true, IsTrue, IsOk, IfOk, IfErr, OnOk, OnErr};
 ghost use Rattle.chord_ident.specs.Circle.{Splits, in_span};
+ghost use Rattle.chord_segment.specs.Callers.{marks_in, calls_in};
 ghost use Rattle.chord_segment.specs.Marks.{mark_of};
 ghost use Rattle.chord_segment.specs.Segment.{id_of, empty_segment, past_at, append};
 ghost use Rattle.chord_segment.specs.Segment.Past.{New};
 ghost use Rattle.chord_segment.specs.Shown.{past_shown};
 ghost use Rattle.chord_segment.specs.Join.{CutIs, PartsAre, JoinIs, WholeIs};
 
+use crate::caller_replies::CallerReplies;
 use crate::callers::Callers;
 use crate::fault::{CutFault, SegmentJoinFault, Uncut, Unjoined};
 use crate::past::Past;
@@ -53,6 +55,15 @@ impl Segment {
         ensures circle { (result.after.number < 2 ^ 128) × (result.upto.number < 2 ^ 128) }
     {
         Span::new(self.span.after, self.span.upto)
+    }
+
+    /// The callers that the segment has room for or knows, sorted by number, each with its floor and
+    /// its kept calls.
+    pub fn callers(&self) -> &[CallerReplies]
+        ensures floors { marks_in result.now ≡ self.now.segment.floors }
+        ensures kept { calls_in result.now ≡ self.now.segment.kept }
+    {
+        self.callers.as_slice()
     }
 
     /// The caller's floor; 0 if it has none.
