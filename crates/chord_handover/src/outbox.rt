@@ -68,6 +68,14 @@ impl Outbox {
         Some((item.to, item.number))
     }
 
+    /// The payload of item `i`, counted from 0 in the order given.
+    pub fn nth_payload(&self, i: u64) -> Option<&Payload>
+        ensures { option_copied result ≡ payload_of (slice_get self.now.outbox.items i) }
+    {
+        let item = self.items.get(i as usize)?;
+        Some(&item.payload)
+    }
+
     /// The payload of the item of this receiver and number.
     #[tactic(auto, unfolding(crate::specs::Handover::item_at))]
     pub fn item(&self, to: u64, number: u64) -> Option<&Payload>
