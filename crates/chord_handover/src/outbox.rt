@@ -72,8 +72,8 @@ impl Outbox {
     pub fn nth_payload(&self, i: u64) -> Option<&Payload>
         ensures { option_copied result ≡ payload_of (slice_get self.now.outbox.items i) }
     {
-        let item = self.items.get(i as usize)?;
-        Some(&item.payload)
+        let found = self.items.get(i as usize)?;
+        Some(&found.payload)
     }
 
     /// The payload of the item of this receiver and number.
