@@ -207,6 +207,30 @@ fn what_is_kept_goes_by_key(rt: HostRuntime) -> Result<(), Fail> {
     Ok(())
 }
 
+/// The caller, the floor and the numbers of the first two kept calls of the entry at this place.
+fn entry(segment: &Segment, place: usize) -> Option<(u64, u64, [Option<u64>; 2])> {
+    let own = segment.callers().get(place)?;
+    let number = |i: usize| -> Option<u64> { Some(own.kept().get(i)?.number) };
+    Some((own.caller(), own.floor(), [number(0), number(1)]))
+}
+
+#[test]
+fn callers_are_listed(rt: HostRuntime) -> Result<(), Fail> {
+    let segment = with_floors(rt.alloc())?;
+    let (first, second, third) = (entry(&segment, 0), entry(&segment, 1), entry(&segment, 2));
+    drop(segment);
+    assert!(rt;
+        first == Some((0, 2, [Some(3), Some(4)])),
+        "caller 0 has the floor 2 and its calls 3 and 4"
+    );
+    assert!(rt;
+        second == Some((1, 1, [Some(2), None])),
+        "caller 1 has the floor 1 and its call 2"
+    );
+    assert!(rt; third.is_none(), "there are no other callers");
+    Ok(())
+}
+
 /// Whether the segment keeps the first call of caller 0 under this key.
 fn keeps_under(segment: &Segment, key: &[u8]) -> bool {
     matches!(segment.find(0, 1), Past::Kept(done) if done.request.key() == key)
