@@ -1,8 +1,7 @@
 -- A node is still stocked after a call.
-use Rattle.std.proofs.Common.{◌≡◌, ℕ, Bool, true, false, not, cond, ◌||◌, Option, None, Some, List, [], ◌∷◌, refl, sym, ap, subst}
+use Rattle.std.proofs.Common.{◌≡◌, ℕ, Bool, true, false, cond, ◌||◌, Option, None, Some, List, [], ◌∷◌, refl, sym, subst}
 use Rattle.std.specs.Prelude.{Result, Ok, Err}
 use Rattle.std.specs.declared.alloc.AllocError.{AllocError}
-use Rattle.chord_handover.proofs.Counting.{count}
 use Rattle.chord_ident.specs.Circle.{in_span}
 use Rattle.chord_map.specs.Map.{reply_to}
 use Rattle.chord_caller.specs.declared.ask.Ask.{Ask}

@@ -1,5 +1,5 @@
 -- A node of the program as a node of the definitions.
-use Rattle.std.specs.Prelude.{ℕ, Option, None, Some, List, [], map}
+use Rattle.std.specs.Prelude.{ℕ, Option, None, Some, List, [], length, map}
 use Rattle.chord_ident.specs.declared.span.Span.{Span}
 use Rattle.chord_map.specs.declared.pair.Pair.{Pair}
 use Rattle.chord_handover.specs.Handover.{Item}
@@ -13,6 +13,16 @@ segments_of held = map (λ (segment : RoomySegment). segment.segment) held
 abbrev pub item_view : Option Item → Option (ℕ × ℕ × Span)
 item_view None = None
 item_view (Some item) = Some (item.to, item.number, item.segment.span)
+
+-- how many pairs an item of the outbox has, if there is one
+abbrev pub pairs_of_item : Option Item → Option ℕ
+pairs_of_item None = None
+pairs_of_item (Some item) = Some (length item.pairs)
+
+-- a held segment of the program as one of the definitions
+abbrev pub segment_shown : Option RoomySegment → Option Segment
+segment_shown None = None
+segment_shown (Some segment) = Some segment.segment
 
 -- the span of a held segment, if there is one
 abbrev pub span_of : Option Segment → Option Span

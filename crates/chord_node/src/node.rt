@@ -1,5 +1,6 @@
 //! A node with one store.
 ghost use Rattle.std.specs.Prelude.{◌≡◌, ◌≢◌, ◌≤◌, true, false, Some, None, [], length, slice_get, position, is_some, IfOk, IfErr, OnErr};
+ghost use Rattle.std.specs.Option.{option_copied};
 ghost use Rattle.chord_ident.specs.Circle.{in_span};
 ghost use Rattle.chord_links.specs.NodeLinks.{alone};
 ghost use Rattle.chord_segment.specs.Marks.{mark_of};
@@ -7,7 +8,7 @@ ghost use Rattle.chord_segment.specs.Segment.{RoomySegment, id_of};
 ghost use Rattle.chord_model.specs.declared.message.Message.TheVariants.{Got as GotMessage};
 ghost use Rattle.chord_model.specs.declared.phase.Phase.TheVariants.{Gone};
 ghost use Rattle.chord_model.specs.Node.{newborn, founder, segment_with, NodeStep};
-ghost use Rattle.chord_node.specs.View.{span_of, item_view};
+ghost use Rattle.chord_node.specs.View.{span_of, segment_shown, item_view, pairs_of_item};
 ghost use Rattle.chord_node.specs.Asked.{AskIs, AskRecords, AskSteps, AskStepsRecording};
 ghost use Rattle.chord_node.specs.Moves.{MoveSteps, SendSteps, CutAtIs, MergeIs, MayGive, GiveIs, ResendIs, LeaveIs, RetireIs};
 ghost use Rattle.chord_node.specs.Received.{PartIs, PartSteps, GotIs, BackIs, BackSteps};
@@ -191,8 +192,15 @@ impl<S: EntryStore> Node<S> {
     pub fn span(&self, place: usize) -> Option<Span>
         ensures { result ≡ span_of (slice_get self.now.held place) }
     {
-        let segment = self.held.get(place)?;
+        let segment = self.segment(place)?;
         Some(segment.span())
+    }
+
+    /// The held segment at this index.
+    pub fn segment(&self, place: usize) -> Option<&Segment>
+        ensures { segment_shown (option_copied result) ≡ slice_get self.now.held place }
+    {
+        self.held.get(place)
     }
 
     /// Whether the node holds the identifier.
@@ -229,8 +237,26 @@ impl<S: EntryStore> Node<S> {
         ensures { result ≡ item_view (slice_get self.now.outbox i) }
     {
         let (to, number) = self.outbox.nth(i)?;
-        let payload = self.outbox.item(to, number)?;
+        let payload = self.outbox.nth_payload(i)?;
         Some((to, number, payload.segment().span()))
+    }
+
+    /// How many pairs item `i` of the outbox has.
+    pub fn outbox_pairs(&self, i: u64) -> Option<usize>
+        ensures { result ≡ pairs_of_item (slice_get self.now.outbox i) }
+    {
+        let payload = self.outbox.nth_payload(i)?;
+        Some(payload.pairs().len())
+    }
+
+    /// How many pairs the store has; 0 once the node is gone.
+    pub fn pair_count(&self) -> u64
+        ensures { result ≡ length self.now.entries }
+    {
+        match &self.store {
+            Some(store) => store.count(),
+            None => 0,
+        }
     }
 
     /// A part of an item of the outbox, to be sent again.
