@@ -2,10 +2,11 @@
 
 use super::scripts::{
     A_A, A_B, A_C, B_A, B_C, C_A, Deed, EmptyPart, FIRST, FIRST_PART, Item, Outcome, Pairs,
-    PartShown, State, Step, WHOLE, follow_founder, giver,
+    PartShown, State, Step, WHOLE, follow, follow_founder, giver,
 };
-use super::{A, B, C, newborn};
+use super::{A, B, C, founder, newborn};
 use chord_handover::{Part, Ticket};
+use chord_ident::Span;
 use chord_map::Bytes;
 use chord_node::{
     Back, CutAtFault, GiveFault, MergeFault, Node, PartAnswer, Phase, ResendPartFault,
@@ -495,4 +496,54 @@ fn a_store_comes_back(rt: HostRuntime) {
         "it has room for a pair"
     );
     assert!(rt; store.second == Err(StoreFault::Full), "it has its limit");
+}
+
+/// What a node tells of what it holds and gives.
+#[derive(Clone, Copy, Debug, PartialEq, Eq)]
+struct Holdings {
+    pairs: u64,
+    /// The span of each of the first two segments.
+    spans: [Option<Span>; 2],
+    /// How many pairs each of the first two items of the outbox has.
+    outbox: [Option<usize>; 2],
+}
+
+fn span_at<S: EntryStore>(node: &Node<S>, place: usize) -> Option<Span> {
+    Some(node.segment(place)?.span())
+}
+
+fn holdings_of<S: EntryStore>(node: &Node<S>) -> Holdings {
+    Holdings {
+        pairs: node.pair_count(),
+        spans: [span_at(node, 0), span_at(node, 1)],
+        outbox: [node.outbox_pairs(0), node.outbox_pairs(1)],
+    }
+}
+
+#[test]
+fn a_node_tells_what_it_holds_and_gives(rt: HostRuntime) {
+    let mut node = founder(&rt, rt.alloc(), 1);
+    follow(&rt, rt.alloc(), &mut node, GIVES_HALF);
+    let given = holdings_of(&node);
+    follow(&rt, rt.alloc(), &mut node, DECLINED);
+    let declined = holdings_of(&node);
+    drop(node);
+    assert!(rt;
+        given
+            == Holdings {
+                pairs: 0,
+                spans: [Some(C_A), None],
+                outbox: [Some(1), None],
+            },
+        "the pair of the segment that it gave is in the outbox: {given:?}"
+    );
+    assert!(rt;
+        declined
+            == Holdings {
+                pairs: 1,
+                spans: [Some(C_A), Some(A_C)],
+                outbox: [None, None],
+            },
+        "what is declined is held again: {declined:?}"
+    );
 }
