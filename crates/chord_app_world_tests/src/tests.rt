@@ -8,6 +8,7 @@ use chord_store::{CappedStore, EntryStore, ListStore};
 use std::alloc::{AllocError, Global};
 use std::fmt::Write;
 
+mod refusals;
 mod worlds;
 
 /// How a session ended, and whether it wrote the right lines.
