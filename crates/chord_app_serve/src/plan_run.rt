@@ -1,16 +1,16 @@
 //! The command `run`: a ring of a plan's nodes, and what its callers ask.
-ghost use Rattle.std.specs.Prelude.{◌≡◌};
+ghost use Rattle.std.specs.Prelude.{◌≡◌, IfOk};
+ghost use Rattle.chord_app_serve.specs.Together.{StandTogether};
+
+mod asking;
 
 use crate::nodes::{start_nodes, tick_in_turn};
-use chord_app_plan::{Plan, PlanAsk};
+use crate::plan_run::asking::{Answers, AskResult, AskResults, CallerAnswers, ask_in_turn};
+use chord_app_plan::Plan;
 use chord_app_text::{Finish, ReplyText};
-use chord_caller::SubmitFault;
-use chord_live::{OpenCaller, RingClient};
-use chord_live_ring::{NewFault, OpenClientFault, Ring, RingParts};
-use chord_live_types::{AskFault, BeginFault, WaitFault};
-use chord_map::Reply;
+use chord_live_ring::{NewFault, Ring, RingParts};
 use chord_store::EntryStore;
-use chord_table::Naming;
+use chord_table::{Naming, Witness};
 use std::alloc::Global;
 use std::io::{self, BufWriter, Write};
 use std::marker::Brand;
@@ -18,72 +18,6 @@ use std::sync::Wait;
 use std::thread;
 use std::thread::{JoinHandle, Scope, Threads};
 use std::time::Clock;
-
-/// How an ask ended.
-#[derive(Debug, Drop)]
-enum AskResult {
-    Reply(Reply),
-    Full,
-    NoAnswer,
-}
-
-/// How the asks of one caller ended, in order.
-type Answers = Result<Vec<AskResult>, Finish>;
-
-/// Asks one request of the plan.
-fn ask_once<J: Naming, S: EntryStore, R: Wait + Clock>(
-    rt: &R,
-    client: &mut RingClient<'_, J, S>,
-    ask: &PlanAsk,
-) -> Result<AskResult, Finish> {
-    let request = ask.request.try_copy()?;
-    match client.call(rt, ask.via as u64, request) {
-        Ok(reply) => Ok(AskResult::Reply(reply)),
-        Err(AskFault::Wait(WaitFault::Memory))
-        | Err(AskFault::Begin(BeginFault::Submit(SubmitFault::Memory))) => Err(Finish::OutOfMemory),
-        Err(AskFault::Wait(WaitFault::Full)) => Ok(AskResult::Full),
-        Err(_) => Ok(AskResult::NoAnswer),
-    }
-}
-
-/// Asks the plan's requests of one caller in order, until one gets no reply.
-fn ask_each<J: Naming, S: EntryStore, R: Wait + Clock>(
-    rt: &R,
-    client: &mut RingClient<'_, J, S>,
-    number: usize,
-    asks: &[PlanAsk],
-    answers: &mut Vec<AskResult>,
-) -> Result<(), Finish> {
-    for ask in asks {
-        if ask.caller == number {
-            let answer = ask_once(rt, client, ask)?;
-            let is_reply = matches!(&answer, AskResult::Reply(_));
-            answers.push(answer)?;
-            if !is_reply {
-                break;
-            }
-        }
-    }
-    Ok(())
-}
-
-/// Asks the plan's requests of one caller, and gives how they ended.
-fn ask_in_turn<J: Naming, S: EntryStore, R: Wait + Clock>(
-    rt: &R,
-    alloc: Global,
-    ring: &Ring<J, S>,
-    number: usize,
-    asks: &[PlanAsk],
-) -> Answers {
-    let mut answers = Vec::new(alloc);
-    let mut client = match ring.open_client(rt, 1) {
-        Ok(client) => client,
-        Err(OpenClientFault::Memory) => return Err(Finish::OutOfMemory),
-        Err(_) => return Ok(answers),
-    };
-    ask_each(rt, &mut client, number, asks, &mut answers)?;
-    Ok(answers)
-}
 
 /// Each caller asks on a thread of its own.
 fn start_callers<
@@ -98,7 +32,7 @@ fn start_callers<
     ring: &'s Ring<J, S>,
     scope: &'s Scope<'s, E>,
     plan: &'s Plan,
-) -> Result<Vec<JoinHandle<Answers>>, Finish> {
+) -> Result<Vec<JoinHandle<Answers<J>>>, Finish> {
     let asks = plan.asks.as_slice();
     let mut callers = Vec::new(alloc);
     for number in 0..plan.settings.callers {
@@ -110,16 +44,24 @@ fn start_callers<
     Ok(callers)
 }
 
-/// How the asks of all callers ended, once they are done.
-fn join_callers(
+/// How the asks of all callers ended, once they are done. All that they were answered stands in one
+/// history.
+fn join_callers<J: Naming, S: EntryStore>(
     rt: &(impl Threads + Wait),
     alloc: Global,
-    callers: Vec<JoinHandle<Answers>>,
-) -> Result<Vec<Vec<AskResult>>, Finish> {
+    ring: &Ring<J, S>,
+    callers: Vec<JoinHandle<Answers<J>>>,
+) -> Result<Vec<AskResults>, Finish>
+    ensures { IfOk result (λ all. StandTogether all.items) }
+{
     let mut all = Vec::new(alloc);
+    let mut together = Witness::open(ring.table());
     for caller in callers {
-        all.push(caller.join(rt)?)?;
+        let CallerAnswers { results, witness } = caller.join(rt)?;
+        together.join(ring.table(), witness);
+        all.push(results)?;
     }
+    together.look(ring.table());
     Ok(all)
 }
 
@@ -136,13 +78,15 @@ fn ask_at_once<
     ring: &'s Ring<J, S>,
     scope: &'s Scope<'s, E>,
     plan: &'s Plan,
-) -> Result<Vec<Vec<AskResult>>, Finish> {
+) -> Result<Vec<AskResults>, Finish>
+    ensures { IfOk result (λ all. StandTogether all.items) }
+{
     let nodes = plan.nodes.len() as u64;
     if scope.spawn(move || tick_in_turn(rt, ring, nodes)).is_err() {
         return Err(Finish::OutOfMemory);
     }
     let callers = start_callers(rt, alloc, ring, scope, plan)?;
-    join_callers(rt, alloc, callers)
+    join_callers(rt, alloc, ring, callers)
 }
 
 /// Writes how an ask ended.
@@ -163,9 +107,9 @@ fn write_answer<W: Write>(
 }
 
 /// Writes a line for each ask that was made, by caller and number.
-fn write_answers<W: Write>(all: &[Vec<AskResult>], writer: &mut W) -> io::Result<()> {
+fn write_answers<W: Write>(all: &[AskResults], writer: &mut W) -> io::Result<()> {
     for (caller, answers) in all.iter().enumerate() {
-        for (place, answer) in answers.iter().enumerate() {
+        for (place, answer) in answers.as_slice().iter().enumerate() {
             write_answer(caller, place.saturating_add(1), answer, writer)?;
         }
     }
@@ -181,7 +125,9 @@ fn run_ring<'x, J: Naming + Send + Sync, S: EntryStore + Send, R: Threads + Wait
     ring: &'x Ring<J, S>,
     plan: &'x Plan,
     stores: Vec<S>,
-) -> Result<Vec<Vec<AskResult>>, Finish> {
+) -> Result<Vec<AskResults>, Finish>
+    ensures { IfOk result (λ all. StandTogether all.items) }
+{
     thread::scope(thread::scope_env(), starter, |scope| {
         let all = match start_nodes(rt, ring, scope, plan.nodes.as_slice(), stores) {
             Ok(()) => ask_at_once(rt, alloc, ring, scope, plan),
@@ -199,8 +145,9 @@ fn run_named<J: Naming + Send + Sync, S: EntryStore + Send, R: Threads + Wait + 
     plan: &Plan,
     stores: Vec<S>,
     parts: RingParts,
-) -> Result<Vec<Vec<AskResult>>, Finish>
-    requires { parts ≡ J.name }
+) -> Result<Vec<AskResults>, Finish>
+    requires { parts.name ≡ J.name }
+    ensures { IfOk result (λ all. StandTogether all.items) }
 {
     let ring = match parts.assemble::<J, S>() {
         Ok(ring) => ring,
@@ -226,7 +173,7 @@ pub fn ring_parts_of(alloc: Global, plan: &Plan) -> Result<RingParts, Finish> {
 /// Writes the answers through a buffer.
 fn write_buffered<W: Write + Drop>(
     alloc: Global,
-    all: &[Vec<AskResult>],
+    all: &[AskResults],
     writer: W,
 ) -> Result<(), Finish> {
     let mut lines = BufWriter::new(alloc, writer)?;

@@ -1,5 +1,5 @@
 -- A caller takes other replies too while it waits for one.
-use Rattle.std.proofs.Common.{◌≡◌, ◌≢◌, ℕ, Bool, false, not, ◌&&◌, ◌||◌, eqb, None, Some, is_some, Result, Ok, Err, [], ◌∷◌, ◌++◌, sym, ◌∙◌, ap}
+use Rattle.std.proofs.Common.{◌≡◌, ◌≢◌, ℕ, Bool, false, not, ◌&&◌, ◌||◌, eqb, None, Some, is_some, Result, Ok, Err, [], ◌∷◌, ◌++◌, refl, sym, ◌∙◌, ap}
 use Rattle.std.proofs.Math.Bool.{or-false}
 use Rattle.std.proofs.lemmas.Bool.{cond-false, and_parts, eqb-true, not-true, true≢false}
 use Rattle.std.proofs.lemmas.Option.{none-some}
@@ -11,6 +11,8 @@ use Rattle.chord_caller.specs.declared.heard.Heard.{Heard as TakenAs}
 use Rattle.chord_caller.specs.declared.heard.Heard.TheVariants.{Fresh, Known}
 use Rattle.chord_caller.specs.declared.told.Told.{Told}
 use Rattle.chord_caller.proofs.Places.{either_is}
+use Rattle.chord_caller.proofs.Views.{known_stale}
+use Rattle.chord_caller.proofs.ClientSteps.{foreign_stale}
 use Rattle.chord_live.specs.Ending.{IsTaken, TookReplies, WaitsStill}
 use Rattle.chord_live.specs.Laws.{none_more}
 use Rattle.chord_map.specs.declared.reply.Reply.{Reply}
@@ -76,3 +78,10 @@ took_other number told old new (Ok Fresh) other (request, fresh, is) =
 took_other number told old new (Ok Known) other is = waits_same number old new is.2
 took_other number told old new (Err Foreign) other is = waits_same number old new is.1
 took_other number told old new (Err Memory) other is = waits_same number old new is.2
+
+-- a reply that was not taken is not fresh, unless out of memory
+pub not_fresh : (told : Told) (old new : Caller) (taken : Result TakenAs TakeFault) → taken ≢ Ok Fresh → taken ≢ Err Memory → TakeIs told old taken new → fresh_for told old ≡ None
+not_fresh told old new (Ok Fresh) stale room is = absurd (stale refl)
+not_fresh told old new (Ok Known) stale room is = known_stale told old is.1
+not_fresh told old new (Err Foreign) stale room is = foreign_stale told old is.0
+not_fresh told old new (Err Memory) stale room is = absurd (room refl)

@@ -1,9 +1,9 @@
 //! What one who asks a ring knows of its own requests.
-ghost use Rattle.std.specs.Prelude.{◌≡◌, ◌≢◌, ℕ, Contains, IfOk, Result, Ok, Err, true};
+ghost use Rattle.std.specs.Prelude.{◌≡◌, ◌≢◌, ℕ, Contains, IfOk, Result, Ok, Err, None, true};
 ghost use Rattle.chord_caller.specs.Answers.{is_pending, PendingIs, RefusalIs, ResendIs, SubmitIs};
-ghost use Rattle.chord_caller.specs.Caller.{Caller, floor_of};
+ghost use Rattle.chord_caller.specs.Caller.{Caller, floor_of, fresh_for};
 ghost use Rattle.chord_live_types.specs.declared.caller.WaitFault.{WaitFault};
-ghost use Rattle.chord_live_types.specs.declared.caller.WaitFault.TheVariants.{Full as WaitFull};
+ghost use Rattle.chord_live_types.specs.declared.caller.WaitFault.TheVariants.{Full as WaitFull, NoAnswer as WaitNoAnswer};
 ghost use Rattle.chord_map.specs.declared.reply.Reply.{Reply};
 ghost use Rattle.chord_model.specs.declared.message.Message.TheVariants.{Told as ToldMessage};
 
@@ -51,7 +51,8 @@ pub trait AskingCore: Drop {
         ensures { (caller : Caller) → is_core_of self.now caller → ResendIs number caller result };
 
     /// Takes a reply that came, and records that at the seat. Hands it out if the caller waits for
-    /// the reply to the request of this number.
+    /// the reply to the request of this number: then there is no answer only if the reply does not
+    /// fit a pending request of the caller.
     fn take<J: Naming>(
         &mut self,
         seat: &mut CallerSeat<J>,
@@ -64,7 +65,8 @@ pub trait AskingCore: Drop {
         ensures core { is_core_of self.new seat.new.caller }
         ensures messages { seat.new.messages ≡ seat.old.messages }
         ensures ends { ends number seat.old.caller result seat.new.caller }
-        ensures not_full { result ≢ Err WaitFull };
+        ensures not_full { result ≢ Err WaitFull }
+        ensures answered { told.number ≡ number → result ≡ Err WaitNoAnswer → fresh_for told seat.old.caller ≡ None };
 
     /// A wait that changes nothing may end without a reply.
     ghost nothing: { (number : ℕ) (caller : Caller) (fault : WaitFault) → ends number caller (Err fault) caller };

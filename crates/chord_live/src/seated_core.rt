@@ -1,11 +1,12 @@
 //! A core with the seat of its caller.
 ghost use Rattle.std.specs.Prelude.{◌≡◌, ◌≢◌, ◌↔◌, ◌++◌, [], ◌∷◌, Contains, IfOk, IfErr, IfSome, OnErr, Ok, Err, None, true, is_some};
 ghost use Rattle.chord_caller.specs.Answers.{PendingIs, RefusalIs, ResendIs, SubmitIs, is_pending};
-ghost use Rattle.chord_caller.specs.Caller.{floor_of, next_number};
+ghost use Rattle.chord_caller.specs.Caller.{floor_of, fresh_for, next_number};
+ghost use Rattle.chord_caller.specs.declared.told.Told.{Told as ToldOf};
 ghost use Rattle.chord_caller.specs.declared.ask.Ask.{Ask as AskOf};
 ghost use Rattle.chord_live.specs.Begun.{IsCallOf, Submitted};
 ghost use Rattle.chord_live.specs.Ending.{Ended};
-ghost use Rattle.chord_live_types.specs.declared.caller.WaitFault.TheVariants.{Full as WaitFull};
+ghost use Rattle.chord_live_types.specs.declared.caller.WaitFault.TheVariants.{Full as WaitFull, NoAnswer as WaitNoAnswer};
 ghost use Rattle.chord_model.specs.declared.message.Message.TheVariants.{Ask as AskMessage, Full as FullMessage, Told as ToldMessage};
 ghost use Rattle.chord_table.specs.Shown.{CallerShown};
 
@@ -135,6 +136,7 @@ impl<J: Naming, C: AskingCore> SeatedCore<J, C> {
         ensures messages { self.new.messages ≡ self.old.messages ++ envelope ∷ [] }
         ensures change { C.ends number self.old.caller result self.new.caller }
         ensures full { (result ≡ Err WaitFull) ↔ (envelope ≡ FullMessage self.new.caller.number number) }
+        ensures answered { (told : ToldOf) → envelope ≡ ToldMessage told → told.number ≡ number → result ≡ Err WaitNoAnswer → fresh_for told self.old.caller ≡ None }
     {
         let own = self.core.number();
         match self.seat.receive(table, envelope) {
@@ -150,14 +152,15 @@ impl<J: Naming, C: AskingCore> SeatedCore<J, C> {
     }
 
     /// Takes a message in, and says how it ends a wait for the reply to the request of this number:
-    /// as NoAnswer if it says nothing of that request.
+    /// as NoAnswer if it says nothing of that request. A reply to it that fits is always taken.
     pub fn take(
         &mut self,
         table: &Shared<J>,
         envelope: Envelope<J>,
         number: u64,
     ) -> Result<Reply, WaitFault>
-        ensures { Ended C.ends number self.old result self.new }
+        ensures ended { Ended C.ends number self.old result self.new }
+        ensures answered { (told : ToldOf) → envelope ≡ ToldMessage told → told.number ≡ number → result ≡ Err WaitNoAnswer → fresh_for told self.old.caller ≡ None }
     {
         self.receive(table, envelope, number)
     }

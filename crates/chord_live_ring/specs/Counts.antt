@@ -1,7 +1,9 @@
--- How many actors there are.
-use Rattle.std.specs.Prelude.{ℕ}
+-- How many actors there are, and which identifiers are taken.
+use Rattle.std.specs.Prelude.{ℕ, List}
+use Rattle.chord_ident.specs.declared.id.Id.{Id}
 
--- nodes and callers, each numbered from 0
+-- nodes and callers, each numbered from 0, and the identifiers of the nodes in the order admitted
 pub record Counts : Type 0 where
   pub nodes : ℕ
   pub callers : ℕ
+  pub ids : List Id

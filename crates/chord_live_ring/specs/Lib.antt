@@ -1,5 +1,6 @@
 pub mod Counts
 pub mod Dealt
 pub mod Keys
+pub mod Parts
 pub mod Refused
 pub mod Tidy

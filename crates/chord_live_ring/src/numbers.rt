@@ -1,5 +1,5 @@
 //! The numbers of nodes and callers.
-ghost use Rattle.std.specs.Prelude.{◌≡◌, ◌+◌, ◌<◌, ◌≤◌, [], false, true, IfOk, IfErr, OnOk, OnErr, IfSome, Err, None};
+ghost use Rattle.std.specs.Prelude.{◌≡◌, ◌↔◌, ◌++◌, ◌∷◌, IsTrue, Contains, ◌+◌, ◌<◌, ◌≤◌, [], false, true, IfOk, IfErr, OnOk, OnErr, IfSome, Err, None};
 ghost use Rattle.chord_caller.specs.Answers.{new_caller};
 ghost use Rattle.chord_caller.specs.Client.{IsCoreOf};
 ghost use Rattle.chord_links.specs.NodeLinks.{alone};
@@ -18,7 +18,7 @@ use std::alloc::Global;
 use std::marker::Model;
 
 /// The next free numbers, with the registrar that admitted all below them. Contracts see how many
-/// nodes and callers there are.
+/// nodes and callers there are, and the identifiers of the nodes.
 #[derive(Drop)]
 pub struct Numbers<J: Naming> {
     registrar: Registrar<J>,
@@ -36,7 +36,7 @@ impl<J: Naming> Model for Numbers<J> {
 
     ghost Value = { Counts };
 
-    ghost view = { λ a. record { nodes = a.nodes; callers = a.callers } };
+    ghost view = { λ a. record { nodes = a.nodes; callers = a.callers; ids = a.ids.items } };
 
     ghost invariant = { λ a. (a.slots ≡ J.name.slots) × (a.places ≡ J.name.callers) × (length a.registrar.nodes ≡ a.nodes) × All (λ number. number < a.nodes) a.registrar.nodes × All (λ number. number < a.callers) a.registrar.callers };
 }
@@ -48,7 +48,7 @@ impl<J: Naming> Numbers<J> {
         requires places { places ≡ J.name.callers }
         requires nodes { registrar.nodes ≡ [] }
         requires callers { registrar.callers ≡ [] }
-        ensures { (result.nodes ≡ 0) × (result.callers ≡ 0) }
+        ensures { result ≡ record { nodes = 0; callers = 0; ids = [] } }
     {
         Numbers {
             registrar,
@@ -75,7 +75,9 @@ impl<J: Naming> Numbers<J> {
     }
 
     /// Whether a node has the identifier.
-    pub fn is_taken(&self, id: Id) -> bool {
+    pub fn is_taken(&self, id: Id) -> bool
+        ensures { IsTrue result ↔ Contains self.now.ids id }
+    {
         self.ids.iter().any(|taken| *taken == id)
     }
 
@@ -95,7 +97,7 @@ impl<J: Naming> Numbers<J> {
         requires vacant { S.content store ≡ [] }
         ensures ok { IfOk result (λ seated. seated.node ≡ founder (alone (record { number = 0; id = id }) r) (S.limit store)) }
         ensures err { IfErr result (λ back. back ≡ store) }
-        ensures counted { OnOk result (self.new ≡ record self.old { nodes = 1 }) }
+        ensures counted { OnOk result (self.new ≡ record self.old { nodes = 1; ids = self.old.ids ++ id ∷ [] }) }
     {
         if self.ids.reserve(1).is_err() {
             return Err(store);
@@ -122,7 +124,7 @@ impl<J: Naming> Numbers<J> {
         requires vacant { S.content store ≡ [] }
         ensures ok { IfOk result (λ seated. seated.node ≡ newborn links (S.limit store)) }
         ensures err { IfErr result (λ back. back ≡ store) }
-        ensures counted { OnOk result (self.new ≡ record self.old { nodes = self.old.nodes + 1 }) }
+        ensures counted { OnOk result (self.new ≡ record self.old { nodes = self.old.nodes + 1; ids = self.old.ids ++ links.me.id ∷ [] }) }
     {
         if self.ids.reserve(1).is_err() {
             return Err(store);

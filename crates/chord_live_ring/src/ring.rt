@@ -20,10 +20,11 @@ use chord_route::find_predecessor;
 use chord_store::EntryStore;
 use chord_table::{CallerSeat, Naming, Shared};
 use std::alloc::Global;
+use std::marker::Model;
 use std::sync::atomic::{AtomicBool, AtomicU64, Ordering};
 use std::sync::{Mutex, Wait};
 
-/// Nodes, inboxes and their table.
+/// Nodes, inboxes and their table. Contracts see the settings.
 #[derive(Drop)]
 pub struct Ring<J: Naming, S: EntryStore> {
     pub(crate) alloc: Global,
@@ -42,6 +43,14 @@ pub struct Ring<J: Naming, S: EntryStore> {
     ghost within: { AreWithin settings },
     ghost counted: { vec_len slots ≡ J.name.slots },
     ghost listed: { vec_len inboxes ≡ J.name.callers },
+}
+
+impl<J: Naming, S: EntryStore> Model for Ring<J, S> {
+    ghost use Rattle.chord_live_types.specs.declared.settings.Settings.{Settings as SettingsOf};
+
+    ghost Value = { SettingsOf };
+
+    ghost view = { λ ring. ring.settings };
 }
 
 impl<J: Naming, S: EntryStore> Ring<J, S> {
@@ -72,7 +81,8 @@ impl<J: Naming, S: EntryStore> Ring<J, S> {
 
     /// How many times a request is sent at most.
     pub fn tries(&self) -> u64
-        ensures { (1 ≤ result) × (result ≤ 1000) }
+        ensures setting { result ≡ self.now.tries }
+        ensures within { (1 ≤ result) × (result ≤ 1000) }
     {
         self.settings.tries
     }

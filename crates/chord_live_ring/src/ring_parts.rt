@@ -15,7 +15,7 @@ use std::marker::Model;
 use std::sync::Mutex;
 use std::sync::atomic::{AtomicBool, AtomicU64};
 
-/// A ring that has no name yet. Contracts see the name that it will get.
+/// A ring that has no name yet. Contracts see the name that it will get, and its settings.
 #[derive(Drop)]
 pub struct RingParts {
     alloc: Global,
@@ -27,16 +27,17 @@ pub struct RingParts {
 }
 
 impl Model for RingParts {
-    ghost use Rattle.chord_table.specs.Views.{Name};
+    ghost use Rattle.chord_live_ring.specs.Parts.{Parts};
 
-    ghost Value = { Name };
+    ghost Value = { Parts };
 
-    ghost view = { λ parts. parts.table };
+    ghost view = { λ parts. record { name = parts.table; settings = parts.settings } };
 }
 
 impl RingParts {
     /// A ring of this size with no node.
     pub fn new(alloc: Global, settings: Settings) -> Result<RingParts, NewFault>
+        ensures ok { IfOk result (λ parts. parts.settings ≡ settings) }
         ensures bad { (result ≡ Err NewFault.BadSettings) ↔ (¬ AreWithin settings) }
     {
         if !settings.are_within() {
@@ -54,7 +55,8 @@ impl RingParts {
 
     /// Gives the ring its name.
     pub fn assemble<J: Naming, S: EntryStore>(self) -> Result<Ring<J, S>, AllocError>
-        requires { self ≡ J.name }
+        requires { self.name ≡ J.name }
+        ensures { IfOk result (λ ring. ring ≡ self.settings) }
     {
         let RingParts {
             alloc,

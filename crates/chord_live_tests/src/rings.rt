@@ -119,7 +119,7 @@ pub fn founded<J: Naming, S: EntryStore, R: Abort + Wait>(
     parts: RingParts,
     store: S,
 ) -> Ring<J, S>
-    requires name { parts ≡ J.name }
+    requires name { parts.name ≡ J.name }
     requires vacant { S.content store ≡ [] }
 {
     let ring = parts.assemble::<J, S>().expect(rt, "memory for a ring");

@@ -208,7 +208,7 @@ pub fn serve_named<
     lines: &Lines<W>,
     parts: RingParts,
 ) -> Result<(), Finish>
-    requires { parts ≡ J.name }
+    requires { parts.name ≡ J.name }
 {
     let ring = match parts.assemble::<J, S>() {
         Ok(ring) => ring,

@@ -40,7 +40,7 @@ fn capped_boxed<J: Naming + Send + Sync, R: Abort + Threads + Wait + Clock + Syn
     parts: RingParts,
     store: Store,
 )
-    requires name { parts ≡ J.name }
+    requires name { parts.name ≡ J.name }
     requires vacant { content store ≡ [] }
 {
     capped::<J, Store, R>(rt, alloc, parts, store)
@@ -53,7 +53,7 @@ fn capped<J: Naming + Send + Sync, S: EntryStore + Send, R: Abort + Threads + Wa
     parts: RingParts,
     store: S,
 )
-    requires name { parts ≡ J.name }
+    requires name { parts.name ≡ J.name }
     requires vacant { S.content store ≡ [] }
 {
     let founded = founded::<J, S, R>(rt, parts, store);

@@ -92,7 +92,7 @@ fn two_nodes<J: Naming + Send + Sync, R: Abort + Threads + Wait + Clock + Sync>(
     alloc: Global,
     parts: RingParts,
 )
-    requires { parts ≡ J.name }
+    requires { parts.name ≡ J.name }
 {
     let Ok(opened) = parts.assemble::<J, CappedStore>() else {
         return;

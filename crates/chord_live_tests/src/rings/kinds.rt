@@ -44,7 +44,7 @@ fn a_client_asks_through_inboxes(rt: HostRuntime) {
 }
 
 fn client_without_room<J: Naming, R: Abort + Wait + Clock>(rt: &R, alloc: Global, parts: RingParts)
-    requires name { parts ≡ J.name }
+    requires name { parts.name ≡ J.name }
 {
     let ring = founded::<J, CappedStore, R>(rt, parts, CappedStore::new(alloc, 1));
     let mut filler = ring.open_caller(rt, 1).expect(rt, "a caller");
@@ -56,7 +56,7 @@ fn client_without_room<J: Naming, R: Abort + Wait + Clock>(rt: &R, alloc: Global
 }
 
 fn caller_without_room<J: Naming, R: Abort + Wait + Clock>(rt: &R, alloc: Global, parts: RingParts)
-    requires name { parts ≡ J.name }
+    requires name { parts.name ≡ J.name }
 {
     let ring = founded::<J, CappedStore, R>(rt, parts, CappedStore::new(alloc, 1));
     let mut filler = ring.open_caller(rt, 1).expect(rt, "a caller");
@@ -121,7 +121,7 @@ fn client_with_a_worker<J: Naming + Send + Sync, R: Abort + Threads + Wait + Clo
     alloc: Global,
     parts: RingParts,
 )
-    requires name { parts ≡ J.name }
+    requires name { parts.name ≡ J.name }
 {
     let founded = founded::<J, CappedStore, R>(rt, parts, CappedStore::new(alloc, 2));
     let ring = &founded;

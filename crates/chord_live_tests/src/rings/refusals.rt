@@ -141,7 +141,7 @@ fn a_ring_refuses(rt: HostRuntime) {
 /// A ring with no node, with the first, with two, with calls for unknown nodes, with one that left,
 /// and stopped.
 fn refusals<J: Naming, R: Abort + Wait + Clock>(rt: &R, alloc: Global, parts: RingParts)
-    requires { parts ≡ J.name }
+    requires { parts.name ≡ J.name }
 {
     let ring = parts
         .assemble::<J, CappedStore>()
@@ -287,7 +287,7 @@ fn a_caller_refuses(rt: HostRuntime) {
 
 /// A ring with one caller, whose window has two requests.
 fn caller_refusals<J: Naming, R: Abort + Wait + Clock>(rt: &R, alloc: Global, parts: RingParts)
-    requires { parts ≡ J.name }
+    requires { parts.name ≡ J.name }
 {
     let ring = founded::<J, CappedStore, R>(rt, parts, CappedStore::new(alloc, 1));
     let mut caller = ring.open_caller(rt, 2).expect(rt, "a caller");
@@ -428,7 +428,7 @@ fn a_stopped_ring_does_not_answer(rt: HostRuntime) {
 
 /// Asks once, then stops the ring twice and asks again.
 fn stopped<J: Naming, R: Abort + Wait + Clock>(rt: &R, alloc: Global, parts: RingParts)
-    requires { parts ≡ J.name }
+    requires { parts.name ≡ J.name }
 {
     let ring = founded::<J, CappedStore, R>(rt, parts, CappedStore::new(alloc, 1));
     let mut caller = ring.open_caller(rt, 2).expect(rt, "a caller");

@@ -38,7 +38,7 @@ fn a_call_with_its_identifier_is_carried(rt: HostRuntime) {
 /// A ring of one node carries the call of its first caller, admits a client, and has no room for a
 /// third; then its node crashes.
 fn carries<J: Naming, R: Abort + Wait + Clock>(rt: &R, alloc: Global, parts: RingParts)
-    requires { parts ≡ J.name }
+    requires { parts.name ≡ J.name }
 {
     let ring = founded::<J, CappedStore, R>(rt, parts, CappedStore::new(alloc, 1));
     let told = told_by_id(rt, alloc, &ring);
@@ -100,7 +100,7 @@ fn admits_a_client<J: Naming, R: Abort + Wait>(rt: &R, ring: &Ring<J, CappedStor
 
 /// A ring of one node admits and answers one caller, and is stopped.
 fn stands<J: Naming, R: Abort + Wait + Clock>(rt: &R, alloc: Global, parts: RingParts)
-    requires { parts ≡ J.name }
+    requires { parts.name ≡ J.name }
 {
     let ring = founded::<J, CappedStore, R>(rt, parts, CappedStore::new(alloc, 1));
     runs(rt, &ring);

@@ -110,7 +110,7 @@ fn two_nodes<J: Naming + Send + Sync, R: Abort + Threads + Wait + Clock + Sync>(
     parts: RingParts,
     then: Then,
 )
-    requires { parts ≡ J.name }
+    requires { parts.name ≡ J.name }
 {
     let store = CappedStore::new(alloc, 4);
     let ring = founded::<J, CappedStore, R>(rt, parts, store);

@@ -2,4 +2,4 @@ use Rattle.chord_app_serve.proofs.serving.commands.serve_until.Given as goal
 
 -- picks the name of the ring that was just made
 abbrev pub ghosts-serve_named : goal.ghosts-serve_named
-ghosts-serve_named g a = record { name = a.parts }
+ghosts-serve_named g a = record { name = a.parts.name }

@@ -1,15 +1,16 @@
 use Rattle.std.proofs.Common.{◌∙◌, ap, sym}
+use Rattle.chord_live_ring.specs.Parts.{Parts}
 use Rattle.chord_table.specs.Views.{Name, Register}
 use Rattle.chord_live_ring.proofs.ring_parts.RingParts.assemble.Goals as goal
 
 pub assemble-table-requires : goal.assemble-table-requires
-assemble-table-requires g c = c.self.view_is ∙ c.requires
+assemble-table-requires g c = ap (λ (p : Parts). p.name) c.self.view_is ∙ c.requires
 
 pub new-numbers-requires-clause-slots : goal.new-numbers-requires-clause-slots
-new-numbers-requires-clause-slots g c = sym c.self.inside.slots ∙ ap (λ (n : Name). n.slots) (c.self.view_is ∙ c.requires)
+new-numbers-requires-clause-slots g c = sym c.self.inside.slots ∙ ap (λ (n : Name). n.slots) (ap (λ (p : Parts). p.name) c.self.view_is ∙ c.requires)
 
 pub new-numbers-requires-clause-places : goal.new-numbers-requires-clause-places
-new-numbers-requires-clause-places g c = sym c.self.inside.callers ∙ ap (λ (n : Name). n.callers) (c.self.view_is ∙ c.requires)
+new-numbers-requires-clause-places g c = sym c.self.inside.callers ∙ ap (λ (n : Name). n.callers) (ap (λ (p : Parts). p.name) c.self.view_is ∙ c.requires)
 
 pub new-numbers-requires-clause-nodes : goal.new-numbers-requires-clause-nodes
 new-numbers-requires-clause-nodes g c = ap (λ (r : Register). r.nodes) c.assemble-table.ensures
@@ -20,6 +21,6 @@ new-numbers-requires-clause-callers g c = ap (λ (r : Register). r.callers) c.as
 pub invariant_of-result : goal.invariant_of-result
 invariant_of-result g c = record {
   within = c.self.inside.within;
-  counted = c.in_ok-slots.ensures ∙ sym c.self.inside.slots ∙ ap (λ (n : Name). n.slots) (c.self.view_is ∙ c.requires);
-  listed = c.in_ok-inboxes.ensures ∙ sym c.self.inside.callers ∙ ap (λ (n : Name). n.callers) (c.self.view_is ∙ c.requires);
+  counted = c.in_ok-slots.ensures ∙ sym c.self.inside.slots ∙ ap (λ (n : Name). n.slots) (ap (λ (p : Parts). p.name) c.self.view_is ∙ c.requires);
+  listed = c.in_ok-inboxes.ensures ∙ sym c.self.inside.callers ∙ ap (λ (n : Name). n.callers) (ap (λ (p : Parts). p.name) c.self.view_is ∙ c.requires);
 }

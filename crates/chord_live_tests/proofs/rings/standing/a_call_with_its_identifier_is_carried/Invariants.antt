@@ -2,4 +2,4 @@ use Rattle.chord_live_tests.proofs.rings.standing.a_call_with_its_identifier_is_
 
 -- picks the name of the ring that was just made
 abbrev pub ghosts-carries : goal.ghosts-carries
-ghosts-carries g a = record { name = a.parts }
+ghosts-carries g a = record { name = a.parts.name }

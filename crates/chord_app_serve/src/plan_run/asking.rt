@@ -1,0 +1,156 @@
+//! What the callers of a plan's run ask, and what they are answered.
+ghost use Rattle.std.specs.Prelude.{◌≡◌, ◌++◌, [], ◌∷◌, IfOk, OnOk};
+ghost use Rattle.chord_app_serve.specs.Together.{AreAnswers, AreOf, AskedIs, NextIs, TookFirst, requests_of};
+
+use chord_app_plan::PlanAsk;
+use chord_app_text::Finish;
+use chord_caller::SubmitFault;
+use chord_live::{OpenCaller, RingClient};
+use chord_live_ring::{OpenClientFault, Ring};
+use chord_live_types::{AskFault, BeginFault, WaitFault};
+use chord_map::Reply;
+use chord_store::EntryStore;
+use chord_table::{Naming, Witness};
+use std::alloc::Global;
+use std::marker::Model;
+use std::sync::Wait;
+use std::time::Clock;
+
+/// How an ask ended.
+#[derive(Debug, Drop)]
+pub enum AskResult {
+    Reply(Reply),
+    Full,
+    NoAnswer,
+}
+
+/// How the asks of one caller ended, in order.
+#[derive(Debug, Drop)]
+pub struct AskResults {
+    list: Vec<AskResult>,
+}
+
+impl Model for AskResults {
+    ghost use Rattle.std.specs.Prelude.{List};
+    ghost use Rattle.chord_app_serve.specs.declared.plan_run.asking.AskResult.{AskResult};
+
+    ghost Value = { List AskResult };
+
+    ghost view = { λ results. results.list.items };
+}
+
+impl AskResults {
+    /// No results.
+    pub fn new(alloc: Global) -> AskResults
+        ensures { result ≡ [] }
+    {
+        AskResults {
+            list: Vec::new(alloc),
+        }
+    }
+
+    /// Adds the next one.
+    fn push(&mut self, asked: AskResult) -> Result<(), Finish>
+        ensures { OnOk result (self.new ≡ self.old ++ asked ∷ []) }
+    {
+        self.list.push(asked)?;
+        Ok(())
+    }
+
+    /// The results, in order.
+    pub fn as_slice(&self) -> &[AskResult]
+        ensures { result.now ≡ self.now }
+    {
+        self.list.as_slice()
+    }
+}
+
+/// How the asks of one caller ended, and a witness of that caller. There is no caller if none could
+/// be opened.
+#[derive(Drop)]
+pub struct CallerAnswers<J: Naming> {
+    pub results: AskResults,
+    pub witness: Witness<J>,
+    ghost are: { AreOf witness results },
+}
+
+/// What the thread of one caller gives back.
+pub type Answers<J> = Result<CallerAnswers<J>, Finish>;
+
+/// Asks one request of the plan.
+fn ask_once<J: Naming, S: EntryStore, R: Wait + Clock>(
+    rt: &R,
+    client: &mut RingClient<'_, J, S>,
+    ask: &PlanAsk,
+) -> Result<AskResult, Finish>
+    ensures { IfOk result (λ asked. AskedIs ask.now.request client.old.caller asked client.new.caller) }
+{
+    let request = ask.request.try_copy()?;
+    match client.call(rt, ask.via as u64, request) {
+        Ok(reply) => Ok(AskResult::Reply(reply)),
+        Err(AskFault::Wait(WaitFault::Memory))
+        | Err(AskFault::Begin(BeginFault::Submit(SubmitFault::Memory))) => Err(Finish::OutOfMemory),
+        Err(AskFault::Wait(WaitFault::Full)) => Ok(AskResult::Full),
+        Err(_) => Ok(AskResult::NoAnswer),
+    }
+}
+
+/// Asks the next request of the plan, and says whether a reply came.
+fn ask_next<J: Naming, S: EntryStore, R: Wait + Clock>(
+    rt: &R,
+    client: &mut RingClient<'_, J, S>,
+    ask: &PlanAsk,
+    results: &mut AskResults,
+) -> Result<bool, Finish>
+    requires { AreAnswers client.old.caller results.old }
+    ensures answers { OnOk result (AreAnswers client.new.caller results.new) }
+    ensures next { IfOk result (λ replied. NextIs ask.now.request client.old.caller replied client.new.caller) }
+{
+    let asked = ask_once(rt, client, ask)?;
+    let replied = matches!(&asked, AskResult::Reply(_));
+    results.push(asked)?;
+    Ok(replied)
+}
+
+/// Asks the plan's requests of one caller in order, until one gets no reply.
+fn ask_each<J: Naming, S: EntryStore, R: Wait + Clock>(
+    rt: &R,
+    client: &mut RingClient<'_, J, S>,
+    number: usize,
+    asks: &[PlanAsk],
+    results: &mut AskResults,
+) -> Result<(), Finish>
+    requires fresh { client.old.caller.mine ≡ [] }
+    requires none { results.old ≡ [] }
+    ensures answers { OnOk result (AreAnswers client.new.caller results.new) }
+    ensures first { OnOk result (TookFirst (requests_of number asks.now) client.new.caller) }
+{
+    for ask in asks {
+        if ask.caller == number && !ask_next(rt, client, ask, results)? {
+            return Ok(());
+        }
+    }
+    Ok(())
+}
+
+/// Asks the plan's requests of one caller, and gives how they ended.
+pub fn ask_in_turn<J: Naming, S: EntryStore, R: Wait + Clock>(
+    rt: &R,
+    alloc: Global,
+    ring: &Ring<J, S>,
+    number: usize,
+    asks: &[PlanAsk],
+) -> Answers<J> {
+    let mut results = AskResults::new(alloc);
+    let mut client = match ring.open_client(rt, 1) {
+        Ok(client) => client,
+        Err(OpenClientFault::Memory) => return Err(Finish::OutOfMemory),
+        Err(_) => {
+            let witness = Witness::open(ring.table());
+            return Ok(CallerAnswers { results, witness });
+        }
+    };
+    ask_each(rt, &mut client, number, asks, &mut results)?;
+    let witness = client.witness();
+    Ok(CallerAnswers { results, witness })
+}
