@@ -162,7 +162,9 @@ fn run_named<J: Naming + Send + Sync, S: EntryStore + Send, R: Threads + Wait + 
 }
 
 /// A ring of the plan's size that has no name yet.
-pub fn ring_parts_of(alloc: Global, plan: &Plan) -> Result<RingParts, Finish> {
+pub fn ring_parts_of(alloc: Global, plan: &Plan) -> Result<RingParts, Finish>
+    ensures { IfOk result (λ parts. parts.settings ≡ plan.now.settings) }
+{
     match RingParts::new(alloc, plan.settings) {
         Ok(parts) => Ok(parts),
         Err(NewFault::BadSettings) => Err(Finish::BadPlan),

@@ -1,5 +1,5 @@
 -- A caller takes other replies too while it waits for one.
-use Rattle.std.proofs.Common.{◌≡◌, ◌≢◌, ℕ, Bool, false, not, ◌&&◌, ◌||◌, eqb, None, Some, is_some, Result, Ok, Err, [], ◌∷◌, ◌++◌, refl, sym, ◌∙◌, ap}
+use Rattle.std.proofs.Common.{◌≡◌, ◌≢◌, ℕ, Bool, false, not, ◌&&◌, ◌||◌, eqb, None, Some, is_some, Result, Ok, Err, [], ◌∷◌, ◌++◌, sym, ◌∙◌, ap, subst}
 use Rattle.std.proofs.Math.Bool.{or-false}
 use Rattle.std.proofs.lemmas.Bool.{cond-false, and_parts, eqb-true, not-true, true≢false}
 use Rattle.std.proofs.lemmas.Option.{none-some}
@@ -13,7 +13,7 @@ use Rattle.chord_caller.specs.declared.told.Told.{Told}
 use Rattle.chord_caller.proofs.Places.{either_is}
 use Rattle.chord_caller.proofs.Views.{known_stale}
 use Rattle.chord_caller.proofs.ClientSteps.{foreign_stale}
-use Rattle.chord_live.specs.Ending.{IsTaken, TookReplies, WaitsStill}
+use Rattle.chord_live.specs.Ending.{IsTaken, TookReplies, TookReply, WaitsStill, told_to}
 use Rattle.chord_live.specs.Laws.{none_more}
 use Rattle.chord_map.specs.declared.reply.Reply.{Reply}
 use Rattle.chord_map.specs.declared.request.Request.{Request}
@@ -79,9 +79,19 @@ took_other number told old new (Ok Known) other is = waits_same number old new i
 took_other number told old new (Err Foreign) other is = waits_same number old new is.1
 took_other number told old new (Err Memory) other is = waits_same number old new is.2
 
--- a reply that was not taken is not fresh, unless out of memory
-pub not_fresh : (told : Told) (old new : Caller) (taken : Result TakenAs TakeFault) → taken ≢ Ok Fresh → taken ≢ Err Memory → TakeIs told old taken new → fresh_for told old ≡ None
-not_fresh told old new (Ok Fresh) stale room is = absurd (stale refl)
-not_fresh told old new (Ok Known) stale room is = known_stale told old is.1
-not_fresh told old new (Err Foreign) stale room is = foreign_stale told old is.0
-not_fresh told old new (Err Memory) stale room is = absurd (room refl)
+-- a client takes the reply that it waits for
+pub took_awaited : (number : ℕ) (told : Told) (reply : Reply) (old new : Caller) → told.number ≡ number → reply ≡ told.reply → TakeIs told old (Ok Fresh) new → TookReply number reply old new
+took_awaited number told reply old new same copied (request, fresh, is) =
+    let own : told.caller ≡ old.number = (fresh_own told old request fresh).0 in
+    let named : told ≡ told_to old number reply =
+    ap (λ n. record { caller = n; number = told.number; reply = told.reply }) own
+    ∙ ap (λ n. record { caller = old.number; number = n; reply = told.reply }) same
+    ∙ ap (λ r. record { caller = old.number; number = number; reply = r }) (sym copied) in
+    (request, subst (λ (t : Told). fresh_for t old ≡ Some request) named fresh, is ∙ ap (λ (t : Told). with_reply t request old) named)
+
+-- a reply that its caller knows, or that is foreign to it, is not fresh
+pub known_not_fresh : (told : Told) (old new : Caller) → TakeIs told old (Ok Known) new → fresh_for told old ≡ None
+known_not_fresh told old new is = known_stale told old is.1
+
+pub foreign_not_fresh : (told : Told) (old new : Caller) → TakeIs told old (Err Foreign) new → fresh_for told old ≡ None
+foreign_not_fresh told old new is = foreign_stale told old is.0

@@ -85,13 +85,17 @@ impl AskingCore for CallerCore {
         };
         match take_told(self, seat, table, told) {
             Ok(Heard::Fresh) => Ok(reply),
+            Ok(Heard::Known) => {
+                drop(reply);
+                Err(WaitFault::NoAnswer)
+            }
+            Err(TakeFault::Foreign) => {
+                drop(reply);
+                Err(WaitFault::NoAnswer)
+            }
             Err(TakeFault::Memory) => {
                 drop(reply);
                 Err(WaitFault::Memory)
-            }
-            _ => {
-                drop(reply);
-                Err(WaitFault::NoAnswer)
             }
         }
     }

@@ -1,5 +1,4 @@
 //! Links read under locks.
-ghost use Rattle.std.specs.Prelude.{vec_len};
 
 use crate::ring::Ring;
 use chord_links::Links;
@@ -18,13 +17,13 @@ pub struct RingReader<'a, J: Naming, S: EntryStore, R: Wait> {
 impl<'a, J: Naming, S: EntryStore, R: Wait> LinkReader for RingReader<'a, J, S, R> {
     ghost answers = { λ reader number found. Unit {0} };
 
-    ghost slot_count = { λ reader. vec_len reader.ring.now.slots };
+    ghost slot_count = { λ reader. J.name.slots };
 
     fn links(&self, number: u64) -> Option<Links> {
         self.ring.links_of(self.rt, number)
     }
 
     fn slots(&self) -> u64 {
-        self.ring.slots.len() as u64
+        self.ring.slot_count()
     }
 }

@@ -61,6 +61,13 @@ impl<J: Naming, S: EntryStore> Ring<J, S> {
         number < self.nodes.load(Ordering::SeqCst) && number < self.slots.len() as u64
     }
 
+    /// How many nodes there may be.
+    pub(crate) fn slot_count(&self) -> u64
+        ensures { result ≡ J.name.slots }
+    {
+        self.slots.len() as u64
+    }
+
     /// Whether the node of this number is a member.
     pub fn is_live(&self, number: u64) -> bool {
         match self.slots.get(number as usize) {

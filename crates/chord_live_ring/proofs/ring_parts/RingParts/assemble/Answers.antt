@@ -19,8 +19,8 @@ pub new-numbers-requires-clause-callers : goal.new-numbers-requires-clause-calle
 new-numbers-requires-clause-callers g c = ap (λ (r : Register). r.callers) c.assemble-table.ensures
 
 pub invariant_of-result : goal.invariant_of-result
-invariant_of-result g c = record {
-  within = c.self.inside.within;
-  counted = c.in_ok-slots.ensures ∙ sym c.self.inside.slots ∙ ap (λ (n : Name). n.slots) (ap (λ (p : Parts). p.name) c.self.view_is ∙ c.requires);
-  listed = c.in_ok-inboxes.ensures ∙ sym c.self.inside.callers ∙ ap (λ (n : Name). n.callers) (ap (λ (p : Parts). p.name) c.self.view_is ∙ c.requires);
-}
+invariant_of-result g c =
+    let name = ap (λ (p : Parts). p.name) c.self.view_is ∙ c.requires in
+    let slots = c.in_ok-slots.ensures ∙ sym c.self.inside.slots ∙ ap (λ (n : Name). n.slots) name in
+    let inboxes = c.in_ok-inboxes.ensures ∙ sym c.self.inside.callers ∙ ap (λ (n : Name). n.callers) name in
+    (c.self.inside.within, (slots, (inboxes, tt)))
