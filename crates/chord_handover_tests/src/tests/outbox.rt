@@ -42,11 +42,12 @@ pub enum Outcome {
     Memory,
 }
 
-/// The receiver of an item, and its number there.
+/// The receiver of an item, its number there, and the span of its segment.
 #[derive(Clone, Copy, Debug, PartialEq, Eq)]
 pub struct Name {
     pub to: u64,
     pub number: u64,
+    pub span: Span,
 }
 
 /// What the outbox shows.
@@ -69,8 +70,12 @@ pub struct Step {
 }
 
 fn state_of(outbox: &Outbox) -> State {
-    let first = match outbox.nth(0) {
-        Some((to, number)) => Some(Name { to, number }),
+    let first = match outbox.nth(0).zip(outbox.nth_payload(0)) {
+        Some(((to, number), payload)) => Some(Name {
+            to,
+            number,
+            span: payload.segment().span(),
+        }),
         None => None,
     };
     State {
@@ -196,7 +201,11 @@ fn follow_steps(rt: &impl Abort, alloc: Global, outbox: &mut Outbox, steps: &[St
 pub const ONE_ITEM: State = State {
     is_empty: false,
     items: 1,
-    first: Some(Name { to: 1, number: 1 }),
+    first: Some(Name {
+        to: 1,
+        number: 1,
+        span: CIRCLE,
+    }),
     next: Some(2),
 };
 
