@@ -117,7 +117,7 @@ fn segments_line_by_line(rt: HostRuntime) -> Result<(), Fail> {
     Ok(())
 }
 
-/// Runs a request with so many bytes under its key, and so many in its value.
+/// Runs an insert of a value of `value` bytes under a key of `key` bytes.
 fn asks_long(alloc: Global, key: usize, value: usize, writes: &str) -> Result<Ran, AllocError> {
     let mut script = String::from_str(
         alloc,
