@@ -1,7 +1,7 @@
 -- A session that sends a request again through a caller gets a reply of the request's kind.
 use Rattle.std.proofs.Common.{◌≡◌, ◌⊎◌, ⊎_elim, ℕ, zero, suc, Bool, true, not, ◌&&◌, eqb, List, Option, Some, None, map, slice_get, refl, sym, ap, ◌∙◌, subst, option_map, ◌+◌, [], ◌∷◌, drop, arith}
 use Rattle.std.proofs.lemmas.Bool.{cond-true, cond-false}
-use Rattle.std.proofs.lemmas.Option.{none-some, slice_get-map}
+use Rattle.std.proofs.lemmas.Option.{none-some, same_Some, slice_get-map}
 use Rattle.chord_app_serve.specs.Asked.{asked_by, asked_since}
 use Rattle.chord_caller.specs.Caller.{Caller, Submission, request_for_reply, fresh_for, is_taken, submission_at}
 use Rattle.chord_caller.specs.declared.told.Told.{Told}
@@ -42,17 +42,18 @@ request_at_is : (number : ℕ) (submitted : List Submission) → request_at numb
 request_at_is zero submitted = refl
 request_at_is (suc place) submitted = slice_get-map (λ (s : Submission). s.request) submitted place ∙ as_request (slice_get submitted place)
 
--- a reply that fits a submission is of its request's kind
-fitting_kind : (reply : Reply) (o : Option Submission) (request : Request) → request_for_reply reply o ≡ Some request → (s : Submission) × (o ≡ Some s) × (fits reply s.request ≡ true)
+-- a reply that fits a submission is to its request, and of its kind
+fitting_kind : (reply : Reply) (o : Option Submission) (request : Request) → request_for_reply reply o ≡ Some request
+    → (s : Submission) × (o ≡ Some s) × (fits reply s.request ≡ true) × (s.request ≡ request)
 fitting_kind reply None request e = absurd (none-some request e)
 fitting_kind reply (Some s) request e =
     by_test (fits reply s.request)
-    (λ t. (s, refl, t))
+    (λ t. (s, refl, t, same_Some s.request request (sym (cond-true (fits reply s.request) (Some s.request) None t) ∙ e)))
     (λ f. absurd (none-some request (sym (cond-false (fits reply s.request) (Some s.request) None f) ∙ e)))
 
--- a fresh reply is of its request's kind
-fresh_kind : (told : Told) (caller : Caller) (request : Request) → fresh_for told caller ≡ Some request
-    → (s : Submission) × (submission_at told.number caller.submitted ≡ Some s) × (fits told.reply s.request ≡ true)
+-- a fresh reply is to the request that was submitted under its number, and of its kind
+pub fresh_kind : (told : Told) (caller : Caller) (request : Request) → fresh_for told caller ≡ Some request
+    → (s : Submission) × (submission_at told.number caller.submitted ≡ Some s) × (fits told.reply s.request ≡ true) × (s.request ≡ request)
 unfolding fresh_for
 fresh_kind told caller request e =
     let test : Bool = eqb told.caller caller.number && not (is_taken caller told.number) in

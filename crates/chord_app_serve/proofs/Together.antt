@@ -1,47 +1,27 @@
 -- The replies that the callers of a plan's run were answered are those that they took.
-use Rattle.std.proofs.Common.{◌≡◌, ◌⊎◌, ⊎_elim, inl, inr, ℕ, zero, suc, ◌+◌, ◌<◌, Bool, true, false, not, ◌&&◌, eqb, cond, List, Option, Some, None, Ok, Err, Result, [], ◌∷◌, ◌++◌, map, take, get_or, length, append-nil, refl, sym, ap, ap₂, ◌∙◌, subst, arith, All, Contains}
+use Rattle.std.proofs.Common.{◌≡◌, ◌⊎◌, ⊎_elim, inl, inr, ℕ, zero, suc, ◌+◌, ◌<◌, Bool, true, false, eqb, List, Some, Ok, Err, Result, [], ◌∷◌, ◌++◌, map, take, get_or, length, append-nil, refl, sym, ap, ap₂, ◌∙◌, subst, arith, All, Contains}
 use Rattle.std.proofs.lemmas.Bool.{cond-true, cond-false}
 use Rattle.std.proofs.lemmas.List.{map-append}
 use Rattle.std.proofs.lemmas.List.Elements.{All-push, All-weaker, Contains-append_left, Contains-append_right}
-use Rattle.std.proofs.lemmas.Option.{none-some, same_Some}
+use Rattle.std.proofs.lemmas.Option.{same_Some}
 use Rattle.chord_app_plan.specs.declared.ask.PlanAsk.{PlanAsk}
+use Rattle.chord_app_serve.proofs.Asked.{fresh_kind}
 use Rattle.chord_app_serve.specs.Together.{taken_requests, taken_replies, AskedIs, NextIs, replies_of, AreAnswers, requests_of, TookFirst, AreOf}
 use Rattle.chord_app_serve.specs.declared.plan_run.asking.AskResult.{AskResult}
 use Rattle.chord_app_serve.specs.declared.plan_run.asking.AskResult.TheVariants as ended
 use Rattle.chord_caller.proofs.Places.{got_last}
-use Rattle.chord_caller.specs.Caller.{Caller, Submission, request_for_reply, fresh_for, is_taken, submission_at, next_number, with_request, with_reply}
-use Rattle.chord_caller.specs.declared.told.Told.{Told}
+use Rattle.chord_caller.specs.Caller.{Caller, Submission, fresh_for, submission_at, next_number, with_request, with_reply}
 use Rattle.chord_live.specs.Asking.{CallIs}
 use Rattle.chord_live.specs.Ending.{AwaitIs, told_to}
 use Rattle.chord_live_types.specs.declared.caller.AskFault.{AskFault}
 use Rattle.chord_live_types.specs.declared.caller.AskFault.TheVariants as fault
 use Rattle.chord_map.proofs.Lists.{by_test}
-use Rattle.chord_map.specs.Map.{fits}
 use Rattle.chord_map.specs.declared.done.Done.{Done}
 use Rattle.chord_map.specs.declared.reply.Reply.{Reply}
 use Rattle.chord_map.specs.declared.request.Request.{Request}
 use Rattle.chord_table.specs.Views.{CallerSight}
 
 -- ---- one ask
-
--- a reply that fits a submission is to its request
-fitting_request : (reply : Reply) (o : Option Submission) (request : Request) → request_for_reply reply o ≡ Some request → (s : Submission) × (o ≡ Some s) × (s.request ≡ request)
-fitting_request reply None request e = absurd (none-some request e)
-fitting_request reply (Some s) request e =
-    by_test (fits reply s.request)
-    (λ t. (s, refl, same_Some s.request request (sym (cond-true (fits reply s.request) (Some s.request) None t) ∙ e)))
-    (λ f. absurd (none-some request (sym (cond-false (fits reply s.request) (Some s.request) None f) ∙ e)))
-
--- a fresh reply is to the request that was submitted under its number
-fresh_request : (told : Told) (caller : Caller) (request : Request) → fresh_for told caller ≡ Some request
-    → (s : Submission) × (submission_at told.number caller.submitted ≡ Some s) × (s.request ≡ request)
-unfolding fresh_for
-fresh_request told caller request e =
-    let test : Bool = eqb told.caller caller.number && not (is_taken caller told.number) in
-    let found : Option Request = request_for_reply told.reply (submission_at told.number caller.submitted) in
-    by_test test
-    (λ t. fitting_request told.reply (submission_at told.number caller.submitted) request (sym (cond-true test found None t) ∙ e))
-    (λ f. absurd (none-some request (sym (cond-false test found None f) ∙ e)))
 
 -- the request that was submitted last has the next number
 last_request : (request : Request) (old : Caller) (s : Submission) → submission_at (next_number old) (with_request request old).submitted ≡ Some s → s.request ≡ request
@@ -57,9 +37,9 @@ took_last : (request asked : Request) (reply : Reply) (old submitted new : Calle
     → fresh_for (told_to submitted (next_number old) reply) submitted ≡ Some asked → new ≡ with_reply (told_to submitted (next_number old) reply) asked submitted
     → AskedIs request old (ended.Reply reply) new
 took_last request asked reply old submitted new begun fresh is =
-    let found = fresh_request (told_to submitted (next_number old) reply) submitted asked fresh in
+    let found = fresh_kind (told_to submitted (next_number old) reply) submitted asked fresh in
     let same : asked ≡ request =
-    sym found.2 ∙ last_request request old found.0 (ap (λ (c : Caller). submission_at (next_number old) c.submitted) (sym begun) ∙ found.1) in
+    sym found.3 ∙ last_request request old found.0 (ap (λ (c : Caller). submission_at (next_number old) c.submitted) (sym begun) ∙ found.1) in
     let done : Done = record { caller = submitted.number; number = next_number old; request = asked; reply = reply } in
     let mine : new.mine ≡ old.mine ++ done ∷ [] = ap (λ (c : Caller). c.mine) is ∙ ap (λ (c : Caller). c.mine ++ done ∷ []) begun in (
       ap (λ dones. map (λ (d : Done). d.request) dones) mine ∙ map-append (λ (d : Done). d.request) old.mine (done ∷ []) ∙ ap (λ r. taken_requests old ++ r ∷ []) same,

@@ -3,10 +3,12 @@ ghost use Rattle.std.specs.Prelude.{◌≡◌, [], IfOk};
 ghost use Rattle.std.specs.List.{All};
 
 use chord_app_text::{Fault, Finish};
-use chord_app_world::{add_store, world};
+use chord_app_world::{add_store, empty_ones, world};
+use chord_map::Bytes;
 use chord_store::{CappedStore, EntryStore, ListStore};
 use std::alloc::{AllocError, Global};
 use std::fmt::Write;
+use std::test::Fail;
 
 mod refusals;
 mod worlds;
@@ -310,4 +312,27 @@ fn a_refused_growth_ends_the_session(rt: HostRuntime) {
     let ran = over_one_pair_at_most(rt.alloc());
     assert!(rt; matches!(ran, Some((Finish::Done | Finish::OutOfMemory, true))));
     assert!(rt; Finish::OutOfMemory.status() == 3);
+}
+
+/// How many of two stores are kept, if the second has a pair.
+fn kept_of_two(alloc: Global) -> Result<usize, Fail> {
+    let mut stores = Vec::new(alloc);
+    stores.push(CappedStore::new(alloc, 1))?;
+    let mut second = CappedStore::new(alloc, 1);
+    let added = second
+        .insert(&Bytes::from_slice(alloc, b"a")?, b"x")
+        .is_ok();
+    stores.push(second)?;
+    let kept = empty_ones(alloc, stores)?;
+    if added {
+        Ok(kept.len())
+    } else {
+        Err(Fail::from("no pair was added"))
+    }
+}
+
+#[test]
+fn stores_with_pairs_are_left_out(rt: HostRuntime) -> Result<(), Fail> {
+    assert!(rt; kept_of_two(rt.alloc())? == 1);
+    Ok(())
 }

@@ -4,7 +4,7 @@ mod growths;
 
 use chord_ident::{Id, Span};
 use chord_map::{Done, Reply, Request};
-use chord_segment::{CutFault, Past, Segment, SegmentJoinFault};
+use chord_segment::{CutFault, Past, Segment, SegmentJoinFault, number_of, raise_mark};
 use std::alloc::{AllocError, Global};
 use std::test::Fail;
 
@@ -598,4 +598,23 @@ fn keeps_all_four(alloc: Global) -> Option<bool> {
 #[test]
 fn joined_callers_keep_both_parts(rt: HostRuntime) {
     assert!(rt; keeps_all_four(rt.alloc()) == Some(true));
+}
+
+#[test]
+fn marks_are_raised(rt: HostRuntime) -> Result<(), Fail> {
+    let mut marks = Vec::with_capacity(rt.alloc(), 3)?;
+    raise_mark(&mut marks, 7, 2);
+    raise_mark(&mut marks, 8, 1);
+    raise_mark(&mut marks, 7, 1);
+    let numbers = (
+        number_of(&marks, 7),
+        number_of(&marks, 8),
+        number_of(&marks, 9),
+    );
+    drop(marks);
+    assert!(rt;
+        numbers == (2, 1, 0),
+        "a mark is not lowered, and an owner without one has 0"
+    );
+    Ok(())
 }

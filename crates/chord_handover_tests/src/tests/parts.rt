@@ -3,11 +3,12 @@
 ghost use Rattle.std.specs.Prelude.{◌≤◌};
 
 use super::{CIRCLE, PartShown, empty_payload, show_part};
-use chord_handover::{Part, Ticket};
+use chord_handover::{Part, Ticket, copy_chunk, count_parts};
 use chord_map::{Bytes, Pair};
 use chord_segment::Segment;
 use std::alloc::{AllocError, Global};
 use std::process::Abort;
+use std::test::Fail;
 
 /// Part `place` of `of` of a handover of node `from`. It has `count` pairs, whose values are the
 /// numbers from `first` on.
@@ -191,4 +192,75 @@ fn the_only_part_of_an_empty_payload_has_its_segment(rt: HostRuntime) {
     assert!(rt; part.of == 1, "it is the only part");
     assert!(rt; part.span == Some(CIRCLE), "it has the segment");
     assert!(rt; part.pairs == 0, "it has no pairs");
+}
+
+/// How many parts pairs make, and how many pairs each of the first three parts has.
+#[derive(Clone, Copy, Debug, PartialEq, Eq)]
+struct Chunks {
+    parts: u64,
+    pairs: [usize; 3],
+}
+
+fn chunk_len(alloc: Global, pairs: &[Pair], part: u64) -> Result<usize, AllocError> {
+    let copies = copy_chunk(alloc, pairs, part)?;
+    Ok(copies.len())
+}
+
+/// Cuts that many pairs, from 0 on, into parts.
+fn chunks_of(alloc: Global, count: u64) -> Result<Chunks, AllocError> {
+    let pairs = pairs_of(alloc, PartRow { count, ..FIRST })?;
+    Ok(Chunks {
+        parts: count_parts(&pairs),
+        pairs: [
+            chunk_len(alloc, &pairs, 1)?,
+            chunk_len(alloc, &pairs, 2)?,
+            chunk_len(alloc, &pairs, 3)?,
+        ],
+    })
+}
+
+/// A number of pairs with the parts that they make.
+const CHUNKS: &[(u64, Chunks)] = &[
+    (
+        0,
+        Chunks {
+            parts: 1,
+            pairs: [0, 0, 0],
+        },
+    ),
+    (
+        64,
+        Chunks {
+            parts: 1,
+            pairs: [64, 0, 0],
+        },
+    ),
+    (
+        65,
+        Chunks {
+            parts: 2,
+            pairs: [64, 1, 0],
+        },
+    ),
+];
+
+#[test]
+fn pairs_go_64_to_a_part(rt: HostRuntime) -> Result<(), Fail> {
+    for (count, wanted) in CHUNKS {
+        let chunks = chunks_of(rt.alloc(), *count)?;
+        assert!(rt; chunks == *wanted, "{count} pairs: {chunks:?}");
+    }
+    Ok(())
+}
+
+/// The key and the value of the last pair of a part are those of the pair at that place.
+#[test]
+fn a_part_begins_behind_the_one_before(rt: HostRuntime) -> Result<(), Fail> {
+    let pairs = pairs_of(rt.alloc(), PartRow { count: 65, ..FIRST })?;
+    let second = copy_chunk(rt.alloc(), &pairs, 2)?;
+    let is_last = second.first() == pairs.last();
+    drop(second);
+    drop(pairs);
+    assert!(rt; is_last, "the second part has the 65th pair");
+    Ok(())
 }
