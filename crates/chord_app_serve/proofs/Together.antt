@@ -1,12 +1,12 @@
 -- The replies that the callers of a plan's run were answered are those that they took.
-use Rattle.std.proofs.Common.{◌≡◌, ◌⊎◌, ⊎_elim, inl, inr, ℕ, zero, suc, ◌+◌, ◌<◌, Bool, true, false, eqb, List, Some, Ok, Err, Result, [], ◌∷◌, ◌++◌, map, take, get_or, length, append-nil, refl, sym, ap, ap₂, ◌∙◌, subst, arith, All, Contains}
-use Rattle.std.proofs.lemmas.Bool.{cond-true, cond-false}
+use Rattle.std.proofs.Common.{◌≡◌, ◌≢◌, ℕ, zero, suc, ◌+◌, ◌<◌, Bool, true, false, eqb, List, Some, Ok, Err, Result, [], ◌∷◌, ◌++◌, map, take, get_or, length, append-nil, refl, sym, ap, ap₂, ◌∙◌, subst, arith}
+use Rattle.std.proofs.lemmas.Bool.{cond-true, cond-false, ne_eqb}
+use Rattle.std.proofs.lemmas.Grind.{flat_map-append}
 use Rattle.std.proofs.lemmas.List.{map-append}
-use Rattle.std.proofs.lemmas.List.Elements.{All-push, All-weaker, Contains-append_left, Contains-append_right}
 use Rattle.std.proofs.lemmas.Option.{same_Some}
 use Rattle.chord_app_plan.specs.declared.ask.PlanAsk.{PlanAsk}
 use Rattle.chord_app_serve.proofs.Asked.{fresh_kind}
-use Rattle.chord_app_serve.specs.Together.{taken_requests, taken_replies, AskedIs, NextIs, replies_of, AreAnswers, requests_of, TookFirst, AreOf}
+use Rattle.chord_app_serve.specs.Together.{taken_requests, taken_replies, AskedIs, NextIs, replies_of, AreAnswers, requests_of, replies_taken, all_of, AreOf, StandTogether}
 use Rattle.chord_app_serve.specs.declared.plan_run.asking.AskResult.{AskResult}
 use Rattle.chord_app_serve.specs.declared.plan_run.asking.AskResult.TheVariants as ended
 use Rattle.chord_caller.proofs.Places.{got_last}
@@ -15,10 +15,12 @@ use Rattle.chord_live.specs.Asking.{CallIs}
 use Rattle.chord_live.specs.Ending.{AwaitIs, told_to}
 use Rattle.chord_live_types.specs.declared.caller.AskFault.{AskFault}
 use Rattle.chord_live_types.specs.declared.caller.AskFault.TheVariants as fault
+use Rattle.chord_map.proofs.Equal.{eqb_same}
 use Rattle.chord_map.proofs.Lists.{by_test}
 use Rattle.chord_map.specs.declared.done.Done.{Done}
 use Rattle.chord_map.specs.declared.reply.Reply.{Reply}
 use Rattle.chord_map.specs.declared.request.Request.{Request}
+use Rattle.chord_table.specs.Shown.{WitnessShown}
 use Rattle.chord_table.specs.Views.{CallerSight}
 
 -- ---- one ask
@@ -81,10 +83,21 @@ is_reply (ended.Reply reply) = true
 is_reply ended.Full = false
 is_reply ended.NoAnswer = false
 
-pub next_is : (request : Request) (old new : Caller) (asked : AskResult) (replied : Bool) → replied ≡ is_reply asked → AskedIs request old asked new → NextIs request old replied new
-next_is request old new (ended.Reply reply) replied same is = subst (λ b. NextIs request old b new) (sym same) is.0
-next_is request old new ended.Full replied same is = subst (λ b. NextIs request old b new) (sym same) is
-next_is request old new ended.NoAnswer replied same is = subst (λ b. NextIs request old b new) (sym same) is
+pub next_is : (number : ℕ) (ask : PlanAsk) (old new : Caller) (asked : AskResult) (goes_on : Bool) → ask.caller ≡ number → goes_on ≡ is_reply asked → AskedIs ask.request old asked new
+    → NextIs (requests_of number (ask ∷ [])) old goes_on new
+next_is number ask old new asked goes_on own same is =
+    let requests : requests_of number (ask ∷ []) ≡ ask.request ∷ [] = cond-true (eqb ask.caller number) (ask.request ∷ []) [] (eqb_same ask.caller number own) in
+    subst (λ b. NextIs (requests_of number (ask ∷ [])) old b new) (sym same) (by_result asked is requests)
+  where
+    by_result : (asked : AskResult) → AskedIs ask.request old asked new → requests_of number (ask ∷ []) ≡ ask.request ∷ [] → NextIs (requests_of number (ask ∷ [])) old (is_reply asked) new
+    by_result (ended.Reply reply) is requests = is.0 ∙ ap (λ rs. taken_requests old ++ rs) (sym requests)
+    by_result ended.Full is requests = is
+    by_result ended.NoAnswer is requests = is
+
+-- an ask of another caller asks nothing of this one
+pub not_next : (number : ℕ) (ask : PlanAsk) (caller : Caller) → ask.caller ≢ number → NextIs (requests_of number (ask ∷ [])) caller true caller
+not_next number ask caller other =
+    sym (ap (λ rs. taken_requests caller ++ rs) (cond-false (eqb ask.caller number) (ask.request ∷ []) [] (ne_eqb ask.caller number other)) ∙ append-nil (taken_requests caller))
 
 -- ---- the plan's requests of one caller
 
@@ -132,23 +145,22 @@ requests_next number (suc i) (ask ∷ asks) d within =
 
 -- ---- all callers
 
--- results are of one of more callers still
-pub of_more : (callers more : List Caller) (results : List AskResult) → AreOf callers results → AreOf (callers ++ more) results
-of_more callers more results of =
-    ⊎_elim
-    (λ none. inl none)
-    (λ (h : (caller : Caller) × Contains callers caller × AreAnswers caller results). inr (h.0, Contains-append_left callers more h.0 h.1, h.2))
-    of
+-- the replies of one caller are those of the group of it alone
+pub of_one : (caller : Caller) (results : List AskResult) → AreAnswers caller results → AreOf (caller ∷ []) results
+of_one caller results answers = answers ∙ sym (append-nil (taken_replies caller))
 
-pub of_others : (callers more : List Caller) (results : List AskResult) → AreOf more results → AreOf (callers ++ more) results
-of_others callers more results of =
-    ⊎_elim
-    (λ none. inl none)
-    (λ (h : (caller : Caller) × Contains more caller × AreAnswers caller results). inr (h.0, Contains-append_right callers more h.0 h.1, h.2))
-    of
+-- the groups whose callers are these, with the results of each
+abbrev pub AreGroups : List Caller → List (List AskResult) → Type 0
+AreGroups callers all = (groups : List (List Caller)) × (all_of groups ≡ callers) × (map replies_of all ≡ map replies_taken groups)
 
--- the results of one caller more
-pub all_of_next : (callers more : List Caller) (all : List (List AskResult)) (results : List AskResult) → All (AreOf callers) all → AreOf more results
-    → All (AreOf (callers ++ more)) (all ++ results ∷ [])
-all_of_next callers more all results before next =
-    All-push (AreOf (callers ++ more)) all results (All-weaker (AreOf callers) (AreOf (callers ++ more)) (of_more callers more) all before) (of_others callers more results next)
+-- one group more
+pub groups_next : (callers more : List Caller) (all : List (List AskResult)) (results : List AskResult) → AreGroups callers all → AreOf more results → AreGroups (callers ++ more) (all ++ results ∷ [])
+groups_next callers more all results (groups, joined, answers) of = (
+  groups ++ more ∷ [],
+  flat_map-append (λ (group : List Caller). group) groups (more ∷ []) ∙ ap₂ (λ (xs ys : List Caller). xs ++ ys) joined (append-nil more),
+  map-append replies_of all (results ∷ []) ∙ ap₂ (λ (xs ys : List (List Reply)). xs ++ ys) answers (ap (λ replies. replies ∷ []) of) ∙ sym (map-append replies_taken groups (more ∷ [])),
+)
+
+-- what one look of all callers tells
+pub stand_together : (callers : List Caller) (all : List (List AskResult)) → AreGroups callers all → WitnessShown callers → StandTogether all
+stand_together callers all (groups, joined, answers) shown = record { groups = groups; answers = answers; shown = subst WitnessShown (sym joined) shown }

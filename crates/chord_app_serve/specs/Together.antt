@@ -1,5 +1,5 @@
 -- What the callers of a plan's run are answered.
-use Rattle.std.specs.Prelude.{◌≡◌, ◌⊎◌, ℕ, ◌==◌, Bool, true, false, if◌then◌else◌, List, [], ◌∷◌, ◌++◌, map, All, Contains}
+use Rattle.std.specs.Prelude.{◌≡◌, ℕ, ◌==◌, Bool, true, false, if◌then◌else◌, List, [], ◌∷◌, ◌++◌, map, flat_map}
 use Rattle.chord_app_plan.specs.declared.ask.PlanAsk.{PlanAsk}
 use Rattle.chord_app_serve.specs.declared.plan_run.asking.AskResult.{AskResult}
 use Rattle.chord_app_serve.specs.declared.plan_run.asking.AskResult.TheVariants as ended
@@ -22,10 +22,10 @@ AskedIs request old (ended.Reply reply) new = (taken_requests new ≡ taken_requ
 AskedIs request old ended.Full new = new.mine ≡ old.mine
 AskedIs request old ended.NoAnswer new = new.mine ≡ old.mine
 
--- the request was asked, and a reply came or none
-abbrev pub NextIs : Request → Caller → Bool → Caller → Type 0
-NextIs request old true new = taken_requests new ≡ taken_requests old ++ request ∷ []
-NextIs request old false new = new.mine ≡ old.mine
+-- the caller took replies to these requests, or to none of them
+abbrev pub NextIs : List Request → Caller → Bool → Caller → Type 0
+NextIs requests old true new = taken_requests new ≡ taken_requests old ++ requests
+NextIs requests old false new = new.mine ≡ old.mine
 
 -- the replies among these results, in order
 abbrev pub replies_of : List AskResult → List Reply
@@ -47,12 +47,21 @@ requests_of number (ask ∷ rest) = if ask.caller == number then ask.request ∷
 abbrev pub TookFirst : List Request → Caller → Type 0
 TookFirst requests caller = (rest : List Request) × (requests ≡ taken_requests caller ++ rest)
 
--- the replies are those that one of the callers took, or there are none
-abbrev pub AreOf : List Caller → List AskResult → Type 0
-AreOf callers results = (replies_of results ≡ []) ⊎ ((caller : Caller) × Contains callers caller × AreAnswers caller results)
+-- the replies that these callers took, one caller after another
+abbrev pub replies_taken : List Caller → List Reply
+replies_taken callers = flat_map taken_replies callers
 
--- One world has the callers whose answers these are: all replies are those of one legal history.
+-- the callers of all groups, one group after another
+abbrev pub all_of : List (List Caller) → List Caller
+all_of groups = flat_map (λ (group : List Caller). group) groups
+
+-- the replies are those that the callers took, in order
+abbrev pub AreOf : List Caller → List AskResult → Type 0
+AreOf callers results = replies_of results ≡ replies_taken callers
+
+-- One world has the callers whose answers these are. Each list of results has its callers: one, or
+-- none if none could be opened.
 pub record StandTogether (all : List (List AskResult)) : Type 0 where
-  pub callers : List Caller
-  pub shown : WitnessShown callers
-  pub answers : All (AreOf callers) all
+  pub groups : List (List Caller)
+  pub answers : map replies_of all ≡ map replies_taken groups
+  pub shown : WitnessShown (all_of groups)

@@ -95,21 +95,26 @@ fn ask_once<J: Naming, S: EntryStore, R: Wait + Clock>(
     }
 }
 
-/// Asks the next request of the plan, and says whether a reply came.
+/// Asks the next request of the plan, if it is this caller's. Says whether to go on: a reply came,
+/// or nothing was asked.
 fn ask_next<J: Naming, S: EntryStore, R: Wait + Clock>(
     rt: &R,
     client: &mut RingClient<'_, J, S>,
+    number: usize,
     ask: &PlanAsk,
     results: &mut AskResults,
 ) -> Result<bool, Finish>
     requires { AreAnswers client.old.caller results.old }
     ensures answers { OnOk result (AreAnswers client.new.caller results.new) }
-    ensures next { IfOk result (λ replied. NextIs ask.now.request client.old.caller replied client.new.caller) }
+    ensures next { IfOk result (λ goes_on. NextIs (requests_of number (ask.now ∷ [])) client.old.caller goes_on client.new.caller) }
 {
+    if ask.caller != number {
+        return Ok(true);
+    }
     let asked = ask_once(rt, client, ask)?;
-    let replied = matches!(&asked, AskResult::Reply(_));
+    let goes_on = matches!(&asked, AskResult::Reply(_));
     results.push(asked)?;
-    Ok(replied)
+    Ok(goes_on)
 }
 
 /// Asks the plan's requests of one caller in order, until one gets no reply.
@@ -126,7 +131,7 @@ fn ask_each<J: Naming, S: EntryStore, R: Wait + Clock>(
     ensures first { OnOk result (TookFirst (requests_of number asks.now) client.new.caller) }
 {
     for ask in asks {
-        if ask.caller == number && !ask_next(rt, client, ask, results)? {
+        if !ask_next(rt, client, number, ask, results)? {
             return Ok(());
         }
     }
