@@ -1,0 +1,17 @@
+//! Redis's protocol (RESP, version 2): what its clients write, and what they are answered.
+//!
+//! [`Commands`] takes in the bytes of a stream by `feed`, in pieces of any length, and gives its
+//! whole commands by `next`.
+//!
+//! [`laws`] says that every stream has one reading, however it was cut.
+#![tactic(auto)]
+
+pub mod laws;
+pub mod limits;
+mod reading;
+
+pub use reading::commands::Commands;
+pub use reading::protocol_error::ProtocolError;
+pub use reading::read_error::ReadError;
+pub use reading::word::Word;
+pub use reading::words::Words;
