@@ -53,7 +53,7 @@ module _ {most : ℕ} {phase_of : ℕ → ℕ → Phase} (reads : ReadsNumber mo
   one_digit n lt le len rest =
       let value : 0 * 10 + (48 + n - 48) ≡ n = omega arith in
       goes_by (at (phase_of 0 0) w ws p) (at (phase_of 1 n) w ws p) (48 + n) rest
-        (reads.digit 0 0 (48 + n) w ws p (omega arith) (omega arith) (omega arith) (omega (arith, value)) ∙ ap (λ (m : ℕ). Goes (at (phase_of 1 m) w ws p)) value)
+      (reads.digit 0 0 (48 + n) w ws p (omega arith) (omega arith) (omega arith) (omega (arith, value)) ∙ ap (λ (m : ℕ). Goes (at (phase_of 1 m) w ws p)) value)
 
   more_digits : (n : ℕ) (ds : List ℕ) → 10 ≤ n → IsRead (n / 10) ds → IsRead n (ds ++ ((48 + n % 10) ∷ []))
   more_digits n ds ge front le len rest =

@@ -1,3 +1,4 @@
 pub mod Machine
 pub mod Reading
 pub mod Spelling
+pub mod Answers

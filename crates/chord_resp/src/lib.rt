@@ -1,7 +1,7 @@
 //! Redis's protocol (RESP, version 2): what its clients write, and what they are answered.
 //!
 //! [`Commands`] takes in the bytes of a stream by `feed`, in pieces of any length, and gives its
-//! whole commands by `next`.
+//! whole commands by `next`. The writers, as [`put_integer`], add one answer to a buffer.
 //!
 //! [`laws`] says that every stream has one reading, however it was cut.
 #![tactic(auto)]
@@ -9,9 +9,12 @@
 pub mod laws;
 pub mod limits;
 mod reading;
+mod writing;
 
 pub use reading::commands::Commands;
 pub use reading::protocol_error::ProtocolError;
 pub use reading::read_error::ReadError;
 pub use reading::word::Word;
 pub use reading::words::Words;
+pub use writing::arrays::{put_bulks, put_integers};
+pub use writing::lines::{put_bulk, put_count, put_error, put_integer, put_null, put_simple};

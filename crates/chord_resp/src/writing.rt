@@ -1,0 +1,4 @@
+//! Writing answers, each added at the end of a buffer whole or not at all.
+
+pub mod arrays;
+pub mod lines;
