@@ -1,3 +1,5 @@
 pub mod ReadingLaws
 pub mod NumberLaws
 pub mod SpellingLaws
+pub mod Texts
+pub mod TableLaws

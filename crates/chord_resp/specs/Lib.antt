@@ -2,3 +2,4 @@ pub mod Machine
 pub mod Reading
 pub mod Spelling
 pub mod Answers
+pub mod Table
