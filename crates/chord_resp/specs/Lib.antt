@@ -3,3 +3,4 @@ pub mod Reading
 pub mod Spelling
 pub mod Answers
 pub mod Table
+pub mod Refusals

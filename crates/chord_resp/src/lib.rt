@@ -25,3 +25,4 @@ pub use table::refusal::{Progress, Refusal};
 pub use table::verb::Verb;
 pub use writing::arrays::{put_bulks, put_integers};
 pub use writing::lines::{put_bulk, put_count, put_error, put_integer, put_null, put_simple};
+pub use writing::refusals::{put_refusal, refusal_text};
