@@ -1,14 +1,14 @@
 -- A count and a length are read from their decimal digits.
-use Rattle.std.proofs.Common.{◌≡◌, ◌≢◌, ℕ, ◌+◌, ◌-◌, ◌*◌, ◌/◌, ◌%◌, ◌^◌, ◌<◌, ◌≤◌, Bool, true, false, cond, eqb, ltb, leb, List, [], ◌∷◌, ◌++◌, length, Option, Some, None, Result, Ok, Err, refl, sym, ap, ap₂, ◌∙◌, append_assoc, arith, length-append}
+use Rattle.std.proofs.Common.{◌≡◌, ℕ, ◌+◌, ◌-◌, ◌*◌, ◌/◌, ◌%◌, ◌^◌, ◌<◌, ◌≤◌, false, eqb, leb, List, [], ◌∷◌, ◌++◌, length, Some, refl, sym, ap, ap₂, ◌∙◌, append_assoc, arith, length-append}
 use Rattle.std.specs.Prelude.{decimal}
 use Rattle.std.proofs.lemmas.Bool.{le-ltb, ne_eqb}
 use Rattle.std.proofs.lemmas.Bool.Decides.{nat_tests}
-use Rattle.std.proofs.lemmas.Fmt.{decimal_by_steps, length-decimal-le, decimal_nonempty}
+use Rattle.std.proofs.lemmas.Fmt.{decimal_by_steps, length-decimal-le}
 use Rattle.chord_resp.specs.declared.reading.phase.Phase.{Phase}
 use Rattle.chord_resp.specs.declared.reading.phase.Phase.TheVariants as phase
 use Rattle.chord_resp.specs.declared.reading.word.Word.{Word}
-use Rattle.chord_resp.specs.Machine.{State, Outcome, Goes, Gives, Fails, start, step, longer}
-use Rattle.chord_resp.specs.Reading.{Reading, reading, after}
+use Rattle.chord_resp.specs.Machine.{State, Outcome, Goes, step, longer}
+use Rattle.chord_resp.specs.Reading.{reading, after}
 
 -- the state in this phase
 abbrev pub at : Phase → ℕ → List Word → List ℕ → State

@@ -1,11 +1,11 @@
 -- One step of a reading, and a reading that goes on with more bytes.
-use Rattle.std.proofs.Common.{◌≡◌, ℕ, ◌+◌, ◌<◌, Bool, true, List, [], ◌∷◌, ◌++◌, length, drop, get_or, Option, Some, None, Result, Ok, Err, refl, sym, ap, ◌∙◌, append_assoc, add-one, drop-cons}
+use Rattle.std.proofs.Common.{◌≡◌, ℕ, ◌+◌, ◌<◌, List, [], ◌∷◌, ◌++◌, length, drop, get_or, Err, refl, sym, ap, ◌∙◌, add-one, drop-cons}
 use Rattle.chord_resp.specs.declared.reading.protocol_error.ProtocolError.{ProtocolError}
 use Rattle.chord_resp.specs.declared.reading.read_error.ReadError.{ReadError}
 use Rattle.chord_resp.specs.declared.reading.read_error.ReadError.TheVariants as error
 use Rattle.chord_resp.specs.declared.reading.word.Word.{Word}
 use Rattle.chord_resp.specs.Machine.{State, Outcome, Goes, Gives, Fails, start, step}
-use Rattle.chord_resp.specs.Reading.{Reading, Ending, Open, Broken, reading, after, with_commands, with_more, goes_on, StepIs, TakesNext, keeps}
+use Rattle.chord_resp.specs.Reading.{Reading, Open, Broken, reading, after, with_commands, with_more, StepIs, TakesNext, keeps}
 
 -- the reading of the bytes from this index on, after what the byte there does
 pub reading_at : (s : State) (bytes : List ℕ) (i : ℕ) → i < length bytes → reading s (drop i bytes) ≡ after (step s (get_or bytes i 0)) (λ t. reading t (drop (i + 1) bytes))

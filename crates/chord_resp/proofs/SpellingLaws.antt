@@ -1,21 +1,20 @@
 -- A command that is written as an array is read.
-use Rattle.std.proofs.Common.{◌≡◌, ℕ, zero, suc, ◌+◌, ◌-◌, ◌^◌, ◌<◌, ◌≤◌, Bool, true, false, cond, eqb, ltb, leb, List, [], ◌∷◌, ◌++◌, map, length, refl, sym, ap, ◌∙◌, append_assoc, arith, add-one, inl, inr}
+use Rattle.std.proofs.Common.{◌≡◌, ℕ, suc, ◌-◌, ◌^◌, ◌<◌, ◌≤◌, false, cond, eqb, ltb, leb, List, [], ◌∷◌, ◌++◌, map, length, refl, ap, ◌∙◌, append_assoc, arith, inl, inr}
 use Rattle.std.specs.Prelude.{decimal}
 use Rattle.std.specs.List.{flat_map, AllByRecursion}
-use Rattle.std.proofs.lemmas.Bool.{le-ltb, ne_eqb, cases_Bool}
+use Rattle.std.proofs.lemmas.Bool.{ne_eqb, cases_Bool}
 use Rattle.std.proofs.lemmas.Bool.Decides.{nat_tests}
 use Rattle.std.proofs.lemmas.Fmt.{decimal_nonempty}
 use Rattle.std.proofs.lemmas.List.{append-nil}
 use Rattle.std.proofs.lemmas.List.Concat.{flat_map-cons}
-use Rattle.chord_resp.specs.declared.reading.phase.Phase.{Phase}
 use Rattle.chord_resp.specs.declared.reading.phase.Phase.TheVariants as phase
 use Rattle.chord_resp.specs.declared.reading.word.Word.{Word}
-use Rattle.chord_resp.specs.Machine.{State, Outcome, Goes, Gives, Fails, start, step, word_of, word_of_length}
-use Rattle.chord_resp.specs.Reading.{Reading, reading, after, with_commands}
+use Rattle.chord_resp.specs.Machine.{State, Outcome, Goes, Gives, start, step, word_of, word_of_length}
+use Rattle.chord_resp.specs.Reading.{reading, after, with_commands}
 use Rattle.chord_resp.specs.Spelling.{newline, bulk, array, AreWords}
 use Rattle.chord_resp.proofs.NumberLaws.{at, goes_by, counts, sizes, number_read}
 
-gives_by : (s : State) (byte : ℕ) (rest : List ℕ) (words : List Word) → step s byte ≡ Gives words → reading s (byte ∷ rest) ≡ with_commands (words ∷ []) (reading start rest)
+pub gives_by : (s : State) (byte : ℕ) (rest : List ℕ) (words : List Word) → step s byte ≡ Gives words → reading s (byte ∷ rest) ≡ with_commands (words ∷ []) (reading start rest)
 unfolding reading
 gives_by s byte rest words e = ap (λ (o : Outcome). after o (λ u. reading u rest)) e
 

@@ -1,5 +1,5 @@
 -- Operands that are taken one by one.
-use Rattle.std.proofs.Common.{◌≡◌, ℕ, List, [], ◌∷◌, ◌++◌, Result, Ok, Err, refl, ap, ◌∙◌, sym, append_assoc}
+use Rattle.std.proofs.Common.{◌≡◌, ℕ, List, [], ◌∷◌, ◌++◌, Result, Ok, Err, refl, ap, append_assoc}
 use Rattle.chord_resp.specs.declared.reading.word.Word.{Word}
 use Rattle.chord_resp.specs.declared.table.operand.Operand.{Operand}
 use Rattle.chord_resp.specs.declared.table.refusal.Refusal.{Refusal}

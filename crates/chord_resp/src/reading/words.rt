@@ -29,7 +29,7 @@ impl Words {
     pub fn as_slice(&self) -> &[Word]
         ensures { result.now ≡ self.now }
     {
-        self.items.as_slice()
+        &self.items
     }
 
     pub fn into_vec(self) -> Vec<Word>

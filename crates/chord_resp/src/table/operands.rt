@@ -1,5 +1,5 @@
 //! The operands of a command, from left to right.
-ghost use Rattle.std.specs.Prelude.{◌≡◌, ◌∷◌, [], length, MatchOption};
+ghost use Rattle.std.specs.Prelude.{◌≡◌, ◌∷◌, [], ◌≤◌, length, MatchOption, IsErrOf};
 ghost use Rattle.chord_resp.specs.Table.{TakesOne, Gives, each};
 
 use crate::reading::word::Word;
@@ -65,7 +65,8 @@ impl Operands {
 
     /// All that are left, as such operands.
     pub fn each(mut self, alloc: Global, operand: Operand) -> Result<Values, Denied>
-        ensures { Gives (λ x. x) result (each operand self) }
+        ensures exact { Gives (λ x. x) result (each operand self) }
+        ensures memory { IsErrOf result Denied.Memory → 2 ≤ length self }
     {
         let mut values = Values::new(alloc);
         while let Some(word) = self.next() {

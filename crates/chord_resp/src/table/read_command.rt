@@ -1,5 +1,5 @@
 //! The command of some words.
-ghost use Rattle.std.specs.Prelude.{◌≡◌};
+ghost use Rattle.std.specs.Prelude.{◌≡◌, ◌≤◌, length, IsErrOf};
 ghost use Rattle.chord_resp.specs.Table.{Gives, command_of, is_of_sets};
 
 use crate::reading::word::Word;
@@ -35,7 +35,9 @@ impl Verb {
 /// What the words of a command call for.
 #[tactic(auto, unfolding(crate::specs::Table::command_of))]
 pub fn command_of(alloc: Global, words: Words) -> Result<Command, Denied>
-    ensures { Gives (λ x. x) result (command_of words) }
+    ensures exact { Gives (λ x. x) result (command_of words) }
+    // One operand needs no memory.
+    ensures memory { IsErrOf result Denied.Memory → 3 ≤ length words }
 {
     let mut operands = Operands::new(words);
     let Some(name) = operands.next() else {

@@ -1,5 +1,5 @@
 //! The commands on sets.
-ghost use Rattle.std.specs.Prelude.{◌≡◌};
+ghost use Rattle.std.specs.Prelude.{◌≡◌, ◌≤◌, length, IsErrOf};
 ghost use Rattle.chord_resp.specs.Table.{Gives, set_command, is_of_sets};
 
 use crate::table::command::Command;
@@ -12,7 +12,8 @@ use std::alloc::Global;
 /// What a verb of sets calls for.
 #[tactic(auto, unfolding(crate::specs::Table::set_command))]
 pub fn set_command(alloc: Global, verb: Verb, mut operands: Operands) -> Result<Command, Denied>
-    ensures { Gives (λ x. x) result (set_command verb operands) }
+    ensures exact { Gives (λ x. x) result (set_command verb operands) }
+    ensures memory { IsErrOf result Denied.Memory → 2 ≤ length operands }
 {
     if verb == Verb::Exists {
         let keys = operands.each(alloc, Operand::Key)?;

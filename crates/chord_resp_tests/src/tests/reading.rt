@@ -298,4 +298,5 @@ fn an_error_stays(rt: HostRuntime) {
 fn laws_can_be_called(_rt: HostRuntime) {
     laws::cuts_do_not_matter();
     laws::arrays_are_read();
+    laws::inline_commands_are_read();
 }

@@ -1,5 +1,4 @@
-use Rattle.std.proofs.Common.{◌≡◌, ◌+◌, drop, sym, ◌∙◌, subst, refl, ℕ}
-use Rattle.chord_resp.specs.Reading.{reading}
+use Rattle.std.proofs.Common.{sym, ◌∙◌, refl}
 use Rattle.chord_resp.proofs.ReadingLaws.{goes, gives, stops}
 use Rattle.chord_resp.proofs.reading.taken.take_from.Goals as goal
 
