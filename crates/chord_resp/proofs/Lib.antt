@@ -1,0 +1,6 @@
+pub mod ReadingLaws
+pub mod NumberLaws
+pub mod SpellingLaws
+pub mod InlineLaws
+pub mod Texts
+pub mod TableLaws

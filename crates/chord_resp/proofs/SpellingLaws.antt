@@ -1,0 +1,162 @@
+-- A command that is written as an array is read.
+use Rattle.std.proofs.Common.{◌≡◌, ℕ, suc, ◌-◌, ◌^◌, ◌<◌, ◌≤◌, false, cond, eqb, ltb, leb, List, [], ◌∷◌, ◌++◌, map, length, refl, ap, ◌∙◌, append_assoc, arith, inl, inr}
+use Rattle.std.specs.Prelude.{decimal}
+use Rattle.std.specs.List.{flat_map, AllByRecursion}
+use Rattle.std.proofs.lemmas.Bool.{ne_eqb, cases_Bool}
+use Rattle.std.proofs.lemmas.Bool.Decides.{nat_tests}
+use Rattle.std.proofs.lemmas.Fmt.{decimal_nonempty}
+use Rattle.std.proofs.lemmas.List.{append-nil}
+use Rattle.std.proofs.lemmas.List.Concat.{flat_map-cons}
+use Rattle.chord_resp.specs.declared.reading.phase.Phase.TheVariants as phase
+use Rattle.chord_resp.specs.declared.reading.word.Word.{Word}
+use Rattle.chord_resp.specs.Machine.{State, Outcome, Goes, Gives, start, step, word_of, word_of_length}
+use Rattle.chord_resp.specs.Reading.{reading, after, with_commands}
+use Rattle.chord_resp.specs.Spelling.{newline, bulk, array, AreWords}
+use Rattle.chord_resp.proofs.NumberLaws.{at, goes_by, counts, sizes, number_read}
+
+pub gives_by : (s : State) (byte : ℕ) (rest : List ℕ) (words : List Word) → step s byte ≡ Gives words → reading s (byte ∷ rest) ≡ with_commands (words ∷ []) (reading start rest)
+unfolding reading
+gives_by s byte rest words e = ap (λ (o : Outcome). after o (λ u. reading u rest)) e
+
+some_digits : (n : ℕ) → n < 2 ^ 64 → eqb (length (decimal n)) 0 ≡ false
+some_digits n fits = ne_eqb (length (decimal n)) 0 (λ e. absurd (omega (arith, decimal_nonempty n fits, e)))
+
+-- ---- the bytes of a word
+
+abbrev kept : ℕ → List ℕ → List ℕ → List ℕ
+kept count p more = cond (ltb 4096 count) p (p ++ more)
+
+kept_on : (count : ℕ) (p : List ℕ) (byte : ℕ) (bytes : List ℕ) → kept count (kept count p (byte ∷ [])) bytes ≡ kept count p (byte ∷ bytes)
+kept_on count p byte bytes =
+    elim (cases_Bool (ltb 4096 count)) [
+      | inl long ↦ rw long refl
+      | inr short ↦ rw short (append_assoc p (byte ∷ []) bytes)
+    ]
+
+body_byte : (w : ℕ) (ws : List Word) (p : List ℕ) (count left byte : ℕ) → step (at (phase.Body count (suc left)) w ws p) byte ≡ Goes (at (phase.Body count left) w ws (kept count p (byte ∷ [])))
+unfolding step
+body_byte w ws p count left byte =
+    let some : eqb (suc left) 0 ≡ false = ne_eqb (suc left) 0 (λ e. absurd (omega (arith, e))) in
+    let less : suc left - 1 ≡ left = omega arith in
+    rw (some, less) refl
+
+body_read : (w : ℕ) (ws : List Word) (p : List ℕ) (count : ℕ) (bytes rest : List ℕ)
+    → reading (at (phase.Body count (length bytes)) w ws p) (bytes ++ rest) ≡ reading (at (phase.Body count 0) w ws (kept count p bytes)) rest
+body_read w ws p count [] rest =
+    elim (cases_Bool (ltb 4096 count)) [
+      | inl long ↦ rw long refl
+      | inr short ↦ rw (short, append-nil p) refl
+    ]
+body_read w ws p count (byte ∷ bytes) rest =
+    goes_by (at (phase.Body count (length (byte ∷ bytes))) w ws p) (at (phase.Body count (length bytes)) w ws (kept count p (byte ∷ []))) byte (bytes ++ rest) (body_byte w ws p count (length bytes) byte)
+    ∙ body_read w ws (kept count p (byte ∷ [])) count bytes rest
+    ∙ ap (λ (q : List ℕ). reading (at (phase.Body count 0) w ws q) rest) (kept_on count p byte bytes)
+
+-- ---- a word
+
+after_digits : (w : ℕ) (ws : List Word) (p : List ℕ) (digits n : ℕ) → eqb digits 0 ≡ false → step (at (phase.Size digits n) w ws p) 13 ≡ Goes (at (phase.SizeEnd n) w ws p)
+unfolding step
+after_digits w ws p digits n some = rw some refl
+
+begins : (w : ℕ) (ws : List Word) → step (at phase.Mark w ws []) 36 ≡ Goes (at (phase.Size 0 0) w ws [])
+unfolding step
+begins w ws = refl
+
+after_size : (w : ℕ) (ws : List Word) (p : List ℕ) (n : ℕ) → step (at (phase.SizeEnd n) w ws p) 10 ≡ Goes (at (phase.Body n n) w ws p)
+unfolding step
+after_size w ws p n = refl
+
+after_body : (w : ℕ) (ws : List Word) (p : List ℕ) (n : ℕ) → step (at (phase.Body n 0) w ws p) 13 ≡ Goes (at (phase.End n) w ws p)
+unfolding step
+after_body w ws p n = refl
+
+regrouped : (word rest : List ℕ) → bulk word ++ rest ≡ 36 ∷ (decimal (length word) ++ (13 ∷ (10 ∷ (word ++ (13 ∷ (10 ∷ rest))))))
+regrouped word rest =
+    append_assoc (36 ∷ decimal (length word)) (newline ++ (word ++ newline)) rest
+    ∙ ap (λ (t : List ℕ). 36 ∷ (decimal (length word) ++ (13 ∷ (10 ∷ t)))) (append_assoc word newline rest)
+
+abbrev Short : List ℕ → Type 0
+Short word = length word ≤ 1048576
+
+word_read : (w : ℕ) (ws : List Word) (word rest : List ℕ) → Short word
+    → reading (at phase.Mark w ws []) (bulk word ++ rest) ≡ reading (at (phase.End (length word)) w ws (kept (length word) [] word)) (10 ∷ rest)
+word_read w ws word rest short =
+    let n = length word in
+    let digits = decimal n in
+    let fits : n < 2 ^ 64 = omega (arith, short) in
+    ap (reading (at phase.Mark w ws [])) (regrouped word rest)
+    ∙ goes_by (at phase.Mark w ws []) (at (phase.Size 0 0) w ws []) 36 (digits ++ (13 ∷ (10 ∷ (word ++ (13 ∷ (10 ∷ rest)))))) (begins w ws)
+    ∙ number_read sizes w ws [] n short fits (13 ∷ (10 ∷ (word ++ (13 ∷ (10 ∷ rest)))))
+    ∙ goes_by (at (phase.Size (length digits) n) w ws []) (at (phase.SizeEnd n) w ws []) 13 (10 ∷ (word ++ (13 ∷ (10 ∷ rest)))) (after_digits w ws [] (length digits) n (some_digits n fits))
+    ∙ goes_by (at (phase.SizeEnd n) w ws []) (at (phase.Body n n) w ws []) 10 (word ++ (13 ∷ (10 ∷ rest))) (after_size w ws [] n)
+    ∙ body_read w ws [] n word (13 ∷ (10 ∷ rest))
+    ∙ goes_by (at (phase.Body n 0) w ws (kept n [] word)) (at (phase.End n) w ws (kept n [] word)) 13 (10 ∷ rest) (after_body w ws (kept n [] word) n)
+
+whole_word : (word : List ℕ) → word_of_length (length word) (kept (length word) [] word) ≡ word_of word
+whole_word word =
+    elim (cases_Bool (ltb 4096 (length word))) [
+      | inl long ↦ rw long refl
+      | inr short ↦ rw short refl
+    ]
+
+last_word : (ws : List Word) (count : ℕ) (p : List ℕ) → step (at (phase.End count) 1 ws p) 10 ≡ Gives (ws ++ word_of_length count p ∷ [])
+unfolding step
+last_word ws count p = refl
+
+next_word : (k : ℕ) (ws : List Word) (count : ℕ) (p : List ℕ) → step (at (phase.End count) (suc (suc k)) ws p) 10 ≡ Goes (at phase.Mark (suc k) (ws ++ word_of_length count p ∷ []) [])
+unfolding step
+next_word k ws count p =
+    let more : leb (suc (suc k)) 1 ≡ false = grind (arith, nat_tests) in
+    let less : suc (suc k) - 1 ≡ suc k = omega arith in
+    rw (more, less) refl
+
+-- ---- the words
+
+words_read : (x : List ℕ) (xs : List (List ℕ)) (ws : List Word) (rest : List ℕ) → AllByRecursion Short (x ∷ xs)
+    → reading (at phase.Mark (length (x ∷ xs)) ws []) (flat_map bulk (x ∷ xs) ++ rest) ≡ with_commands ((ws ++ map word_of (x ∷ xs)) ∷ []) (reading start rest)
+words_read x [] ws rest each =
+    let n = length x in
+    ap (λ (t : List ℕ). reading (at phase.Mark 1 ws []) (t ++ rest)) (flat_map-cons bulk x [] ∙ append-nil (bulk x))
+    ∙ word_read 1 ws x rest each.0
+    ∙ gives_by (at (phase.End n) 1 ws (kept n [] x)) 10 rest (ws ++ word_of_length n (kept n [] x) ∷ []) (last_word ws n (kept n [] x))
+    ∙ ap (λ (v : Word). with_commands ((ws ++ v ∷ []) ∷ []) (reading start rest)) (whole_word x)
+words_read x (y ∷ ys) ws rest each =
+    let n = length x in
+    let k = length ys in
+    let behind = flat_map bulk (y ∷ ys) ++ rest in
+    ap (reading (at phase.Mark (suc (suc k)) ws [])) (ap (λ (t : List ℕ). t ++ rest) (flat_map-cons bulk x (y ∷ ys)) ∙ append_assoc (bulk x) (flat_map bulk (y ∷ ys)) rest)
+    ∙ word_read (suc (suc k)) ws x behind each.0
+    ∙ goes_by (at (phase.End n) (suc (suc k)) ws (kept n [] x)) (at phase.Mark (suc k) (ws ++ word_of_length n (kept n [] x) ∷ []) []) 10 behind (next_word k ws n (kept n [] x))
+    ∙ ap (λ (v : Word). reading (at phase.Mark (suc k) (ws ++ v ∷ []) []) behind) (whole_word x)
+    ∙ words_read y ys (ws ++ word_of x ∷ []) rest each.1
+    ∙ ap (λ (vs : List Word). with_commands (vs ∷ []) (reading start rest)) (append_assoc ws (word_of x ∷ []) (map word_of (y ∷ ys)))
+
+-- ---- a command
+
+starts : step start 42 ≡ Goes (at (phase.Count 0 0) 0 [] [])
+unfolding step
+starts = refl
+
+counted : (digits n : ℕ) → eqb digits 0 ≡ false → step (at (phase.Count digits n) 0 [] []) 13 ≡ Goes (at (phase.CountEnd n) 0 [] [])
+unfolding step
+counted digits n some = rw some refl
+
+marks : (n : ℕ) → step (at (phase.CountEnd (suc n)) 0 [] []) 10 ≡ Goes (at phase.Mark (suc n) [] [])
+unfolding step
+marks n =
+    let some : eqb (suc n) 0 ≡ false = ne_eqb (suc n) 0 (λ e. absurd (omega (arith, e))) in
+    rw some refl
+
+pub array_read : (words : List (List ℕ)) (rest : List ℕ) → AreWords words → reading start (array words ++ rest) ≡ with_commands (map word_of words ∷ []) (reading start rest)
+array_read [] rest are = absurd (omega (arith, are.some))
+array_read (x ∷ xs) rest are =
+    let n = length (x ∷ xs) in
+    let digits = decimal n in
+    let fits : n < 2 ^ 64 = omega (arith, are.few) in
+    let behind = flat_map bulk (x ∷ xs) ++ rest in
+    ap (reading start) (append_assoc (42 ∷ digits) (newline ++ flat_map bulk (x ∷ xs)) rest)
+    ∙ goes_by start (at (phase.Count 0 0) 0 [] []) 42 (digits ++ (13 ∷ (10 ∷ behind))) starts
+    ∙ number_read counts 0 [] [] n are.few fits (13 ∷ (10 ∷ behind))
+    ∙ goes_by (at (phase.Count (length digits) n) 0 [] []) (at (phase.CountEnd n) 0 [] []) 13 (10 ∷ behind) (counted (length digits) n (some_digits n fits))
+    ∙ goes_by (at (phase.CountEnd n) 0 [] []) (at phase.Mark n [] []) 10 behind (marks (length xs))
+    ∙ words_read x xs [] rest are.each

@@ -1,0 +1,6 @@
+pub mod Machine
+pub mod Reading
+pub mod Spelling
+pub mod Answers
+pub mod Table
+pub mod Refusals

@@ -1,0 +1,93 @@
+-- What a stream of bytes spells. Source: our own.
+use Rattle.std.specs.Prelude.{◌≡◌, ℕ, List, [], ◌∷◌, ◌++◌, length, Bool, true, false, not, ◌&&◌, ◌==◌, nat_lt, Option, Some, None, Result, Ok, Err}
+use Rattle.chord_resp.specs.declared.reading.phase.Phase.{Phase}
+use Rattle.chord_resp.specs.declared.reading.phase.Phase.TheVariants as phase
+use Rattle.chord_resp.specs.declared.reading.protocol_error.ProtocolError.{ProtocolError}
+use Rattle.chord_resp.specs.declared.reading.read_error.ReadError.{ReadError}
+use Rattle.chord_resp.specs.declared.reading.read_error.ReadError.TheVariants as error
+use Rattle.chord_resp.specs.declared.reading.word.Word.{Word}
+use Rattle.chord_resp.specs.Machine.{State, Outcome, Goes, Gives, Fails, start, step}
+
+-- how a stream ends so far: with what has come of the next command, or with an error
+pub data Ending : Type 0 where
+  Open : (state : State) → Ending
+  Broken : (error : ProtocolError) → Ending
+
+-- the commands that a stream spells, each as its words, and how it ends
+pub record Reading : Type 0 where
+  pub commands : List (List Word)
+  pub ending : Ending
+
+-- the reading with these commands before its own
+abbrev pub with_commands : List (List Word) → Reading → Reading
+with_commands commands r = record { commands = commands ++ r.commands; ending = r.ending }
+
+-- the reading after what a byte does
+abbrev pub after : Outcome → (State → Reading) → Reading
+after (Goes state) more = more state
+after (Gives words) more = with_commands (words ∷ []) (more start)
+after (Fails error) more = record { commands = []; ending = Broken error }
+
+-- what the bytes spell from this state on
+unfoldable pub reading : State → List ℕ → Reading
+reading s [] = record { commands = []; ending = Open s }
+reading s (byte ∷ bytes) = after (step s byte) (λ t. reading t bytes)
+
+-- an ending, and how it goes on with more bytes
+abbrev pub goes_on : Ending → List ℕ → Reading
+goes_on (Open state) more = reading state more
+goes_on (Broken error) more = record { commands = []; ending = Broken error }
+
+-- the same reading with more bytes after it
+abbrev pub with_more : Reading → List ℕ → Reading
+with_more r more = with_commands r.commands (goes_on r.ending more)
+
+-- a reader: what has come of the next command, and the bytes that were fed and not read yet
+pub record Reader : Type 0 where
+  pub state : State
+  pub bytes : List ℕ
+
+-- the bytes of a reader, read from its state on
+abbrev pub reading_of : Reader → Reading
+reading_of r = reading r.state r.bytes
+
+-- no command has begun
+abbrev pub is_at_start : Phase → Bool
+is_at_start phase.Start = true
+is_at_start _ = false
+
+-- no command has begun, and no byte is left
+abbrev pub is_between : Reader → Bool
+is_between r = (length r.bytes == 0) && is_at_start r.state.phase
+
+-- bytes or words are kept in this phase
+abbrev pub keeps : Phase → ℕ → Bool
+keeps phase.Start byte = not (byte == 42)
+keeps (phase.Line seen) byte = true
+keeps (phase.Count digits number) byte = false
+keeps (phase.CountEnd number) byte = false
+keeps phase.Mark byte = false
+keeps (phase.Size digits number) byte = false
+keeps (phase.SizeEnd number) byte = false
+keeps (phase.Body count left) byte = nat_lt 0 left
+keeps (phase.End count) byte = true
+
+-- What a byte's step answers, and the state after it. An error changes nothing; memory can be
+-- refused only if something is to be kept.
+abbrev pub StepIs : Outcome → Bool → State → Result (Option (List Word)) ReadError → State → Type 0
+StepIs outcome kept old (Ok None) new = outcome ≡ Goes new
+StepIs outcome kept old (Ok (Some words)) new = (outcome ≡ Gives words) × (new ≡ start)
+StepIs outcome kept old (Err (error.Protocol e)) new = (outcome ≡ Fails e) × (new ≡ old)
+StepIs outcome kept old (Err error.Memory) new = (kept ≡ true) × (new ≡ old)
+
+-- the next byte is to be kept
+abbrev pub KeepsNext : Reader → Type 0
+KeepsNext r = (byte : ℕ) × (bytes : List ℕ) × (r.bytes ≡ byte ∷ bytes) × (keeps r.state.phase byte ≡ true)
+
+-- A call takes the next command. If none is whole it reads all bytes. An error takes nothing, so
+-- that the same call answers it again, or goes on once there is memory.
+abbrev pub TakesNext : Reader → Result (Option (List Word)) ReadError → Reader → Type 0
+TakesNext old (Ok (Some words)) new = (reading_of old ≡ with_commands (words ∷ []) (reading_of new)) × (new.state ≡ start)
+TakesNext old (Ok None) new = (reading_of old ≡ reading_of new) × (new.bytes ≡ [])
+TakesNext old (Err (error.Protocol e)) new = (reading_of old ≡ record { commands = []; ending = Broken e }) × (reading_of new ≡ reading_of old)
+TakesNext old (Err error.Memory) new = KeepsNext new × (reading_of new ≡ reading_of old)

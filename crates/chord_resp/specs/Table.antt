@@ -1,0 +1,233 @@
+-- The table of commands: what the words of a command call for, or why it is refused. Source: the
+-- published pages of the commands; the limits are our own.
+use Rattle.std.specs.Prelude.{◌≡◌, ℕ, Bool, true, false, ◌&&◌, ◌||◌, List, [], ◌∷◌, length, nat_le, ◌==◌, if◌then◌else◌, codes, Option, Some, None, Result, Ok, Err}
+use Rattle.std.specs.Str.{str_eq_ignore_ascii_case}
+use Rattle.chord_resp.specs.declared.reading.word.Word.{Word}
+use Rattle.chord_resp.specs.declared.reading.word.Word.TheVariants.{Whole, Long}
+use Rattle.chord_resp.specs.declared.table.verb.Verb.{Verb}
+use Rattle.chord_resp.specs.declared.table.verb.Verb.TheVariants as verb
+use Rattle.chord_resp.specs.declared.table.operand.Operand.{Operand}
+use Rattle.chord_resp.specs.declared.table.operand.Operand.TheVariants as operand
+use Rattle.chord_resp.specs.declared.table.command.Command.{Command}
+use Rattle.chord_resp.specs.declared.table.command.Command.TheVariants as command
+use Rattle.chord_resp.specs.declared.table.denied.Denied.{Denied}
+use Rattle.chord_resp.specs.declared.table.denied.Denied.TheVariants as denied
+use Rattle.chord_resp.specs.declared.table.refusal.Refusal.{Refusal}
+use Rattle.chord_resp.specs.declared.table.refusal.Refusal.TheVariants.{UnknownCommand, WrongNumber, KeyLength, MemberLength, WordLength, NoDatabase, NoProtocol}
+
+infixl 10 ◌>>=◌
+abbrev pub ◌>>=◌ : {A B : Type 0} → Result A Refusal → (A → Result B Refusal) → Result B Refusal
+(Ok x) >>= f = f x
+(Err e) >>= f = Err e
+
+-- what a function answered, seen by `view`, unless memory ran out
+abbrev pub Gives : {X Y : Type 0} → (X → Y) → Result X Denied → Result Y Refusal → Type 0
+Gives view (Ok x) table = table ≡ Ok (view x)
+Gives view (Err (denied.Refused refusal)) table = table ≡ Err refusal
+Gives view (Err denied.Memory) table = Unit {0}
+
+-- ---- names
+
+-- the name of a command, in lower case
+abbrev pub verb_text : Verb → List ℕ
+verb_text verb.Sadd = codes "sadd"
+verb_text verb.Srem = codes "srem"
+verb_text verb.Smembers = codes "smembers"
+verb_text verb.Scard = codes "scard"
+verb_text verb.Sismember = codes "sismember"
+verb_text verb.Smismember = codes "smismember"
+verb_text verb.Exists = codes "exists"
+verb_text verb.Type = codes "type"
+verb_text verb.Ping = codes "ping"
+verb_text verb.Echo = codes "echo"
+verb_text verb.Select = codes "select"
+verb_text verb.Client = codes "client"
+verb_text verb.Hello = codes "hello"
+verb_text verb.Command = codes "command"
+verb_text verb.Config = codes "config"
+verb_text verb.Info = codes "info"
+verb_text verb.Quit = codes "quit"
+
+-- all of them
+abbrev pub all_verbs : List Verb
+all_verbs = verb.Sadd ∷ verb.Srem ∷ verb.Smembers ∷ verb.Scard ∷ verb.Sismember ∷ verb.Smismember ∷ verb.Exists ∷ verb.Type ∷ verb.Ping ∷ verb.Echo
+    ∷ verb.Select ∷ verb.Client ∷ verb.Hello ∷ verb.Command ∷ verb.Config ∷ verb.Info ∷ verb.Quit ∷ []
+
+-- the word is this text, in upper or lower case
+unfoldable pub is_text : Word → List ℕ → Bool
+is_text (Whole bytes) text = str_eq_ignore_ascii_case bytes text
+is_text (Long count) text = false
+
+-- the first of these that the word names
+abbrev pub first_named : Word → List Verb → Option Verb
+first_named word [] = None
+first_named word (v ∷ vs) = if is_text word (verb_text v) then Some v else first_named word vs
+
+-- the one that the word names
+unfoldable pub verb_of : Word → Option Verb
+verb_of word = first_named word all_verbs
+
+-- how many words may follow a name
+abbrev pub takes : Verb → ℕ → Bool
+takes verb.Sadd words = nat_le 2 words
+takes verb.Srem words = nat_le 2 words
+takes verb.Smembers words = words == 1
+takes verb.Scard words = words == 1
+takes verb.Sismember words = words == 2
+takes verb.Smismember words = nat_le 2 words
+takes verb.Exists words = nat_le 1 words
+takes verb.Type words = words == 1
+takes verb.Ping words = nat_le words 1
+takes verb.Echo words = words == 1
+takes verb.Select words = words == 1
+takes verb.Client words = nat_le 1 words
+takes verb.Hello words = nat_le words 1
+takes verb.Command words = true
+takes verb.Config words = nat_le 1 words
+takes verb.Info words = nat_le words 1
+takes verb.Quit words = words == 0
+
+-- commands on sets
+abbrev pub is_of_sets : Verb → Bool
+is_of_sets verb.Sadd = true
+is_of_sets verb.Srem = true
+is_of_sets verb.Smembers = true
+is_of_sets verb.Scard = true
+is_of_sets verb.Sismember = true
+is_of_sets verb.Smismember = true
+is_of_sets verb.Exists = true
+is_of_sets verb.Type = true
+is_of_sets _ = false
+
+-- ---- operands
+
+-- a key has 1 to 255 bytes, a member at most 4,096
+abbrev pub fits : Operand → List ℕ → Bool
+fits operand.Key bytes = nat_le 1 (length bytes) && nat_le (length bytes) 255
+fits operand.Member bytes = nat_le (length bytes) 4096
+fits operand.Text bytes = true
+
+-- the refusal of another length
+abbrev pub refusal_for : Operand → Refusal
+refusal_for operand.Key = KeyLength
+refusal_for operand.Member = MemberLength
+refusal_for operand.Text = WordLength
+
+-- the bytes of an operand
+abbrev pub bytes_of : Operand → Word → Result (List ℕ) Refusal
+bytes_of o (Whole bytes) = if fits o bytes then Ok bytes else Err (refusal_for o)
+bytes_of o (Long count) = Err (refusal_for o)
+
+-- the first operand, and the words behind it
+abbrev pub first_of : Operand → List Word → Result (List ℕ × List Word) Refusal
+first_of o [] = Err (refusal_for o)
+first_of o (word ∷ words) = do
+  bytes ← bytes_of o word
+  Ok (bytes, words)
+
+-- each word as an operand
+abbrev pub each : Operand → List Word → Result (List (List ℕ)) Refusal
+each o [] = Ok []
+each o (word ∷ words) = do
+  bytes ← bytes_of o word
+  more ← each o words
+  Ok (bytes ∷ more)
+
+-- a call takes the first word as this operand
+abbrev pub TakesOne : Operand → List Word → Result (List ℕ) Refusal → List Word → Type 0
+TakesOne o old (Ok bytes) new = first_of o old ≡ Ok (bytes, new)
+TakesOne o old (Err refusal) new = first_of o old ≡ Err refusal
+
+-- ---- commands on sets
+
+-- what the verb calls for, with this key and the words behind it
+abbrev pub keyed_command : Verb → List ℕ → List Word → Result Command Refusal
+keyed_command verb.Sadd key words = each operand.Member words >>= λ members. Ok (command.Add key members)
+keyed_command verb.Srem key words = each operand.Member words >>= λ members. Ok (command.Remove key members)
+keyed_command verb.Smismember key words = each operand.Member words >>= λ members. Ok (command.AreMembers key members)
+keyed_command verb.Sismember key words = first_of operand.Member words >>= λ member. Ok (command.IsMember key member.0)
+keyed_command verb.Smembers key words = Ok (command.Members key)
+keyed_command verb.Scard key words = Ok (command.Count key)
+keyed_command _ key words = Ok (command.Kind key)
+
+abbrev pub is_exists : Verb → Bool
+is_exists verb.Exists = true
+is_exists _ = false
+
+-- EXISTS has keys alone; the others a key first
+unfoldable pub set_command : Verb → List Word → Result Command Refusal
+set_command v words = if is_exists v then (each operand.Key words >>= λ keys. Ok (command.Exist keys))
+    else (first_of operand.Key words >>= λ key. keyed_command v key.0 key.1)
+
+-- ---- other commands
+
+-- the command, if it has the right number of words
+abbrev pub counted : Bool → Verb → Command → Result Command Refusal
+counted right v c = if right then Ok c else Err (WrongNumber v)
+
+-- PING and ECHO answer their word
+abbrev pub ping_of : List Word → Result Command Refusal
+ping_of [] = Ok command.Ping
+ping_of (word ∷ words) = bytes_of operand.Text word >>= λ bytes. Ok (command.Echo bytes)
+
+-- SELECT 0
+abbrev pub select_of : List Word → Result Command Refusal
+select_of [] = Err NoDatabase
+select_of (word ∷ words) = if is_text word (codes "0") then Ok command.Accept else Err NoDatabase
+
+-- HELLO and HELLO 2
+abbrev pub hello_of : List Word → Result Command Refusal
+hello_of [] = Ok command.Hello
+hello_of (word ∷ words) = if is_text word (codes "2") then Ok command.Hello else Err NoProtocol
+
+-- CLIENT and its second word
+unfoldable pub client_of : Word → List Word → Result Command Refusal
+client_of name [] = Err (WrongNumber verb.Client)
+client_of name (word ∷ words) =
+    if is_text word (codes "setname") || is_text word (codes "no-evict") || is_text word (codes "no-touch") then counted (length words == 1) verb.Client command.Accept
+    else (if is_text word (codes "setinfo") then counted (length words == 2) verb.Client command.Accept
+    else (if is_text word (codes "getname") then counted (length words == 0) verb.Client command.Name
+    else (if is_text word (codes "id") then counted (length words == 0) verb.Client command.Number
+    else Err (UnknownCommand name))))
+
+-- COMMAND and its second word
+unfoldable pub command_command : Word → List Word → Result Command Refusal
+command_command name [] = Ok command.Nothing
+command_command name (word ∷ words) =
+    if is_text word (codes "docs") || is_text word (codes "info") then Ok command.Nothing
+    else (if is_text word (codes "count") then counted (length words == 0) verb.Command command.Commands
+    else Err (UnknownCommand name))
+
+-- CONFIG GET and a name
+unfoldable pub config_of : Word → List Word → Result Command Refusal
+config_of name [] = Err (WrongNumber verb.Config)
+config_of name (word ∷ words) =
+    if is_text word (codes "get") then counted (length words == 1) verb.Config command.Nothing
+    else Err (UnknownCommand name)
+
+abbrev pub connection_command : Verb → Word → List Word → Result Command Refusal
+connection_command verb.Ping name words = ping_of words
+connection_command verb.Echo name words = ping_of words
+connection_command verb.Select name words = select_of words
+connection_command verb.Hello name words = hello_of words
+connection_command verb.Client name words = client_of name words
+connection_command verb.Command name words = command_command name words
+connection_command verb.Config name words = config_of name words
+connection_command verb.Info name words = Ok command.Info
+connection_command _ name words = Ok command.Quit
+
+-- ---- any command
+
+abbrev pub command_with : Verb → Word → List Word → Result Command Refusal
+command_with v name words =
+    if takes v (length words) then (if is_of_sets v then set_command v words else connection_command v name words)
+    else Err (WrongNumber v)
+
+abbrev pub command_named : Option Verb → Word → List Word → Result Command Refusal
+command_named None name words = Err (UnknownCommand name)
+command_named (Some v) name words = command_with v name words
+
+-- the command of some words, of which the first is its name
+unfoldable pub command_of : List Word → Result Command Refusal
+command_of [] = Err (UnknownCommand (Whole []))
+command_of (name ∷ words) = command_named (verb_of name) name words

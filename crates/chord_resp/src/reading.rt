@@ -1,0 +1,10 @@
+pub mod commands;
+mod line;
+mod machine;
+mod numbers;
+mod phase;
+pub mod protocol_error;
+pub mod read_error;
+mod taken;
+pub mod word;
+pub mod words;

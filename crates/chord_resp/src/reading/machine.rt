@@ -1,0 +1,224 @@
+//! Reading a client's bytes, one at a time.
+ghost use Rattle.std.specs.Prelude.{◌≡◌, ◌<◌, true, false, nat_lt, IfOk};
+ghost use Rattle.chord_resp.specs.Machine.{start, step, went, line_step, space_step, line_end, count_end_step, body_step, end_step, word_of_length};
+ghost use Rattle.chord_resp.specs.Reading.{StepIs, keeps, is_at_start};
+
+use crate::limits::{LINE_BYTES, WORD_BYTES};
+use crate::reading::line::{add_word, has_no_room, without_return};
+use crate::reading::numbers::{count_step, mark_step, size_end_step, size_step};
+use crate::reading::phase::Phase;
+use crate::reading::protocol_error::ProtocolError;
+use crate::reading::read_error::ReadError;
+use crate::reading::word::Word;
+use crate::reading::words::Words;
+use chord_map::Bytes;
+use std::alloc::{AllocError, Global};
+use std::marker::Model;
+use std::mem;
+
+/// What has come of a command. It holds at most 1,024 words and 65,536 bytes of the one
+/// that is not whole.
+#[derive(Debug, Drop)]
+pub struct Machine {
+    alloc: Global,
+    phase: Phase,
+    // How many words are still to come.
+    wanted: u32,
+    words: Vec<Word>,
+    // The bytes of the word that is not whole.
+    partial: Vec<u8>,
+}
+
+impl Model for Machine {
+    ghost use Rattle.chord_resp.specs.Machine.{State};
+
+    ghost Value = { State };
+
+    ghost view = { λ m. record { phase = m.phase; wanted = m.wanted; words = m.words.items; partial = m.partial.items } };
+}
+
+impl Machine {
+    pub fn new(alloc: Global) -> Machine
+        ensures { result ≡ start }
+    {
+        Machine {
+            alloc,
+            phase: Phase::Start,
+            wanted: 0,
+            words: Vec::new(alloc),
+            partial: Vec::new(alloc),
+        }
+    }
+
+    pub fn is_at_start(&self) -> bool
+        ensures { result ≡ is_at_start self.now.phase }
+    {
+        self.phase == Phase::Start
+    }
+
+    /// Takes one byte, which may end a command.
+    #[tactic(auto, unfolding(crate::specs::Machine::step))]
+    pub fn step(&mut self, byte: u8) -> Result<Option<Words>, ReadError>
+        ensures { StepIs (step self.old byte) (keeps self.old.phase byte) self.old result self.new }
+    {
+        match self.phase {
+            Phase::Start => {
+                if byte == b'*' {
+                    self.go(Ok(Phase::Count {
+                        digits: 0,
+                        number: 0,
+                    }))
+                } else {
+                    self.line_step(0, byte)
+                }
+            }
+            Phase::Line { seen } => self.line_step(seen, byte),
+            Phase::Count { digits, number } => self.go(count_step(digits, number, byte)),
+            Phase::CountEnd { number } => self.count_end_step(number, byte),
+            Phase::Mark => self.go(mark_step(byte)),
+            Phase::Size { digits, number } => self.go(size_step(digits, number, byte)),
+            Phase::SizeEnd { number } => self.go(size_end_step(number, byte)),
+            Phase::Body { length, left } => self.body_step(length, left, byte),
+            Phase::End { length } => self.end_step(length, byte),
+        }
+    }
+
+    // Goes into the next phase.
+    fn go(&mut self, next: Result<Phase, ProtocolError>) -> Result<Option<Words>, ReadError>
+        ensures { StepIs (went self.old next) false self.old result self.new }
+    {
+        match next {
+            Ok(phase) => {
+                self.phase = phase;
+                Ok(None)
+            }
+            Err(error) => Err(ReadError::Protocol(error)),
+        }
+    }
+
+    // Goes back to the start.
+    fn restart(&mut self)
+        ensures { self.new ≡ start }
+    {
+        self.phase = Phase::Start;
+        self.wanted = 0;
+        self.words.clear();
+        self.partial.clear();
+    }
+
+    // Hands out the words, and goes back to the start.
+    fn give(&mut self) -> Words
+        ensures words { result ≡ self.old.words }
+        ensures start { self.new ≡ start }
+    {
+        let words = mem::replace(&mut self.words, Vec::new(self.alloc));
+        self.restart();
+        Words::from_vec(words)
+    }
+
+    fn line_step(&mut self, seen: u32, byte: u8) -> Result<Option<Words>, ReadError>
+        ensures { StepIs (line_step self.old seen byte) true self.old result self.new }
+    {
+        if byte == b'\n' {
+            return self.line_end();
+        }
+        if LINE_BYTES <= seen {
+            return Err(ReadError::Protocol(ProtocolError::TooLong));
+        }
+        if byte == b' ' {
+            return self.space_step(seen);
+        }
+        self.partial.push(byte)?;
+        self.phase = Phase::Line { seen: seen + 1 };
+        Ok(None)
+    }
+
+    fn space_step(&mut self, seen: u32) -> Result<Option<Words>, ReadError>
+        requires { seen < 65536 }
+        ensures { StepIs (space_step self.old seen) true self.old result self.new }
+    {
+        if has_no_room(&self.words, &self.partial) {
+            return Err(ReadError::Protocol(ProtocolError::TooLong));
+        }
+        add_word(self.alloc, &mut self.words, &self.partial)?;
+        self.partial.clear();
+        self.phase = Phase::Line { seen: seen + 1 };
+        Ok(None)
+    }
+
+    fn line_end(&mut self) -> Result<Option<Words>, ReadError>
+        ensures { StepIs (line_end self.old) true self.old result self.new }
+    {
+        let last = without_return(&self.partial);
+        if has_no_room(&self.words, last) {
+            return Err(ReadError::Protocol(ProtocolError::TooLong));
+        }
+        add_word(self.alloc, &mut self.words, last)?;
+        if self.words.is_empty() {
+            self.restart();
+            return Ok(None);
+        }
+        Ok(Some(self.give()))
+    }
+
+    fn count_end_step(&mut self, number: u32, byte: u8) -> Result<Option<Words>, ReadError>
+        ensures { StepIs (count_end_step self.old number byte) false self.old result self.new }
+    {
+        if byte != b'\n' {
+            return Err(ReadError::Protocol(ProtocolError::BadCount));
+        }
+        self.restart();
+        if number != 0 {
+            self.wanted = number;
+            self.phase = Phase::Mark;
+        }
+        Ok(None)
+    }
+
+    fn body_step(&mut self, length: u32, left: u32, byte: u8) -> Result<Option<Words>, ReadError>
+        ensures { StepIs (body_step self.old length left byte) (nat_lt 0 left) self.old result self.new }
+    {
+        if left == 0 {
+            if byte != b'\r' {
+                return Err(ReadError::Protocol(ProtocolError::BadLength));
+            }
+            self.phase = Phase::End { length };
+            return Ok(None);
+        }
+        if length <= WORD_BYTES {
+            self.partial.push(byte)?;
+        }
+        self.phase = Phase::Body {
+            length,
+            left: left - 1,
+        };
+        Ok(None)
+    }
+
+    // The word that has ended.
+    fn word(&self, length: u32) -> Result<Word, AllocError>
+        ensures { IfOk result (λ word. word ≡ word_of_length length self.now.partial) }
+    {
+        if WORD_BYTES < length {
+            return Ok(Word::Long(length as usize));
+        }
+        Ok(Word::Whole(Bytes::from_slice(self.alloc, &self.partial)?))
+    }
+
+    fn end_step(&mut self, length: u32, byte: u8) -> Result<Option<Words>, ReadError>
+        ensures { StepIs (end_step self.old length byte) true self.old result self.new }
+    {
+        if byte != b'\n' {
+            return Err(ReadError::Protocol(ProtocolError::BadLength));
+        }
+        let word = self.word(length)?;
+        self.words.push(word)?;
+        if self.wanted <= 1 {
+            return Ok(Some(self.give()));
+        }
+        self.wanted -= 1;
+        self.partial.clear();
+        self.phase = Phase::Mark;
+        Ok(None)
+    }
+}

@@ -1,0 +1,12 @@
+/// Why the bytes of a client are no command. It ends the connection.
+#[derive(Clone, Copy, Debug, PartialEq, Eq)]
+pub enum ProtocolError {
+    /// The count of words is no number, or above 1,024.
+    BadCount,
+    /// This byte is where a word's `$` must be.
+    NoDollar(u8),
+    /// The length of a word is no number or above 1,048,576, or no `\r\n` is behind the word.
+    BadLength,
+    /// An inline command has more than 65,536 bytes or 1,024 words, or a number more than 32 digits.
+    TooLong,
+}

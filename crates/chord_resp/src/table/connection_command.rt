@@ -1,0 +1,130 @@
+//! The commands that ask the ring nothing.
+ghost use Rattle.std.specs.Prelude.{◌≡◌};
+ghost use Rattle.chord_resp.specs.Table.{counted, ping_of, select_of, hello_of, client_of, command_command, config_of, connection_command};
+
+use crate::reading::word::Word;
+use crate::table::command::Command;
+use crate::table::operand::Operand;
+use crate::table::operands::Operands;
+use crate::table::refusal::Refusal;
+use crate::table::verb::{Verb, is_text};
+
+// The command, if it has the right number of words.
+fn counted(fits: bool, verb: Verb, command: Command) -> Result<Command, Refusal>
+    ensures { result ≡ counted fits verb command }
+{
+    if fits {
+        Ok(command)
+    } else {
+        Err(Refusal::WrongNumber(verb))
+    }
+}
+
+fn ping_of(mut operands: Operands) -> Result<Command, Refusal>
+    ensures { result ≡ ping_of operands }
+{
+    match operands.next() {
+        None => Ok(Command::Ping),
+        Some(word) => {
+            let word = Operand::Text.bytes_of(word)?;
+            Ok(Command::Echo { word })
+        }
+    }
+}
+
+fn select_of(mut operands: Operands) -> Result<Command, Refusal>
+    ensures { result ≡ select_of operands }
+{
+    match operands.next() {
+        None => Err(Refusal::NoDatabase),
+        Some(word) => {
+            if is_text(&word, b"0") {
+                Ok(Command::Accept)
+            } else {
+                Err(Refusal::NoDatabase)
+            }
+        }
+    }
+}
+
+fn hello_of(mut operands: Operands) -> Result<Command, Refusal>
+    ensures { result ≡ hello_of operands }
+{
+    match operands.next() {
+        None => Ok(Command::Hello),
+        Some(word) => {
+            if is_text(&word, b"2") {
+                Ok(Command::Hello)
+            } else {
+                Err(Refusal::NoProtocol)
+            }
+        }
+    }
+}
+
+#[tactic(auto, unfolding(crate::specs::Table::client_of))]
+fn client_of(name: Word, mut operands: Operands) -> Result<Command, Refusal>
+    ensures { result ≡ client_of name operands }
+{
+    let Some(word) = operands.next() else {
+        return Err(Refusal::WrongNumber(Verb::Client));
+    };
+    let left = operands.left();
+    if is_text(&word, b"setname") || is_text(&word, b"no-evict") || is_text(&word, b"no-touch") {
+        counted(left == 1, Verb::Client, Command::Accept)
+    } else if is_text(&word, b"setinfo") {
+        counted(left == 2, Verb::Client, Command::Accept)
+    } else if is_text(&word, b"getname") {
+        counted(left == 0, Verb::Client, Command::Name)
+    } else if is_text(&word, b"id") {
+        counted(left == 0, Verb::Client, Command::Number)
+    } else {
+        Err(Refusal::UnknownCommand { name })
+    }
+}
+
+#[tactic(auto, unfolding(crate::specs::Table::command_command))]
+fn command_command(name: Word, mut operands: Operands) -> Result<Command, Refusal>
+    ensures { result ≡ command_command name operands }
+{
+    let Some(word) = operands.next() else {
+        return Ok(Command::Nothing);
+    };
+    if is_text(&word, b"docs") || is_text(&word, b"info") {
+        Ok(Command::Nothing)
+    } else if is_text(&word, b"count") {
+        counted(operands.left() == 0, Verb::Command, Command::Commands)
+    } else {
+        Err(Refusal::UnknownCommand { name })
+    }
+}
+
+#[tactic(auto, unfolding(crate::specs::Table::config_of))]
+fn config_of(name: Word, mut operands: Operands) -> Result<Command, Refusal>
+    ensures { result ≡ config_of name operands }
+{
+    let Some(word) = operands.next() else {
+        return Err(Refusal::WrongNumber(Verb::Config));
+    };
+    if is_text(&word, b"get") {
+        counted(operands.left() == 1, Verb::Config, Command::Nothing)
+    } else {
+        Err(Refusal::UnknownCommand { name })
+    }
+}
+
+/// What another verb calls for.
+pub fn connection_command(verb: Verb, name: Word, operands: Operands) -> Result<Command, Refusal>
+    ensures { result ≡ connection_command verb name operands }
+{
+    match verb {
+        Verb::Ping | Verb::Echo => ping_of(operands),
+        Verb::Select => select_of(operands),
+        Verb::Hello => hello_of(operands),
+        Verb::Client => client_of(name, operands),
+        Verb::Command => command_command(name, operands),
+        Verb::Config => config_of(name, operands),
+        Verb::Info => Ok(Command::Info),
+        _ => Ok(Command::Quit),
+    }
+}

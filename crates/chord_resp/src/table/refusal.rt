@@ -1,0 +1,38 @@
+use crate::reading::protocol_error::ProtocolError;
+use crate::reading::word::Word;
+use crate::table::verb::Verb;
+
+/// How many members of a command were done, and of how many.
+#[derive(Clone, Copy, Debug, PartialEq, Eq)]
+pub struct Progress {
+    pub done: u64,
+    pub of: u64,
+}
+
+/// Why a command is answered by an error.
+#[derive(Debug, Drop)]
+pub enum Refusal {
+    /// The bytes are no command.
+    Protocol(ProtocolError),
+    UnknownCommand { name: Word },
+    /// Too few or too many words.
+    WrongNumber(Verb),
+    /// A key is empty or above 255 bytes.
+    KeyLength,
+    /// A member is above 4,096 bytes.
+    MemberLength,
+    /// Another word is above 4,096 bytes.
+    WordLength,
+    /// There is one database, number 0.
+    NoDatabase,
+    /// There is one version of the protocol, 2.
+    NoProtocol,
+    /// The set has 1,000 members.
+    SetFull(Progress),
+    /// The node's store is full. The request may still act.
+    StoreFull(Progress),
+    /// No answer came in time. The request may still act.
+    NoAnswer(Progress),
+    /// An earlier request of the connection is not answered yet.
+    Unsettled,
+}

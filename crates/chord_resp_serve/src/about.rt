@@ -1,0 +1,8 @@
+/// What the commands about the server are answered.
+#[derive(Clone, Copy, Debug)]
+pub struct About<'a> {
+    /// The connection's number.
+    pub number: u64,
+    /// The text of INFO.
+    pub info: &'a [u8],
+}

@@ -1,0 +1,23 @@
+//! Redis's commands as questions to an asker.
+//!
+//! [`answer_words`] does what the words of a command call for: it asks its requests, each once and
+//! in order, and adds the answer to the output. A request that got no reply is sent again before the
+//! connection's next question.
+#![tactic(auto)]
+
+mod about;
+mod answer;
+mod asking;
+mod flow;
+mod numbers;
+mod one_command;
+mod requests;
+mod settling;
+mod tally;
+mod words;
+
+pub use about::About;
+pub use flow::Flow;
+pub use numbers::Numbers;
+pub use one_command::answer_command;
+pub use words::answer_words;

@@ -1,0 +1,60 @@
+//! One command of a connection.
+ghost use Rattle.std.specs.Prelude.{◌≡◌, length};
+ghost use Rattle.chord_resp_serve.specs.Asking.{requests_of};
+ghost use Rattle.chord_resp_serve.specs.Answering.{AnswersCommand, Tells};
+
+use crate::about::About;
+use crate::answer::put_answer;
+use crate::asking::ask_each;
+use crate::numbers::Numbers;
+use crate::requests::requests_of;
+use crate::settling::settle;
+use crate::tally::{Stopped, Tally};
+use chord_resp::{Command, Refusal, put_refusal};
+use chord_serve::Asker;
+use std::alloc::{AllocError, Global};
+
+// Adds the answer to a command of so many requests, or its error.
+fn tell(
+    alloc: Global,
+    out: &mut Vec<u8>,
+    about: About<'_>,
+    command: &Command,
+    requests: usize,
+    outcome: Result<Tally, Stopped>,
+) -> Result<(), AllocError>
+    requires { requests ≡ length (requests_of command.now) }
+    ensures { Tells about.entry command.now outcome result out.old.items out.new.items }
+{
+    match outcome {
+        Ok(tally) => put_answer(alloc, out, about, command, &tally),
+        Err(stopped) => match stopped.refusal(requests as u64) {
+            Some(refusal) => put_refusal(alloc, out, &refusal),
+            None => Err(AllocError),
+        },
+    }
+}
+
+/// Asks the requests of a command, and adds its answer to the output. If a request got no reply
+/// before, it is sent again first, and the command is refused if it still gets none.
+/// At an error memory ran out, and nothing is added.
+pub fn answer_command<A: Asker>(
+    alloc: Global,
+    asker: &mut A,
+    numbers: &mut Numbers,
+    out: &mut Vec<u8>,
+    about: About<'_>,
+    command: &Command,
+) -> Result<(), AllocError>
+    ensures { AnswersCommand A.answers about.entry command.now numbers.old asker.old result out.old.items out.new.items numbers.new asker.new }
+{
+    let requests = requests_of(alloc, command)?;
+    if requests.is_empty() {
+        return put_answer(alloc, out, about, command, &Tally::new());
+    }
+    if !settle(asker, numbers)? {
+        return put_refusal(alloc, out, &Refusal::Unsettled);
+    }
+    let outcome = ask_each(asker, numbers, &requests, Tally::new());
+    tell(alloc, out, about, command, requests.len(), outcome)
+}

@@ -1,0 +1,4 @@
+//! Commands answered by a scripted asker.
+
+mod askers;
+mod commands;

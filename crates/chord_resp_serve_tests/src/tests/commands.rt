@@ -1,0 +1,155 @@
+//! Commands, the questions that they ask, and their answers.
+use super::askers::{Script, Scripted, Trouble};
+use chord_map::Request;
+use chord_resp::Commands;
+use chord_resp_serve::{About, Flow, Numbers, answer_words};
+use std::alloc::{AllocError, Global};
+use std::process::Abort;
+
+/// The requests that were asked, as text, and how often one was sent again.
+fn show_requests(text: &mut Vec<u8>, asker: &Scripted) -> Result<(), AllocError> {
+    for request in &asker.requests {
+        let name = match request {
+            Request::Insert { .. } => b"+",
+            Request::Retrieve { .. } => b"?",
+            Request::Remove { .. } => b"-",
+        };
+        text.extend_from_slice(name.as_slice())?;
+        text.extend_from_slice(request.value())?;
+    }
+    for _ in 0..asker.retried.min(9) {
+        text.extend_from_slice(b"!")?;
+    }
+    Ok(())
+}
+
+/// Answers the commands of the stream up to QUIT or the end of memory, in which case it adds a `#`.
+fn answer_all(
+    alloc: Global,
+    asker: &mut Scripted,
+    out: &mut Vec<u8>,
+    commands: &mut Commands,
+) -> Option<()> {
+    let about = About {
+        number: 7,
+        info: b"a:b\n",
+    };
+    let mut numbers = Numbers {
+        asked: 0,
+        pending: None,
+    };
+    for _ in 0..100 {
+        let Some(words) = commands.next().ok()? else {
+            return Some(());
+        };
+        match answer_words(alloc, asker, &mut numbers, out, about, words) {
+            Ok(Flow::GoesOn) => {}
+            Ok(Flow::Quits) => return Some(()),
+            Err(_) => {
+                out.extend_from_slice(b"#").ok()?;
+                return Some(());
+            }
+        }
+    }
+    None
+}
+
+/// What is written for the input, and then the questions as text.
+fn answered(alloc: Global, input: &[u8], script: Script) -> Option<Vec<u8>> {
+    let mut commands = Commands::new(alloc);
+    let fed = commands.feed(input);
+    let mut asker = Scripted::new(alloc, script);
+    let mut out = Vec::new(alloc);
+    let done = answer_all(alloc, &mut asker, &mut out, &mut commands);
+    let shown = show_requests(&mut out, &asker);
+    drop(commands);
+    drop(asker);
+    if fed.is_err() || done.is_none() || shown.is_err() {
+        drop(out);
+        return None;
+    }
+    Some(out)
+}
+
+/// Whether the input is answered so.
+fn is_answered(alloc: Global, input: &[u8], script: Script, want: &[u8]) -> Option<bool> {
+    let out = answered(alloc, input, script)?;
+    let is_same = out.as_slice() == want;
+    drop(out);
+    Some(is_same)
+}
+
+/// A request that no test asks.
+const NO_TROUBLE: Script = Script {
+    number: 0,
+    trouble: Trouble::Memory,
+    vain: 0,
+};
+
+#[test]
+fn commands_on_sets(rt: HostRuntime) {
+    let input =
+        b"sadd k b a b\nsmembers k\nscard k\nsismember k a\nsmismember k a x\ntype k\ntype l\nexists k l k\nsrem k a x\nsmembers k\n";
+    let want =
+        b":2\r\n*2\r\n$1\r\na\r\n$1\r\nb\r\n:2\r\n:1\r\n*2\r\n:1\r\n:0\r\n+set\r\n+none\r\n:2\r\n:1\r\n*1\r\n$1\r\nb\r\n+b+a+b?????????-a-x?";
+    let is_so = is_answered(rt.alloc(), input, NO_TROUBLE, want);
+    assert!(rt; is_so == Some(true), "each question once and in order");
+}
+
+#[test]
+fn commands_that_ask_nothing(rt: HostRuntime) {
+    let input =
+        b"ping\necho hi\nselect 0\nclient getname\nclient id\ncommand\ncommand count\nconfig get x\ninfo\nget k\nquit\nping\n";
+    let want =
+        b"+PONG\r\n$2\r\nhi\r\n+OK\r\n$-1\r\n:7\r\n*0\r\n:17\r\n*0\r\n$4\r\na:b\n\r\n-ERR unknown command 'get'\r\n+OK\r\n";
+    let is_so = is_answered(rt.alloc(), input, NO_TROUBLE, want);
+    assert!(rt; is_so == Some(true), "nothing behind QUIT is answered");
+    let hello =
+        b"*14\r\n$6\r\nserver\r\n$5\r\nchord\r\n$7\r\nversion\r\n$5\r\n7.0.0\r\n$5\r\nproto\r\n:2\r\n$2\r\nid\r\n:7\r\n$4\r\nmode\r\n$10\r\nstandalone\r\n$4\r\nrole\r\n$6\r\nmaster\r\n$7\r\nmodules\r\n*0\r\n";
+    let is_so = is_answered(rt.alloc(), b"hello 2\n", NO_TROUBLE, hello);
+    assert!(rt; is_so == Some(true), "HELLO");
+}
+
+#[test]
+fn a_full_store_ends_a_command(rt: HostRuntime) {
+    let script = Script {
+        number: 2,
+        trouble: Trouble::Full,
+        vain: 1,
+    };
+    let input = b"sadd k a b c\nping\nscard k\nscard k\nscard k\n";
+    let want =
+        b"-OOM the node's store is full, 1 of 3 done\r\n+PONG\r\n-TRYAGAIN an earlier request is not settled\r\n:2\r\n:2\r\n+a+b??!!";
+    let is_so = is_answered(rt.alloc(), input, script, want);
+    assert!(rt;
+        is_so == Some(true),
+        "it is sent again before the next question"
+    );
+}
+
+#[test]
+fn no_answer_ends_a_command(rt: HostRuntime) {
+    let script = Script {
+        number: 1,
+        trouble: Trouble::NoAnswer,
+        vain: 0,
+    };
+    let input = b"sadd k a\nscard k\n";
+    let want = b"-TRYAGAIN no answer in time, it may have acted\r\n:1\r\n+a?!";
+    let is_so = is_answered(rt.alloc(), input, script, want);
+    assert!(rt; is_so == Some(true), "it may have acted");
+}
+
+#[test]
+fn memory_ends_the_connection(rt: HostRuntime) {
+    let script = Script {
+        number: 2,
+        trouble: Trouble::Memory,
+        vain: 0,
+    };
+    let is_so = is_answered(rt.alloc(), b"sadd k a b c\nping\n", script, b"#+a+b");
+    assert!(rt;
+        is_so == Some(true),
+        "nothing is answered, and nothing more is asked"
+    );
+}

@@ -1,0 +1,302 @@
+//! Streams and the commands that they spell.
+use super::shown::{Stop, show_commands, show_pieces};
+use chord_resp::{Commands, ProtocolError, laws};
+use std::alloc::Global;
+use std::process::Abort;
+
+/// A stream, its commands as text, and why reading stopped.
+struct Row {
+    bytes: &'static [u8],
+    commands: &'static [u8],
+    stop: Stop,
+}
+
+// What clients write.
+const COMMANDS: [Row; 13] = [
+    Row {
+        bytes: b"",
+        commands: b"",
+        stop: Stop::Between,
+    },
+    Row {
+        bytes: b"*1\r\n$4\r\nPING\r\n",
+        commands: b"PING,;",
+        stop: Stop::Between,
+    },
+    Row {
+        bytes: b"*2\r\n$4\r\nECHO\r\n$0\r\n\r\n",
+        commands: b"ECHO,,;",
+        stop: Stop::Between,
+    },
+    Row {
+        bytes: b"*2\r\n$3\r\na\r\n\r\n$2\r\n\r\n\r\n",
+        commands: b"a\r\n,\r\n,;",
+        stop: Stop::Between,
+    },
+    Row {
+        bytes: b"*0\r\n*1\r\n$1\r\na\r\n",
+        commands: b"a,;",
+        stop: Stop::Between,
+    },
+    Row {
+        bytes: b"*01\r\n$001\r\na\r\n",
+        commands: b"a,;",
+        stop: Stop::Between,
+    },
+    Row {
+        bytes: b"ping\r\n",
+        commands: b"ping,;",
+        stop: Stop::Between,
+    },
+    Row {
+        bytes: b"ping\n",
+        commands: b"ping,;",
+        stop: Stop::Between,
+    },
+    Row {
+        bytes: b"  sadd  k m\t \r\nb\n",
+        commands: b"sadd,k,m\t,;b,;",
+        stop: Stop::Between,
+    },
+    Row {
+        bytes: b"\r\n\n  \n",
+        commands: b"",
+        stop: Stop::Between,
+    },
+    Row {
+        bytes: b"a\rb\r\n",
+        commands: b"a\rb,;",
+        stop: Stop::Between,
+    },
+    Row {
+        bytes: b"*1\r\n$2\r\na",
+        commands: b"",
+        stop: Stop::Within,
+    },
+    Row {
+        bytes: b"pin",
+        commands: b"",
+        stop: Stop::Within,
+    },
+];
+
+// What is no command.
+const ERRORS: [Row; 13] = [
+    Row {
+        bytes: b"*x\r\n",
+        commands: b"",
+        stop: Stop::Protocol(ProtocolError::BadCount),
+    },
+    Row {
+        bytes: b"*\r\n",
+        commands: b"",
+        stop: Stop::Protocol(ProtocolError::BadCount),
+    },
+    Row {
+        bytes: b"*-1\r\n",
+        commands: b"",
+        stop: Stop::Protocol(ProtocolError::BadCount),
+    },
+    Row {
+        bytes: b"*1025\r\n",
+        commands: b"",
+        stop: Stop::Protocol(ProtocolError::BadCount),
+    },
+    Row {
+        bytes: b"*1\n",
+        commands: b"",
+        stop: Stop::Protocol(ProtocolError::BadCount),
+    },
+    Row {
+        bytes: b"*1\r\r",
+        commands: b"",
+        stop: Stop::Protocol(ProtocolError::BadCount),
+    },
+    Row {
+        bytes: b"*1\r\n:1\r\n",
+        commands: b"",
+        stop: Stop::Protocol(ProtocolError::NoDollar(b':')),
+    },
+    Row {
+        bytes: b"a\n*1\r\n$+1\r\n",
+        commands: b"a,;",
+        stop: Stop::Protocol(ProtocolError::BadLength),
+    },
+    Row {
+        bytes: b"*1\r\n$1048577\r\n",
+        commands: b"",
+        stop: Stop::Protocol(ProtocolError::BadLength),
+    },
+    Row {
+        bytes: b"*1\r\n$\r\n",
+        commands: b"",
+        stop: Stop::Protocol(ProtocolError::BadLength),
+    },
+    Row {
+        bytes: b"*1\r\n$1\r\nabc\r\n",
+        commands: b"",
+        stop: Stop::Protocol(ProtocolError::BadLength),
+    },
+    Row {
+        bytes: b"*1\r\n$1\r\na\r\r",
+        commands: b"",
+        stop: Stop::Protocol(ProtocolError::BadLength),
+    },
+    Row {
+        bytes: b"*000000000000000000000000000000001\r\n",
+        commands: b"",
+        stop: Stop::Protocol(ProtocolError::TooLong),
+    },
+];
+
+/// Whether the stream in these pieces spells what the row says.
+fn is_read(alloc: Global, row: &Row, cut: usize) -> bool {
+    let cut = cut.min(row.bytes.len());
+    let (first, second) = row.bytes.split_at(cut);
+    let mut text = Vec::new(alloc);
+    let stop = show_pieces(alloc, &mut text, first, second);
+    let is_same = stop == row.stop && text.as_slice() == row.commands;
+    drop(text);
+    is_same
+}
+
+/// The first cut at which the row is not read so.
+fn wrong_cut(alloc: Global, row: &Row) -> Option<usize> {
+    for cut in 0..row.bytes.len() {
+        if !is_read(alloc, row, cut) {
+            return Some(cut);
+        }
+    }
+    if is_read(alloc, row, row.bytes.len()) {
+        None
+    } else {
+        Some(row.bytes.len())
+    }
+}
+
+#[test]
+fn reads_what_clients_write(rt: HostRuntime) {
+    for (place, row) in COMMANDS.iter().enumerate() {
+        let wrong = wrong_cut(rt.alloc(), row);
+        assert!(rt; wrong.is_none(), "row {place}: {wrong:?}");
+    }
+}
+
+#[test]
+fn ends_at_the_first_error(rt: HostRuntime) {
+    for (place, row) in ERRORS.iter().enumerate() {
+        let wrong = wrong_cut(rt.alloc(), row);
+        assert!(rt; wrong.is_none(), "row {place}: {wrong:?}");
+    }
+}
+
+/// Three commands, whose words have line ends and a `*` in them.
+const THREE: Row = Row {
+    bytes: b"*3\r\n$4\r\nSADD\r\n$1\r\nk\r\n$3\r\n*\r\n\r\nsmembers k\r\n*1\r\n$4\r\nPING\r\n",
+    commands: b"SADD,k,*\r\n,;smembers,k,;PING,;",
+    stop: Stop::Between,
+};
+
+#[test]
+fn three_commands_cut_after_each_byte(rt: HostRuntime) {
+    let wrong = wrong_cut(rt.alloc(), &THREE);
+    assert!(rt; wrong.is_none(), "{wrong:?}");
+}
+
+/// A command of one word of so many bytes, as text.
+fn word_of(alloc: Global, head: &[u8], length: usize) -> Option<(Vec<u8>, Stop)> {
+    let mut bytes = Vec::from_slice(alloc, head).ok()?;
+    for _ in 0..length {
+        bytes.push(b'x').ok()?;
+    }
+    bytes.extend_from_slice(b"\r\n").ok()?;
+    let mut text = Vec::new(alloc);
+    let stop = show_pieces(alloc, &mut text, &bytes, b"");
+    drop(bytes);
+    Some((text, stop))
+}
+
+/// How long the text of such a command is, and why it stopped.
+fn length_of_word(alloc: Global, head: &[u8], length: usize) -> Option<(usize, Stop)> {
+    let (text, stop) = word_of(alloc, head, length)?;
+    let count = text.len();
+    drop(text);
+    Some((count, stop))
+}
+
+#[test]
+fn words_above_4096_bytes_are_kept_by_their_length(rt: HostRuntime) {
+    let whole = length_of_word(rt.alloc(), b"*1\r\n$4096\r\n", 4096);
+    assert!(rt;
+        whole == Some((4098, Stop::Between)),
+        "4,096 bytes are kept"
+    );
+    let long = length_of_word(rt.alloc(), b"*1\r\n$4097\r\n", 4097);
+    assert!(rt; long == Some((8, Stop::Between)), "4,097 bytes are not");
+    let inline = length_of_word(rt.alloc(), b"", 4097);
+    assert!(rt;
+        inline == Some((8, Stop::Between)),
+        "nor in an inline command"
+    );
+}
+
+#[test]
+fn an_inline_command_has_at_most_65536_bytes(rt: HostRuntime) {
+    // The `\r` is one of them.
+    let most = length_of_word(rt.alloc(), b"", 65_535);
+    assert!(rt; most == Some((8, Stop::Between)), "65,536 bytes are read");
+    let over = length_of_word(rt.alloc(), b"", 65_536);
+    let too_long = Stop::Protocol(ProtocolError::TooLong);
+    assert!(rt; over == Some((0, too_long)), "one more is refused");
+}
+
+/// Why reading stopped at an inline command of so many words.
+fn stop_of_words(alloc: Global, count: usize) -> Option<Stop> {
+    let mut bytes = Vec::new(alloc);
+    for _ in 0..count {
+        bytes.extend_from_slice(b"a ").ok()?;
+    }
+    bytes.push(b'\n').ok()?;
+    let mut text = Vec::new(alloc);
+    let stop = show_pieces(alloc, &mut text, &bytes, b"");
+    drop(text);
+    drop(bytes);
+    Some(stop)
+}
+
+#[test]
+fn an_inline_command_has_at_most_1024_words(rt: HostRuntime) {
+    let most = stop_of_words(rt.alloc(), 1024);
+    assert!(rt; most == Some(Stop::Between), "1,024 words are read");
+    let over = stop_of_words(rt.alloc(), 1025);
+    assert!(rt;
+        over == Some(Stop::Protocol(ProtocolError::TooLong)),
+        "one more is refused"
+    );
+}
+
+#[test]
+fn an_error_stays(rt: HostRuntime) {
+    let mut commands = Commands::new(rt.alloc());
+    let fed = commands.feed(b"*1\r\n:ping\r\n");
+    assert!(rt; fed.is_ok());
+    let mut text = Vec::new(rt.alloc());
+    let first = show_commands(&mut text, &mut commands);
+    let left = commands.left();
+    let second = show_commands(&mut text, &mut commands);
+    let is_empty = text.is_empty();
+    drop(text);
+    drop(commands);
+    let error = Stop::Protocol(ProtocolError::NoDollar(b':'));
+    assert!(rt; first == error, "the word has no `$`");
+    assert!(rt; second == error, "the same call answers it again");
+    assert!(rt; left == 7, "nothing behind the error is read");
+    assert!(rt; is_empty, "no command is given");
+}
+
+#[test]
+fn laws_can_be_called(_rt: HostRuntime) {
+    laws::cuts_do_not_matter();
+    laws::arrays_are_read();
+    laws::inline_commands_are_read();
+}

@@ -1,0 +1,369 @@
+//! The table of commands.
+use chord_map::{Bytes, Values};
+use chord_resp::{Command, Commands, Denied, Verb, Word, command_of, refusal_text};
+use std::alloc::{AllocError, Global};
+use std::process::Abort;
+
+/// A line of a client, and what it calls for, as text.
+struct Row {
+    line: &'static [u8],
+    command: &'static [u8],
+}
+
+const SETS: [Row; 14] = [
+    Row {
+        line: b"SADD k a\n",
+        command: b"add k a",
+    },
+    Row {
+        line: b"sadd k b a b\n",
+        command: b"add k b a b",
+    },
+    Row {
+        line: b"SReM k a\n",
+        command: b"remove k a",
+    },
+    Row {
+        line: b"smembers k\n",
+        command: b"members k",
+    },
+    Row {
+        line: b"scard k\n",
+        command: b"count k",
+    },
+    Row {
+        line: b"sismember k a\n",
+        command: b"has k a",
+    },
+    Row {
+        line: b"smismember k a b\n",
+        command: b"has each k a b",
+    },
+    Row {
+        line: b"exists k l\n",
+        command: b"exist k l",
+    },
+    Row {
+        line: b"type k\n",
+        command: b"type k",
+    },
+    Row {
+        line: b"sadd k\n",
+        command: b"ERR wrong number of arguments for 'sadd' command",
+    },
+    Row {
+        line: b"Scard\n",
+        command: b"ERR wrong number of arguments for 'scard' command",
+    },
+    Row {
+        line: b"scard k l\n",
+        command: b"ERR wrong number of arguments for 'scard' command",
+    },
+    Row {
+        line: b"exists\n",
+        command: b"ERR wrong number of arguments for 'exists' command",
+    },
+    Row {
+        line: b"sismember k a b\n",
+        command: b"ERR wrong number of arguments for 'sismember' command",
+    },
+];
+
+const OTHERS: [Row; 31] = [
+    Row {
+        line: b"PING\n",
+        command: b"ping",
+    },
+    Row {
+        line: b"ping hello\n",
+        command: b"echo hello",
+    },
+    Row {
+        line: b"ping a b\n",
+        command: b"ERR wrong number of arguments for 'ping' command",
+    },
+    Row {
+        line: b"echo hello\n",
+        command: b"echo hello",
+    },
+    Row {
+        line: b"echo\n",
+        command: b"ERR wrong number of arguments for 'echo' command",
+    },
+    Row {
+        line: b"select 0\n",
+        command: b"ok",
+    },
+    Row {
+        line: b"select 1\n",
+        command: b"ERR DB index is out of range",
+    },
+    Row {
+        line: b"client setname x\n",
+        command: b"ok",
+    },
+    Row {
+        line: b"client SETINFO lib-name x\n",
+        command: b"ok",
+    },
+    Row {
+        line: b"client no-evict on\n",
+        command: b"ok",
+    },
+    Row {
+        line: b"client no-touch on\n",
+        command: b"ok",
+    },
+    Row {
+        line: b"client setinfo x\n",
+        command: b"ERR wrong number of arguments for 'client' command",
+    },
+    Row {
+        line: b"client getname\n",
+        command: b"name",
+    },
+    Row {
+        line: b"client id\n",
+        command: b"number",
+    },
+    Row {
+        line: b"CLIENT kill x\n",
+        command: b"ERR unknown command 'CLIENT'",
+    },
+    Row {
+        line: b"client\n",
+        command: b"ERR wrong number of arguments for 'client' command",
+    },
+    Row {
+        line: b"hello\n",
+        command: b"hello",
+    },
+    Row {
+        line: b"hello 2\n",
+        command: b"hello",
+    },
+    Row {
+        line: b"hello 3\n",
+        command: b"NOPROTO unsupported protocol version",
+    },
+    Row {
+        line: b"command\n",
+        command: b"nothing",
+    },
+    Row {
+        line: b"command docs ping\n",
+        command: b"nothing",
+    },
+    Row {
+        line: b"command info ping echo\n",
+        command: b"nothing",
+    },
+    Row {
+        line: b"command count\n",
+        command: b"commands",
+    },
+    Row {
+        line: b"command list\n",
+        command: b"ERR unknown command 'command'",
+    },
+    Row {
+        line: b"config get save\n",
+        command: b"nothing",
+    },
+    Row {
+        line: b"config set save x\n",
+        command: b"ERR unknown command 'config'",
+    },
+    Row {
+        line: b"info\n",
+        command: b"info",
+    },
+    Row {
+        line: b"info server\n",
+        command: b"info",
+    },
+    Row {
+        line: b"quit\n",
+        command: b"quit",
+    },
+    Row {
+        line: b"get k\n",
+        command: b"ERR unknown command 'get'",
+    },
+    Row {
+        line: b"sad\x01d\x7f k\n",
+        command: b"ERR unknown command 'sad?d?'",
+    },
+];
+
+fn show_all(text: &mut Vec<u8>, values: &Values) -> Result<(), AllocError> {
+    for value in values.as_slice() {
+        text.push(b' ')?;
+        text.extend_from_slice(value.as_slice())?;
+    }
+    Ok(())
+}
+
+fn show_key(text: &mut Vec<u8>, name: &[u8], key: &Bytes) -> Result<(), AllocError> {
+    text.extend_from_slice(name)?;
+    text.push(b' ')?;
+    text.extend_from_slice(key.as_slice())
+}
+
+fn show_keyed(
+    text: &mut Vec<u8>,
+    name: &[u8],
+    key: &Bytes,
+    members: &Values,
+) -> Result<(), AllocError> {
+    show_key(text, name, key)?;
+    show_all(text, members)
+}
+
+fn show_command(text: &mut Vec<u8>, command: &Command) -> Result<(), AllocError> {
+    match command {
+        Command::Add { key, members } => show_keyed(text, b"add", key, members),
+        Command::Remove { key, members } => show_keyed(text, b"remove", key, members),
+        Command::AreMembers { key, members } => show_keyed(text, b"has each", key, members),
+        Command::IsMember { key, member } => {
+            show_key(text, b"has", key)?;
+            show_key(text, b"", member)
+        }
+        Command::Members { key } => show_key(text, b"members", key),
+        Command::Count { key } => show_key(text, b"count", key),
+        Command::Kind { key } => show_key(text, b"type", key),
+        Command::Exist { keys } => {
+            text.extend_from_slice(b"exist")?;
+            show_all(text, keys)
+        }
+        Command::Echo { word } => show_key(text, b"echo", word),
+        Command::Ping => text.extend_from_slice(b"ping"),
+        Command::Accept => text.extend_from_slice(b"ok"),
+        Command::Name => text.extend_from_slice(b"name"),
+        Command::Number => text.extend_from_slice(b"number"),
+        Command::Hello => text.extend_from_slice(b"hello"),
+        Command::Nothing => text.extend_from_slice(b"nothing"),
+        Command::Commands => text.extend_from_slice(b"commands"),
+        Command::Info => text.extend_from_slice(b"info"),
+        Command::Quit => text.extend_from_slice(b"quit"),
+    }
+}
+
+/// What the first command of the bytes calls for, or its refusal, as text.
+fn text_of(alloc: Global, bytes: &[u8]) -> Option<Vec<u8>> {
+    let mut commands = Commands::new(alloc);
+    commands.feed(bytes).ok()?;
+    let next = commands.next();
+    drop(commands);
+    let words = next.ok()??;
+    match command_of(alloc, words) {
+        Ok(command) => {
+            let mut text = Vec::new(alloc);
+            let shown = show_command(&mut text, &command);
+            drop(command);
+            shown.ok()?;
+            Some(text)
+        }
+        Err(Denied::Refused(refusal)) => {
+            let text = refusal_text(alloc, &refusal);
+            drop(refusal);
+            text.ok()
+        }
+        Err(Denied::Memory) => None,
+    }
+}
+
+/// Whether the bytes call for this.
+fn is_command(alloc: Global, bytes: &[u8], command: &[u8]) -> bool {
+    match text_of(alloc, bytes) {
+        None => false,
+        Some(text) => {
+            let is_same = text.as_slice() == command;
+            drop(text);
+            is_same
+        }
+    }
+}
+
+#[test]
+fn commands_on_sets(rt: HostRuntime) {
+    for (place, row) in SETS.iter().enumerate() {
+        let is_so = is_command(rt.alloc(), row.line, row.command);
+        assert!(rt; is_so, "row {place}");
+    }
+}
+
+#[test]
+fn other_commands(rt: HostRuntime) {
+    for (place, row) in OTHERS.iter().enumerate() {
+        let is_so = is_command(rt.alloc(), row.line, row.command);
+        assert!(rt; is_so, "row {place}");
+    }
+}
+
+/// A command of these words and one of so many bytes at its end.
+fn with_long(alloc: Global, front: &[u8], length: usize) -> Option<Vec<u8>> {
+    let mut bytes = Vec::from_slice(alloc, front).ok()?;
+    for _ in 0..length {
+        bytes.push(b'x').ok()?;
+    }
+    bytes.push(b'\n').ok()?;
+    Some(bytes)
+}
+
+/// What such a command is refused with.
+fn is_refused(alloc: Global, front: &[u8], length: usize, refusal: &[u8]) -> Option<bool> {
+    let bytes = with_long(alloc, front, length)?;
+    let is_so = is_command(alloc, &bytes, refusal);
+    drop(bytes);
+    Some(is_so)
+}
+
+const KEY: &[u8] = b"ERR key must have 1 to 255 bytes";
+
+const MEMBER: &[u8] = b"ERR member is longer than 4096 bytes";
+
+#[test]
+fn lengths_of_keys_and_members(rt: HostRuntime) {
+    let empty = is_command(rt.alloc(), b"*2\r\n$5\r\nscard\r\n$0\r\n\r\n", KEY);
+    assert!(rt; empty, "a key has a byte");
+    let key = is_refused(rt.alloc(), b"scard ", 255, KEY);
+    assert!(rt; key == Some(false), "a key of 255 bytes is asked");
+    let long = is_refused(rt.alloc(), b"scard ", 256, KEY);
+    assert!(rt; long == Some(true), "one of 256 is not");
+    let second = is_refused(rt.alloc(), b"exists a ", 256, KEY);
+    assert!(rt; second == Some(true), "nor as the second of several");
+    let member = is_refused(rt.alloc(), b"sadd k ", 4096, MEMBER);
+    assert!(rt; member == Some(false), "a member of 4,096 bytes is asked");
+    let over = is_refused(rt.alloc(), b"sadd k a ", 4097, MEMBER);
+    assert!(rt; over == Some(true), "one of 4,097 is not");
+    let word = is_refused(
+        rt.alloc(),
+        b"echo ",
+        4097,
+        b"ERR word is longer than 4096 bytes",
+    );
+    assert!(rt; word == Some(true), "nor is such a word echoed");
+    let name = is_refused(rt.alloc(), b"", 4097, b"ERR unknown command ''");
+    assert!(rt; name == Some(true), "such a name is not shown");
+}
+
+#[test]
+fn verbs_of_words(rt: HostRuntime) {
+    let word = Bytes::from_slice(rt.alloc(), b"sMembers")
+        .ok()
+        .map(Word::Whole);
+    let verb = word.as_ref().and_then(Verb::of_word);
+    drop(word);
+    assert!(rt; verb == Some(Verb::Smembers), "in both cases");
+    assert!(rt;
+        Verb::of_word(&Word::Long(4097)).is_none(),
+        "a long word is no name"
+    );
+    assert!(rt;
+        Verb::Smembers.text() == b"smembers".as_slice(),
+        "its name in lower case"
+    );
+    assert!(rt; Verb::Smembers.takes(1), "a key follows");
+    assert!(rt; !Verb::Smembers.takes(2), "and nothing else");
+}
