@@ -662,7 +662,10 @@ const TEXTS: [(FaultCode, &str); 6] = [
     (FaultCode::NumberReused, "the number was another request's"),
     (FaultCode::Full, "the store is full"),
     (FaultCode::NoAnswer, "no answer came in time"),
-    (FaultCode::CallersSpent, "no caller is left for the connection"),
+    (
+        FaultCode::CallersSpent,
+        "no caller is left for the connection",
+    ),
 ];
 
 #[test]

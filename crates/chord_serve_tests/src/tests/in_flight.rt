@@ -461,7 +461,10 @@ fn a_connection_without_a_caller_is_told(rt: HostRuntime) {
     assert!(rt; told(rt.alloc(), 15) == (true, fault(0, 15)));
     let (is_told, bytes) = told(rt.alloc(), 6);
     assert!(rt; !is_told, "the writer has room for 6 bytes");
-    assert!(rt; bytes[..6] == fault(0, 15)[..6], "they are the first of the frame");
+    assert!(rt;
+        bytes[..6] == fault(0, 15)[..6],
+        "they are the first of the frame"
+    );
 }
 
 /// Why a client receives no reply, or `None` if it does,
