@@ -65,6 +65,8 @@ struct ServeOptions<'a> {
     listener: TcpListener,
     /// How many connections it serves; with none it serves until standard input ends.
     connections: Option<usize>,
+    /// For how many seconds a client may be idle if the server stays.
+    idle: u64,
     notes: Option<&'a HostRuntime>,
 }
 
@@ -101,7 +103,14 @@ fn start_ring<T: Host>(
     };
     match options.connections {
         Some(count) => serve(threads, &setup, stores, count, rt.stdout())?,
-        None => stay(threads, &setup, stores, rt.stdin(), rt.stdout())?,
+        None => stay(
+            threads,
+            &setup,
+            stores,
+            options.idle,
+            rt.stdin(),
+            rt.stdout(),
+        )?,
     }
     Ok(Finish::Done)
 }
@@ -121,6 +130,7 @@ fn start_serve<T: Host>(
     let options = ServeOptions {
         listener,
         connections: line.connections,
+        idle: line.idle,
         notes: if line.notes { Some(rt) } else { None },
     };
     start_ring(rt, threads, &plan, Some(options))

@@ -43,6 +43,11 @@ may_pass (answer.Fault number code.Full) = true
 may_pass (answer.Fault number code.NoAnswer) = true
 may_pass answer = false
 
+-- the outcome once the server had no caller for the connection
+abbrev pub outcome_refused : Option AskOutcome → Option AskOutcome
+outcome_refused None = Some outcome.CallersSpent
+outcome_refused (Some outcome) = Some outcome
+
 -- the outcome once no more is waited for
 abbrev pub outcome_given_up : Option AskOutcome → Option AskOutcome
 outcome_given_up None = Some Lost

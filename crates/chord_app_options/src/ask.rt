@@ -5,7 +5,7 @@ use crate::number::{NumberOption, WrongNumber};
 use crate::parts::with_argument;
 use crate::shared::{port_of, port_option};
 use chord_app_ask::{ClientOptions, ask_lines, ask_one, read_words};
-use chord_app_text::{Finish, LineFault};
+use chord_app_text::{Finish, WordFault};
 use clap::{Arg, ArgMatches, Command};
 use std::alloc::{AllocError, Global};
 use std::fmt;
@@ -13,11 +13,7 @@ use std::net::{Net, TcpStream};
 
 /// What `chord ask --help` ends with.
 const EXAMPLES: &str =
-    "REQUEST is one of\n  insert KEY VALUE\n  retrieve KEY\n  remove KEY VALUE\nA key or value is text as it stands, or hexadecimal digits behind x:, as x:616263.";
-
-/// The text printed for words that are no request.
-const NO_REQUEST: &str =
-    "the request is none: insert KEY VALUE, retrieve KEY or remove KEY VALUE, a key of 1 to 255 bytes, a value of at most 4096";
+    "REQUEST is one of\n  insert KEY VALUE\n  retrieve KEY\n  remove KEY VALUE\nA key or value is text as it stands, or hexadecimal digits behind x:, as x:616263.\nBefore a word with a dash in front write --, as in: chord ask --port 7001 -- insert abc -x";
 
 /// The text printed for a window that version 1 of the protocol has not.
 const NO_WINDOW: &str = "in version 1 of the protocol the window is 1";
@@ -53,7 +49,7 @@ fn words_argument<'a>(alloc: Global) -> Arg<'a> {
     Arg::new(alloc, "request")
         .value_name("REQUEST")
         .num_args(0..)
-        .trailing_var_arg(true)
+        .allow_negative_numbers(true)
         .help("One request. Without it they are read from standard input, one a line")
 }
 
@@ -109,8 +105,8 @@ pub fn start_ask<R: Net<Stream = TcpStream>>(
     match found.get_strs("request") {
         Some(words) if !words.is_empty() => match read_words(alloc, words) {
             Ok(request) => ask_one(net, alloc, client_options, request, &mut writer),
-            Err(LineFault::OutOfMemory) => Err(Finish::OutOfMemory),
-            Err(LineFault::Grammar) => print_fault(rt, wrong(alloc, &NO_REQUEST)),
+            Err(WordFault::OutOfMemory) => Err(Finish::OutOfMemory),
+            Err(why) => print_fault(rt, wrong(alloc, &why)),
         },
         _ => ask_lines(net, alloc, client_options, &mut rt.stdin(), &mut writer),
     }

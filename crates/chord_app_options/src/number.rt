@@ -28,7 +28,8 @@ pub fn small_number(word: &str) -> Option<u16>
     }
 }
 
-/// An option for a number from `least` to `most`. `clap` takes its word as plain text.
+/// An option for a number from `least` to `most`. `clap` takes its word as plain text, also one
+/// below 0, so that the fault of a number names its range.
 #[derive(Clone, Copy, Debug)]
 pub struct NumberOption {
     pub name: &'static str,
@@ -52,6 +53,7 @@ impl NumberOption {
         let argument = Arg::new(alloc, self.name)
             .long(self.name)
             .value_name(self.value_name)
+            .allow_negative_numbers(true)
             .help(self.help);
         match self.default {
             Some(default) => argument.default_value(default),

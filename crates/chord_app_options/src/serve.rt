@@ -3,7 +3,7 @@
 use crate::faults::fault_of;
 use crate::number::{NumberOption, WrongNumber};
 use crate::parts::both;
-use crate::shared::{plan_option, plan_path_of, port_of, port_option};
+use crate::shared::{plan_option, plan_path_of, server_port_of, server_port_option};
 use clap::{Arg, ArgAction, ArgGroup, ArgMatches, Command};
 use std::alloc::{AllocError, Global};
 
@@ -14,6 +14,18 @@ const CONNECTIONS: NumberOption = NumberOption {
     most: 65_535,
     default: None,
     help: "How many connections are served, 1 to 65535",
+};
+
+/// For how many seconds a client may be idle if the command line does not say.
+const IDLE_SECONDS: u64 = 300;
+
+const IDLE: NumberOption = NumberOption {
+    name: "idle",
+    value_name: "SECONDS",
+    least: 1,
+    most: 86_400,
+    default: None,
+    help: "With --stay: how long a client may be idle, 1 to 86400, else 300",
 };
 
 fn stay_option<'a>(alloc: Global) -> Arg<'a> {
@@ -30,6 +42,11 @@ fn notes_option<'a>(alloc: Global) -> Arg<'a> {
         .help("Notes on standard error how each connection ends, as it ends")
 }
 
+/// Only a server that stays leaves idle clients.
+fn idle_option<'a>(alloc: Global) -> Result<Arg<'a>, AllocError> {
+    IDLE.argument(alloc).conflicts_with("connections")
+}
+
 /// For how long to serve: exactly one of the two options.
 fn until_group<'a>(alloc: Global) -> Result<ArgGroup<'a>, AllocError> {
     let until = ArgGroup::new(alloc, "until")
@@ -43,11 +60,12 @@ pub fn serve_command<'a>(alloc: Global) -> Result<Command<'a>, AllocError> {
     let serve = Command::new(alloc, "serve")
         .about("Serves clients over loopback, and writes how each connection ended")
         .arg(plan_option(alloc, "The ring's numbers and nodes, as TOML"))?
-        .arg(port_option(alloc))?
+        .arg(server_port_option(alloc))?
         .arg(CONNECTIONS.argument(alloc))?
         .arg(stay_option(alloc))?
         .arg(notes_option(alloc));
-    let (serve, until) = both(serve, until_group(alloc))?;
+    let (serve, idle) = both(serve, idle_option(alloc))?;
+    let (serve, until) = both(serve.arg(idle), until_group(alloc))?;
     serve.group(until)
 }
 
@@ -59,6 +77,8 @@ pub struct ServeLine<'a> {
     pub port: u16,
     /// How many connections are served; with none, those until standard input ends.
     pub connections: Option<usize>,
+    /// For how many seconds a client may be idle if the server stays.
+    pub idle: u64,
     /// Whether each connection's end is noted on standard error.
     pub notes: bool,
 }
@@ -74,8 +94,9 @@ fn connections_of<'a>(found: &ArgMatches<'a>) -> Result<Option<usize>, WrongNumb
 fn read<'a>(found: &ArgMatches<'a>) -> Result<ServeLine<'a>, WrongNumber<'a>> {
     Ok(ServeLine {
         plan: plan_path_of(found),
-        port: port_of(found)?,
+        port: server_port_of(found)?,
         connections: connections_of(found)?,
+        idle: IDLE.read_if_there(found)?.unwrap_or(IDLE_SECONDS),
         notes: found.get_flag("notes"),
     })
 }

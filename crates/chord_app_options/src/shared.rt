@@ -4,7 +4,7 @@ use crate::number::{NumberOption, WrongNumber, small_number};
 use clap::{Arg, ArgMatches};
 use std::alloc::Global;
 
-/// The option for the port of a server.
+/// The option for the port at which a server is asked.
 const PORT: NumberOption = NumberOption {
     name: "port",
     value_name: "N",
@@ -14,12 +14,32 @@ const PORT: NumberOption = NumberOption {
     help: "The port on 127.0.0.1, 1 to 65535",
 };
 
-/// The option for the port of a server, which a command line has to have.
+/// The option for the port at which a server listens.
+const SERVER_PORT: NumberOption = NumberOption {
+    name: "port",
+    value_name: "N",
+    least: 0,
+    most: 65_535,
+    default: None,
+    help: "The port on 127.0.0.1, 1 to 65535, or 0 for one that the system picks",
+};
+
+/// The option for the port at which a server is asked, which a command line has to have.
 pub fn port_option<'a>(alloc: Global) -> Arg<'a> {
     PORT.argument(alloc).required(true)
 }
 
-/// The port on a command line.
+/// The option for the port at which a server listens, which a command line has to have.
+pub fn server_port_option<'a>(alloc: Global) -> Arg<'a> {
+    SERVER_PORT.argument(alloc).required(true)
+}
+
+/// The port on a command line of `serve`.
+pub fn server_port_of<'a>(found: &ArgMatches<'a>) -> Result<u16, WrongNumber<'a>> {
+    Ok(SERVER_PORT.read(found)? as u16)
+}
+
+/// The port on a command line of a client.
 pub fn port_of<'a>(found: &ArgMatches<'a>) -> Result<u16, WrongNumber<'a>> {
     let word = PORT.word(found).unwrap_or("");
     match small_number(word) {

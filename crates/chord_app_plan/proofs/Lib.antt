@@ -1,3 +1,4 @@
 pub mod Tables
 pub mod Digits
 pub mod Counts
+pub mod Files

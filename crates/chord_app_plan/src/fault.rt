@@ -3,6 +3,7 @@
 use chord_map::RequestFault;
 use std::alloc::{AllocError, AllocFailed, Global};
 use std::fmt;
+use std::io::ErrorKind;
 use thiserror::Error;
 
 /// A table of a plan. Nodes and asks count from 0, each in the order of the file.
@@ -68,8 +69,11 @@ impl EntryFault {
 
 #[derive(Debug, Drop)]
 pub enum PlanFault {
-    /// The file of the plan cannot be read.
-    Unread,
+    /// The file of the plan cannot be read, for a reason of the system.
+    Unread {
+        path: String,
+        reason: ErrorKind,
+    },
     /// The plan has more than 1,048,576 bytes.
     TooLong,
     /// The plan is no TOML; the fault is on this line, from 1.
@@ -89,7 +93,7 @@ pub enum PlanFault {
 impl fmt::Display for PlanFault {
     fn fmt<W: fmt::Write>(&self, f: &mut fmt::Formatter<W>) -> fmt::Result {
         match self {
-            PlanFault::Unread => write!(f, "fault plan\nthe file cannot be read"),
+            PlanFault::Unread { path, reason } => write!(f, "fault plan\n{path}: {reason}"),
             PlanFault::TooLong => write!(f, "fault plan\nmore than 1048576 bytes"),
             PlanFault::NoToml { line, fault } => {
                 write!(f, "fault plan\nline {line}: {}", fault.message())

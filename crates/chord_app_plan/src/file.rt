@@ -1,4 +1,6 @@
 //! Plans in files.
+ghost use Rattle.std.specs.Prelude.{◌≡◌, ◌+◌, take, IfOk, IfSome};
+ghost use Rattle.chord_app_plan.specs.Plan.{IsPlan, IsPlanOf};
 
 use crate::fault::PlanFault;
 use crate::plan::{PLAN_BYTES, Plan};
@@ -7,29 +9,43 @@ use std::fs;
 use std::fs::Files;
 use std::io::{self, Read};
 
-/// How many bytes are read at a time.
-const PIECE: usize = 4_096;
-
-/// The bytes of a file. Bytes beyond the limit of a plan may be missing.
-fn read_bytes(rt: &impl Files, alloc: Global, path: &str) -> io::Result<Vec<u8>> {
-    let mut file = fs::open(rt, path)?;
+/// All bytes of the reader, or one more than a plan may have.
+fn read_bytes<R: Read + Drop>(alloc: Global, reader: R) -> io::Result<Vec<u8>>
+    ensures { IfOk result (λ bytes. IfSome (R.remaining reader) (λ all. bytes.items ≡ take (PLAN_BYTES + 1) all)) }
+{
     let mut bytes = Vec::new(alloc);
-    let mut piece = [0u8; PIECE];
-    for _ in 0..=PLAN_BYTES / PIECE {
-        let count = file.read(&mut piece)?;
-        match piece.get(..count) {
-            Some(read) if count > 0 => bytes.extend_from_slice(read)?,
-            _ => return Ok(bytes),
-        }
-    }
+    reader.take(PLAN_BYTES as u64 + 1).read_to_end(&mut bytes)?;
     Ok(bytes)
 }
 
-/// The plan in a file.
-pub fn read_plan(rt: &impl Files, alloc: Global, path: &str) -> Result<Plan, PlanFault> {
-    match read_bytes(rt, alloc, path) {
+/// The fault of a file that the system does not give.
+fn unread(alloc: Global, path: &str, reason: io::ErrorKind) -> PlanFault {
+    if reason == io::ErrorKind::OutOfMemory {
+        return PlanFault::OutOfMemory;
+    }
+    match String::from_str(alloc, path) {
+        Ok(path) => PlanFault::Unread { path, reason },
+        Err(_) => PlanFault::OutOfMemory,
+    }
+}
+
+/// The plan that is all that the reader gives. Faults of reading name this path.
+pub fn plan_from<R: Read + Drop>(alloc: Global, path: &str, reader: R) -> Result<Plan, PlanFault>
+    ensures value { IfOk result (λ plan. IfSome (R.remaining reader) (λ all. IsPlanOf all plan)) }
+    ensures limits { IfOk result IsPlan }
+{
+    match read_bytes(alloc, reader) {
         Ok(bytes) => Plan::parse(alloc, bytes.as_slice()),
-        Err(error) if error.kind() == io::ErrorKind::OutOfMemory => Err(PlanFault::OutOfMemory),
-        Err(_) => Err(PlanFault::Unread),
+        Err(error) => Err(unread(alloc, path, error.kind())),
+    }
+}
+
+/// The plan in a file.
+pub fn read_plan(rt: &impl Files, alloc: Global, path: &str) -> Result<Plan, PlanFault>
+    ensures { IfOk result IsPlan }
+{
+    match fs::open(rt, path) {
+        Ok(file) => plan_from(alloc, path, file),
+        Err(error) => Err(unread(alloc, path, error.kind())),
     }
 }

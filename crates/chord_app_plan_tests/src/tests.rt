@@ -1,9 +1,12 @@
 //! Plans that are accepted, and each fault of those that are not.
 
-use chord_app_plan::{PLAN_BYTES, Plan, PlanAsk, PlanFault, PlanNode, Settings, StoreKind};
+use chord_app_plan::{
+    PLAN_BYTES, Plan, PlanAsk, PlanFault, PlanNode, Settings, StoreKind, plan_from, read_plan,
+};
 use chord_ident::Id;
 use chord_map::Request;
 use std::alloc::{AllocError, Global};
+use std::io::{self, Read};
 
 /// The plan of `plans/two-nodes.toml`.
 const TWO_NODES: &str = concat!(
@@ -140,6 +143,61 @@ fn a_value_of_a_retrieve_is_not_looked_at(rt: HostRuntime) {
     let asks = "key = \"abc\"\n[[ask]]";
     let with_a_value = "key = \"abc\"\nvalue = 3\n[[ask]]";
     assert!(rt; is_unchanged(rt.alloc(), asks, with_a_value) == Some(true));
+}
+
+/// A reader that gives one byte a call.
+#[derive(Drop)]
+struct Slow<'a> {
+    bytes: &'a [u8],
+}
+
+impl Read for Slow<'_> {
+    fn read(&mut self, buf: &mut [u8]) -> io::Result<usize> {
+        let most = buf.len().min(1);
+        self.bytes.read(&mut buf[..most])
+    }
+}
+
+/// Whether the two-node plan is read from a reader that gives one byte a call.
+fn reads_slowly(alloc: Global) -> Option<bool> {
+    let bytes = TWO_NODES.as_bytes();
+    let plan = plan_from(alloc, "slow", Slow { bytes }).ok()?;
+    let is_its = is_two_nodes(&plan);
+    drop(plan);
+    Some(is_its)
+}
+
+#[test]
+fn a_plan_of_a_slow_reader(rt: HostRuntime) {
+    assert!(rt; reads_slowly(rt.alloc()) == Some(true));
+}
+
+/// A reader that fails.
+#[derive(Drop)]
+struct Failing;
+
+impl Read for Failing {
+    fn read(&mut self, _buf: &mut [u8]) -> io::Result<usize> {
+        Err(io::Error::from(io::ErrorKind::TimedOut))
+    }
+}
+
+/// Whether a plan is refused with this text.
+fn refused_with(alloc: Global, read: Result<Plan, PlanFault>, wanted: &str) -> Option<bool> {
+    let text = read.err()?.to_string(alloc).ok()?;
+    Some(text.as_str() == wanted)
+}
+
+/// A file that cannot be read is named, with the system's reason.
+#[test]
+fn files_that_cannot_be_read(rt: HostRuntime) {
+    let alloc = rt.alloc();
+    let failed = plan_from(alloc, "a/plan", Failing);
+    let text = "fault plan\na/plan: timed out";
+    assert!(rt; refused_with(alloc, failed, text) == Some(true));
+    let missing = read_plan(&rt, alloc, "no/such/plan.toml");
+    let text = "fault plan\nno/such/plan.toml: entity not found";
+    assert!(rt; refused_with(alloc, missing, text) == Some(true));
 }
 
 /// The text of the fault for which a plan is refused.

@@ -93,6 +93,21 @@ fn start_node<
     Ok(())
 }
 
+/// Why the ring refused this node: an earlier one has its identifier, or another reason.
+fn refusal_of(nodes: &[PlanNode], number: usize) -> Finish {
+    let Some(node) = nodes.get(number) else {
+        return Finish::Fault(Fault::Node(number));
+    };
+    match nodes
+        .iter()
+        .take(number)
+        .position(|other| other.id == node.id)
+    {
+        Some(first) => Finish::Fault(Fault::SameId { number, first }),
+        None => Finish::Fault(Fault::Node(number)),
+    }
+}
+
 /// Adds the nodes in their order.
 pub fn start_nodes<
     's,
@@ -108,7 +123,11 @@ pub fn start_nodes<
     stores: Vec<S>,
 ) -> Result<(), Finish> {
     for (number, (node, store)) in nodes.iter().zip(stores).enumerate() {
-        start_node(rt, ring, workers, number, node, store)?;
+        match start_node(rt, ring, workers, number, node, store) {
+            Ok(()) => {}
+            Err(Finish::Fault(Fault::Node(number))) => return Err(refusal_of(nodes, number)),
+            Err(finish) => return Err(finish),
+        }
     }
     Ok(())
 }

@@ -2,7 +2,7 @@
 //! the others are answered. With ample memory nothing is refused; the toolchain's failing
 //! allocations refuse one.
 
-use crate::stays::stay_over;
+use crate::stays::{IDLE, stay_over};
 use chord_app_plan::Plan;
 use chord_app_serve_testkit::{bound, plan_with};
 use chord_app_sockets::Host;
@@ -30,7 +30,9 @@ fn stays<R: Host>(
     input: PipeReader,
     written: &mut [u8],
 ) -> Result<(), Finish> {
-    stay_over(rt, alloc, plan, &listener, 4, input, &Discard, written)
+    stay_over(
+        rt, alloc, plan, &listener, 4, IDLE, input, &Discard, written,
+    )
 }
 
 /// Checks that the server answers an insert, and then closes the connection.

@@ -19,6 +19,19 @@ use std::thread;
 use std::thread::Threads;
 use std::time::Clock;
 
+/// For how many seconds a client may be idle that no test leaves idle.
+pub const IDLE: u64 = 300;
+
+/// How large a server is.
+#[derive(Clone, Copy)]
+struct Size {
+    callers: u64,
+    /// How many pairs each store has room for.
+    limit: u64,
+    /// For how many seconds a client may be idle.
+    idle: u64,
+}
+
 /// Serves until the input ends, over two stores with room for `limit` pairs.
 pub fn stay_over<R: Host, L: Log + Sync, W: Write + Send + Drop>(
     rt: &R,
@@ -26,6 +39,7 @@ pub fn stay_over<R: Host, L: Log + Sync, W: Write + Send + Drop>(
     plan: &Plan,
     listener: &TcpListener,
     limit: u64,
+    idle: u64,
     input: PipeReader,
     notes: &L,
     writer: W,
@@ -37,7 +51,7 @@ pub fn stay_over<R: Host, L: Log + Sync, W: Write + Send + Drop>(
         listener,
         notes,
     };
-    stay(rt, &setup, stores, input, writer)
+    stay(rt, &setup, stores, idle, input, writer)
 }
 
 /// Serves until the input ends, and gives what was written.
@@ -46,12 +60,23 @@ fn stayed_and_noted<R: Host, L: Log + Sync>(
     alloc: Global,
     plan: &Plan,
     listener: &TcpListener,
-    limit: u64,
+    size: Size,
     input: PipeReader,
     notes: &L,
 ) -> Result<Vec<u8>, Finish> {
     let mut written: Vec<u8> = Vec::new(alloc);
-    stay_over(rt, alloc, plan, listener, limit, input, notes, &mut written)?;
+    let Size { limit, idle, .. } = size;
+    stay_over(
+        rt,
+        alloc,
+        plan,
+        listener,
+        limit,
+        idle,
+        input,
+        notes,
+        &mut written,
+    )?;
     Ok(written)
 }
 
@@ -65,7 +90,7 @@ fn stayed_in_32_bytes<R: Host>(
 ) -> Result<(), Finish> {
     let mut room = [0u8; 32];
     let written = room.as_mut_slice();
-    stay_over(rt, alloc, plan, listener, 4, input, &Discard, written)
+    stay_over(rt, alloc, plan, listener, 4, IDLE, input, &Discard, written)
 }
 
 /// What the clients do before the server's input ends, and afterwards.
@@ -90,8 +115,7 @@ impl Script {
     }
 }
 
-/// Checks that the clients are answered, and these lines written, by a server with this many
-/// callers and room for this many pairs.
+/// Checks that the clients are answered, and these lines written, by a server of this size.
 fn writes<
     R: Threads
         + Wait
@@ -105,23 +129,30 @@ fn writes<
 >(
     rt: &R,
     alloc: Global,
-    (callers, limit): (u64, u64),
+    size: Size,
     (reader, writer): (PipeReader, PipeWriter),
     notes: &L,
     script: Script,
     wanted: &str,
 ) -> Option<bool> {
-    let plan = plan_with(alloc, callers)?;
+    let plan = plan_with(alloc, size.callers)?;
     let (listener, address) = bound(rt)?;
     let (written, answered) = thread::join(
         rt,
-        || stayed_and_noted(rt, alloc, &plan, &listener, limit, reader, notes),
+        || stayed_and_noted(rt, alloc, &plan, &listener, size, reader, notes),
         || script.play(rt, alloc, address, writer),
     );
     drop(listener);
     drop(plan);
     Some(is_served(alloc, address, answered, written, wanted))
 }
+
+/// A server of one caller, with room.
+const ONE_CALLER: Size = Size {
+    callers: 1,
+    limit: 4,
+    idle: IDLE,
+};
 
 /// Four clients, one after another, each with numbers from 1 on. The first adds a value twice, the
 /// second retrieves it and skips a number, the third removes it, twice under one number. The fourth
@@ -154,18 +185,19 @@ const IN_TURN: Script = Script {
 fn one_caller_for_all(rt: HostRuntime) -> Result<(), Fail> {
     let wanted = "connection 0 ended\nconnection 1 ended\nconnection 2 ended\nconnection 3 ended\n";
     let pipe = io::pipe(&rt)?;
-    let is_written = writes(&rt, rt.alloc(), (1, 4), pipe, &Discard, IN_TURN, wanted);
+    let is_written = writes(&rt, rt.alloc(), ONE_CALLER, pipe, &Discard, IN_TURN, wanted);
     assert!(rt; is_written == Some(true));
     Ok(())
 }
 
-/// While the one caller serves, another client is closed. Afterwards the caller serves the next
-/// one.
+/// While the one caller serves, another client is told that none is left. Afterwards the caller
+/// serves the next one.
 const CROWDED: Script = Script {
     before: &[
         (0, Act::Connect),
         (0, Act::Call(1, Ask::Insert(b"x"), Answer::Added)),
         (1, Act::Connect),
+        (1, Act::Hear(0, Answer::Fault(FaultCode::CallersSpent))),
         (1, Act::End),
         (0, Act::Leave),
         (2, Act::Connect),
@@ -182,7 +214,7 @@ fn a_caller_that_is_taken(rt: HostRuntime) -> Result<(), Fail> {
     let notes = Locked::new(rt, Vec::new(alloc));
     let wanted = "connection 1 callersspent\nconnection 0 ended\nconnection 2 ended\n";
     let pipe = io::pipe(&rt)?;
-    let is_written = writes(&rt, alloc, (1, 4), pipe, &notes, CROWDED, wanted);
+    let is_written = writes(&rt, alloc, ONE_CALLER, pipe, &notes, CROWDED, wanted);
     assert!(rt; is_written == Some(true));
     let noted: Vec<u8> = notes.into_inner();
     let wanted =
@@ -192,7 +224,7 @@ fn a_caller_that_is_taken(rt: HostRuntime) -> Result<(), Fail> {
 }
 
 /// A client leaves with a request that found the store full, so its caller stays pending; while the
-/// second client is served, a third is closed. Once there is room that caller serves again: a
+/// second client is served, a third finds no caller. Once there is room that caller serves again: a
 /// fourth client sees that the request was executed, and finds the store full, twice, until there
 /// is room again.
 const FULL_AND_AGAIN: Script = Script {
@@ -207,6 +239,7 @@ const FULL_AND_AGAIN: Script = Script {
         (1, Act::Connect),
         (1, Act::Call(1, Ask::Insert(b"x"), Answer::Present)),
         (2, Act::Connect),
+        (2, Act::Hear(0, Answer::Fault(FaultCode::CallersSpent))),
         (2, Act::End),
         (1, Act::Call(2, Ask::Remove(b"x"), Answer::Removed)),
         (3, Act::Connect),
@@ -234,7 +267,39 @@ fn a_pending_request(rt: HostRuntime) -> Result<(), Fail> {
         "connection 0 ended\nconnection 2 callersspent\nconnection 3 ended\nconnection 1 ended\n";
     let pipe = io::pipe(&rt)?;
     let script = FULL_AND_AGAIN;
-    let is_written = writes(&rt, rt.alloc(), (2, 1), pipe, &Discard, script, wanted);
+    let size = Size {
+        callers: 2,
+        limit: 1,
+        idle: IDLE,
+    };
+    let is_written = writes(&rt, rt.alloc(), size, pipe, &Discard, script, wanted);
+    assert!(rt; is_written == Some(true));
+    Ok(())
+}
+
+/// A client asks once, and then sends nothing until the server ends its connection. Its caller
+/// serves the next client.
+const ONE_IS_IDLE: Script = Script {
+    before: &[
+        (0, Act::Connect),
+        (0, Act::Call(1, Ask::Insert(b"x"), Answer::Added)),
+        (0, Act::End),
+        (1, Act::Connect),
+        (1, Act::Call(1, Ask::Insert(b"x"), Answer::Present)),
+        (1, Act::Leave),
+    ],
+    after: &[],
+};
+
+#[test]
+fn an_idle_client_is_left(rt: HostRuntime) -> Result<(), Fail> {
+    let wanted = "connection 0 idle\nconnection 1 ended\n";
+    let pipe = io::pipe(&rt)?;
+    let size = Size {
+        idle: 1,
+        ..ONE_CALLER
+    };
+    let is_written = writes(&rt, rt.alloc(), size, pipe, &Discard, ONE_IS_IDLE, wanted);
     assert!(rt; is_written == Some(true));
     Ok(())
 }

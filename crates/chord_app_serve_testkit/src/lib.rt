@@ -8,7 +8,7 @@ mod plans;
 
 pub use acts::{Act, Acts, Answer, Ask, do_acts};
 pub use clients::{
-    ask, ask_insert, bound, expect, insert, is_served, leave, plan_of, plan_with, request_frame,
-    retrieve,
+    ask, ask_insert, bound, expect, expect_end, insert, is_served, leave, plan_of, plan_with,
+    reply_frame, request_frame, retrieve,
 };
 pub use plans::{TWO_NODES, changed, two_stores};

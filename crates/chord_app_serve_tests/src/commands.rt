@@ -3,7 +3,7 @@
 use crate::servers::serve_over;
 use chord_app_ask::{ClientOptions, Kind, Load, Until, ask_lines, run_load};
 use chord_app_serve_testkit::{bound, plan_with, two_stores};
-use chord_app_text::{Fault, Finish};
+use chord_app_text::{Fault, Finish, WordFault};
 use log::sink::Discard;
 use std::alloc::Global;
 use std::net::{Net, TcpListener, TcpStream};
@@ -87,7 +87,10 @@ fn each_kind_of_request(rt: HostRuntime) {
 fn a_line_outside_the_grammar(rt: HostRuntime) {
     let lines = ("insert abc x\nretrieve\nretrieve abc\n", "added\n");
     let asked = asks_a_ring(&rt, rt.alloc(), 4, 1, (2, 16, 3), lines);
-    let fault = Err(Finish::Fault(Fault::Line(2)));
+    let fault = Err(Finish::Fault(Fault::Request {
+        line: 2,
+        why: WordFault::NoKey,
+    }));
     assert!(rt; asked == Some((fault, true)));
 }
 

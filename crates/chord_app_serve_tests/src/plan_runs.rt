@@ -43,6 +43,9 @@ fn runs_refused<R: Threads + Wait + Clock + Sync>(rt: &R, alloc: Global) -> Opti
 
 #[test]
 fn refused_node(rt: HostRuntime) {
-    let fault = Finish::Fault(Fault::Node(1));
+    let fault = Finish::Fault(Fault::SameId {
+        number: 1,
+        first: 0,
+    });
     assert!(rt; runs_refused(&rt, rt.alloc()) == Some((fault, true)));
 }

@@ -3,8 +3,8 @@
 use chord_app_plan::Plan;
 use chord_app_serve::serve;
 use chord_app_serve_testkit::{
-    Act, Acts, Answer, Ask, ask, ask_insert, bound, changed, do_acts, expect, insert, is_served,
-    leave, plan_of, plan_with, request_frame, retrieve, two_stores,
+    Act, Acts, Answer, Ask, ask, ask_insert, bound, changed, do_acts, expect, expect_end, insert,
+    is_served, leave, plan_of, plan_with, reply_frame, request_frame, retrieve, two_stores,
 };
 use chord_app_sockets::{Host, ServerSetup, listen};
 use chord_app_text::{Fault, Finish};
@@ -22,8 +22,8 @@ use std::thread;
 use std::thread::Threads;
 use std::time::Clock;
 
-/// Four clients, one after another, each of which closes its sending side before it reads and is
-/// answered all the same.
+/// Four clients, one after another. The first three close their sending side before they read and
+/// are answered all the same. No caller is left for the fourth, which is told so.
 const FOUR: Acts = &[
     (0, Act::Connect),
     (0, Act::Ask(1, Ask::Insert(b"x"))),
@@ -39,7 +39,8 @@ const FOUR: Acts = &[
     (2, Act::Hear(0, Answer::Fault(FaultCode::BadLength))),
     (2, Act::End),
     (3, Act::Connect),
-    (3, Act::Leave),
+    (3, Act::Hear(0, Answer::Fault(FaultCode::CallersSpent))),
+    (3, Act::End),
 ];
 
 /// What the clients of a server do.
@@ -401,6 +402,88 @@ fn never_reads<R: Net>(rt: &R, alloc: Global, address: SocketAddr) -> io::Result
     do_acts(rt, alloc, address, &mut Vec::new(alloc), ANOTHER)
 }
 
+/// How many values of 4,096 bytes are put under one key.
+const LONG_VALUES: u8 = 32;
+
+/// A reply of all these values.
+fn long_values(alloc: Global) -> Result<Reply, AllocError> {
+    let mut values = Values::new(alloc);
+    for number in 0..LONG_VALUES {
+        let value = vec![in alloc; number; 4_096]?;
+        values.push(Bytes::from_vec(value))?;
+    }
+    Ok(Reply::Values(values))
+}
+
+/// Sends requests that insert 32 values of 4,096 bytes, and two that retrieve them all; then a
+/// length that is refused, and 64 KiB behind it.
+fn say_too_much<S: Write>(alloc: Global, stream: &mut S) -> io::Result<()> {
+    for number in 0..LONG_VALUES {
+        let value = vec![in alloc; number; 4_096]?;
+        let request = insert(alloc, &value)?;
+        stream.write_all(&request_frame(alloc, number as u64 + 1, &request)?)?;
+    }
+    let request = retrieve(alloc)?;
+    stream.write_all(&request_frame(alloc, 33, &request)?)?;
+    stream.write_all(&request_frame(alloc, 34, &request)?)?;
+    stream.write_all(&[0u8; 65_536])
+}
+
+/// Expects the answers to these requests, the fault of the length, and the end.
+fn hears_all<S: Read>(alloc: Global, stream: &mut S) -> io::Result<()> {
+    for number in 0..LONG_VALUES {
+        expect_frame(alloc, stream, Answer::Added.frame(alloc, number as u64 + 1))?;
+    }
+    let all = long_values(alloc)?;
+    expect_frame(alloc, stream, reply_frame(alloc, 33, &all))?;
+    expect_frame(alloc, stream, reply_frame(alloc, 34, &all))?;
+    drop(all);
+    let fault = Answer::Fault(FaultCode::BadLength).frame(alloc, 0);
+    expect_frame(alloc, stream, fault)?;
+    expect_end(stream)
+}
+
+/// Expects this frame next, if it was made.
+fn expect_frame<S: Read>(
+    alloc: Global,
+    stream: &mut S,
+    frame: io::Result<Vec<u8>>,
+) -> io::Result<()> {
+    let frame = frame?;
+    let heard = expect(alloc, stream, &frame);
+    drop(frame);
+    heard
+}
+
+/// Checks that a client which reads only once its server is done has lost nothing that the server
+/// wrote before it refused a frame.
+fn keeps_answers<
+    R: Threads
+        + Wait
+        + Clock
+        + Net<Listener = TcpListener, Stream = TcpStream>
+        + Copy
+        + Send
+        + Sync
+        + 'static,
+>(rt: &R, alloc: Global) -> Option<bool> {
+    let plan = plan_with(alloc, 1)?;
+    let (listener, address) = bound(rt)?;
+    let mut client = TcpStream::connect(rt, address).ok()?;
+    let said = say_too_much(alloc, &mut client);
+    let written = served(rt, alloc, &plan, &listener, 1, &Discard);
+    let heard = hears_all(alloc, &mut client);
+    drop(listener);
+    drop(plan);
+    said.ok()?;
+    Some(is_served(alloc, address, heard, written, "connection 0 malformed 1\n"))
+}
+
+#[test]
+fn answers_before_a_refused_frame(rt: HostRuntime) {
+    assert!(rt; keeps_answers(&rt, rt.alloc()) == Some(true));
+}
+
 /// Why a plan is not served whose second node the ring refuses.
 fn not_served<
     R: Threads
@@ -425,19 +508,38 @@ fn not_served<
 /// A node that the ring refuses ends the command before it listens.
 #[test]
 fn served_refused_node(rt: HostRuntime) {
-    let fault = Finish::Fault(Fault::Node(1));
+    let fault = Finish::Fault(Fault::SameId {
+        number: 1,
+        first: 0,
+    });
     assert!(rt; not_served(&rt, rt.alloc()) == Some(fault));
 }
 
-/// Why listening at a taken port fails, and whether it succeeds once the port is free.
-fn listens<R: Net<Listener = TcpListener, Stream = TcpStream>>(rt: &R) -> Option<(Finish, bool)> {
+/// Whether listening at a taken port says so, and succeeds once the port is free.
+fn listens<R: Net<Listener = TcpListener, Stream = TcpStream>>(rt: &R) -> Option<(bool, bool)> {
     let (listener, address) = bound(rt)?;
-    let refused = listen(rt, address.port()).err();
+    let port = address.port();
+    let refused = listen(rt, port).err();
     drop(listener);
-    Some((refused?, listen(rt, address.port()).is_ok()))
+    let reason = io::ErrorKind::AddrInUse;
+    let taken = Finish::Fault(Fault::Listen { port, reason });
+    Some((refused? == taken, listen(rt, port).is_ok()))
 }
 
 #[test]
 fn a_port_that_is_taken(rt: HostRuntime) {
-    assert!(rt; listens(&rt) == Some((Finish::Fault(Fault::Listen), true)));
+    assert!(rt; listens(&rt) == Some((true, true)));
+}
+
+/// Whether the system picks a port.
+fn picks_a_port<R: Net<Listener = TcpListener, Stream = TcpStream>>(rt: &R) -> Option<bool> {
+    let listener = listen(rt, 0).ok()?;
+    let port = listener.local_addr().ok()?.port();
+    drop(listener);
+    Some(port != 0)
+}
+
+#[test]
+fn the_system_picks_a_port(rt: HostRuntime) {
+    assert!(rt; picks_a_port(&rt) == Some(true));
 }

@@ -1,24 +1,29 @@
 -- What follows from when a server ends.
-use Rattle.std.specs.Prelude.{ℕ, Bool, true, false}
+use Rattle.std.specs.Prelude.{ℕ, Bool, true, false, Option, Some, None}
 use Rattle.chord_app_sockets.specs.declared.until.Until.{Until}
 use Rattle.chord_app_sockets.specs.declared.until.Until.TheVariants as until
 
 -- how many connections the server takes at most
 abbrev pub most_of : Until → ℕ
 most_of (until.Connections connections) = connections
-most_of (until.Stopped stop) = 18446744073709551615
+most_of (until.Stopped stop idle) = 18446744073709551615
 
 -- how many reads a connection makes at most
 abbrev pub turns_of : Until → ℕ
 turns_of (until.Connections connections) = 65536
-turns_of (until.Stopped stop) = 18446744073709551615
+turns_of (until.Stopped stop idle) = 18446744073709551615
 
 -- how many of a ring's callers are kept for further connections
 abbrev pub kept_of : ℕ → Until → ℕ
 kept_of callers (until.Connections connections) = 0
-kept_of callers (until.Stopped stop) = callers
+kept_of callers (until.Stopped stop idle) = callers
+
+-- for how many seconds a client may be idle, if there is a limit
+abbrev pub idle_of : Until → Option ℕ
+idle_of (until.Connections connections) = None
+idle_of (until.Stopped stop idle) = Some idle
 
 -- whether the server is one that can be stopped
 abbrev pub can_be_stopped : Until → Bool
 can_be_stopped (until.Connections connections) = false
-can_be_stopped (until.Stopped stop) = true
+can_be_stopped (until.Stopped stop idle) = true

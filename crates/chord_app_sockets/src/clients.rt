@@ -2,7 +2,12 @@
 
 use std::alloc::{AllocError, Global};
 use std::net::{Shutdown, TcpStream};
-use std::sync::{Arc, Condvar, Mutex, Wait};
+use std::sync::atomic::{AtomicBool, Ordering};
+use std::sync::{Arc, Condvar, CondvarTimeouts, Mutex, Wait};
+use std::time::{Clock, Duration};
+
+/// How many seconds connections have to end that are told to.
+const END_SECONDS: u64 = 1;
 
 /// The streams of the connections that are open, each with its number.
 #[derive(Drop)]
@@ -10,6 +15,7 @@ pub struct Clients {
     open: Mutex<Vec<(u64, Arc<TcpStream>)>>,
     /// Is notified when a connection is removed.
     removed: Condvar,
+    told_to_end: AtomicBool,
 }
 
 impl Clients {
@@ -17,6 +23,7 @@ impl Clients {
         Clients {
             open: Mutex::new(Vec::new(alloc)),
             removed: Condvar::new(),
+            told_to_end: AtomicBool::new(false),
         }
     }
 
@@ -44,9 +51,21 @@ impl Clients {
         drop(self.removed.wait_while(rt, open, |open| !open.is_empty()));
     }
 
-    /// Shuts all connections down, so that nothing more is read or written.
-    pub fn end_all(&self, rt: &impl Wait) {
-        for (_, stream) in self.open.lock(rt).iter() {
+    /// Whether all connections are to end.
+    pub fn are_told_to_end(&self) -> bool {
+        self.told_to_end.load(Ordering::SeqCst)
+    }
+
+    /// Tells all connections to end, waits until each was removed, for a second at most, and shuts
+    /// down those that are left, so that nothing more is read or written.
+    pub fn end_all<R: Wait + Clock>(&self, rt: &R) {
+        self.told_to_end.store(true, Ordering::SeqCst);
+        let open = self.open.lock(rt);
+        let time = Duration::from_secs(END_SECONDS);
+        let (open, _) = self
+            .removed
+            .wait_timeout_while(rt, open, time, |open| !open.is_empty());
+        for (_, stream) in open.iter() {
             let _ = stream.shutdown(Shutdown::Both).is_ok();
         }
     }

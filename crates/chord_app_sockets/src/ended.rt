@@ -1,5 +1,8 @@
 //! How a connection ended.
 
+ghost use Rattle.std.specs.Prelude.{◌≡◌};
+ghost use Rattle.chord_app_sockets.specs.Ended.{ended_by, is_closed_slowly};
+
 use chord_serve::Served;
 use chord_wire::FaultCode;
 use std::fmt;
@@ -7,10 +10,35 @@ use std::fmt;
 #[derive(Clone, Copy, Debug, PartialEq, Eq)]
 pub enum Ended {
     Served(Served),
-    /// There was no caller for it, and it was closed.
+    /// There was no caller for it. Its client was told so, and it was closed.
     CallersSpent,
+    /// No byte was read or written for as long as a client may be idle.
+    Idle,
     /// It could not be accepted.
     NotAccepted,
+}
+
+impl Ended {
+    /// How a connection ended whose session ended so.
+    pub fn by(served: Served, is_idle: bool) -> Ended
+        ensures { result ≡ ended_by served is_idle }
+    {
+        if is_idle {
+            Ended::Idle
+        } else {
+            Ended::Served(served)
+        }
+    }
+
+    /// Whether the client may still read answers.
+    pub fn is_closed_slowly(&self) -> bool
+        ensures { result ≡ is_closed_slowly self.now }
+    {
+        match self {
+            Ended::Served(Served::Read | Served::Write) | Ended::Idle | Ended::NotAccepted => false,
+            Ended::Served(_) | Ended::CallersSpent => true,
+        }
+    }
 }
 
 impl fmt::Display for Ended {
@@ -27,6 +55,7 @@ impl fmt::Display for Ended {
             Ended::Served(Served::TurnsSpent) => f.write_str("turnsspent"),
             Ended::Served(Served::Memory) => f.write_str("memory"),
             Ended::CallersSpent => f.write_str("callersspent"),
+            Ended::Idle => f.write_str("idle"),
         }
     }
 }

@@ -1,20 +1,25 @@
 //! What a server needs besides its ring: where it listens ([`ServerSetup`]), the open connections
-//! ([`Clients`]) and how each ends ([`Ended`]), the lines that it writes ([`Lines`]), when it ends
+//! ([`Clients`]), how long it waits for each ([`PatientReader`], [`PatientWriter`]), how each ends
+//! ([`Ended`]) and is closed ([`close_slowly`]), the lines that it writes ([`Lines`]), when it ends
 //! ([`Until`], [`Stop`]), and what its handle may do ([`Host`]).
 #![tactic(auto)]
 
 mod clients;
+mod closing;
 mod ended;
 mod host;
 mod lines;
+mod patience;
 mod setup;
 mod stop;
 mod until;
 
 pub use clients::Clients;
+pub use closing::close_slowly;
 pub use ended::Ended;
 pub use host::Host;
 pub use lines::Lines;
+pub use patience::{PatientReader, PatientWriter, prepare};
 pub use setup::{ServerSetup, listen};
 pub use stop::Stop;
 pub use until::Until;

@@ -1,5 +1,6 @@
 //! What a server is started with.
 ghost use Rattle.std.specs.Prelude.{◌≡◌, IfErr};
+ghost use Rattle.std.specs.declared.io.ErrorKind.{ErrorKind};
 
 use chord_app_plan::Plan;
 use chord_app_text::{Fault, Finish};
@@ -15,12 +16,15 @@ pub struct ServerSetup<'a, L> {
     pub notes: &'a L,
 }
 
-/// Listens at a port of 127.0.0.1, if it is free.
+/// Listens at a port of 127.0.0.1, if it is free. At port 0 the system picks one that is.
 pub fn listen<R: Net>(rt: &R, port: u16) -> Result<R::Listener, Finish>
-    ensures { IfErr result (λ finish. finish ≡ Finish.Fault Fault.Listen) }
+    ensures { IfErr result (λ finish. (reason : ErrorKind) × (finish ≡ Finish.Fault (Fault.Listen port reason))) }
 {
     match TcpListener::bind(rt, (Ipv4Addr::LOCALHOST, port)) {
         Ok(listener) => Ok(listener),
-        Err(_) => Err(Finish::Fault(Fault::Listen)),
+        Err(error) => {
+            let reason = error.kind();
+            Err(Finish::Fault(Fault::Listen { port, reason }))
+        }
     }
 }

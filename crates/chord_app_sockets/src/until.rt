@@ -1,6 +1,6 @@
 //! When a server ends.
 ghost use Rattle.std.specs.Prelude.{◌≡◌, true};
-ghost use Rattle.chord_app_sockets.specs.Until.{most_of, turns_of, kept_of, can_be_stopped};
+ghost use Rattle.chord_app_sockets.specs.Until.{most_of, turns_of, kept_of, idle_of, can_be_stopped};
 
 use crate::stop::Stop;
 use std::net::Net;
@@ -14,8 +14,9 @@ const TURNS: u64 = 65_536;
 pub enum Until<'a> {
     /// After this many. Each has a caller of its own.
     Connections(usize),
-    /// Once this is stopped. Callers serve one connection after another.
-    Stopped(&'a Stop),
+    /// Once `stop` is stopped. Callers serve one connection after another, and a client that is
+    /// idle for `idle` seconds is left.
+    Stopped { stop: &'a Stop, idle: u64 },
 }
 
 impl<'a> Until<'a> {
@@ -24,7 +25,7 @@ impl<'a> Until<'a> {
     {
         match self {
             Until::Connections(connections) => connections as u64,
-            Until::Stopped(_) => u64::MAX,
+            Until::Stopped { .. } => u64::MAX,
         }
     }
 
@@ -33,7 +34,7 @@ impl<'a> Until<'a> {
     {
         match self {
             Until::Connections(_) => TURNS,
-            Until::Stopped(_) => u64::MAX,
+            Until::Stopped { .. } => u64::MAX,
         }
     }
 
@@ -42,7 +43,17 @@ impl<'a> Until<'a> {
     {
         match self {
             Until::Connections(_) => 0,
-            Until::Stopped(_) => callers,
+            Until::Stopped { .. } => callers,
+        }
+    }
+
+    /// For how many seconds a client may be idle, if there is a limit.
+    pub fn idle(self) -> Option<u64>
+        ensures { result ≡ idle_of self.entry }
+    {
+        match self {
+            Until::Connections(_) => None,
+            Until::Stopped { idle, .. } => Some(idle),
         }
     }
 
@@ -52,7 +63,7 @@ impl<'a> Until<'a> {
     {
         match self {
             Until::Connections(_) => false,
-            Until::Stopped(stop) => stop.is_stopped(),
+            Until::Stopped { stop, .. } => stop.is_stopped(),
         }
     }
 
@@ -60,7 +71,7 @@ impl<'a> Until<'a> {
     pub fn stop<R: Net + Clock>(self, rt: &R) {
         match self {
             Until::Connections(_) => {}
-            Until::Stopped(stop) => {
+            Until::Stopped { stop, .. } => {
                 if !stop.is_stopped() {
                     stop.stop(rt);
                 }

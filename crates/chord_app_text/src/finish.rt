@@ -1,6 +1,8 @@
 //! How a command ends.
 
+use crate::word_fault::WordFault;
 use std::alloc::{AllocError, AllocFailed};
+use std::io::ErrorKind;
 use std::{fmt, io};
 
 /// Why a command can't go on.
@@ -8,14 +10,18 @@ use std::{fmt, io};
 pub enum Fault {
     /// This line, from 1, is outside the grammar.
     Line(u64),
+    /// This line, from 1, is no request.
+    Request { line: u64, why: WordFault },
     Read,
     Write,
     /// The server can't listen at the port.
-    Listen,
+    Listen { port: u16, reason: ErrorKind },
     /// The ring refuses this node of a plan; nodes count from 0.
     Node(usize),
+    /// The plan gives this node the identifier of the node `first`; nodes count from 0.
+    SameId { number: usize, first: usize },
     /// No server is found at the port.
-    Connect,
+    Connect { port: u16, reason: ErrorKind },
     /// This many requests got no reply.
     Unanswered(u64),
     /// The time cannot be read.
@@ -26,11 +32,22 @@ impl fmt::Display for Fault {
     fn fmt<W: fmt::Write>(&self, f: &mut fmt::Formatter<W>) -> fmt::Result {
         match self {
             Fault::Line(number) => write!(f, "fault line {number}"),
+            Fault::Request { line, why } => write!(f, "fault line {line}\n{why}"),
             Fault::Read => write!(f, "fault read"),
             Fault::Write => write!(f, "fault write"),
-            Fault::Listen => write!(f, "fault listen"),
+            Fault::Listen { port, reason } => {
+                write!(f, "fault listen\nport {port} of 127.0.0.1: {reason}")
+            }
             Fault::Node(number) => { write!(f, "fault plan\nnode {number}: the ring refuses it") }
-            Fault::Connect => write!(f, "fault connect"),
+            Fault::SameId { number, first } => {
+                write!(
+                    f,
+                    "fault plan\nnode {number}: id: node {first} has the same"
+                )
+            }
+            Fault::Connect { port, reason } => {
+                write!(f, "fault connect\nport {port} of 127.0.0.1: {reason}")
+            }
             Fault::Unanswered(count) => write!(f, "fault unanswered {count}"),
             Fault::Clock => write!(f, "fault clock"),
         }

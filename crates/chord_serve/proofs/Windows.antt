@@ -59,6 +59,7 @@ judged_keeps (Ok (number, got)) (answer.Fault n code) xs ys xs' ys' h p q = (
   All-rest IsWireRequest h.0 xs' xs h.1 p,
   All-same IsWireRequest ys' (ys ++ h.0 ∷ []) h.6 (All-push IsWireRequest ys h.0 q (All-head IsWireRequest h.0 xs' (All-same IsWireRequest (h.0 ∷ xs') xs (sym h.1) p))),
 )
+judged_keeps (Err receive.CallersSpent) a xs ys xs' ys' h p q = (All-same IsWireRequest xs' xs h.1 p, All-same IsWireRequest ys' ys h.2 q)
 judged_keeps (Err receive.WrongNumber) a xs ys xs' ys' h p q = (All-same IsWireRequest xs' xs h.4 p, All-same IsWireRequest ys' ys h.5 q)
 judged_keeps (Err receive.WrongKind) a xs ys xs' ys' h p q = (All-same IsWireRequest xs' xs h.5 p, All-same IsWireRequest ys' ys h.6 q)
 judged_keeps (Err receive.Idle) a xs ys xs' ys' h p q = absurd h

@@ -8,6 +8,7 @@ use Rattle.chord_map.specs.Map.{fits}
 use Rattle.chord_wire.specs.declared.request.WireRequest.{WireRequest}
 use Rattle.chord_wire.specs.declared.answer.Answer.{Answer}
 use Rattle.chord_wire.specs.declared.answer.Answer.TheVariants as answer
+use Rattle.chord_wire.specs.declared.fault.FaultCode.TheVariants as fault
 use Rattle.chord_wire.specs.Streams.{request_frame}
 use Rattle.chord_serve.specs.Writes.{WritesPrefix}
 use Rattle.chord_serve.specs.Calls.{GetsAnswer}
@@ -85,6 +86,10 @@ abbrev pub is_for : Answer → Request → Bool
 is_for (answer.Reply number reply) request = fits reply request
 is_for (answer.Fault number code) request = true
 
+-- the server had no caller for the connection, and did nothing
+abbrev pub callers_spent : Answer
+callers_spent = answer.Fault 0 fault.CallersSpent
+
 -- the refused requests after this answer: one with a fault is added
 abbrev pub refused_with : Answer → WireRequest → List WireRequest → List WireRequest
 refused_with (answer.Reply number reply) wire refused = refused
@@ -92,9 +97,10 @@ refused_with (answer.Fault number code) wire refused = refused ++ wire ∷ []
 
 -- a client's judgement of an answer, with the waiting and the refused requests before and after
 abbrev pub JudgedIs : Result (ℕ × Answer) ReceiveFault → Answer → (awaited refused awaited' refused' : List WireRequest) → Type 0
-JudgedIs (Ok (number, got)) a awaited refused awaited' refused' = (wire : WireRequest) × (awaited ≡ wire ∷ awaited') × (got ≡ a) × (number ≡ wire.number) × (number_in a ≡ wire.number) × (is_for a wire.request ≡ true) × (refused' ≡ refused_with a wire refused)
-JudgedIs (Err receive.WrongNumber) a awaited refused awaited' refused' = (wire : WireRequest) × (rest : List WireRequest) × (awaited ≡ wire ∷ rest) × (number_in a ≢ wire.number) × (awaited' ≡ awaited) × (refused' ≡ refused)
-JudgedIs (Err receive.WrongKind) a awaited refused awaited' refused' = (wire : WireRequest) × (rest : List WireRequest) × (awaited ≡ wire ∷ rest) × (number_in a ≡ wire.number) × (is_for a wire.request ≢ true) × (awaited' ≡ awaited) × (refused' ≡ refused)
+JudgedIs (Ok (number, got)) a awaited refused awaited' refused' = (wire : WireRequest) × (awaited ≡ wire ∷ awaited') × (got ≡ a) × (number ≡ wire.number) × (number_in a ≡ wire.number) × (is_for a wire.request ≡ true) × (refused' ≡ refused_with a wire refused) × (a ≢ callers_spent)
+JudgedIs (Err receive.CallersSpent) a awaited refused awaited' refused' = (a ≡ callers_spent) × (awaited' ≡ awaited) × (refused' ≡ refused)
+JudgedIs (Err receive.WrongNumber) a awaited refused awaited' refused' = (wire : WireRequest) × (rest : List WireRequest) × (awaited ≡ wire ∷ rest) × (number_in a ≢ wire.number) × (awaited' ≡ awaited) × (refused' ≡ refused) × (a ≢ callers_spent)
+JudgedIs (Err receive.WrongKind) a awaited refused awaited' refused' = (wire : WireRequest) × (rest : List WireRequest) × (awaited ≡ wire ∷ rest) × (number_in a ≡ wire.number) × (is_for a wire.request ≢ true) × (awaited' ≡ awaited) × (refused' ≡ refused) × (a ≢ callers_spent)
 JudgedIs (Err receive.Idle) a awaited refused awaited' refused' = ⊥
 JudgedIs (Err (receive.Call why)) a awaited refused awaited' refused' = ⊥
 

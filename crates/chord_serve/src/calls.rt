@@ -73,7 +73,8 @@ fn read_more<R: Read>(reader: &mut R, answers: &mut Answers) -> Result<Option<An
     }
 }
 
-// The first answer, read in at most `turns` reads.
+// The first answer, in at most `turns` reads, of at most 4,096 bytes each. The contract counts bytes;
+// tests count reads.
 pub(crate) fn await_answer<R: Read>(
     reader: &mut R,
     answers: &mut Answers,
@@ -114,7 +115,8 @@ fn exchange<R: Read, W: Write>(
     }
 }
 
-/// Writes a version 1 request, and gives the first answer, in at most `turns` reads.
+/// Writes a version 1 request, and gives the first answer. It makes at most `turns` reads; the
+/// contract says how many bytes these may take, and tests count the reads.
 pub fn call<R: Read, W: Write>(
     alloc: Global,
     reader: &mut R,
@@ -136,7 +138,8 @@ pub fn call<R: Read, W: Write>(
     }
 }
 
-/// Writes a version 2 request, and gives the first answer, in at most `turns` reads.
+/// Writes a version 2 request, and gives the first answer. It makes at most `turns` reads; the
+/// contract says how many bytes these may take, and tests count the reads.
 pub fn call_2<R: Read, W: Write>(
     alloc: Global,
     reader: &mut R,

@@ -2,7 +2,8 @@
 //!
 //! [`serve`] reads the frames of one connection, asks an [`Asker`] each request once, and writes
 //! the answers: a reply, a fault, or, for a number that was answered before, the same frame again.
-//! [`Served`] says why the session ended.
+//! [`Served`] says why the session ended. [`tell_callers_spent`] is what a client is told whose
+//! connection is not served.
 //! The other end is [`call`], which sends one request and waits,
 //! or a [`WireClient`], which has up to 16 requests in flight.
 //! [`laws`] says that the output does not depend on how the input was cut.
@@ -10,6 +11,7 @@
 
 mod asked_request;
 mod asker;
+mod callers_spent;
 mod calls;
 mod connection;
 mod due;
@@ -22,6 +24,7 @@ mod wire_client;
 mod write_bytes;
 
 pub use asker::{Asked, Asker};
+pub use callers_spent::tell_callers_spent;
 pub use calls::{CallFault, call, call_2};
 pub use served::Served;
 pub use server::serve;

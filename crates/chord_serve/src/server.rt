@@ -12,9 +12,10 @@ use std::alloc::Global;
 use std::io::{Read, Write};
 
 /// Answers the requests from the reader until the input ends, a frame is refused,
-/// a call fails, or `turns` reads were made. The answers to the requests of one
-/// read are written together, or whenever they are more than 65,536 bytes. They
-/// are also written if memory or a refused frame ends the session.
+/// a call fails, or `turns` reads were made; the contract says how many bytes these may take,
+/// and tests count the reads. The answers to the requests of one read are written together, or
+/// whenever they are more than 65,536 bytes. They are also written if memory or a refused frame
+/// ends the session.
 pub fn serve<R: Read, W: Write, A: Asker>(
     alloc: Global,
     reader: &mut R,

@@ -1,17 +1,17 @@
 //! A client with several requests in flight.
-ghost use Rattle.std.specs.Prelude.{◌≡◌, ◌≢◌, ◌↔◌, ◌+◌, ◌*◌, ◌^◌, ◌<◌, ℕ, length, nat_le, fold, true, false, Ok, Err, IfOk, OnErr, IfSome, IsSome, vec_len, vec_capacity};
+ghost use Rattle.std.specs.Prelude.{◌≡◌, ◌≢◌, ◌↔◌, IsTrue, ◌+◌, ◌*◌, ◌^◌, ◌<◌, ℕ, length, nat_le, fold, true, false, Ok, Err, IfOk, OnErr, IfSome, IsSome, vec_len, vec_capacity};
 ghost use Rattle.std.specs.Io.KnownBytes.{IsAtEnd};
 ghost use Rattle.chord_map.specs.Checked.{IsRequest};
 ghost use Rattle.chord_wire.specs.Spelling.{IsWireRequest};
 ghost use Rattle.chord_wire.specs.Streams.{request_frame};
 ghost use Rattle.chord_serve.specs.BytesRead.{ReadsBetween};
 ghost use Rattle.chord_serve.specs.HasWindow.{HasWindow};
-ghost use Rattle.chord_serve.specs.InFlight.{new_client, floor_under, floor_of, number_in, is_for, is_full, next_of, place_of, with_sent, SendIs, AgainIs, JudgedIs, ReceiveIs};
+ghost use Rattle.chord_serve.specs.InFlight.{new_client, floor_under, floor_of, number_in, callers_spent, is_for, is_full, next_of, place_of, with_sent, SendIs, AgainIs, JudgedIs, ReceiveIs};
 
 use crate::calls::{CallFault, await_answer};
 use crate::write_bytes::write_bytes;
 use chord_map::Request;
-use chord_wire::{Answer, Answers, WireRequest, write_request, write_request_2};
+use chord_wire::{Answer, Answers, FaultCode, WireRequest, write_request, write_request_2};
 use std::alloc::{AllocError, Global};
 use std::io::{Read, Write};
 use std::marker::Model;
@@ -52,6 +52,8 @@ pub enum ReceiveFault {
     WrongNumber,
     #[error("the answer is no reply to such a request")]
     WrongKind,
+    #[error("the server has no caller for the connection, and did nothing")]
+    CallersSpent,
 }
 
 /// Has up to its window of requests in flight. After a fault
@@ -113,6 +115,16 @@ fn number_in(answer: &Answer) -> u64
     }
 }
 
+// Whether the server had no caller for the connection.
+fn tells_callers_spent(answer: &Answer) -> bool
+    ensures { IsTrue result ↔ (answer.now ≡ callers_spent) }
+{
+    match answer {
+        Answer::Fault { number, code } => *number == 0 && *code == FaultCode::CallersSpent,
+        Answer::Reply { .. } => false,
+    }
+}
+
 // Whether the answer fits this request.
 fn is_for(answer: &Answer, request: &Request) -> bool
     ensures { result ≡ is_for answer.now request.now }
@@ -133,6 +145,9 @@ fn judge(
     requires room { vec_len refused.old < vec_capacity refused.old }
     ensures { JudgedIs result answer awaited.old.items refused.old.items awaited.new.items refused.new.items }
 {
+    if tells_callers_spent(&answer) {
+        return Err(ReceiveFault::CallersSpent);
+    }
     let first = &awaited[0];
     if number_in(&answer) != first.number {
         return Err(ReceiveFault::WrongNumber);
@@ -268,7 +283,8 @@ impl WireClient {
         }
     }
 
-    /// The answer to the first request that waits, and its number, in at most `turns` reads.
+    /// The answer to the first request that waits, and its number. It makes at most `turns` reads;
+    /// the contract says how many bytes these may take, and tests count the reads.
     pub fn receive<R: Read>(
         &mut self,
         reader: &mut R,

@@ -7,7 +7,7 @@ use Rattle.std.proofs.lemmas.List.{nil_from_length, append-nil}
 use Rattle.std.proofs.lemmas.List.Concat.{flat_map-cons}
 use Rattle.chord_wire.specs.declared.fault.WireFault.{WireFault}
 use Rattle.chord_wire.specs.declared.fault.FaultCode.{FaultCode}
-use Rattle.chord_wire.specs.declared.fault.FaultCode.TheVariants.{BadLength, BadVersion, BadOperation, BadKey, BadValue, Trailing, Memory, NumberReused, BadNumber, Full, NoAnswer, BadFloor}
+use Rattle.chord_wire.specs.declared.fault.FaultCode.TheVariants.{BadLength, BadVersion, BadOperation, BadKey, BadValue, Trailing, Memory, NumberReused, BadNumber, Full, NoAnswer, BadFloor, CallersSpent}
 use Rattle.chord_map.specs.declared.reply.Reply.{Reply}
 use Rattle.chord_map.specs.declared.reply.Reply.TheVariants.{Added, Present, SetFull, Values, Removed, Absent}
 use Rattle.chord_wire.specs.declared.answer.Answer.{Answer}
@@ -78,6 +78,7 @@ code_again BadNumber ne = refl
 code_again Full ne = refl
 code_again NoAnswer ne = refl
 code_again BadFloor ne = refl
+code_again CallersSpent ne = refl
 
 abbrev there_is : {X : Type 0} → X → Option X
 there_is x = Some x
@@ -115,8 +116,9 @@ code_takes n code =
     (case_of (CodeTaken n) n 9 BadNumber _ code (λ e. (e, λ h. absurd cc))
     (case_of (CodeTaken n) n 10 Full _ code (λ e. (e, λ h. absurd cc))
     (case_of (CodeTaken n) n 11 NoAnswer _ code (λ e. (e, λ h. absurd cc))
-    (case_of (CodeTaken n) n 12 BadFloor None code (λ e. (e, λ h. absurd cc))
-    (λ e. absurd (no_code code e))))))))))))
+    (case_of (CodeTaken n) n 12 BadFloor _ code (λ e. (e, λ h. absurd cc))
+    (case_of (CodeTaken n) n 15 CallersSpent None code (λ e. (e, λ h. absurd cc))
+    (λ e. absurd (no_code code e)))))))))))))
 
 -- ---- statuses
 

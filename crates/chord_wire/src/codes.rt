@@ -57,6 +57,9 @@ pub const NO_ANSWER: u8 = 11;
 
 pub const BAD_FLOOR: u8 = 12;
 
+/// Told before any request is read; 13 and 14 are free.
+pub const CALLERS_SPENT: u8 = 15;
+
 /// How far a number may be above its floor.
 pub const WINDOW: u64 = 16;
 

@@ -33,6 +33,8 @@ pub enum FaultCode {
     NoAnswer,
     #[error("bad floor")]
     BadFloor,
+    #[error("no caller is left for the connection")]
+    CallersSpent,
 }
 
 impl FaultCode {
@@ -52,6 +54,7 @@ impl FaultCode {
             codes::FULL => Some(FaultCode::Full),
             codes::NO_ANSWER => Some(FaultCode::NoAnswer),
             codes::BAD_FLOOR => Some(FaultCode::BadFloor),
+            codes::CALLERS_SPENT => Some(FaultCode::CallersSpent),
             _ => None,
         }
     }
@@ -73,6 +76,7 @@ impl FaultCode {
             FaultCode::Full => codes::FULL,
             FaultCode::NoAnswer => codes::NO_ANSWER,
             FaultCode::BadFloor => codes::BAD_FLOOR,
+            FaultCode::CallersSpent => codes::CALLERS_SPENT,
         }
     }
 }

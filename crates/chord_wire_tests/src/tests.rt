@@ -554,7 +554,7 @@ fn is_read_back(alloc: Global, number: u8) -> bool {
 
 #[test]
 fn faults_are_read_back(rt: HostRuntime) {
-    for number in [1, 2, 3, 4, 5, 6, 8, 9, 10, 11, 12] {
+    for number in [1, 2, 3, 4, 5, 6, 8, 9, 10, 11, 12, 15] {
         assert!(rt; is_read_back(rt.alloc(), number), "{number}");
     }
 }
@@ -568,7 +568,7 @@ fn is_code_written(alloc: Global, number: u8) -> Option<bool> {
 
 #[test]
 fn faults_are_written(rt: HostRuntime) {
-    for number in [1, 2, 3, 4, 5, 6, 8, 9, 10, 11, 12] {
+    for number in [1, 2, 3, 4, 5, 6, 8, 9, 10, 11, 12, 15] {
         let written = is_code_written(rt.alloc(), number);
         assert!(rt; written == Some(true), "{number}");
     }
@@ -584,7 +584,7 @@ fn fault_of_number(alloc: Global, number: u8) -> Option<FaultCode> {
 
 #[test]
 fn no_other_code_is_a_fault(rt: HostRuntime) {
-    for number in [0, 7, 13] {
+    for number in [0, 7, 13, 14, 16] {
         let code = FaultCode::from_number(number);
         assert!(rt; code == None, "{number} is no code");
         let fault = fault_of_number(rt.alloc(), number);
@@ -656,12 +656,16 @@ fn says<T: Display>(alloc: Global, fault: &T, wanted: &str) -> Option<bool> {
     Some(text.as_str() == wanted)
 }
 
-const TEXTS: [(FaultCode, &str); 5] = [
+const TEXTS: [(FaultCode, &str); 6] = [
     (FaultCode::BadLength, "bad length"),
     (FaultCode::BadFloor, "bad floor"),
     (FaultCode::NumberReused, "the number was another request's"),
     (FaultCode::Full, "the store is full"),
     (FaultCode::NoAnswer, "no answer came in time"),
+    (
+        FaultCode::CallersSpent,
+        "no caller is left for the connection",
+    ),
 ];
 
 #[test]

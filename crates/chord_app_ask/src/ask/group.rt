@@ -12,8 +12,9 @@ use std::net::{Net, TcpStream};
 /// Sends the open requests.
 fn send_open(link: &mut Link, questions: &mut [Question]) -> Result<LinkState, Finish> {
     for question in questions.iter_mut() {
-        if question.send(link)? == LinkState::Broken {
-            return Ok(LinkState::Broken);
+        let state = question.send(link)?;
+        if state != LinkState::Open {
+            return Ok(state);
         }
     }
     Ok(LinkState::Open)
@@ -55,6 +56,7 @@ fn receive_one(
             }
         }
         Err(ReceiveFault::Call(CallFault::Memory)) => Err(Finish::OutOfMemory),
+        Err(ReceiveFault::CallersSpent) => Ok(LinkState::CallersSpent),
         Err(_) => Ok(LinkState::Broken),
     }
 }
@@ -70,18 +72,31 @@ fn receive_all(
         if link.client.in_flight() == 0 {
             break;
         }
-        if receive_one(link, questions, tries)? == LinkState::Broken {
-            return Ok(LinkState::Broken);
+        let state = receive_one(link, questions, tries)?;
+        if state != LinkState::Open {
+            return Ok(state);
         }
     }
     Ok(LinkState::Open)
 }
 
-/// Sends the open requests, and receives all their answers.
+/// Sends the open requests, and receives all their answers; where sending failed, those that came
+/// before.
 fn ask_over(link: &mut Link, questions: &mut [Question], tries: u32) -> Result<LinkState, Finish> {
-    match send_open(link, questions)? {
-        LinkState::Open => receive_all(link, questions, tries),
-        LinkState::Broken => Ok(LinkState::Broken),
+    let sent = send_open(link, questions)?;
+    match receive_all(link, questions, tries)? {
+        LinkState::Open => Ok(sent),
+        received => Ok(received),
+    }
+}
+
+/// The connection of these questions ended so.
+fn end_questions(ended: LinkState, questions: &mut [Question], tries: u32) {
+    for question in questions.iter_mut() {
+        match ended {
+            LinkState::CallersSpent => question.refuse(),
+            LinkState::Open | LinkState::Broken => question.lose(tries),
+        }
     }
 }
 
@@ -103,10 +118,7 @@ fn ask_round<R: Net<Stream = TcpStream>>(
         return Ok(());
     }
     drop(link);
-    asked?;
-    for question in questions.iter_mut() {
-        question.lose(client_options.tries);
-    }
+    end_questions(asked?, questions, client_options.tries);
     Ok(())
 }
 

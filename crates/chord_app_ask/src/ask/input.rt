@@ -5,7 +5,7 @@ use crate::ask::group::ask_group;
 use crate::ask::line::read_line;
 use crate::ask::link::{ClientOptions, Link};
 use crate::ask::question::Question;
-use chord_app_text::{Fault, Finish, LineFault};
+use chord_app_text::{Fault, Finish, WordFault};
 use chord_map::Request;
 use std::alloc::Global;
 use std::io::{self, Read, Write};
@@ -103,14 +103,16 @@ impl AskSession {
         asked
     }
 
-    /// Asks the requests before a line outside the grammar, and then answers that line's fault.
+    /// Asks the requests before a line that is none, and then answers that line's fault.
     fn refuse<R: Net<Stream = TcpStream>, W: Write>(
         &mut self,
         rt: &R,
+        why: WordFault,
         writer: &mut W,
     ) -> Result<(), Finish> {
         self.settle(rt, writer)?;
-        Err(Finish::Fault(Fault::Line(self.lines)))
+        let line = self.lines;
+        Err(Finish::Fault(Fault::Request { line, why }))
     }
 
     /// Takes in a whole line, and asks once as many requests wait as may be in flight.
@@ -122,8 +124,8 @@ impl AskSession {
         self.lines = self.lines.saturating_add(1);
         match read_line(self.alloc, &self.line) {
             Ok(request) => self.questions.push(Question::new(request))?,
-            Err(LineFault::Grammar) => return self.refuse(rt, writer),
-            Err(LineFault::OutOfMemory) => return Err(Finish::OutOfMemory),
+            Err(WordFault::OutOfMemory) => return Err(Finish::OutOfMemory),
+            Err(why) => return self.refuse(rt, why, writer),
         }
         self.line.clear();
         if self.questions.len() as u64 >= self.client_options.window {
@@ -146,7 +148,7 @@ impl AskSession {
                 self.line.push(*byte)?;
             } else {
                 self.lines = self.lines.saturating_add(1);
-                return self.refuse(rt, writer);
+                return self.refuse(rt, WordFault::LineLong, writer);
             }
         }
         self.settle(rt, writer)

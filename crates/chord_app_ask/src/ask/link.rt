@@ -13,6 +13,8 @@ pub const READS: u64 = 4_194_304;
 pub enum LinkState {
     Open,
     Broken,
+    /// The server has no caller for it, and did nothing.
+    CallersSpent,
 }
 
 /// Where a server is, and how it is asked.
@@ -45,8 +47,14 @@ impl Link {
         else {
             return Err(Finish::BadCommandLine);
         };
-        let Ok(stream) = TcpStream::connect(rt, (Ipv4Addr::LOCALHOST, client_options.port)) else {
-            return Err(Finish::Fault(Fault::Connect));
+        let port = client_options.port;
+        let stream = match TcpStream::connect(rt, (Ipv4Addr::LOCALHOST, port)) {
+            Ok(stream) => stream,
+            Err(error) => {
+                let reason = error.kind();
+                drop(client);
+                return Err(Finish::Fault(Fault::Connect { port, reason }));
+            }
         };
         let _ = stream.set_nodelay(true).is_ok();
         Ok(Link { stream, client })

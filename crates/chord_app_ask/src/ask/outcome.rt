@@ -12,6 +12,8 @@ pub enum AskOutcome {
     NoAnswer,
     /// A fault that sending again does not mend.
     Fault(FaultCode),
+    /// The server had no caller for the connection, so the request was not done.
+    CallersSpent,
     /// The connection ended before the answer came.
     Lost,
 }
@@ -35,6 +37,7 @@ impl fmt::Display for AskOutcome {
                 let code = code.to_number();
                 write!(f, "fault {code}")
             }
+            AskOutcome::CallersSpent => f.write_str("callersspent"),
             AskOutcome::Lost => f.write_str("lost"),
         }
     }

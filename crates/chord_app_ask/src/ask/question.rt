@@ -2,7 +2,7 @@
 ghost use Rattle.std.specs.Prelude.{◌≡◌, ◌≢◌, ◌⊎◌, ◌↔◌, ◌+◌, ◌-◌, ◌^◌, ◌&&◌, IsTrue, None, Some, true, false, min, nat_lt, is_some, not};
 ghost use Rattle.std.specs.Option.{option_copied};
 ghost use Rattle.chord_map.specs.Checked.{IsRequest};
-ghost use Rattle.chord_app_ask.specs.Questions.{may_change, is_lost, may_pass, outcome_given_up, outcome_of, outcome_after_loss, IsSentOnce};
+ghost use Rattle.chord_app_ask.specs.Questions.{may_change, is_lost, may_pass, outcome_given_up, outcome_refused, outcome_of, outcome_after_loss, IsSentOnce};
 
 use crate::ask::link::{Link, LinkState};
 use crate::ask::outcome::AskOutcome;
@@ -139,6 +139,18 @@ impl Question {
     {
         if self.outcome.is_none() && is_lost(&self.request, self.times, tries) {
             self.outcome = Some(AskOutcome::Lost);
+        }
+        self.number = None;
+    }
+
+    /// The server had no caller for its connection, and did nothing.
+    pub fn refuse(&mut self)
+        ensures outcome { self.new.outcome ≡ outcome_refused self.old.outcome }
+        ensures number { self.new.number ≡ None }
+        ensures same { (self.new.request ≡ self.old.request) × (self.new.times ≡ self.old.times) }
+    {
+        if self.outcome.is_none() {
+            self.outcome = Some(AskOutcome::CallersSpent);
         }
         self.number = None;
     }

@@ -1,5 +1,7 @@
 //! The results of a load.
 
+ghost use Rattle.std.specs.Prelude.{◌≡◌, max};
+
 use crate::load::histogram::Histogram;
 use std::alloc::{AllocError, Global};
 use std::fmt;
@@ -13,7 +15,7 @@ pub struct Report {
     pub times: Histogram,
     /// How many got no reply.
     pub faults: u64,
-    /// How long all took.
+    /// How long after the load began the last reply came.
     pub milliseconds: u64,
 }
 
@@ -27,11 +29,15 @@ impl Report {
     }
 
     /// Adds the results of another connection that ran at the same time.
-    pub fn join(&mut self, other: &Report) {
+    pub fn join(&mut self, other: &Report)
+        ensures { self.new.milliseconds ≡ max self.old.milliseconds other.now.milliseconds }
+    {
+        let milliseconds = self.milliseconds.max(other.milliseconds);
         for bucket in other.times.buckets() {
             self.times.record(bucket.bound, bucket.count);
         }
         self.faults = self.faults.saturating_add(other.faults);
+        self.milliseconds = milliseconds;
     }
 
     /// How many requests were answered each second.

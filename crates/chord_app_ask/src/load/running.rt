@@ -56,12 +56,13 @@ fn run_connections<
     alloc: Global,
     scope: &'s Scope<'s, E>,
     load: Load,
+    start: Instant,
     progress: &'s LoadProgress,
 ) -> Result<Report, Finish> {
     let mut workers = Vec::new(alloc);
     let answered = &progress.answered;
     for connection in 0..load.connections {
-        match scope.spawn(move || work(rt, alloc, load, connection, answered)) {
+        match scope.spawn(move || work(rt, alloc, load, connection, start, answered)) {
             Ok(worker) => workers.push(worker)?,
             Err(_) => return Err(Finish::OutOfMemory),
         }
@@ -89,6 +90,7 @@ fn run_all<
     rt: &'x R,
     alloc: Global,
     load: Load,
+    start: Instant,
     progress: &'x LoadProgress,
     lines: Option<W>,
 ) -> Result<Report, Finish> {
@@ -96,7 +98,7 @@ fn run_all<
         if let Some(mut writer) = lines {
             let _ = scope.spawn(move || show(rt, progress, &mut writer)).is_ok();
         }
-        let report = run_connections(rt, alloc, scope, load, progress);
+        let report = run_connections(rt, alloc, scope, load, start, progress);
         progress.has_ended.store(true, Ordering::SeqCst);
         report
     })
@@ -126,10 +128,7 @@ pub fn run_load<
     let Ok(start) = Instant::now(rt) else {
         return Err(Finish::Fault(Fault::Clock));
     };
-    let mut report = run_all(rt, rt, alloc, load, &progress, lines)?;
-    if let Ok(took) = start.elapsed(rt) {
-        report.milliseconds = u64::try_from(took.as_millis()).unwrap_or(u64::MAX);
-    }
+    let report = run_all(rt, rt, alloc, load, start, &progress, lines)?;
     let finish = write_report(&report, writer);
     drop(report);
     finish

@@ -22,6 +22,7 @@ struct Worker<'a, R: Clock> {
     load: Load,
     connection: u64,
     link: Link,
+    /// When the load began.
     start: Instant,
     /// How many requests were sent.
     made: u64,
@@ -146,12 +147,15 @@ impl<'a, R: Clock> Worker<'a, R> {
         Ok(LinkState::Open)
     }
 
-    /// Records how long the first request in flight took.
+    /// Records how long the first request in flight took, and when its reply came.
     fn keep_time(&mut self) -> Result<(), Finish> {
         if let Some(sent) = self.sent.pop_front() {
-            let took = now(self.rt)?.duration_since(sent).as_micros();
+            let time = now(self.rt)?;
+            let took = time.duration_since(sent).as_micros();
             let microseconds = u64::try_from(took).unwrap_or(u64::MAX);
             self.report.times.record(microseconds, 1);
+            let passed = time.duration_since(self.start).as_millis();
+            self.report.milliseconds = u64::try_from(passed).unwrap_or(u64::MAX);
         }
         Ok(())
     }
@@ -214,12 +218,14 @@ impl<'a, R: Clock> Worker<'a, R> {
     }
 }
 
-/// Runs one connection of the load. What was in flight when it broke counts as faults.
+/// Runs one connection of a load that began at `start`. What was in flight when it broke counts as
+/// faults.
 pub fn work<R: Net<Stream = TcpStream> + Clock>(
     rt: &R,
     alloc: Global,
     load: Load,
     connection: u64,
+    start: Instant,
     answered: &AtomicU64,
 ) -> Result<Report, Finish> {
     let client_options = ClientOptions {
@@ -229,7 +235,6 @@ pub fn work<R: Net<Stream = TcpStream> + Clock>(
         tries: 1,
     };
     let report = Report::new(alloc)?;
-    let start = now(rt)?;
     let mut worker = Worker {
         rt,
         alloc,

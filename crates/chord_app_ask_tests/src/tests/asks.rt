@@ -1,7 +1,7 @@
 //! The command `ask`, over loopback.
 
 use chord_app_ask::{AskOutcome, ClientOptions, ask_lines, ask_one, read_line, read_words};
-use chord_app_text::{Fault, Finish, LineFault};
+use chord_app_text::{Fault, Finish, WordFault};
 use chord_map::{Reply, Request};
 use chord_wire::FaultCode;
 use std::alloc::{AllocError, Global};
@@ -55,6 +55,12 @@ fn asks_one<R: Net<Stream = TcpStream>>(
     (finish, is_written)
 }
 
+/// How a client ends that finds nobody at this port.
+fn finds_nobody(port: u16) -> Result<Finish, Finish> {
+    let reason = io::ErrorKind::ConnectionRefused;
+    Err(Finish::Fault(Fault::Connect { port, reason }))
+}
+
 /// A port at which nobody listens.
 fn free_port<R: Net<Listener = TcpListener, Stream = TcpStream>>(rt: &R) -> io::Result<u16> {
     let listener = TcpListener::bind(rt, "127.0.0.1:0")?;
@@ -63,36 +69,38 @@ fn free_port<R: Net<Listener = TcpListener, Stream = TcpStream>>(rt: &R) -> io::
     Ok(address?.port())
 }
 
-/// Asks at a port at which nobody listens.
+/// Asks at a port at which nobody listens. Checks that it is told so, and nothing else.
 fn asks_nobody<R: Net<Listener = TcpListener, Stream = TcpStream>>(
     rt: &R,
     alloc: Global,
-) -> Option<Asked> {
-    let client_options = client_options(free_port(rt).ok()?, 2, 1, 3);
-    Some(asks(rt, alloc, client_options, "insert abc x\n", ""))
+) -> Option<bool> {
+    let port = free_port(rt).ok()?;
+    let client_options = client_options(port, 2, 1, 3);
+    let asked = asks(rt, alloc, client_options, "insert abc x\n", "");
+    Some(asked == (finds_nobody(port), true))
 }
 
-/// Asks the request in these words at a port at which nobody listens.
+/// The same for the request in these words.
 fn asks_nobody_one<R: Net<Listener = TcpListener, Stream = TcpStream>>(
     rt: &R,
     alloc: Global,
     words: &[&str],
-) -> Option<Asked> {
-    let client_options = client_options(free_port(rt).ok()?, 1, 1, 1);
-    Some(asks_one(rt, alloc, client_options, words, ""))
+) -> Option<bool> {
+    let port = free_port(rt).ok()?;
+    let client_options = client_options(port, 1, 1, 1);
+    let asked = asks_one(rt, alloc, client_options, words, "");
+    Some(asked == (finds_nobody(port), true))
 }
 
 #[test]
 fn nobody_listens(rt: HostRuntime) {
-    let fault = Err(Finish::Fault(Fault::Connect));
-    assert!(rt; asks_nobody(&rt, rt.alloc()) == Some((fault, true)));
+    assert!(rt; asks_nobody(&rt, rt.alloc()) == Some(true));
 }
 
 #[test]
 fn nobody_listens_to_one_request(rt: HostRuntime) {
     let asked = asks_nobody_one(&rt, rt.alloc(), &["retrieve", "abc"]);
-    let fault = Err(Finish::Fault(Fault::Connect));
-    assert!(rt; asked == Some((fault, true)));
+    assert!(rt; asked == Some(true));
 }
 
 /// Answers the first bytes on a connection.
@@ -189,6 +197,19 @@ fn a_lost_connection(rt: HostRuntime) {
     }
 }
 
+/// A request whose connection finds no caller was not done, and is not asked again. The next one
+/// goes over another connection.
+#[test]
+fn a_connection_without_a_caller(rt: HostRuntime) {
+    let no_caller = [0, 0, 0, 0x0b, 1, 0xff, 0, 0, 0, 0, 0, 0, 0, 0, 15];
+    let unanswered = Finish::Fault(Fault::Unanswered(1));
+    for input in ["insert abc x\n", "retrieve abc\n"] {
+        let lines = (input, "callersspent\n");
+        let asked = asks_one_that_ends(&rt, rt.alloc(), 3, lines, 1, &no_caller);
+        assert!(rt; asked == Some((Ok(unanswered), true)));
+    }
+}
+
 /// A retrieve whose connection ended goes over another one, until it has no tries left.
 #[test]
 fn a_retrieve_is_asked_again(rt: HostRuntime) {
@@ -209,7 +230,7 @@ fn a_retrieve_is_asked_again(rt: HostRuntime) {
     }
 }
 
-fn is_insert(read: Result<Request, LineFault>, wanted_key: &[u8], wanted: &[u8]) -> bool {
+fn is_insert(read: Result<Request, WordFault>, wanted_key: &[u8], wanted: &[u8]) -> bool {
     let is_insert = match &read {
         Ok(Request::Insert { key, value }) => {
             key.as_slice() == wanted_key && value.as_slice() == wanted
@@ -231,34 +252,55 @@ fn words_of_requests(rt: HostRuntime) {
     assert!(rt; is_insert(read, b"a", b""));
 }
 
-fn is_no_request(read: Result<Request, LineFault>) -> bool {
-    let is_none = matches!(&read, Err(LineFault::Grammar));
-    drop(read);
-    is_none
+/// Why words are no request.
+fn fault_of(read: Result<Request, WordFault>) -> Option<WordFault> {
+    read.err()
+}
+
+/// The first wrong word is told.
+#[test]
+fn words_that_are_no_request(rt: HostRuntime) {
+    for (line, fault) in [
+        (b"".as_slice(), WordFault::NoOperation),
+        (b"Insert a b", WordFault::NoOperation),
+        (b"insert", WordFault::NoKey),
+        (b"retrieve", WordFault::NoKey),
+        (b"insert a", WordFault::NoValue),
+        (b"remove a", WordFault::NoValue),
+        (b"retrieve a b", WordFault::ValueOfRetrieve),
+        (b"insert a b c", WordFault::FourthWord),
+        (b"insert  a b", WordFault::FourthWord),
+        (b"retrieve x:", WordFault::KeyDigits),
+        (b"retrieve x:0", WordFault::KeyDigits),
+        (b"retrieve x:0g", WordFault::KeyDigits),
+        (b"insert a x:0", WordFault::ValueDigits),
+        (b"retrieve x:-", WordFault::KeyLength),
+        (b"retrieve ", WordFault::KeyLength),
+        (b"\xff ", WordFault::NoText),
+    ] {
+        assert!(rt;
+            fault_of(read_line(rt.alloc(), line)) == Some(fault),
+            "{fault}"
+        );
+    }
+    let none = fault_of(read_words(rt.alloc(), &[]));
+    assert!(rt; none == Some(WordFault::NoOperation));
+}
+
+/// The fault of a key of 256 bytes, and that of a value of 4,097.
+fn faults_of_long_words(alloc: Global) -> Option<(WordFault, WordFault)> {
+    let long = String::from_utf8(vec![in alloc; b'a'; 4_097].ok()?).ok()?;
+    let key = long.as_str().get(..256)?;
+    let of_key = fault_of(read_words(alloc, &["retrieve", key]));
+    let of_value = fault_of(read_words(alloc, &["insert", "a", long.as_str()]));
+    drop(long);
+    Some((of_key?, of_value?))
 }
 
 #[test]
-fn words_that_are_no_request(rt: HostRuntime) {
-    for line in [
-        b"".as_slice(),
-        b"insert",
-        b"insert a",
-        b"insert a b c",
-        b"retrieve",
-        b"retrieve a b",
-        b"remove a",
-        b"Insert a b",
-        b"insert  a b",
-        b"retrieve x:-",
-        b"retrieve x:",
-        b"retrieve x:0",
-        b"retrieve x:0g",
-        b"retrieve ",
-        b"\xff ",
-    ] {
-        assert!(rt; is_no_request(read_line(rt.alloc(), line)));
-    }
-    assert!(rt; is_no_request(read_words(rt.alloc(), &[])));
+fn words_that_are_too_long(rt: HostRuntime) {
+    let faults = faults_of_long_words(rt.alloc());
+    assert!(rt; faults == Some((WordFault::KeyLength, WordFault::ValueLength)));
 }
 
 fn add_lines(alloc: Global, text: &mut String, outcomes: &[AskOutcome]) -> Result<(), AllocError> {
@@ -287,6 +329,7 @@ fn are_lines(alloc: Global, wanted: &str) -> Option<bool> {
         AskOutcome::Full,
         AskOutcome::NoAnswer,
         AskOutcome::Fault(FaultCode::NumberReused),
+        AskOutcome::CallersSpent,
         AskOutcome::Lost,
     ];
     let are_lines = are_lines_of(alloc, &outcomes, wanted);
@@ -296,6 +339,6 @@ fn are_lines(alloc: Global, wanted: &str) -> Option<bool> {
 
 #[test]
 fn outcomes_as_lines(rt: HostRuntime) {
-    let wanted = "setfull\nfull\nnoanswer\nfault 8\nlost\n";
+    let wanted = "setfull\nfull\nnoanswer\nfault 8\ncallersspent\nlost\n";
     assert!(rt; are_lines(rt.alloc(), wanted) == Some(true));
 }

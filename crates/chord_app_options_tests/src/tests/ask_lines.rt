@@ -38,8 +38,16 @@ fn options(alloc: Global, line: &'static str) -> Option<Options> {
 
 #[test]
 fn options_of_ask(rt: HostRuntime) {
-    let options = options(rt.alloc(), "chord ask --port 7001 insert a -b");
-    assert!(rt; options == Some(((7001, 2), (1, 3), 3)));
+    let wanted = Some(((7001, 2), (1, 3), 3));
+    for line in [
+        "chord ask --port 7001 insert a b",
+        "chord ask insert a b --port 7001",
+        "chord ask insert --port 7001 a b",
+        "chord ask insert a -5 --port 7001",
+        "chord ask --port 7001 -- insert a -b",
+    ] {
+        assert!(rt; options(rt.alloc(), line) == wanted, "{line}");
+    }
 }
 
 #[test]
@@ -54,6 +62,7 @@ fn refused_options_of_ask(rt: HostRuntime) {
         "chord ask --port 1 --tries x",
         "chord ask --port 1 --protocol 1 --window 2",
         "chord ask insert a b",
+        "chord ask --port 1 insert a -b",
     ] {
         assert!(rt; refused(rt.alloc(), line) == Some(2), "{line}");
     }
@@ -68,13 +77,17 @@ fn prints_usage(alloc: Global, line: &'static str, text: &str) -> Option<(bool, 
     prints(alloc, line, wanted.as_str())
 }
 
-/// The port has the limits that it has for `serve`, and each range is told in the same words.
+/// Each range is told in the same words, also to a number below 0.
 #[test]
 fn faults_of_ask(rt: HostRuntime) {
     for (line, text) in [
         (
             "chord ask --port x insert a b",
             "error: invalid value 'x' for '--port <N>': a number from 1 to 65535",
+        ),
+        (
+            "chord ask --port -1 insert a b",
+            "error: invalid value '-1' for '--port <N>': a number from 1 to 65535",
         ),
         (
             "chord ask --port 1 --window 17",

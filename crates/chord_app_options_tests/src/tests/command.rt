@@ -1,9 +1,10 @@
 //! How commands end, the words of lines, and replies on them.
 
-use chord_app_text::{Fault, Finish, Hex, LineFault, ReplyText, Words};
+use chord_app_text::{Fault, Finish, Hex, LineFault, ReplyText, WordFault, Words};
 use chord_ident::Id;
 use chord_map::{Bytes, Reply, Values};
 use std::alloc::Global;
+use std::io::ErrorKind;
 
 const STATUSES: &[(Finish, u8)] = &[
     (Finish::Done, 0),
@@ -30,9 +31,35 @@ const TEXTS: &[(Fault, &str)] = &[
     (Fault::Line(7), "fault line 7"),
     (Fault::Read, "fault read"),
     (Fault::Write, "fault write"),
-    (Fault::Listen, "fault listen"),
+    (
+        Fault::Request {
+            line: 7,
+            why: WordFault::NoKey,
+        },
+        "fault line 7\nword 2 of the request is missing: a key",
+    ),
+    (
+        Fault::Listen {
+            port: 7,
+            reason: ErrorKind::AddrInUse,
+        },
+        "fault listen\nport 7 of 127.0.0.1: address in use",
+    ),
     (Fault::Node(1), "fault plan\nnode 1: the ring refuses it"),
-    (Fault::Connect, "fault connect"),
+    (
+        Fault::SameId {
+            number: 2,
+            first: 0,
+        },
+        "fault plan\nnode 2: id: node 0 has the same",
+    ),
+    (
+        Fault::Connect {
+            port: 7,
+            reason: ErrorKind::ConnectionRefused,
+        },
+        "fault connect\nport 7 of 127.0.0.1: connection refused",
+    ),
     (Fault::Unanswered(3), "fault unanswered 3"),
     (Fault::Clock, "fault clock"),
 ];

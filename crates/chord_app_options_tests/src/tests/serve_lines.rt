@@ -34,6 +34,10 @@ fn faults_of_serve(rt: HostRuntime) {
             "chord serve --plan p --port 7 --connections 1 --stay",
             "error: the argument '--connections <K>' cannot be used with '--stay'",
         ),
+        (
+            "chord serve --plan p --port 7 --connections 1 --idle 2",
+            "error: the argument '--connections <K>' cannot be used with '--idle <SECONDS>'",
+        ),
     ] {
         assert!(rt; prints_usage(rt.alloc(), line, text) == Some((true, 2)));
     }
@@ -124,9 +128,34 @@ fn numbers_within_limits(rt: HostRuntime) {
 #[test]
 fn a_port_that_is_no_number(rt: HostRuntime) {
     let wanted =
-        "error: invalid value '0' for '--port <N>': a number from 1 to 65535\n\nUsage: chord serve [OPTIONS] --plan <FILE> --port <N> <--connections <K>|--stay>\n\nFor more information, try '--help'.\n";
-    let printed = prints(rt.alloc(), "chord serve --plan p --port 0 --stay", wanted);
+        "error: invalid value '-1' for '--port <N>': a number from 0 to 65535\n\nUsage: chord serve [OPTIONS] --plan <FILE> --port <N> <--connections <K>|--stay>\n\nFor more information, try '--help'.\n";
+    let printed = prints(rt.alloc(), "chord serve --plan p --port -1 --stay", wanted);
     assert!(rt; printed == Some((true, 2)));
+}
+
+/// The port of this command line, and for how many seconds a client may be idle.
+fn port_and_idle(alloc: Global, words: &[&str]) -> Option<(u16, u64)> {
+    let matches = commands(alloc).ok()?.try_get_matches_from(words).ok()?;
+    let found = port_and_idle_in(alloc, &matches);
+    drop(matches);
+    found
+}
+
+fn port_and_idle_in(alloc: Global, matches: &ArgMatches) -> Option<(u16, u64)> {
+    let (_, found) = matches.subcommand()?;
+    let line = serve_line_of(alloc, found).ok()?;
+    Some((line.port, line.idle))
+}
+
+/// At port 0 the system picks one; a client may be idle for 300 seconds unless the line says more.
+#[test]
+fn the_port_and_idle_clients_of_serve(rt: HostRuntime) {
+    let stays = ["chord", "serve", "--plan", "p", "--port", "0", "--stay"];
+    assert!(rt; port_and_idle(rt.alloc(), &stays) == Some((0, 300)));
+    let idle = [
+        "chord", "serve", "--plan", "p", "--port", "7", "--stay", "--idle", "86400",
+    ];
+    assert!(rt; port_and_idle(rt.alloc(), &idle) == Some((7, 86_400)));
 }
 
 const SERVE_HELP: &str = concat!(
@@ -136,10 +165,11 @@ const SERVE_HELP: &str = concat!(
     "\n",
     "Options:\n",
     "      --plan <FILE>      The ring's numbers and nodes, as TOML\n",
-    "      --port <N>         The port on 127.0.0.1, 1 to 65535\n",
+    "      --port <N>         The port on 127.0.0.1, 1 to 65535, or 0 for one that the system picks\n",
     "      --connections <K>  How many connections are served, 1 to 65535\n",
     "      --stay             Serves until standard input ends\n",
     "      --notes            Notes on standard error how each connection ends, as it ends\n",
+    "      --idle <SECONDS>   With --stay: how long a client may be idle, 1 to 86400, else 300\n",
     "  -h, --help             Print help\n",
 );
 

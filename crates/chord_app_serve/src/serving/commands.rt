@@ -72,14 +72,21 @@ fn stop_at_end<R: Host, L, I: Read + Send + Drop + 'static>(
 }
 
 /// The command `serve --stay`: a ring of the plan's nodes over these stores, one for each, serves
-/// until the input ends.
+/// until the input ends. A client that is idle for `idle` seconds is left.
 pub fn stay<
     S: EntryStore + Send,
     R: Host,
     L: Log + Sync,
     W: Write + Send + Drop,
     I: Read + Send + Drop + 'static,
->(rt: &R, setup: &ServerSetup<'_, L>, stores: Vec<S>, input: I, writer: W) -> Result<(), Finish> {
+>(
+    rt: &R,
+    setup: &ServerSetup<'_, L>,
+    stores: Vec<S>,
+    idle: u64,
+    input: I,
+    writer: W,
+) -> Result<(), Finish> {
     let parts = ring_parts_of(setup.alloc, setup.plan)?;
     let stop = match stop_at_end(rt, setup, input) {
         Ok(stop) => stop,
@@ -91,7 +98,8 @@ pub fn stay<
         }
     };
     let lines = Lines::as_they_end(setup.alloc, writer);
-    let stayed = serve_until(rt, setup, stores, Until::Stopped(&stop), lines, parts);
+    let until = Until::Stopped { stop: &stop, idle };
+    let stayed = serve_until(rt, setup, stores, until, lines, parts);
     drop(stop);
     stayed
 }

@@ -3,10 +3,13 @@ ghost use Rattle.std.specs.Prelude.{◌≡◌};
 
 use crate::serving::caller_pool::CallerPool;
 use crate::serving::service::{Service, node_of};
-use chord_app_sockets::{Clients, Ended, Host, Lines, ServerSetup, Until};
+use chord_app_sockets::{
+    Clients, Ended, Host, Lines, PatientReader, PatientWriter, ServerSetup, Until, close_slowly,
+    prepare,
+};
 use chord_app_text::Finish;
 use chord_live_ring::{Ring, RingParts};
-use chord_serve::Served;
+use chord_serve::{Served, tell_callers_spent};
 use chord_store::EntryStore;
 use chord_table::Naming;
 use log::Log;
@@ -36,23 +39,35 @@ impl<'s, 'r, J: Naming, S: EntryStore, R: Host, L: Log, W: Write> Server<'s, 'r,
         }
     }
 
-    /// Serves a client by a caller of the pool.
+    /// Serves a client by a caller of the pool, or tells it that none is left.
     fn serve_client(&self, number: u64, stream: &TcpStream) -> Ended {
         let service = self.service;
         let via = node_of(number, service.nodes);
+        let mut writer = PatientWriter::new(stream);
         let idle = match self.pool.take(service.rt, via) {
             Ok(idle) => idle,
-            Err(none) => return none,
+            Err(none) => {
+                if none == Ended::CallersSpent {
+                    let _ = tell_callers_spent(service.alloc, &mut writer).is_ok();
+                }
+                return none;
+            }
         };
-        let (served, caller) = service.serve_by(idle, via, stream, self.until.turns());
+        let mut reader = PatientReader::new(stream, &self.clients, self.until.idle());
+        let turns = self.until.turns();
+        let (served, caller) = service.serve_by(idle, via, &mut reader, &mut writer, turns);
         self.pool.give_back(service.rt, caller);
-        Ended::Served(served)
+        Ended::by(served, reader.is_idle() || writer.is_idle())
     }
 
     /// Serves a connection to its end. Notes how it ended before closing it.
     fn run_client(&self, number: u64, stream: Arc<TcpStream>) {
+        prepare(&stream, self.until.idle());
         let ended = self.serve_client(number, &stream);
         self.tell(number, &ended);
+        if ended.is_closed_slowly() {
+            close_slowly(self.service.rt, &stream);
+        }
         self.clients.forget(self.service.rt, number);
         drop(stream);
     }
@@ -121,7 +136,7 @@ impl<
         }
         match self.until {
             Until::Connections(_) => self.clients.wait_for_all(self.service.rt),
-            Until::Stopped(_) => self.clients.end_all(self.service.rt),
+            Until::Stopped { .. } => self.clients.end_all(self.service.rt),
         }
     }
 

@@ -14,7 +14,7 @@ use chord_store::EntryStore;
 use chord_table::Naming;
 use log::{Log, info};
 use std::alloc::Global;
-use std::net::TcpStream;
+use std::io::{Read, Write};
 use std::sync::Wait;
 use std::thread::{Scope, Threads};
 use std::time::Clock;
@@ -73,18 +73,16 @@ impl<'r, J: Naming, S: EntryStore, R: Wait + Clock, L: Log> Service<'r, J, S, R,
     }
 
     /// Serves a client by this caller, with at most `turns` reads. Gives the caller back.
-    pub fn serve_by(
+    pub fn serve_by<I: Read, O: Write>(
         &self,
         idle: IdleCaller<'r, J, S>,
         via: u64,
-        stream: &TcpStream,
+        reader: &mut I,
+        writer: &mut O,
         turns: u64,
     ) -> (Served, RingClient<'r, J, S>) {
-        let _ = stream.set_nodelay(true).is_ok();
         let mut asker = RingAsker::new(self.rt, idle, via);
-        let mut reader = stream;
-        let mut writer = stream;
-        let served = serve(self.alloc, &mut reader, &mut writer, &mut asker, turns);
+        let served = serve(self.alloc, reader, writer, &mut asker, turns);
         (served, asker.into_caller())
     }
 

@@ -6,6 +6,7 @@ use super::sessions::{ADDED, INSERT, INSERT_2, fault, insert};
 use chord_map::{Reply, Request};
 use chord_serve::{
     AgainFault, Asker, CallFault, ReceiveFault, SendFault, Served, WireClient, serve,
+    tell_callers_spent,
 };
 use chord_wire::{Answer, FaultCode};
 use std::alloc::{AllocError, Global};
@@ -438,11 +439,32 @@ fn answers_that_are_none(rt: HostRuntime) {
         ),
         (other.as_slice(), ReceiveFault::WrongNumber),
         (fault(0, 1).as_slice(), ReceiveFault::WrongNumber),
+        (fault(0, 15).as_slice(), ReceiveFault::CallersSpent),
         (REMOVED.as_slice(), ReceiveFault::WrongKind),
     ] {
         let faults = [Some(ReceiveFault::Idle), Some(fault)];
         assert!(rt; nothing_of(rt.alloc(), input) == Some((faults, Ok(1), 1)));
     }
+}
+
+/// Whether the writer takes these bytes, and what it has then, if no caller is left.
+fn told(alloc: Global, room: usize) -> (bool, [u8; 15]) {
+    let mut bytes = [0u8; 15];
+    let (mut writer, _) = bytes.split_at_mut(room);
+    let is_told = tell_callers_spent(alloc, &mut writer).is_ok();
+    (is_told, bytes)
+}
+
+/// The fault of a connection that finds no caller is one frame: fault 15 of request 0.
+#[test]
+fn a_connection_without_a_caller_is_told(rt: HostRuntime) {
+    assert!(rt; told(rt.alloc(), 15) == (true, fault(0, 15)));
+    let (is_told, bytes) = told(rt.alloc(), 6);
+    assert!(rt; !is_told, "the writer has room for 6 bytes");
+    assert!(rt;
+        bytes[..6] == fault(0, 15)[..6],
+        "they are the first of the frame"
+    );
 }
 
 /// Why a client receives no reply, or `None` if it does,
