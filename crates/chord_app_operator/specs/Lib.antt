@@ -1,0 +1,9 @@
+pub mod Bodies
+pub mod Outcomes
+pub mod Paths
+pub mod Queries
+pub mod Questions
+pub mod Requests
+pub mod Sights
+pub mod Sites
+pub mod Words

@@ -1,0 +1,2 @@
+//! The tests of `chord_app_operator`.
+#![tactic(auto)]
