@@ -7,12 +7,18 @@
 
 mod operator;
 mod request;
+mod service;
+mod show;
 mod sight;
 
 pub use operator::{CrashRefusal, Holder, JoinRefusal, LeaveRefusal, Operator, Pair, PairsPage};
 pub use request::{
     CrashRequest, Fault, JoinRequest, OperatorCall, PairsRequest, Refusal, Resource, Site,
     StoreKind, Verb,
+};
+pub use service::OperatorService;
+pub use show::{
+    Measure, ToJson, array, holder_value, id_text, metrics_text, optional, pair_lines, ring_text,
 };
 pub use sight::{
     AskCounts, CallerCounts, HandoverCounts, NodeSight, OutboxSight, Phase, RingSight, SegmentSight,
