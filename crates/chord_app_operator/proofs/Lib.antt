@@ -1,0 +1,5 @@
+pub mod Digits
+pub mod JsonLaws
+pub mod Lines
+pub mod Objects
+pub mod Shown

@@ -1,0 +1,19 @@
+-- Lines one after another.
+use Rattle.std.proofs.Common.{◌≡◌, ℕ, ◌<◌, ◌+◌, List, [], ◌∷◌, ◌++◌, length, drop, get_or, refl, sym, ap, ◌∙◌, append_assoc, arith}
+use Rattle.std.proofs.lemmas.Grind.{common_steps}
+use Rattle.std.specs.List.{flat_map}
+
+-- the item at a place begins what is left there
+left_at : {X : Type 0} (xs : List X) (place : ℕ) (x : X) → place < length xs → x ≡ get_or xs place x → drop place xs ≡ x ∷ drop (place + 1) xs
+left_at xs place x within is = grind (arith, common_steps, is)
+
+-- the lines so far and those that are left are all lines, also after one more
+pub one_more_line : {X : Type 0} (line : X → List ℕ) (xs : List X) (place : ℕ) (x : X) (old new all : List ℕ) → place < length xs → x ≡ get_or xs place x
+    → new ≡ old ++ line x → old ++ flat_map line (drop place xs) ≡ all → new ++ flat_map line (drop (place + 1) xs) ≡ all
+one_more_line line xs place x old new all within is added so_far =
+    let begins = ap (flat_map line) (left_at xs place x within is) in
+    rw (added, append_assoc old (line x) (flat_map line (drop (place + 1) xs))) (ap (λ rest. old ++ rest) (sym begins) ∙ so_far)
+
+-- three texts one after another
+pub three_texts : (a b c t0 t1 t2 t3 : List ℕ) → t0 ≡ [] → t1 ≡ t0 ++ a → t2 ≡ t1 ++ b → t3 ≡ t2 ++ c → t3 ≡ a ++ (b ++ c)
+three_texts a b c t0 t1 t2 t3 e0 e1 e2 e3 = e3 ∙ (ap (λ t. t ++ c) (e2 ∙ ap (λ t. t ++ b) (e1 ∙ ap (λ t. t ++ a) e0)) ∙ append_assoc a b c)

@@ -1,0 +1,13 @@
+pub mod Bodies
+pub mod Json
+pub mod Metrics
+pub mod Outcomes
+pub mod Paths
+pub mod Queries
+pub mod Questions
+pub mod Replies
+pub mod Requests
+pub mod Services
+pub mod Sights
+pub mod Sites
+pub mod Words

@@ -1,0 +1,113 @@
+-- A ring in Prometheus's text format 0.0.4. Source: our own names; the format is that of Prometheus's documentation.
+use Rattle.std.specs.Prelude.{ℕ, List, [], ◌∷◌, ◌++◌, length, codes, decimal, Bool, ◌==◌}
+use Rattle.std.specs.List.{flat_map, count_by}
+use Rattle.chord_app_operator.specs.declared.sight.phase.Phase.{Phase}
+use Rattle.chord_app_operator.specs.declared.sight.phase.Phase.TheVariants.{Staying, Leaving, Gone, Crashed}
+use Rattle.chord_app_operator.specs.declared.sight.node.NodeSight.{NodeSight}
+use Rattle.chord_app_operator.specs.declared.sight.ring.RingSight.{RingSight}
+use Rattle.chord_app_operator.specs.declared.show.measure.Measure.{Measure}
+use Rattle.chord_app_operator.specs.declared.show.measure.Measure.TheVariants.{Pairs, Segments, OutboxItems, Told, Forwarded, Dropped, Full, Given, Taken, Declined, Ticks}
+use Rattle.chord_app_operator.specs.declared.show.metrics_heads.TheConstants.{NODES_HEAD, PAIRS_HEAD, SEGMENTS_HEAD, OUTBOX_HEAD, ASKS_HEAD, HANDOVERS_HEAD, TICKS_HEAD, CONNECTIONS_HEAD, CALLERS_HEAD}
+use Rattle.chord_app_operator.specs.Sights.{phase_word}
+
+-- what is measured of a node
+abbrev pub measured : Measure → NodeSight → ℕ
+measured Pairs n = n.pairs
+measured Segments n = length n.segments.items
+measured OutboxItems n = length n.outbox.items
+measured Told n = n.asks.told
+measured Forwarded n = n.asks.forwarded
+measured Dropped n = n.asks.dropped
+measured Full n = n.asks.full
+measured Given n = n.handovers.given
+measured Taken n = n.handovers.taken
+measured Declined n = n.handovers.declined
+measured Ticks n = n.ticks
+
+-- the name of a measure's metric, up to the node's number, and what follows the number
+abbrev pub before_node : Measure → List ℕ
+before_node Pairs = codes "chord_pairs{node=\""
+before_node Segments = codes "chord_segments{node=\""
+before_node OutboxItems = codes "chord_outbox_items{node=\""
+before_node Told = codes "chord_asks_total{node=\""
+before_node Forwarded = codes "chord_asks_total{node=\""
+before_node Dropped = codes "chord_asks_total{node=\""
+before_node Full = codes "chord_asks_total{node=\""
+before_node Given = codes "chord_handovers_total{node=\""
+before_node Taken = codes "chord_handovers_total{node=\""
+before_node Declined = codes "chord_handovers_total{node=\""
+before_node Ticks = codes "chord_ticks_total{node=\""
+
+abbrev pub after_node : Measure → List ℕ
+after_node Pairs = codes "\"} "
+after_node Segments = codes "\"} "
+after_node OutboxItems = codes "\"} "
+after_node Told = codes "\",answer=\"told\"} "
+after_node Forwarded = codes "\",answer=\"forwarded\"} "
+after_node Dropped = codes "\",answer=\"dropped\"} "
+after_node Full = codes "\",answer=\"full\"} "
+after_node Given = codes "\",kind=\"given\"} "
+after_node Taken = codes "\",kind=\"taken\"} "
+after_node Declined = codes "\",kind=\"declined\"} "
+after_node Ticks = codes "\"} "
+
+-- a number and the end of its line
+abbrev pub value_line : ℕ → List ℕ
+value_line n = decimal n ++ 10 ∷ []
+
+-- the line of a node, and those of all nodes
+abbrev pub node_line : Measure → NodeSight → List ℕ
+node_line m n = before_node m ++ (decimal n.node ++ (after_node m ++ value_line (measured m n)))
+
+abbrev pub node_lines : Measure → List NodeSight → List ℕ
+node_lines m nodes = flat_map (node_line m) nodes
+
+-- the number of a phase
+abbrev pub phase_number : Phase → ℕ
+phase_number Staying = 0
+phase_number Leaving = 1
+phase_number Gone = 2
+phase_number Crashed = 3
+
+-- whether a node is in a phase
+abbrev pub is_in : Phase → NodeSight → Bool
+is_in phase n = phase_number n.phase == phase_number phase
+
+-- how many nodes are in a phase
+abbrev pub phase_line : Phase → List NodeSight → List ℕ
+phase_line phase nodes = codes "chord_nodes{phase=\"" ++ (phase_word phase ++ (codes "\"} " ++ value_line (count_by (is_in phase) nodes)))
+
+abbrev pub phase_lines : List NodeSight → List ℕ
+phase_lines nodes = phase_line Staying nodes ++ (phase_line Leaving nodes ++ (phase_line Gone nodes ++ phase_line Crashed nodes))
+
+abbrev pub phase_metrics : List NodeSight → List ℕ
+phase_metrics nodes = NODES_HEAD.now ++ phase_lines nodes
+
+-- the metrics of the nodes, each behind its help and its type
+abbrev pub held_metrics : List NodeSight → List ℕ
+held_metrics nodes =
+    PAIRS_HEAD.now ++ (node_lines Pairs nodes ++ (SEGMENTS_HEAD.now ++ (node_lines Segments nodes ++ (OUTBOX_HEAD.now ++ node_lines OutboxItems nodes))))
+
+abbrev pub asks_metrics : List NodeSight → List ℕ
+asks_metrics nodes =
+    ASKS_HEAD.now ++ (node_lines Told nodes ++ (node_lines Forwarded nodes ++ (node_lines Dropped nodes ++ node_lines Full nodes)))
+
+abbrev pub handovers_metrics : List NodeSight → List ℕ
+handovers_metrics nodes =
+    HANDOVERS_HEAD.now ++ (node_lines Given nodes ++ (node_lines Taken nodes ++ node_lines Declined nodes))
+
+abbrev pub ticks_metrics : List NodeSight → List ℕ
+ticks_metrics nodes = TICKS_HEAD.now ++ node_lines Ticks nodes
+
+abbrev pub node_metrics : List NodeSight → List ℕ
+node_metrics nodes = held_metrics nodes ++ (asks_metrics nodes ++ (handovers_metrics nodes ++ ticks_metrics nodes))
+
+-- those of the ring
+abbrev pub ring_metrics : RingSight → List ℕ
+ring_metrics r =
+    CONNECTIONS_HEAD.now ++ (codes "chord_connections " ++ (value_line r.connections ++ (CALLERS_HEAD.now ++ (codes "chord_callers_open " ++ value_line r.callers.open))))
+
+-- all metrics
+abbrev pub metrics_text : RingSight → List ℕ
+metrics_text r =
+    phase_metrics r.nodes.items ++ (node_metrics r.nodes.items ++ ring_metrics r)

@@ -1,0 +1,11 @@
+//! Who does what an operator asks for.
+
+mod holder;
+mod pairs;
+mod refusals;
+mod trait_operator;
+
+pub use holder::Holder;
+pub use pairs::{Pair, PairsPage};
+pub use refusals::{CrashRefusal, JoinRefusal, LeaveRefusal};
+pub use trait_operator::Operator;

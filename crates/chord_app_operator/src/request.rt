@@ -1,0 +1,21 @@
+//! What a request asks for.
+
+mod body;
+mod calls;
+mod fault;
+mod paths;
+mod query;
+mod read;
+mod refusal;
+mod resource;
+mod site;
+mod store_kind;
+mod verb;
+
+pub use calls::{CrashRequest, JoinRequest, OperatorCall, PairsRequest};
+pub use fault::Fault;
+pub use refusal::Refusal;
+pub use resource::Resource;
+pub use site::Site;
+pub use store_kind::StoreKind;
+pub use verb::Verb;

@@ -1,0 +1,253 @@
+//! The service.
+ghost use Rattle.std.specs.Prelude.{◌≡◌, IfOk, OnOk};
+ghost use Rattle.http_server.specs.Response.{IsBlank};
+ghost use Rattle.chord_app_operator.specs.declared.request.calls.OperatorCall.TheVariants as Call;
+ghost use Rattle.chord_app_operator.specs.Services.{OrFull, ShowsRing, ShowsMetrics, ShowsPairs, IsAnswered, IsDealtWith, IsServed};
+ghost use Rattle.chord_app_operator.specs.Replies.{IsPage};
+
+use crate::operator::{Operator, PairsPage};
+use crate::request::{CrashRequest, JoinRequest, OperatorCall, PairsRequest, Refusal, Site};
+use crate::show::replies::{
+    or_full, refuse, show_health, show_holder, show_metrics, show_node, show_page, show_pairs,
+    show_ring, show_stopping,
+};
+use crate::sight::RingSight;
+use bytes::Bytes;
+use chord_ident::Id;
+use http::{Request, StatusCode};
+use http_server::{Response, Service};
+use std::alloc::{AllocError, Global};
+
+/// Answers the requests to an operator at a port. It asks the operator once for each call, and not
+/// at all for a request that it refuses.
+#[derive(Drop)]
+pub struct OperatorService<O> {
+    alloc: Global,
+    site: Site,
+    operator: O,
+}
+
+impl<O: Operator> OperatorService<O> {
+    /// A service at this port on loopback.
+    pub fn new(alloc: Global, port: u16, operator: O) -> Result<OperatorService<O>, AllocError>
+    where
+        O: Drop,
+        ensures { IfOk result (λ service. (service.site ≡ port) × (service.operator ≡ operator)) }
+    {
+        let site = Site::new(alloc, port)?;
+        Ok(OperatorService {
+            alloc,
+            site,
+            operator,
+        })
+    }
+
+    /// The operator, back from its service.
+    pub fn into_operator(self) -> O
+        ensures { result ≡ self.operator }
+    {
+        let OperatorService { operator, .. } = self;
+        operator
+    }
+}
+
+fn page(response: &mut Response)
+    requires { IsBlank response.old }
+    ensures { OrFull (IsPage response.new) response.new }
+{
+    let shown = show_page(response);
+    or_full(shown, response);
+}
+
+fn show_told_ring(
+    alloc: Global,
+    told: &Result<RingSight, AllocError>,
+    response: &mut Response,
+) -> Result<(), AllocError>
+    requires { IsBlank response.old }
+    ensures { OnOk result (ShowsRing told.now response.new) }
+{
+    match told {
+        Ok(sight) => show_ring(alloc, sight, response),
+        Err(_) => refuse(alloc, Refusal::Memory, response),
+    }
+}
+
+fn show_told_metrics(
+    alloc: Global,
+    told: &Result<RingSight, AllocError>,
+    response: &mut Response,
+) -> Result<(), AllocError>
+    requires { IsBlank response.old }
+    ensures { OnOk result (ShowsMetrics told.now response.new) }
+{
+    match told {
+        Ok(sight) => show_metrics(alloc, sight, response),
+        Err(_) => refuse(alloc, Refusal::Memory, response),
+    }
+}
+
+fn show_told_pairs(
+    alloc: Global,
+    told: &Result<PairsPage, AllocError>,
+    response: &mut Response,
+) -> Result<(), AllocError>
+    requires { IsBlank response.old }
+    ensures { OnOk result (ShowsPairs told.now response.new) }
+{
+    match told {
+        Ok(page) => show_pairs(alloc, page, response),
+        Err(_) => refuse(alloc, Refusal::Memory, response),
+    }
+}
+
+fn ring<O: Operator>(alloc: Global, operator: &mut O, response: &mut Response)
+    requires { IsBlank response.old }
+    ensures { IsAnswered O.answers Call.Ring operator.old response.new operator.new }
+{
+    let told = operator.sight(alloc);
+    let shown = show_told_ring(alloc, &told, response);
+    drop(told);
+    or_full(shown, response);
+}
+
+fn metrics<O: Operator>(alloc: Global, operator: &mut O, response: &mut Response)
+    requires { IsBlank response.old }
+    ensures { IsAnswered O.answers Call.Metrics operator.old response.new operator.new }
+{
+    let told = operator.sight(alloc);
+    let shown = show_told_metrics(alloc, &told, response);
+    drop(told);
+    or_full(shown, response);
+}
+
+fn health<O: Operator>(operator: &mut O, response: &mut Response)
+    requires { IsBlank response.old }
+    ensures { IsAnswered O.answers Call.Health operator.old response.new operator.new }
+{
+    let shown = show_health(operator.is_healthy(), response);
+    or_full(shown, response);
+}
+
+fn join<O: Operator>(alloc: Global, operator: &mut O, request: JoinRequest, response: &mut Response)
+    requires { IsBlank response.old }
+    ensures { IsAnswered O.answers (Call.Join request) operator.old response.new operator.new }
+{
+    let shown = match operator.join(request) {
+        Ok(node) => show_node(alloc, StatusCode::CREATED, node, response),
+        Err(refusal) => refuse(alloc, Refusal::Join(refusal), response),
+    };
+    or_full(shown, response);
+}
+
+fn leave<O: Operator>(alloc: Global, operator: &mut O, node: u64, response: &mut Response)
+    requires { IsBlank response.old }
+    ensures { IsAnswered O.answers (Call.Leave node) operator.old response.new operator.new }
+{
+    let shown = match operator.leave(node) {
+        Ok(()) => show_node(alloc, StatusCode::ACCEPTED, node, response),
+        Err(refusal) => refuse(alloc, Refusal::Leave(refusal), response),
+    };
+    or_full(shown, response);
+}
+
+fn crash<O: Operator>(
+    alloc: Global,
+    operator: &mut O,
+    request: CrashRequest,
+    response: &mut Response,
+)
+    requires { IsBlank response.old }
+    ensures { IsAnswered O.answers (Call.Crash request) operator.old response.new operator.new }
+{
+    let shown = match operator.crash(request) {
+        Ok(()) => show_node(alloc, StatusCode::OK, request.node, response),
+        Err(refusal) => refuse(alloc, Refusal::Crash(refusal), response),
+    };
+    or_full(shown, response);
+}
+
+fn holder<O: Operator>(alloc: Global, operator: &mut O, id: Id, response: &mut Response)
+    requires { IsBlank response.old }
+    ensures { IsAnswered O.answers (Call.Holder id) operator.old response.new operator.new }
+{
+    let shown = show_holder(alloc, id, operator.holder(id), response);
+    or_full(shown, response);
+}
+
+fn pairs<O: Operator>(
+    alloc: Global,
+    operator: &mut O,
+    request: PairsRequest,
+    response: &mut Response,
+)
+    requires { IsBlank response.old }
+    ensures { IsAnswered O.answers (Call.Pairs request) operator.old response.new operator.new }
+{
+    let told = operator.pairs(alloc, request);
+    let shown = show_told_pairs(alloc, &told, response);
+    drop(told);
+    or_full(shown, response);
+}
+
+fn stop<O: Operator>(operator: &mut O, response: &mut Response)
+    requires { IsBlank response.old }
+    ensures { IsAnswered O.answers Call.Stop operator.old response.new operator.new }
+{
+    operator.stop();
+    let shown = show_stopping(response);
+    or_full(shown, response);
+}
+
+// Asks the operator the question of the call, once, and shows its answer.
+fn answer<O: Operator>(alloc: Global, operator: &mut O, call: OperatorCall, response: &mut Response)
+    requires { IsBlank response.old }
+    ensures { IsAnswered O.answers call operator.old response.new operator.new }
+{
+    match call {
+        OperatorCall::Page => page(response),
+        OperatorCall::Ring => ring(alloc, operator, response),
+        OperatorCall::Metrics => metrics(alloc, operator, response),
+        OperatorCall::Health => health(operator, response),
+        OperatorCall::Join(request) => join(alloc, operator, request, response),
+        OperatorCall::Leave(node) => leave(alloc, operator, node, response),
+        OperatorCall::Crash(request) => crash(alloc, operator, request, response),
+        OperatorCall::Holder(id) => holder(alloc, operator, id, response),
+        OperatorCall::Pairs(request) => pairs(alloc, operator, request, response),
+        OperatorCall::Stop => stop(operator, response),
+    }
+}
+
+// Answers a call, or says why the request is refused and asks nothing.
+fn deal<O: Operator>(
+    alloc: Global,
+    operator: &mut O,
+    read: Result<OperatorCall, Refusal>,
+    response: &mut Response,
+)
+    requires { IsBlank response.old }
+    ensures { IsDealtWith O.answers read operator.old response.new operator.new }
+{
+    match read {
+        Ok(call) => answer(alloc, operator, call, response),
+        Err(refusal) => {
+            let shown = refuse(alloc, refusal, response);
+            or_full(shown, response);
+        }
+    }
+}
+
+impl<O: Operator> Service for OperatorService<O> {
+    ghost answers = { λ old request response new.
+        (new.site ≡ old.site) × IsServed O.answers old.site old.operator request response new.operator };
+
+    fn call(
+        &mut self,
+        request: &Request<Bytes>,
+        response: &mut Response,
+    ) -> Result<(), AllocError> {
+        let read = self.site.call_of(self.alloc, request);
+        deal(self.alloc, &mut self.operator, read, response);
+        Ok(())
+    }
+}

@@ -1,0 +1,247 @@
+//! Answers as responses.
+ghost use Rattle.std.specs.Prelude.{◌≡◌, codes, false, IsTrue, OnOk, OnErr};
+ghost use Rattle.http_header.specs.FieldValue.{is_visible_text};
+ghost use Rattle.http_server.specs.Response.{IsBlank, IsResponse, fields_of};
+ghost use Rattle.chord_app_operator.specs.Replies.{typed, text_type, metrics_type, IsPage, IsJson, IsHealth, IsRefused, IsPairs, IsFull};
+ghost use Rattle.serde_json.specs.Written.{compact_text, has_float};
+ghost use Rattle.serde_json.specs.View.{view};
+ghost use Rattle.chord_app_operator.specs.Metrics.{metrics_text};
+ghost use Rattle.chord_app_operator.specs.Json.{refused, node_named, holder_data, ring_data};
+
+use super::front_page::{FRONT_PAGE, PAGE_POLICY};
+use super::holder_json::holder_value;
+use super::json::id_text;
+use super::pairs_json::pair_lines;
+use super::sight_json::ring_text;
+use crate::operator::{Holder, PairsPage};
+use crate::request::Refusal;
+use crate::sight::RingSight;
+use bytes::Bytes;
+use chord_ident::Id;
+use http::{HeaderName, HeaderValue, StatusCode};
+use http_server::Response;
+use serde_json::{Value, json};
+use std::alloc::{AllocError, Global};
+
+// Sets the status, the type and the body.
+fn fill(
+    response: &mut Response,
+    status: StatusCode,
+    kind: &'static str,
+    body: Bytes,
+) -> Result<(), AllocError>
+    requires blank { IsBlank response.old }
+    requires visible { IsTrue (is_visible_text kind.now) }
+    ensures { OnOk result (IsResponse status (typed kind.now) body response.new) }
+{
+    response.status = status;
+    response.add_header(
+        HeaderName::from_static("content-type"),
+        HeaderValue::from_static(kind),
+    )?;
+    response.add_header(
+        HeaderName::from_static("cache-control"),
+        HeaderValue::from_static("no-store"),
+    )?;
+    response.body.push(body)
+}
+
+// The value as the body. It has no float.
+fn fill_json(
+    alloc: Global,
+    response: &mut Response,
+    status: StatusCode,
+    value: &Value,
+) -> Result<(), AllocError>
+    requires blank { IsBlank response.old }
+    requires digits { has_float (view value.now) ≡ false }
+    ensures { OnOk result (IsJson status (view value.now) response.new) }
+{
+    let text = value.to_string(alloc)?;
+    fill(
+        response,
+        status,
+        "application/json",
+        Bytes::from_string(text)?,
+    )
+}
+
+/// The page. It may load nothing, and no other page may show it in a frame.
+pub(crate) fn show_page(response: &mut Response) -> Result<(), AllocError>
+    requires { IsBlank response.old }
+    ensures { OnOk result (IsPage response.new) }
+{
+    fill(
+        response,
+        StatusCode::OK,
+        "text/html; charset=utf-8",
+        Bytes::from_static(FRONT_PAGE.as_bytes()),
+    )?;
+    response.add_header(
+        HeaderName::from_static("content-security-policy"),
+        HeaderValue::from_static(PAGE_POLICY),
+    )
+}
+
+/// The ring.
+pub(crate) fn show_ring(
+    alloc: Global,
+    sight: &RingSight,
+    response: &mut Response,
+) -> Result<(), AllocError>
+    requires { IsBlank response.old }
+    ensures { OnOk result (IsJson 200 (ring_data sight.now) response.new) }
+{
+    let text = ring_text(alloc, sight)?;
+    fill(
+        response,
+        StatusCode::OK,
+        "application/json",
+        Bytes::from_string(text)?,
+    )
+}
+
+/// Whether a node stays.
+pub(crate) fn show_health(is_healthy: bool, response: &mut Response) -> Result<(), AllocError>
+    requires { IsBlank response.old }
+    ensures { OnOk result (IsHealth is_healthy response.new) }
+{
+    if is_healthy {
+        fill(
+            response,
+            StatusCode::OK,
+            "text/plain; charset=utf-8",
+            Bytes::from_static(b"ok\n"),
+        )
+    } else {
+        fill(
+            response,
+            StatusCode::SERVICE_UNAVAILABLE,
+            "text/plain; charset=utf-8",
+            Bytes::from_static(b"no node is staying\n"),
+        )
+    }
+}
+
+/// The number of a node.
+pub(crate) fn show_node(
+    alloc: Global,
+    status: StatusCode,
+    node: u64,
+    response: &mut Response,
+) -> Result<(), AllocError>
+    requires { IsBlank response.old }
+    ensures { OnOk result (IsJson status (node_named node) response.new) }
+{
+    let value = json!(in alloc; {"node": node})?;
+    let shown = fill_json(alloc, response, status, &value);
+    drop(value);
+    shown
+}
+
+/// The holder of an identifier.
+pub(crate) fn show_holder(
+    alloc: Global,
+    id: Id,
+    holder: Holder,
+    response: &mut Response,
+) -> Result<(), AllocError>
+    requires { IsBlank response.old }
+    ensures { OnOk result (IsJson 200 (holder_data id holder) response.new) }
+{
+    let value = holder_value(alloc, id, holder)?;
+    let shown = fill_json(alloc, response, StatusCode::OK, &value);
+    drop(value);
+    shown
+}
+
+/// Pairs, and the identifier to go on from.
+pub(crate) fn show_pairs(
+    alloc: Global,
+    page: &PairsPage,
+    response: &mut Response,
+) -> Result<(), AllocError>
+    requires { IsBlank response.old }
+    ensures { OnOk result (IsPairs page.now response.new) }
+{
+    let text = pair_lines(alloc, &page.pairs)?;
+    fill(
+        response,
+        StatusCode::OK,
+        "application/x-ndjson",
+        Bytes::from_string(text)?,
+    )?;
+    match page.next {
+        Some(next) => {
+            let Ok(value) = HeaderValue::from_string(id_text(alloc, next)?) else {
+                return Err(AllocError);
+            };
+            response.add_header(HeaderName::from_static("chord-next"), value)
+        }
+        None => Ok(()),
+    }
+}
+
+/// The server ends soon.
+pub(crate) fn show_stopping(response: &mut Response) -> Result<(), AllocError>
+    requires { IsBlank response.old }
+    ensures { OnOk result (IsResponse 202 (typed text_type) (codes "stopping\n") response.new) }
+{
+    fill(
+        response,
+        StatusCode::ACCEPTED,
+        "text/plain; charset=utf-8",
+        Bytes::from_static(b"stopping\n"),
+    )
+}
+
+/// Why the request is refused.
+pub(crate) fn refuse(
+    alloc: Global,
+    refusal: Refusal,
+    response: &mut Response,
+) -> Result<(), AllocError>
+    requires { IsBlank response.old }
+    ensures { OnOk result (IsRefused refusal response.new) }
+{
+    let value = json!(in alloc; {"refused": refusal.name()})?;
+    let shown = fill_json(alloc, response, refusal.status(), &value);
+    drop(value);
+    shown?;
+    match refusal {
+        Refusal::WrongMethod(verb) => response.add_header(
+            HeaderName::from_static("allow"),
+            HeaderValue::from_static(verb.allowed_text()),
+        ),
+        _ => Ok(()),
+    }
+}
+
+/// Memory ran out while an answer was made: in its place a response without a body.
+pub(crate) fn or_full(outcome: Result<(), AllocError>, response: &mut Response)
+    ensures ok { OnOk outcome (response.new ≡ response.old) }
+    ensures err { OnErr outcome (IsFull response.new) }
+{
+    if outcome.is_err() {
+        response.clear();
+        response.status = StatusCode::INSUFFICIENT_STORAGE;
+    }
+}
+
+/// The ring in Prometheus's text format.
+pub(crate) fn show_metrics(
+    alloc: Global,
+    sight: &RingSight,
+    response: &mut Response,
+) -> Result<(), AllocError>
+    requires { IsBlank response.old }
+    ensures { OnOk result (IsResponse 200 (typed metrics_type) (metrics_text sight.now) response.new) }
+{
+    let text = super::metrics::metrics_text(alloc, sight)?;
+    fill(
+        response,
+        StatusCode::OK,
+        "text/plain; version=0.0.4; charset=utf-8",
+        Bytes::from_string(text)?,
+    )
+}

@@ -1,0 +1,13 @@
+//! What an operator sees of a ring.
+
+mod counts;
+mod node;
+mod parts;
+mod phase;
+mod ring;
+
+pub use counts::{AskCounts, CallerCounts, HandoverCounts};
+pub use node::NodeSight;
+pub use parts::{OutboxSight, SegmentSight};
+pub use phase::Phase;
+pub use ring::RingSight;

@@ -1,0 +1,19 @@
+//! What an operator sees of a ring.
+
+use super::counts::CallerCounts;
+use super::node::NodeSight;
+
+/// A look at a ring: one at each node, one after another.
+#[derive(Debug, Drop)]
+pub struct RingSight {
+    /// How many successors a node keeps at most.
+    pub successors: u64,
+    /// How many nodes may ever be.
+    pub slots: u64,
+    pub callers: CallerCounts,
+    /// How many clients are connected now.
+    pub connections: u64,
+    /// How long the server has run, in milliseconds.
+    pub uptime_ms: u64,
+    pub nodes: Vec<NodeSight>,
+}

@@ -1,0 +1,82 @@
+//! A connection in memory: what a client sent, and what it got.
+
+use super::operators::RingValue;
+use chord_app_operator::OperatorService;
+use http_server::{Config, Connection, serve};
+use std::alloc::Global;
+use std::hash::RandomState;
+use std::test::Fail;
+
+/// The port of all tests.
+pub const PORT: u16 = 7001;
+
+/// What a client got, and what the operator was asked.
+#[derive(Drop)]
+pub struct Exchange {
+    pub got: Vec<u8>,
+    pub operator: RingValue,
+}
+
+impl Exchange {
+    /// Whether the client got exactly this.
+    pub fn got_text(&self, text: &str) -> bool {
+        self.got.as_slice() == text.as_bytes()
+    }
+
+    /// Whether what the client got begins with this.
+    pub fn begins(&self, text: &str) -> bool {
+        self.got.starts_with(text.as_bytes())
+    }
+
+    /// Whether what the client got ends with this.
+    pub fn ends(&self, text: &str) -> bool {
+        self.got.ends_with(text.as_bytes())
+    }
+
+    /// Whether the operator was asked for these calls and no others, by their letters.
+    pub fn asked(&self, letters: &[u8]) -> bool {
+        self.operator.asked.as_slice() == letters
+    }
+}
+
+/// Serves one connection, whose client sends this text and then no more.
+pub fn serve_text(rt: &HostRuntime, operator: RingValue, sent: &str) -> Result<Exchange, Fail> {
+    serve_bytes(rt, operator, sent.as_bytes())
+}
+
+/// The same for bytes.
+pub fn serve_bytes(rt: &HostRuntime, operator: RingValue, sent: &[u8]) -> Result<Exchange, Fail> {
+    let alloc = rt.alloc();
+    let mut service = OperatorService::new(alloc, PORT, operator)?;
+    let config = Config {
+        max_body_len: 8192,
+        ..Config::default()
+    };
+    let mut connection = Connection::new(alloc, RandomState::new(rt)?, config);
+    let mut reader = sent;
+    let mut got = Vec::new(alloc);
+    serve(&mut connection, &mut service, &mut reader, &mut got)?;
+    Ok(Exchange {
+        got,
+        operator: service.into_operator(),
+    })
+}
+
+/// A request to the port's own host.
+pub fn request(alloc: Global, line: &str, fields: &str, body: &str) -> Result<String, Fail> {
+    let len = body.len();
+    Ok(format!(in alloc;
+        "{line} HTTP/1.1\r\nHost: 127.0.0.1:7001\r\n{fields}Content-Length: {len}\r\n\r\n{body}"
+    )?)
+}
+
+/// Serves one request of a plain client.
+pub fn ask(
+    rt: &HostRuntime,
+    operator: RingValue,
+    line: &str,
+    body: &str,
+) -> Result<Exchange, Fail> {
+    let sent = request(rt.alloc(), line, "", body)?;
+    serve_text(rt, operator, &sent)
+}

@@ -1,0 +1,98 @@
+//! A ring of one node, and one that crashed.
+
+use chord_app_operator::{
+    AskCounts, CallerCounts, HandoverCounts, NodeSight, OutboxSight, Phase, RingSight,
+    SegmentSight, StoreKind,
+};
+use chord_ident::{Id, Span};
+use std::alloc::{AllocError, Global};
+
+fn staying(alloc: Global) -> Result<NodeSight, AllocError> {
+    let span = Span::new(Id::new(16), Id::new(32));
+    let mut successors = Vec::new(alloc);
+    successors.push(1)?;
+    successors.push(0)?;
+    let mut segments = Vec::new(alloc);
+    segments.push(SegmentSight { span, kept: 12 })?;
+    let mut outbox = Vec::new(alloc);
+    outbox.push(OutboxSight {
+        to: 2,
+        number: 1,
+        span,
+        pairs: 64,
+    })?;
+    Ok(NodeSight {
+        node: 0,
+        id: Id::new(32),
+        phase: Phase::Staying,
+        store: StoreKind::Tree,
+        predecessor: Some(1),
+        successors,
+        fingers: 7,
+        segments,
+        pairs: 1234,
+        outbox,
+        asks: AskCounts {
+            told: 100,
+            forwarded: 3,
+            dropped: 2,
+            full: 1,
+        },
+        handovers: HandoverCounts {
+            given: 1,
+            taken: 2,
+            declined: 0,
+        },
+        ticks: 42,
+    })
+}
+
+fn crashed(alloc: Global) -> NodeSight {
+    NodeSight {
+        node: 1,
+        id: Id::new(64),
+        phase: Phase::Crashed,
+        store: StoreKind::Capped,
+        predecessor: None,
+        successors: Vec::new(alloc),
+        fingers: 0,
+        segments: Vec::new(alloc),
+        pairs: 0,
+        outbox: Vec::new(alloc),
+        asks: AskCounts {
+            told: 0,
+            forwarded: 0,
+            dropped: 0,
+            full: 0,
+        },
+        handovers: HandoverCounts {
+            given: 0,
+            taken: 0,
+            declined: 0,
+        },
+        ticks: 9,
+    }
+}
+
+/// The ring.
+pub fn ring(alloc: Global) -> Result<RingSight, AllocError> {
+    let mut nodes = Vec::new(alloc);
+    nodes.push(staying(alloc)?)?;
+    nodes.push(crashed(alloc))?;
+    Ok(RingSight {
+        successors: 4,
+        slots: 16,
+        callers: CallerCounts { open: 3, all: 64 },
+        connections: 5,
+        uptime_ms: 12345,
+        nodes,
+    })
+}
+
+/// The same as JSON, each object's members in the order of their names.
+pub const RING_JSON: &str =
+    "{\"callers\":{\"all\":64,\"open\":3},\"connections\":5,\"nodes\":[{\"asks\":{\"dropped\":2,\"forwarded\":3,\"full\":1,\"told\":100},\"fingers\":7,\"handovers\":{\"declined\":0,\"given\":1,\"taken\":2},\"id\":\"00000000000000000000000000000020\",\"node\":0,\"outbox\":[{\"after\":\"00000000000000000000000000000010\",\"number\":1,\"pairs\":64,\"to\":2,\"upto\":\"00000000000000000000000000000020\"}],\"pairs\":1234,\"phase\":\"staying\",\"predecessor\":1,\"segments\":[{\"after\":\"00000000000000000000000000000010\",\"kept\":12,\"upto\":\"00000000000000000000000000000020\"}],\"store\":\"tree\",\"successors\":[1,0],\"ticks\":42},{\"asks\":{\"dropped\":0,\"forwarded\":0,\"full\":0,\"told\":0},\"fingers\":0,\"handovers\":{\"declined\":0,\"given\":0,\"taken\":0},\"id\":\"00000000000000000000000000000040\",\"node\":1,\"outbox\":[],\"pairs\":0,\"phase\":\"crashed\",\"predecessor\":null,\"segments\":[],\"store\":\"capped\",\"successors\":[],\"ticks\":9}],\"slots\":16,\"successors\":4,\"uptime_ms\":12345}";
+
+/// The same in Prometheus's text format.
+pub const RING_METRICS: &str =
+    "# HELP chord_nodes Nodes by phase.\n# TYPE chord_nodes gauge\nchord_nodes{phase=\"staying\"} 1\nchord_nodes{phase=\"leaving\"} 0\nchord_nodes{phase=\"gone\"} 0\nchord_nodes{phase=\"crashed\"} 1\n# HELP chord_pairs Pairs that a node holds.\n# TYPE chord_pairs gauge\nchord_pairs{node=\"0\"} 1234\nchord_pairs{node=\"1\"} 0\n# HELP chord_segments Segments that a node holds.\n# TYPE chord_segments gauge\nchord_segments{node=\"0\"} 1\nchord_segments{node=\"1\"} 0\n# HELP chord_outbox_items Handovers that a node gives and that are not taken yet.\n# TYPE chord_outbox_items gauge\nchord_outbox_items{node=\"0\"} 1\nchord_outbox_items{node=\"1\"} 0\n# HELP chord_asks_total Requests that a node got, by what it did.\n# TYPE chord_asks_total counter\nchord_asks_total{node=\"0\",answer=\"told\"} 100\nchord_asks_total{node=\"1\",answer=\"told\"} 0\nchord_asks_total{node=\"0\",answer=\"forwarded\"} 3\nchord_asks_total{node=\"1\",answer=\"forwarded\"} 0\nchord_asks_total{node=\"0\",answer=\"dropped\"} 2\nchord_asks_total{node=\"1\",answer=\"dropped\"} 0\nchord_asks_total{node=\"0\",answer=\"full\"} 1\nchord_asks_total{node=\"1\",answer=\"full\"} 0\n# HELP chord_handovers_total Handovers that a node took part in.\n# TYPE chord_handovers_total counter\nchord_handovers_total{node=\"0\",kind=\"given\"} 1\nchord_handovers_total{node=\"1\",kind=\"given\"} 0\nchord_handovers_total{node=\"0\",kind=\"taken\"} 2\nchord_handovers_total{node=\"1\",kind=\"taken\"} 0\nchord_handovers_total{node=\"0\",kind=\"declined\"} 0\nchord_handovers_total{node=\"1\",kind=\"declined\"} 0\n# HELP chord_ticks_total Rounds of upkeep that a node had.\n# TYPE chord_ticks_total counter\nchord_ticks_total{node=\"0\"} 42\nchord_ticks_total{node=\"1\"} 9\n# HELP chord_connections Clients that are connected.\n# TYPE chord_connections gauge\nchord_connections 5\n# HELP chord_callers_open Callers that are open.\n# TYPE chord_callers_open gauge\nchord_callers_open 3\n";

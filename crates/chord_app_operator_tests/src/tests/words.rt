@@ -1,0 +1,113 @@
+//! Words, and what a request reads as.
+
+use super::sights::ring;
+use bytes::Bytes;
+use chord_app_operator::{
+    CrashRefusal, Fault, JoinRefusal, JoinRequest, LeaveRefusal, Measure, OperatorCall, Pair,
+    PairsRequest, Phase, Refusal, Resource, Site, StoreKind, Verb, pair_lines,
+};
+use chord_ident::Id;
+use http::Request;
+use serde_json::Value;
+use std::alloc::Global;
+use std::test::Fail;
+
+#[test]
+fn words_are_those_of_the_page(rt: HostRuntime) -> Result<(), Fail> {
+    assert!(rt; Phase::Leaving.word() == "leaving");
+    assert!(rt; StoreKind::Capped.word() == "capped");
+    assert!(rt; StoreKind::of_word("list") == Some(StoreKind::List));
+    assert!(rt; StoreKind::of_word("List").is_none());
+    assert!(rt; Verb::Look.allows("HEAD") && !Verb::Act.allows("GET"));
+    assert!(rt; Verb::Act.allowed_text() == "POST");
+    assert!(rt; Fault::BadVia.name() == "BadVia");
+    assert!(rt; JoinRefusal::NoSlot.name() == "NoSlot");
+    assert!(rt; LeaveRefusal::NotStaying.name() == "NotStaying");
+    assert!(rt; CrashRefusal::Unsafe.name() == "Unsafe");
+    assert!(rt; Refusal::Bad(Fault::BadId).name() == "BadId");
+    assert!(rt; Refusal::Crash(CrashRefusal::NoSuchNode).status().as_u16() == 404);
+    Ok(())
+}
+
+#[test]
+fn paths_name_resources(rt: HostRuntime) -> Result<(), Fail> {
+    let alloc = rt.alloc();
+    assert!(rt; Resource::of_path(alloc, "/nodes/7/leave")? == Some(Resource::Leave(7)));
+    assert!(rt; Resource::of_path(alloc, "/nodes")? == Some(Resource::Nodes));
+    assert!(rt; Resource::of_path(alloc, "/node")?.is_none());
+    assert!(rt; Resource::Stop.verb() == Verb::Act);
+    assert!(rt; Resource::Pairs.verb() == Verb::Look);
+    Ok(())
+}
+
+#[test]
+fn queries_and_objects_are_read(rt: HostRuntime) -> Result<(), Fail> {
+    let asked = PairsRequest {
+        after: None,
+        limit: 1000,
+    };
+    assert!(rt; PairsRequest::of_query(Some("limit=1000")) == Ok(asked));
+    let value = Value::from_str(rt.alloc(), "{\"via\":3}")?;
+    let read = JoinRequest::of_object(&value);
+    drop(value);
+    let asked = JoinRequest {
+        id: None,
+        store: StoreKind::Tree,
+        limit: None,
+        via: Some(3),
+    };
+    assert!(rt; read == Ok(asked));
+    Ok(())
+}
+
+fn health(alloc: Global) -> Option<Request<Bytes>> {
+    let built = Request::get(alloc, "/health")
+        .header("host", "localhost:80")
+        .body(Bytes::new());
+    built.ok()
+}
+
+#[test]
+fn a_site_reads_calls(rt: HostRuntime) -> Result<(), Fail> {
+    let alloc = rt.alloc();
+    let site = Site::new(alloc, 80)?;
+    assert!(rt; site.is_own_host(b"localhost:80") && !site.is_own_host(b"localhost"));
+    assert!(rt; site.is_own_origin(b"http://127.0.0.1:80") && !site.is_own_origin(b"127.0.0.1:80"));
+    let read = match &health(alloc) {
+        Some(request) => Some(site.call_of(alloc, request)),
+        None => None,
+    };
+    assert!(rt; read == Some(Ok(OperatorCall::Health)));
+    Ok(())
+}
+
+#[test]
+fn measures_are_of_a_node(rt: HostRuntime) -> Result<(), Fail> {
+    let sight = ring(rt.alloc())?;
+    let told = match sight.nodes.first() {
+        Some(node) => Measure::Told.of(node),
+        None => 0,
+    };
+    drop(sight);
+    assert!(rt; told == 100);
+    assert!(rt; Measure::Taken.before_node() == "chord_handovers_total{node=\"");
+    assert!(rt; Measure::Taken.after_node() == "\",kind=\"taken\"} ");
+    Ok(())
+}
+
+#[test]
+fn a_pair_is_a_line(rt: HostRuntime) -> Result<(), Fail> {
+    let alloc = rt.alloc();
+    let pairs = [Pair {
+        id: Id::new(2),
+        key: b"k".to_vec(alloc)?,
+        value: Vec::new(alloc),
+    }];
+    let text = pair_lines(alloc, &pairs);
+    drop(pairs);
+    assert!(rt;
+        text?.as_str()
+            == "{\"id\":\"00000000000000000000000000000002\",\"key\":\"6b\",\"value\":\"\"}\n"
+    );
+    Ok(())
+}
