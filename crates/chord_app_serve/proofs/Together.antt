@@ -133,7 +133,8 @@ requests_next number zero (ask ∷ asks) d within = refl
 requests_next number (suc i) (ask ∷ asks) d within =
     let later : requests_of number (take (i + 1) asks) ≡ requests_of number (take i asks) ++ requests_of number (get_or asks i d ∷ []) = requests_next number i asks d (omega arith) in
     let own : List Request = requests_of number (get_or asks i d ∷ []) in
-    by_test (eqb ask.caller number)
+    let more : suc i + 1 ≡ suc (i + 1) = omega arith in
+    ap (λ n. requests_of number (take n (ask ∷ asks))) more ∙ by_test (eqb ask.caller number)
     (λ t.
     cond-true (eqb ask.caller number) (ask.request ∷ requests_of number (take (i + 1) asks)) (requests_of number (take (i + 1) asks)) t
     ∙ ap (λ requests. ask.request ∷ requests) later

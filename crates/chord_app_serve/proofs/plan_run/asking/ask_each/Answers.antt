@@ -1,4 +1,4 @@
-use Rattle.std.proofs.Common.{rules, ◌≡◌, ◌++◌, [], ◌∷◌, sym, ap, ◌∙◌, subst, map, false, true}
+use Rattle.std.proofs.Common.{rules, ◌≡◌, ◌++◌, [], ◌∷◌, sym, ap, ◌∙◌, subst, map, take, get_or}
 use Rattle.chord_app_plan.specs.declared.ask.PlanAsk.{PlanAsk}
 use Rattle.chord_app_serve.proofs.Together.{first_requests, requests_next}
 use Rattle.chord_app_serve.specs.Together.{NextIs, replies_of, requests_of, taken_requests}
@@ -14,8 +14,27 @@ loop-ask-init g c = (
 pub ask_next-requires : goal.ask_next-requires
 ask_next-requires g c = c.loop-ask.invariant.0
 
+pub returns-then-not-branch-clause-first : goal.returns-then-not-branch-clause-first
+returns-then-not-branch-clause-first g c =
+    let old = c.loop-ask.client.caller in
+    let stays : c.ask_next.new.client.caller.mine ≡ old.mine =
+    subst (λ b. NextIs (requests_of c.args.number (c.ask-item.result ∷ [])) old b c.ask_next.new.client.caller) c.if-not-branch.true c.in_ok-ask_next.ensures.next in
+    let (rest, is) = first_requests c.args.number c.loop-ask.ask-index c.args.asks.now in
+    (rest, is ∙ ap (λ rs. rs ++ rest) (sym (ap (λ dones. map (λ (d : Done). d.request) dones) stays ∙ c.loop-ask.invariant.1)))
+
 pub loop-ask-preserved : goal.loop-ask-preserved
-loop-ask-preserved g c = ?
+loop-ask-preserved g c =
+    let asks = c.args.asks.now in
+    let old = c.loop-ask.client.caller in
+    let item = c.ask-item.result in
+    let went : taken_requests c.ask_next.new.client.caller ≡ taken_requests old ++ requests_of c.args.number (item ∷ []) =
+    subst (λ b. NextIs (requests_of c.args.number (item ∷ [])) old b c.ask_next.new.client.caller) c.if-not-branch.false c.in_ok-ask_next.ensures.next in
+    let here : requests_of c.args.number (item ∷ []) ≡ requests_of c.args.number (get_or asks c.loop-ask.ask-index item ∷ []) = ap (λ (a : PlanAsk). requests_of c.args.number (a ∷ [])) c.ask-item.is in (
+      c.in_ok-ask_next.ensures.answers,
+      went ∙ ap (λ rs. rs ++ requests_of c.args.number (item ∷ [])) c.loop-ask.invariant.1
+          ∙ ap (λ rs. requests_of c.args.number (take c.loop-ask.ask-index asks) ++ rs) here
+          ∙ sym (requests_next c.args.number c.loop-ask.ask-index asks item c.loop-ask-test.true),
+    )
 
 pub returns-clause-answers : goal.returns-clause-answers
 returns-clause-answers g c = c.loop-ask.invariant.0
