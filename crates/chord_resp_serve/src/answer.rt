@@ -13,7 +13,7 @@ use chord_resp::{
 };
 use std::alloc::{AllocError, Global};
 
-// How many commands COMMAND COUNT tells of.
+/// How many commands COMMAND COUNT tells of.
 const COMMANDS: u64 = 17;
 
 impl Tally {
@@ -115,7 +115,7 @@ pub fn put_answer(
 }
 
 impl Stopped {
-    /// The error of a command of so many requests; none if memory ran out.
+    /// The error of a command that asks `of` requests; none if memory ran out.
     pub fn refusal(self, of: u64) -> Option<Refusal>
         ensures { result ≡ refusal_of of self }
     {

@@ -14,7 +14,7 @@ use chord_resp::{Command, Refusal, put_refusal};
 use chord_serve::Asker;
 use std::alloc::{AllocError, Global};
 
-// Adds the answer to a command of so many requests, or its error.
+/// Adds the answer to a command that asked `requests` requests, or its error.
 fn tell(
     alloc: Global,
     out: &mut Vec<u8>,

@@ -19,7 +19,7 @@ fn flow_of(command: &Command) -> Flow
     }
 }
 
-// The flow, if there was memory to tell the answer.
+/// The flow, if there was memory to tell the answer.
 fn with_flow(told: Result<(), AllocError>, flow: Flow) -> Result<Flow, AllocError>
     ensures { result ≡ with_flow told flow }
 {

@@ -9,7 +9,7 @@ use crate::table::operands::Operands;
 use crate::table::refusal::Refusal;
 use crate::table::verb::{Verb, is_text};
 
-// The command, if it has the right number of words.
+/// The command, if it has the right number of words.
 fn counted(fits: bool, verb: Verb, command: Command) -> Result<Command, Refusal>
     ensures { result ≡ counted fits verb command }
 {

@@ -48,7 +48,7 @@ pub const ALL: [Verb; 17] = [
     Verb::Quit,
 ];
 
-// Whether the bytes are the text, in upper or lower case.
+/// Whether the bytes are the text, in upper or lower case.
 #[tactic(auto, using(crate::proofs::Texts::same_test))]
 fn is_same(bytes: &[u8], text: &[u8]) -> bool
     ensures { result ≡ str_eq_ignore_ascii_case bytes.now text.now }
@@ -108,7 +108,7 @@ impl Verb {
         None
     }
 
-    /// Whether so many words may follow the name.
+    /// Whether the name may be followed by that many words.
     pub fn takes(self, operands: usize) -> bool
         ensures { result ≡ takes self operands }
     {

@@ -6,7 +6,7 @@ ghost use Rattle.chord_resp.specs.Answers.{Joins, line, simple, error, integer, 
 use itoa::Buffer;
 use std::alloc::AllocError;
 
-// Adds a line behind its mark.
+/// Adds a line behind its mark.
 fn put_line(out: &mut Vec<u8>, mark: u8, text: &[u8]) -> Result<(), AllocError>
     ensures { Joins result out.old.items out.new.items (line mark text.now) }
 {

@@ -10,7 +10,7 @@ use crate::writing::lines::put_error;
 use itoa::Buffer;
 use std::alloc::{AllocError, Global};
 
-// The most bytes of a name that are shown.
+/// The most bytes of a name that are shown.
 const SHOWN_BYTES: usize = 128;
 
 fn shown_byte(byte: u8) -> u8
@@ -23,7 +23,7 @@ fn shown_byte(byte: u8) -> u8
     }
 }
 
-// The bytes up to the most that are shown.
+/// The bytes up to the most that are shown.
 fn front(bytes: &[u8]) -> &[u8]
     ensures { result.now ≡ take 128 bytes.now }
 {
@@ -48,7 +48,7 @@ fn shown(alloc: Global, word: &Word) -> Result<Vec<u8>, AllocError>
     }
 }
 
-// The three texts, one behind the other.
+/// The three texts, one behind the other.
 fn joined(alloc: Global, a: &[u8], b: &[u8], c: &[u8]) -> Result<Vec<u8>, AllocError>
     ensures { IfOk result (λ text. text.items ≡ a.now ++ (b.now ++ c.now)) }
 {
@@ -109,7 +109,7 @@ fn fixed_text(refusal: &Refusal) -> &'static [u8]
     }
 }
 
-// What is told behind the front.
+/// What is told behind the front.
 fn detail(alloc: Global, refusal: &Refusal) -> Result<Vec<u8>, AllocError>
     ensures { IfOk result (λ text. text.items ≡ detail refusal.now) }
 {

@@ -203,7 +203,7 @@ fn three_commands_cut_after_each_byte(rt: HostRuntime) {
     assert!(rt; wrong.is_none(), "{wrong:?}");
 }
 
-/// A command of one word of so many bytes, as text.
+/// A command of one word of `length` bytes, as text.
 fn word_of(alloc: Global, head: &[u8], length: usize) -> Option<(Vec<u8>, Stop)> {
     let mut bytes = Vec::from_slice(alloc, head).ok()?;
     for _ in 0..length {
@@ -250,7 +250,7 @@ fn an_inline_command_has_at_most_65536_bytes(rt: HostRuntime) {
     assert!(rt; over == Some((0, too_long)), "one more is refused");
 }
 
-/// Why reading stopped at an inline command of so many words.
+/// Why reading stopped at an inline command of `count` words.
 fn stop_of_words(alloc: Global, count: usize) -> Option<Stop> {
     let mut bytes = Vec::new(alloc);
     for _ in 0..count {

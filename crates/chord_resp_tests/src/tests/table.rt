@@ -301,7 +301,7 @@ fn other_commands(rt: HostRuntime) {
     }
 }
 
-/// A command of these words and one of so many bytes at its end.
+/// A command of these words, and behind them a word of `length` bytes.
 fn with_long(alloc: Global, front: &[u8], length: usize) -> Option<Vec<u8>> {
     let mut bytes = Vec::from_slice(alloc, front).ok()?;
     for _ in 0..length {
