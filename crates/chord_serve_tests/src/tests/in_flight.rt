@@ -447,10 +447,11 @@ fn answers_that_are_none(rt: HostRuntime) {
     }
 }
 
-/// Whether the writer takes these bytes, and what it has then, if no caller is left.
+/// Whether a writer with room for `room` bytes takes the fault that no caller is left, and what it
+/// has then.
 fn told(alloc: Global, room: usize) -> (bool, [u8; 15]) {
     let mut bytes = [0u8; 15];
-    let (mut writer, _) = bytes.split_at_mut(room);
+    let (mut writer, _) = bytes.split_at_mut(room.min(15));
     let is_told = tell_callers_spent(alloc, &mut writer).is_ok();
     (is_told, bytes)
 }
