@@ -1,5 +1,5 @@
 -- What a command is answered. Source: the published pages of the commands.
-use Rattle.std.specs.Prelude.{◌≡◌, ◌≢◌, ◌⊎◌, ℕ, Bool, true, false, List, [], ◌∷◌, ◌++◌, map, length, ◌==◌, if◌then◌else◌, codes, bytes_eq, Option, Some, None, Result, Ok, Err, IsErr, is_ok}
+use Rattle.std.specs.Prelude.{◌≡◌, ◌≢◌, ◌⊎◌, ℕ, Bool, true, List, [], ◌∷◌, ◌++◌, map, length, if◌then◌else◌, codes, bytes_eq, Option, Some, None, Result, Ok, Err, IsErr, is_ok}
 use Rattle.std.specs.List.{list_any}
 use Rattle.std.specs.declared.alloc.AllocError.{AllocError}
 use Rattle.chord_map.specs.declared.reply.Reply.{Reply}

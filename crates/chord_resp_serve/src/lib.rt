@@ -8,16 +8,22 @@
 mod about;
 mod answer;
 mod asking;
+mod connection;
 mod flow;
+mod informs;
 mod numbers;
 mod one_command;
 mod requests;
+mod session;
 mod settling;
 mod tally;
 mod words;
 
 pub use about::About;
+pub use connection::ServerInfo;
 pub use flow::Flow;
+pub use informs::Informs;
 pub use numbers::Numbers;
 pub use one_command::answer_command;
+pub use session::serve_commands;
 pub use words::answer_words;

@@ -2,3 +2,4 @@
 
 mod askers;
 mod commands;
+mod sessions;

@@ -1,8 +1,6 @@
 -- Requests answered one after another, and how a session ends.
-use Rattle.std.proofs.Common.{◌≡◌, ◌⊎◌, ℕ, ◌<◌, List, [], ◌∷◌, ◌++◌, length, Bool, true, false, Option, Some, None, Result, Ok, Err, refl, sym, ap, subst, ◌∙◌, append_assoc, inl, inr}
+use Rattle.std.proofs.Common.{◌≡◌, ◌⊎◌, ℕ, List, [], ◌∷◌, ◌++◌, false, Option, Some, None, Ok, Err, refl, sym, ap, subst, ◌∙◌, append_assoc, inl, inr}
 use Rattle.std.specs.List.{flat_map, AllByRecursion}
-use Rattle.std.specs.Io.KnownBytes.{Appends, Consumes, Keeps}
-use Rattle.std.proofs.KnownBytes.{Appends-nil, Appends-trans, Consumes-nil, Consumes-kept, Consumes-trans}
 use Rattle.std.proofs.lemmas.List.{append-nil}
 use Rattle.std.proofs.lemmas.List.Concat.{flat_map-cons, flat_map-append}
 use Rattle.chord_wire.specs.declared.request.WireRequest.{WireRequest}
@@ -15,23 +13,17 @@ use Rattle.chord_serve.specs.declared.served.Served.TheVariants as served
 use Rattle.std.specs.declared.alloc.AllocError.{AllocError}
 use Rattle.chord_serve.specs.Question.{Question}
 use Rattle.chord_serve.specs.SessionState.{SessionState}
-use Rattle.chord_serve.specs.Session.{first_state, move_of}
+use Rattle.chord_serve.specs.Session.{move_of}
 use Rattle.chord_serve.specs.Output.{bytes_written, state_after, questions, question_of}
 use Rattle.chord_serve.specs.Steps.{Step, MayAsk, Deals}
-use Rattle.chord_serve.specs.declared.connection.Connection.{Connection}
-use Rattle.chord_serve.specs.Writes.{WritesPrefix}
 use Rattle.chord_serve.proofs.Serving.{Serves, Serves-append, as_function, serves}
 use Rattle.chord_wire.specs.Streams.{request_frame, Spells}
-use Rattle.chord_serve.specs.Served.{fault_frame, is_other, AreOfVersion, Dealt, IsRefused, Refuses, DealsWithAll, AsksNext, StopsAfter, DealsWithNext, DealsWithPart, WritesPart, DealsWithBatch, TakesTurn, IsServed, TellsFault, IsStop, EndsInput}
+use Rattle.chord_serve.specs.Served.{fault_frame, is_other, AreOfVersion, Dealt, IsRefused, Refuses, DealsWithAll, AsksNext, StopsAfter, IsServed, TellsFault}
 
 -- nothing is decided before the first byte
 pub next_of_nothing : next_request [] ≡ Ok None
 unfolding next_request body_at
 next_of_nothing = refl
-
--- a connection of these parts
-abbrev pub connected : List ℕ → Option ℕ → SessionState → Connection
-connected frames version session = record { frames = frames; version = version; session = session }
 
 AreOfVersion-append : (v w x : Option ℕ) (rs ts : List WireRequest) → AreOfVersion v rs w → AreOfVersion w ts x → AreOfVersion v (rs ++ ts) x
 AreOfVersion-append v w x [] ts p q = subst (λ (u : Option ℕ). AreOfVersion u ts x) p q
@@ -40,16 +32,6 @@ AreOfVersion-append v w x (r ∷ rs) ts p q = (p.0, AreOfVersion-append (Some r.
 each-append : (rs ts : List WireRequest) → AllByRecursion IsWireRequest rs → AllByRecursion IsWireRequest ts → AllByRecursion IsWireRequest (rs ++ ts)
 each-append [] ts p q = q
 each-append (r ∷ rs) ts p q = (p.0, each-append rs ts p.1 q)
-
--- an end caused by a request says nothing of the input
-pub stop_ends : (left : Option (List ℕ)) (end : Served) → IsStop end → EndsInput end left
-stop_ends left (served.Malformed code) stop = tt
-stop_ends left served.Write stop = tt
-stop_ends left served.Memory stop = tt
-stop_ends left served.Ended stop = absurd stop
-stop_ends left served.Truncated stop = absurd stop
-stop_ends left served.Read stop = absurd stop
-stop_ends left served.TurnsSpent stop = absurd stop
 
 module _ {A : Type 0} (answers : A → Question → Asked → A → Type 0) where
   pub nothing : (v : Option ℕ) (s : SessionState) (a : A) (bytes : List ℕ) → Dealt answers v s a bytes [] bytes v s a
@@ -94,7 +76,7 @@ module _ {A : Type 0} (answers : A → Question → Asked → A → Type 0) wher
       (same, refl)
       (output, [], t, b, step, (refl, refl, refl), sym (append-nil output))
 
-  stops_at_once : (v : Option ℕ) (s : SessionState) (a : A) (bytes : List ℕ) → StopsAfter answers v s a bytes [] a
+  pub stops_at_once : (v : Option ℕ) (s : SessionState) (a : A) (bytes : List ℕ) → StopsAfter answers v s a bytes [] a
   stops_at_once v s a bytes = record { rest = bytes; version = v; state = s; asker = a; dealt = nothing v s a bytes; last = inl refl }
 
   -- an end, with the output added for it
@@ -115,6 +97,8 @@ module _ {A : Type 0} (answers : A → Question → Asked → A → Type 0) wher
   refused_ends served.Truncated f v s a bytes old new refused w = absurd w
   refused_ends served.Read f v s a bytes old new refused w = absurd w
   refused_ends served.TurnsSpent f v s a bytes old new refused w = absurd w
+  refused_ends served.Protocol f v s a bytes old new refused w = absurd w
+  refused_ends served.Quit f v s a bytes old new refused w = absurd w
 
   may_ask : (v : Option ℕ) (s : SessionState) (a b : A) (r : WireRequest) (bytes rest : List ℕ) (question : Option Question) → question_of (move_of s r) r ≡ question → next_request bytes ≡ Ok (Some (r, rest)) → is_other v r.version ≡ false → MayAsk answers question a b → (b ≡ a) ⊎ AsksNext answers v s a bytes b
   may_ask v s a b r bytes rest None e next same may = inl may
@@ -162,18 +146,8 @@ module _ {A : Type 0} (answers : A → Question → Asked → A → Type 0) wher
         ],
       )
   served_after served.Memory v w s t a b c bytes first rest second p q = stops_after v w s t a b c bytes first rest second p q
-
-  -- ---- a part of the requests
-
-  pub part_on : (v w x : Option ℕ) (s t u : SessionState) (a b c : A) (bytes rest end output due : List ℕ) → Dealt answers v s a bytes output rest w t b
-      → DealsWithNext answers (Ok true) (connected rest w t) b output due (connected end x u) c → Dealt answers v s a bytes due end x u c
-  part_on v w x s t u a b c bytes rest end output due p q =
-      subst (λ (ys : List ℕ). Dealt answers v s a bytes ys end x u c) (sym q.2) (Dealt-then v w x s t u a b c bytes output rest q.0 end p q.1)
-
-  pub part_ends : (end : Served) (v w : Option ℕ) (s t : SessionState) (a b c : A) (bytes rest output due : List ℕ) → Dealt answers v s a bytes output rest w t b
-      → EndsSo end w t b rest output due c → IsServed answers end v s a bytes due c
-  part_ends end v w s t a b c bytes rest output due p q =
-      subst (λ (ys : List ℕ). IsServed answers end v s a bytes ys c) (sym q.2) (served_after end v w s t a b c bytes output rest q.0 p q.1)
+  served_after served.Protocol v w s t a b c bytes first rest second p q = absurd q
+  served_after served.Quit v w s t a b c bytes first rest second p q = absurd q
 
   -- ---- the output is written
 
@@ -182,7 +156,7 @@ module _ {A : Type 0} (answers : A → Question → Asked → A → Type 0) wher
   all_stops v s a bytes output rest b p = record { rest = rest; version = p.version; state = p.state; asker = b; dealt = p.dealt; last = inl refl }
 
   -- only a prefix of the output was written
-  prefix_served : (end : Served) (v : Option ℕ) (s : SessionState) (a : A) (bytes whole prefix rest : List ℕ) (b : A) → whole ≡ prefix ++ rest → IsServed answers end v s a bytes whole b → IsServed answers served.Write v s a bytes prefix b
+  pub prefix_served : (end : Served) (v : Option ℕ) (s : SessionState) (a : A) (bytes whole prefix rest : List ℕ) (b : A) → whole ≡ prefix ++ rest → IsServed answers end v s a bytes whole b → IsServed answers served.Write v s a bytes prefix b
   prefix_served served.Ended v s a bytes whole prefix rest b e p = (whole, rest, e, inl (all_stops v s a bytes whole [] b p))
   prefix_served served.Truncated v s a bytes whole prefix rest b e p = (whole, rest, e, inl (all_stops v s a bytes whole p.0 b p.2))
   prefix_served served.Read v s a bytes whole prefix rest b e p = (whole, rest, e, inl (all_stops v s a bytes whole p.0 b p.1))
@@ -190,84 +164,5 @@ module _ {A : Type 0} (answers : A → Question → Asked → A → Type 0) wher
   prefix_served (served.Malformed code) v s a bytes whole prefix rest b e p = (whole, rest, e, inr (p.0, p.2))
   prefix_served served.Write v s a bytes whole prefix rest b e p = (p.0, rest ++ p.1, p.2 ∙ ap (λ (ys : List ℕ). ys ++ p.1) e ∙ append_assoc prefix rest p.1, p.3)
   prefix_served served.Memory v s a bytes whole prefix rest b e p = (whole, rest, e, inl p)
-
-  -- at an error of the writer
-  pub part_unwritten : (result : Result Bool Served) (v w : Option ℕ) (s t : SessionState) (a b : A) (bytes rest output : List ℕ) (old new : Option (List ℕ)) → DealsWithPart answers result (connected bytes v s) a output (connected rest w t) b → WritesPrefix old new output
-      → WritesPart answers (Err served.Write) (connected bytes v s) a old new (connected rest w t) b
-  part_unwritten (Ok more) v w s t a b bytes rest output old new p f =
-      (f.prefix, (output, f.rest, f.parts, inl (record { rest = rest; version = w; state = t; asker = b; dealt = p.0; last = inl refl })), f.appends)
-  part_unwritten (Err end) v w s t a b bytes rest output old new p f = (f.prefix, prefix_served end v s a bytes output f.prefix f.rest b f.parts p, f.appends)
-
-  -- requests answered, and the output written for them
-  abbrev pub DealsSo : Option ℕ → SessionState → A → List ℕ → Option (List ℕ) → Option (List ℕ) → List ℕ → Option ℕ → SessionState → A → Type 0
-  DealsSo v s a bytes old new rest w t b = (output : List ℕ) × Dealt answers v s a bytes output rest w t b × Appends old new output
-
-  pub deals_nothing : (v : Option ℕ) (s : SessionState) (a : A) (bytes : List ℕ) (old : Option (List ℕ)) → DealsSo v s a bytes old old bytes v s a
-  deals_nothing v s a bytes old = ([], nothing v s a bytes, Appends-nil old)
-
-  pub deals_on : (v w x : Option ℕ) (s t u : SessionState) (a b c : A) (bytes rest end : List ℕ) (old mid new : Option (List ℕ)) → DealsSo v s a bytes old mid rest w t b → DealsSo w t b rest mid new end x u c → DealsSo v s a bytes old new end x u c
-  deals_on v w x s t u a b c bytes rest end old mid new p q =
-      (p.0 ++ q.0, Dealt-then v w x s t u a b c bytes p.0 rest q.0 end p.1 q.1, Appends-trans old mid new p.0 q.0 p.2 q.2)
-
-  -- an end, and the output written before it
-  abbrev pub EndsWritten : Served → Option ℕ → SessionState → A → List ℕ → Option (List ℕ) → Option (List ℕ) → A → Type 0
-  EndsWritten end v s a bytes old new a' = (output : List ℕ) × IsServed answers end v s a bytes output a' × Appends old new output
-
-  pub ends_on : (end : Served) (v w : Option ℕ) (s t : SessionState) (a b c : A) (bytes rest : List ℕ) (old mid new : Option (List ℕ)) → DealsSo v s a bytes old mid rest w t b → EndsWritten end w t b rest mid new c → EndsWritten end v s a bytes old new c
-  ends_on end v w s t a b c bytes rest old mid new p q =
-      (p.0 ++ q.0, served_after end v w s t a b c bytes p.0 rest q.0 p.1 q.1, Appends-trans old mid new p.0 q.0 p.2 q.2)
-
-  -- ---- turns
-
-  all_of_nothing : (v : Option ℕ) (s : SessionState) (a : A) (bytes : List ℕ) → next_request bytes ≡ Ok None → DealsWithAll answers v s a (bytes ++ []) [] bytes a
-  all_of_nothing v s a bytes none = subst (λ (xs : List ℕ). DealsWithAll answers v s a xs [] bytes a) (sym (append-nil bytes)) (record { version = v; state = s; dealt = nothing v s a bytes; undecided = none })
-
-  -- an end without more bytes, or with bytes that are not answered
-  abbrev pub EndsTurn : Served → Option ℕ → SessionState → A → List ℕ → Option (List ℕ) → Option (List ℕ) → Option (List ℕ) → Option (List ℕ) → A → Type 0
-  EndsTurn end v s a bytes left left' old new a' = (input : List ℕ) × (output : List ℕ) × Consumes left left' input × IsServed answers end v s a (bytes ++ input) output a' × Appends old new output
-
-  pub read_ends : (v : Option ℕ) (s : SessionState) (a : A) (bytes : List ℕ) (left left' old : Option (List ℕ)) → next_request bytes ≡ Ok None → Keeps left left' → EndsTurn served.Read v s a bytes left left' old old a
-  read_ends v s a bytes left left' old none kept = ([], [], Consumes-kept left left left' [] (Consumes-nil left) kept, (bytes, all_of_nothing v s a bytes none), Appends-nil old)
-
-  pub input_ends : (v : Option ℕ) (s : SessionState) (a : A) (bytes : List ℕ) (left left' old : Option (List ℕ)) → next_request bytes ≡ Ok None → Consumes left left' [] → bytes ≡ [] → EndsTurn served.Ended v s a bytes left left' old old a
-  input_ends v s a bytes left left' old none taken end = ([], [], taken, subst (λ (xs : List ℕ). DealsWithAll answers v s a (bytes ++ []) [] xs a) end (all_of_nothing v s a bytes none), Appends-nil old)
-
-  pub input_stops : (v : Option ℕ) (s : SessionState) (a : A) (bytes : List ℕ) (left left' old : Option (List ℕ)) → next_request bytes ≡ Ok None → Consumes left left' [] → 0 < length bytes → EndsTurn served.Truncated v s a bytes left left' old old a
-  input_stops v s a bytes left left' old none taken some = ([], [], taken, (bytes, some, all_of_nothing v s a bytes none), Appends-nil old)
-
-  pub feed_ends : (v : Option ℕ) (s : SessionState) (a : A) (bytes input : List ℕ) (left left' old : Option (List ℕ)) → Consumes left left' input → EndsTurn served.Memory v s a bytes left left' old old a
-  feed_ends v s a bytes input left left' old taken = (input, [], taken, stops_at_once v s a (bytes ++ input), Appends-nil old)
-
-  pub batch_turns : (result : Result (Unit {0}) Served) (v w : Option ℕ) (s t : SessionState) (a b : A) (bytes input fed rest : List ℕ) (left left' old new : Option (List ℕ)) → fed ≡ bytes ++ input → Consumes left left' input
-      → DealsWithBatch answers result (connected fed v s) a old new (connected rest w t) b → TakesTurn answers result (connected bytes v s) a left left' old new (connected rest w t) b
-  batch_turns (Ok done) v w s t a b bytes input fed rest left left' old new e taken d = (input, d.0, taken, subst (λ (xs : List ℕ). Dealt answers v s a xs d.0 rest w t b) e d.1, d.2, d.3)
-  batch_turns (Err end) v w s t a b bytes input fed rest left left' old new e taken d = (input, d.0, taken, subst (λ (xs : List ℕ). IsServed answers end v s a xs d.0 b) e d.1, d.2)
-
-  -- the reads so far
-  abbrev pub TurnsSo : A → Option (List ℕ) → Option (List ℕ) → Option (List ℕ) → Option (List ℕ) → List ℕ → Option ℕ → SessionState → A → Type 0
-  TurnsSo a left left' old new rest w t b = TakesTurn answers (Ok tt) (connected [] None first_state) a left left' old new (connected rest w t) b
-
-  pub turn_on : (w x : Option ℕ) (t u : SessionState) (a b c : A) (rest end : List ℕ) (left left' left'' old mid new : Option (List ℕ)) → TurnsSo a left left' old mid rest w t b → TakesTurn answers (Ok tt) (connected rest w t) b left' left'' mid new (connected end x u) c → TurnsSo a left left'' old new end x u c
-  turn_on w x t u a b c rest end left left' left'' old mid new p q = (
-    p.0 ++ q.0,
-    p.1 ++ q.1,
-    Consumes-trans left left' left'' p.0 q.0 p.2 q.2,
-    Dealt-then None w x first_state t u a b c (p.0 ++ q.0) p.1 (rest ++ q.0) q.1 end (Dealt-fed None w first_state t a b p.0 p.1 rest q.0 p.3) q.3,
-    q.4,
-    Appends-trans old mid new p.1 q.1 p.5 q.5,
-  )
-
-  pub turn_ends : (last : Served) (w : Option ℕ) (t : SessionState) (a b c : A) (rest : List ℕ) (left left' left'' old mid new : Option (List ℕ)) → TurnsSo a left left' old mid rest w t b → EndsTurn last w t b rest left' left'' mid new c → EndsTurn last None first_state a [] left left'' old new c
-  turn_ends last w t a b c rest left left' left'' old mid new p q = (
-    p.0 ++ q.0,
-    p.1 ++ q.1,
-    Consumes-trans left left' left'' p.0 q.0 p.2 q.2,
-    served_after last None w first_state t a b c (p.0 ++ q.0) p.1 (rest ++ q.0) q.1 (Dealt-fed None w first_state t a b p.0 p.1 rest q.0 p.3) q.3,
-    Appends-trans old mid new p.1 q.1 p.5 q.4,
-  )
-
-  pub turns_spent : (w : Option ℕ) (t : SessionState) (a b : A) (rest : List ℕ) (left left' old new : Option (List ℕ)) → TurnsSo a left left' old new rest w t b → EndsTurn served.TurnsSpent None first_state a [] left left' old new b
-  turns_spent w t a b rest left left' old new p = (p.0, p.1, p.2, (rest, record { version = w; state = t; dealt = p.3; undecided = p.4 }), p.5)
-
-  pub no_turn : (a : A) (left old : Option (List ℕ)) → next_request [] ≡ Ok None → TurnsSo a left left old old [] None first_state a
-  no_turn a left old none = ([], [], Consumes-nil left, nothing None first_state a [], none, Appends-nil old)
+  prefix_served served.Protocol v s a bytes whole prefix rest b e p = absurd p
+  prefix_served served.Quit v s a bytes whole prefix rest b e p = absurd p

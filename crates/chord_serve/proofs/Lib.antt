@@ -1,8 +1,10 @@
 pub mod Prefixes
 pub mod Places
 pub mod StepLaws
+pub mod Conversing
 pub mod Serving
 pub mod BatchLaws
+pub mod Framed
 pub mod FittingReplies
 pub mod BytesRead
 pub mod Windows

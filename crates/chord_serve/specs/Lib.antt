@@ -4,6 +4,8 @@ pub mod Session
 pub mod Output
 pub mod Writes
 pub mod Steps
+pub mod Ends
+pub mod Conversing
 pub mod Served
 pub mod Calls
 pub mod BytesRead

@@ -1,6 +1,5 @@
 -- What a session wrote for the bytes that it read. Source: our own.
-use Rattle.std.specs.Prelude.{◌≡◌, ◌⊎◌, ◌<◌, ℕ, List, [], ◌∷◌, ◌++◌, length, Bool, true, false, not, ◌==◌, Option, Some, None, Result, Ok, Err}
-use Rattle.std.specs.Io.KnownBytes.{Appends, Consumes, IsAtEnd}
+use Rattle.std.specs.Prelude.{◌≡◌, ◌⊎◌, ◌<◌, ℕ, List, [], ◌∷◌, ◌++◌, length, Bool, true, false, not, ◌==◌, Option, Some, None, Ok, Err}
 use Rattle.chord_wire.specs.declared.request.WireRequest.{WireRequest}
 use Rattle.chord_wire.specs.declared.fault.WireFault.{WireFault}
 use Rattle.chord_wire.specs.declared.fault.FaultCode.TheVariants.{BadVersion}
@@ -15,7 +14,6 @@ use Rattle.chord_serve.specs.declared.served.Served.TheVariants as served
 use Rattle.chord_serve.specs.Question.{Question}
 use Rattle.chord_serve.specs.SessionState.{SessionState}
 use Rattle.chord_serve.specs.Session.{move_of}
-use Rattle.chord_serve.specs.declared.connection.Connection.{Connection}
 use Rattle.chord_serve.specs.Output.{bytes_written, state_after, questions, question_of, AreAnswers}
 
 -- the frame of a fault
@@ -96,32 +94,8 @@ module _ {A : Type 0} (answers : A → Question → Asked → A → Type 0) wher
   IsServed (served.Malformed code) v s a input output a' = (f : WireFault) × (f.code ≡ code) × Refuses v s a input output f a'
   IsServed served.Write v s a input output a' = (whole : List ℕ) × (rest : List ℕ) × (whole ≡ output ++ rest) × (StopsAfter v s a input whole a' ⊎ ((f : WireFault) × Refuses v s a input whole f a'))
   IsServed served.Memory v s a input output a' = StopsAfter v s a input output a'
-
-  -- the session answered the next request, or there
-  -- is none yet, or it ended; with the output so far
-  abbrev pub DealsWithNext : Result Bool Served → (c : Connection) (a : A) (old new : List ℕ) (c' : Connection) (a' : A) → Type 0
-  DealsWithNext (Ok true) c a old new c' a' = (output : List ℕ) × Dealt c.version c.session a c.frames output c'.frames c'.version c'.session a' × (new ≡ old ++ output)
-  DealsWithNext (Ok false) c a old new c' a' = (next_request c.frames ≡ Ok None) × (c'.frames ≡ c.frames) × (c'.version ≡ c.version) × (c'.session ≡ c.session) × (a' ≡ a) × (new ≡ old)
-  DealsWithNext (Err end) c a old new c' a' = (output : List ℕ) × IsServed end c.version c.session a c.frames output a' × (new ≡ old ++ output)
-
-  -- the session answered some requests, all whole ones if no more are left; or it ended
-  abbrev pub DealsWithPart : Result Bool Served → (c : Connection) (a : A) (output : List ℕ) (c' : Connection) (a' : A) → Type 0
-  DealsWithPart (Ok more) c a output c' a' = Dealt c.version c.session a c.frames output c'.frames c'.version c'.session a' × (more ≡ false → next_request c'.frames ≡ Ok None)
-  DealsWithPart (Err end) c a output c' a' = IsServed end c.version c.session a c.frames output a'
-
-  -- DealsWithPart, and the output was written
-  abbrev pub WritesPart : Result Bool Served → (c : Connection) (a : A) (old new : Option (List ℕ)) (c' : Connection) (a' : A) → Type 0
-  WritesPart result c a old new c' a' = (output : List ℕ) × DealsWithPart result c a output c' a' × Appends old new output
-
-  -- the session answered all whole requests, or it ended
-  abbrev pub DealsWithBatch : Result (Unit {0}) Served → (c : Connection) (a : A) (old new : Option (List ℕ)) (c' : Connection) (a' : A) → Type 0
-  DealsWithBatch (Ok done) c a old new c' a' = (output : List ℕ) × Dealt c.version c.session a c.frames output c'.frames c'.version c'.session a' × (next_request c'.frames ≡ Ok None) × Appends old new output
-  DealsWithBatch (Err end) c a old new c' a' = (output : List ℕ) × IsServed end c.version c.session a c.frames output a' × Appends old new output
-
-  -- One read and the answers to it, with the bytes read and written; or the session ended.
-  abbrev pub TakesTurn : Result (Unit {0}) Served → (c : Connection) (a : A) (left left' old new : Option (List ℕ)) (c' : Connection) (a' : A) → Type 0
-  TakesTurn (Ok done) c a left left' old new c' a' = (input : List ℕ) × (output : List ℕ) × Consumes left left' input × Dealt c.version c.session a (c.frames ++ input) output c'.frames c'.version c'.session a' × (next_request c'.frames ≡ Ok None) × Appends old new output
-  TakesTurn (Err end) c a left left' old new c' a' = (input : List ℕ) × (output : List ℕ) × Consumes left left' input × IsServed end c.version c.session a (c.frames ++ input) output a' × Appends old new output
+  IsServed served.Protocol v s a input output a' = ⊥
+  IsServed served.Quit v s a input output a' = ⊥
 
 -- a fault's frame was added to the output, or there was no memory for it
 abbrev pub TellsFault : Served → WireFault → List ℕ → List ℕ → Type 0
@@ -132,23 +106,5 @@ TellsFault served.Ended f old new = ⊥
 TellsFault served.Truncated f old new = ⊥
 TellsFault served.Read f old new = ⊥
 TellsFault served.TurnsSpent f old new = ⊥
-
--- ends that a request can cause
-abbrev pub IsStop : Served → Type 0
-IsStop (served.Malformed code) = Unit {0}
-IsStop served.Write = Unit {0}
-IsStop served.Memory = Unit {0}
-IsStop served.Ended = ⊥
-IsStop served.Truncated = ⊥
-IsStop served.Read = ⊥
-IsStop served.TurnsSpent = ⊥
-
--- at these two ends no input is left
-abbrev pub EndsInput : Served → Option (List ℕ) → Type 0
-EndsInput served.Ended left = IsAtEnd left
-EndsInput served.Truncated left = IsAtEnd left
-EndsInput served.Read left = Unit {0}
-EndsInput served.TurnsSpent left = Unit {0}
-EndsInput (served.Malformed code) left = Unit {0}
-EndsInput served.Write left = Unit {0}
-EndsInput served.Memory left = Unit {0}
+TellsFault served.Protocol f old new = ⊥
+TellsFault served.Quit f old new = ⊥

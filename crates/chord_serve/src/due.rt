@@ -10,10 +10,10 @@ use std::marker::Model;
 /// Output of more bytes than these is written before more is added.
 const DUE_LIMIT: usize = 65_536;
 
-/// The frames that are to be written together.
+/// The answers that are to be written together.
 #[derive(Debug, Drop)]
 pub struct Due {
-    bytes: Vec<u8>,
+    pub bytes: Vec<u8>,
 }
 
 impl Model for Due {
@@ -25,6 +25,7 @@ impl Model for Due {
 }
 
 impl Due {
+    /// No output.
     pub fn new(alloc: Global) -> Due
         ensures { result ≡ [] }
     {
@@ -33,6 +34,7 @@ impl Due {
         }
     }
 
+    /// Adds an answer.
     pub fn add(&mut self, frame: &[u8]) -> Result<(), AllocError>
         ensures { Joins result self.old self.new frame.now }
     {
@@ -47,6 +49,7 @@ impl Due {
         DUE_LIMIT < self.bytes.len()
     }
 
+    /// Writes all of it.
     pub fn write_to<W: Write>(&self, writer: &mut W) -> io::Result<()>
         ensures { Writes result (W.contents writer.old) (W.contents writer.new) self.now }
     {

@@ -1,7 +1,6 @@
 //! Worked sessions, over memory.
 
 mod askers;
-mod devices;
 mod faults;
 mod growths;
 mod in_flight;

@@ -37,9 +37,9 @@ fn three_frames(alloc: Global) -> Result<Frames, AllocError> {
 fn session(alloc: Global) -> Option<(Served, Option<usize>)> {
     let mut written = roomy(alloc).ok()?;
     let frames = three_frames(alloc).ok()?;
-    let mut asker = MapAsker::new(alloc);
+    let asker = MapAsker::new(alloc);
     let mut reader = frames.input.as_slice();
-    let served = serve(alloc, &mut reader, &mut written, &mut asker, 10);
+    let (served, asker) = serve(alloc, &mut reader, &mut written, asker, 10);
     drop(asker);
     let begun = begun(&frames.output, &written);
     drop(frames);

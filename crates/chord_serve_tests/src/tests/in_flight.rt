@@ -1,13 +1,13 @@
 //! A client with several requests in flight, against the server, over memory.
 
 use super::askers::{FullAtFirst, MapAsker};
-use super::devices::{Limited, Limits};
 use super::sessions::{ADDED, INSERT, INSERT_2, fault, insert};
 use chord_map::{Reply, Request};
 use chord_serve::{
     AgainFault, Asker, CallFault, ReceiveFault, SendFault, Served, WireClient, serve,
     tell_callers_spent,
 };
+use chord_serve_testkit::{Limited, Limits};
 use chord_wire::{Answer, FaultCode};
 use std::alloc::{AllocError, Global};
 use std::io::Write;
@@ -101,10 +101,11 @@ fn after_inserts(alloc: Global, window: u64, count: u64) -> Option<Flight> {
 }
 
 /// What the server writes for these bytes.
-fn served<A: Asker>(alloc: Global, input: &[u8], asker: &mut A) -> (Served, Vec<u8>) {
+fn served<A: Asker + Drop>(alloc: Global, input: &[u8], asker: A) -> (Served, Vec<u8>) {
     let mut reader = input;
     let mut written = Vec::new(alloc);
-    let served = serve(alloc, &mut reader, &mut written, asker, 10);
+    let (served, asker) = serve(alloc, &mut reader, &mut written, asker, 10);
+    drop(asker);
     (served, written)
 }
 
@@ -130,17 +131,12 @@ fn is_fault(received: Received, wanted: u64, fault: FaultCode) -> bool {
 
 /// What a server over a plain map writes for these bytes.
 fn mapped(alloc: Global, input: &[u8]) -> (Served, Vec<u8>) {
-    let mut asker = MapAsker::new(alloc);
-    let told = served(alloc, input, &mut asker);
-    drop(asker);
-    told
+    served(alloc, input, MapAsker::new(alloc))
 }
 
 /// What a server over a store that is full at first writes for these bytes.
 fn full_at_first(alloc: Global, input: &[u8]) -> Vec<u8> {
-    let mut asker = FullAtFirst::new(alloc);
-    let (_, written) = served(alloc, input, &mut asker);
-    drop(asker);
+    let (_, written) = served(alloc, input, FullAtFirst::new(alloc));
     written
 }
 

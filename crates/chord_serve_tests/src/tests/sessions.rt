@@ -1,7 +1,7 @@
 use super::askers::{FullAtFirst, MapAsker};
-use super::devices::{FREE, Limited, Limits};
 use chord_map::{Reply, Request};
 use chord_serve::{Asker, CallFault, Served, call, call_2, laws, serve};
+use chord_serve_testkit::{FREE, Limited, Limits};
 use chord_wire::{Answer, Answers, FaultCode};
 use std::alloc::{AllocError, Global};
 use std::io::{Read, Write};
@@ -125,16 +125,16 @@ pub struct Talk {
     pub asked: usize,
 }
 
-/// A session under these conditions.
-pub fn limited<A: Asker>(
+/// A session under these conditions, and its asker.
+pub fn limited<A: Asker + Drop>(
     alloc: Global,
     (input, output): (&[u8], &[u8]),
     conditions: Conditions,
-    asker: &mut A,
-) -> Seen {
+    asker: A,
+) -> (Seen, A) {
     let mut reader = Limited::new(input, conditions.reads);
     let mut writer = Limited::new(Vec::new(alloc), conditions.writes);
-    let end = serve(alloc, &mut reader, &mut writer, asker, conditions.turns);
+    let (end, asker) = serve(alloc, &mut reader, &mut writer, asker, conditions.turns);
     let seen = Seen {
         end,
         len: writer.inner.len(),
@@ -144,26 +144,27 @@ pub fn limited<A: Asker>(
         writes: writer.calls,
     };
     drop(writer);
-    seen
+    (seen, asker)
 }
 
-/// A session over these frames.
-fn session<A: Asker>(
+/// A session over these frames, and its asker.
+fn session<A: Asker + Drop>(
     alloc: Global,
-    asker: &mut A,
+    asker: A,
     input: &[&[u8]],
     output: &[&[u8]],
-) -> Option<Seen> {
-    let frames = Frames::new(alloc, input, output).ok()?;
-    let seen = limited(alloc, frames.both(), AMPLE, asker);
+) -> (Option<Seen>, A) {
+    let Ok(frames) = Frames::new(alloc, input, output) else {
+        return (None, asker);
+    };
+    let (seen, asker) = limited(alloc, frames.both(), AMPLE, asker);
     drop(frames);
-    Some(seen)
+    (Some(seen), asker)
 }
 
 /// A session over a plain map.
 fn mapped(alloc: Global, input: &[&[u8]], output: &[&[u8]]) -> Option<Talk> {
-    let mut asker = MapAsker::new(alloc);
-    let seen = session(alloc, &mut asker, input, output);
+    let (seen, asker) = session(alloc, MapAsker::new(alloc), input, output);
     let asked = asker.requests.len();
     drop(asker);
     Some(Talk { seen: seen?, asked })
@@ -178,8 +179,7 @@ struct FullTalk {
 }
 
 fn full(alloc: Global, input: &[&[u8]], output: &[&[u8]]) -> Option<FullTalk> {
-    let mut asker = FullAtFirst::new(alloc);
-    let seen = session(alloc, &mut asker, input, output);
+    let (seen, asker) = session(alloc, FullAtFirst::new(alloc), input, output);
     let (asked, retried) = (asker.requests.len(), asker.retried);
     drop(asker);
     Some(FullTalk {
@@ -356,9 +356,9 @@ fn a_session_keeps_its_version(rt: HostRuntime) {
 /// A session over the first `cut` bytes of the three frames.
 pub fn three_frames(alloc: Global, cut: usize, conditions: Conditions) -> Option<Seen> {
     let frames = three(alloc).ok()?;
-    let mut asker = MapAsker::new(alloc);
+    let asker = MapAsker::new(alloc);
     let input = frames.input.get(..cut).unwrap_or(&[]);
-    let seen = limited(alloc, (input, &frames.output), conditions, &mut asker);
+    let (seen, asker) = limited(alloc, (input, &frames.output), conditions, asker);
     drop(asker);
     drop(frames);
     Some(seen)

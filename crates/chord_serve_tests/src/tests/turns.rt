@@ -1,13 +1,13 @@
 //! The answers to the requests of one read are written together.
 
 use super::askers::{MapAsker, OutOfMemoryAt};
-use super::devices::{FREE, Limits};
 use super::sessions::{
     ADDED, Conditions, Frames, INSERT, RETRIEVE, Seen, THREE_ANSWERS, THREE_FRAMES, Talk, fault,
     joined, limited, three_frames,
 };
 use chord_map::Request;
 use chord_serve::Served;
+use chord_serve_testkit::{FREE, Limits};
 use chord_wire::FaultCode;
 use std::alloc::{AllocError, Global};
 
@@ -56,8 +56,8 @@ fn the_answers_to_one_read_are_one_write(rt: HostRuntime) {
 #[test]
 fn half_a_frame_writes_nothing(rt: HostRuntime) {
     let alloc = rt.alloc();
-    let mut asker = MapAsker::new(alloc);
-    let seen = limited(alloc, (&INSERT[..18], &[]), AMPLE, &mut asker);
+    let asker = MapAsker::new(alloc);
+    let (seen, asker) = limited(alloc, (&INSERT[..18], &[]), AMPLE, asker);
     drop(asker);
     assert!(rt;
         seen.end == Served::Truncated,
@@ -102,8 +102,8 @@ fn with_a_bad_frame(alloc: Global, conditions: Conditions) -> Option<Seen> {
     let input = [INSERT.as_slice(), &INSERT, &bad, &INSERT];
     let output = [ADDED.as_slice(), &ADDED, &fault(0, 3)];
     let frames = Frames::new(alloc, &input, &output).ok()?;
-    let mut asker = MapAsker::new(alloc);
-    let seen = limited(alloc, frames.both(), conditions, &mut asker);
+    let asker = MapAsker::new(alloc);
+    let (seen, asker) = limited(alloc, frames.both(), conditions, asker);
     drop(asker);
     drop(frames);
     Some(seen)
@@ -145,8 +145,8 @@ fn three_inserts(alloc: Global) -> Result<Frames, AllocError> {
 /// A session over the three inserts, in which memory runs out at the insert with this number.
 fn out_of_memory_at(alloc: Global, number: usize, conditions: Conditions) -> Option<Talk> {
     let frames = three_inserts(alloc).ok()?;
-    let mut asker = OutOfMemoryAt::new(alloc, number);
-    let seen = limited(alloc, frames.both(), conditions, &mut asker);
+    let asker = OutOfMemoryAt::new(alloc, number);
+    let (seen, asker) = limited(alloc, frames.both(), conditions, asker);
     let asked = asker.requests.len();
     drop(asker);
     drop(frames);
@@ -212,8 +212,8 @@ fn retrieves(alloc: Global) -> Result<Vec<u8>, AllocError> {
 /// A session over the three retrieves of `count` values.
 fn retrieved(alloc: Global, count: u8, conditions: Conditions) -> Option<Talk> {
     let input = retrieves(alloc).ok()?;
-    let mut asker = map_of(alloc, count)?;
-    let seen = limited(alloc, (&input, &[]), conditions, &mut asker);
+    let asker = map_of(alloc, count)?;
+    let (seen, asker) = limited(alloc, (&input, &[]), conditions, asker);
     let asked = asker.requests.len();
     drop(asker);
     Some(Talk { seen, asked })

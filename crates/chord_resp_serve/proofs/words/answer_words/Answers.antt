@@ -1,5 +1,5 @@
-use Rattle.std.proofs.Common.{◌≡◌, Ok, Err, refl, ap, ◌∙◌, inl, inr}
-use Rattle.chord_resp_serve.specs.Words.{with_flow, flow_of}
+use Rattle.std.proofs.Common.{refl, ap, ◌∙◌, inr}
+use Rattle.chord_resp_serve.specs.Words.{with_flow}
 use Rattle.chord_resp_serve.proofs.words.answer_words.Goals as goal
 
 pub returns-in-Ok : goal.returns-in-Ok

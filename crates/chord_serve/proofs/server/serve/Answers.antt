@@ -1,46 +1,15 @@
-use Rattle.std.proofs.Common.{ap, arith, ◌+◌, ◌*◌, Err}
-use Rattle.chord_serve.specs.declared.served.Served.{Served}
-use Rattle.chord_serve.proofs.BatchLaws.{next_of_nothing, no_turn, turn_on, turn_ends}
-use Rattle.chord_serve.proofs.BytesRead.{reads_none, reads_then, reads_within}
+use Rattle.std.proofs.Common.{sym}
+use Rattle.chord_serve.proofs.BatchLaws.{next_of_nothing}
+use Rattle.chord_serve.proofs.Framed.{conversed_serves}
 use Rattle.chord_serve.proofs.server.serve.Goals as goal
 
-pub loop-init : goal.loop-init
-loop-init g c = record { so = rw (c.new-connection.ensures.frames, c.new-connection.ensures.version, c.new-connection.ensures.session) (no_turn g.A.Asker.answers c.args.asker.now (g.R.Read.remaining c.args.reader.now) (g.W.Write.contents c.args.writer.now) next_of_nothing); reads = reads_none 0 (g.R.Read.remaining c.args.reader.now) }
+pub converse-served-requires : goal.converse-served-requires
+converse-served-requires g c = rw c.new-connection.ensures.frames next_of_nothing
 
-pub returns-in-Err-clause-served : goal.returns-in-Err-clause-served
-returns-in-Err-clause-served g c =
-    let left = g.R.Read.remaining in
-    let held = g.W.Write.contents in
-    let new = c.take_turn.new in
-    turn_ends g.A.Asker.answers c.in-Err.end c.loop.connection.version c.loop.connection.session c.args.asker.now c.loop.asker new.asker c.loop.connection.frames (left c.args.reader.now) (left c.loop.reader) (left new.reader) (held c.args.writer.now) (held c.loop.writer) (held new.writer) c.loop.invariant.so c.in-Err.ensures.turn
-
-pub loop-preserved : goal.loop-preserved
-loop-preserved g c =
-    let left = g.R.Read.remaining in
-    let held = g.W.Write.contents in
-    let new = c.take_turn.new in
-    record {
-      so = turn_on g.A.Asker.answers c.loop.connection.version new.self.version c.loop.connection.session new.self.session c.args.asker.now c.loop.asker new.asker c.loop.connection.frames new.self.frames (left c.args.reader.now) (left c.loop.reader) (left new.reader) (held c.args.writer.now) (held c.loop.writer) (held new.writer) c.loop.invariant.so c.in_default.ensures.turn;
-      reads = reads_within (c.loop.counter + 1) (4096 * c.loop.counter + 4096) (c.loop.counter + 1) (4096 * (c.loop.counter + 1)) (left c.args.reader.now) (left new.reader) (omega arith) (omega arith)
-          (reads_then c.loop.counter (4096 * c.loop.counter) 1 4096 (left c.args.reader.now) (left c.loop.reader) (left new.reader) c.loop.invariant.reads c.in_default.ensures.progress);
-    }
-
-pub returns-in-Err-clause-bytes : goal.returns-in-Err-clause-bytes
-returns-in-Err-clause-bytes g c =
-    let left = g.R.Read.remaining in
-    let new = c.take_turn.new in
-    reads_within (c.loop.counter + 0) (4096 * c.loop.counter + 4096) 0 (4096 * c.args.turns) (left c.args.reader.now) (left new.reader) (omega arith) (omega (arith, c.loop-test.true))
-    (reads_then c.loop.counter (4096 * c.loop.counter) 0 4096 (left c.args.reader.now) (left c.loop.reader) (left new.reader) c.loop.invariant.reads c.in-Err.ensures.bytes)
-
-pub returns-in-Err-clause-spent : goal.returns-in-Err-clause-spent
-returns-in-Err-clause-spent g c = λ e. absurd (c.in-Err.ensures.not_spent (ap (λ (s : Served). Err s) e))
-
-pub returns-clause-bytes : goal.returns-clause-bytes
-returns-clause-bytes g c =
-    let left = g.R.Read.remaining in
-    reads_within c.loop.counter (4096 * c.loop.counter) 0 (4096 * c.args.turns) (left c.args.reader.now) (left c.loop.reader) (omega arith) (omega arith) c.loop.invariant.reads
-
-pub returns-clause-spent : goal.returns-clause-spent
-returns-clause-spent g c = λ e.
-    let left = g.R.Read.remaining in
-    reads_within c.loop.counter (4096 * c.loop.counter) c.args.turns (4096 * c.args.turns) (left c.args.reader.now) (left c.loop.reader) (omega (arith, c.loop-test.false)) (omega arith) c.loop.invariant.reads
+pub returns-clause-served : goal.returns-clause-served
+returns-clause-served g c =
+    let new = c.converse-served.new.dialogue in
+    let p = c.converse-served.ensures.conversed in
+    let served = conversed_serves g.A.Asker.answers (λ d. d.frames) (λ d. d.version) (λ d. d.session) (λ d. d.asker) c.converse-served.result c.new-connection.result new p.0 p.1 p.3 in
+    let made = c.new-connection.ensures in
+    (p.0, p.1, p.2, rw (made.frames, made.version, made.session, made.asker, sym c.into_asker.ensures) at served, p.4)

@@ -1,0 +1,3 @@
+pub mod Outputs
+pub mod Steps
+pub mod Sessions

@@ -1,0 +1,191 @@
+-- What a connection answered for the bytes that it read. Source: our own.
+use Rattle.std.specs.Prelude.{◌≡◌, ◌⊎◌, ℕ, Bool, true, false, List, [], ◌∷◌, ◌++◌, Option, Some, None, Result, Ok, Err}
+use Rattle.std.specs.declared.alloc.AllocError.{AllocError}
+use Rattle.chord_serve.specs.declared.asker.Asked.{Asked}
+use Rattle.chord_serve.specs.declared.served.Served.{Served}
+use Rattle.chord_serve.specs.declared.served.Served.TheVariants as served
+use Rattle.chord_serve.specs.Question.{Question}
+use Rattle.chord_resp.specs.declared.reading.protocol_error.ProtocolError.{ProtocolError}
+use Rattle.chord_resp.specs.declared.reading.word.Word.{Word}
+use Rattle.chord_resp.specs.declared.table.refusal.Refusal.TheVariants as refusal
+use Rattle.chord_resp.specs.declared.table.verb.Verb.{Verb}
+use Rattle.chord_resp.specs.declared.table.verb.Verb.TheVariants as verb
+use Rattle.chord_resp.specs.Machine.{State, start}
+use Rattle.chord_resp.specs.Reading.{Reading, Open, Broken, reading, with_commands, is_at_start}
+use Rattle.chord_resp.specs.Answers.{error}
+use Rattle.chord_resp.specs.Refusals.{refusal_text}
+use Rattle.chord_resp.specs.Table.{verb_of}
+use Rattle.chord_resp_serve.specs.declared.about.About.{About}
+use Rattle.chord_resp_serve.specs.declared.flow.Flow.{Flow}
+use Rattle.chord_resp_serve.specs.declared.flow.Flow.TheVariants as flow
+use Rattle.chord_resp_serve.specs.declared.numbers.Numbers.{Numbers}
+use Rattle.chord_resp_serve.specs.Words.{AnswersWords}
+
+-- a connection before its first request
+abbrev pub first_numbers : Numbers
+first_numbers = record { asked = 0; pending = None }
+
+abbrev pub is_info : Option Verb → Bool
+is_info (Some verb.Info) = true
+is_info _ = false
+
+-- whether the words are those of INFO
+abbrev pub asks_info : List Word → Bool
+asks_info [] = false
+asks_info (name ∷ words) = is_info (verb_of name)
+
+-- nothing more was read: the next command has come so far
+abbrev pub open_at : State → Reading
+open_at s = record { commands = []; ending = Open s }
+
+-- the next bytes are no command
+abbrev pub broken_by : ProtocolError → Reading
+broken_by e = record { commands = []; ending = Broken e }
+
+-- the answer to such bytes
+abbrev pub protocol_answer : ProtocolError → List ℕ
+protocol_answer e = error (refusal_text (refusal.Protocol e))
+
+module _ {A : Type 0} (answers : A → Question → Asked → A → Type 0) (tells : List ℕ → Type 0) (number : ℕ) where
+  -- what a command knows of its server: the number of the connection, and INFO also a text that the
+  -- server tells
+  pub record Knows (words : List Word) (about : About) : Type 0 where
+    pub numbered : about.number ≡ number
+    pub informed : asks_info words ≡ true → tells about.info.now
+
+  -- the words of a command are answered with these bytes, behind what was due before
+  pub record AnswersOne (words : List Word) (flow : Result Flow AllocError) (n : Numbers) (a : A) (bytes : List ℕ) (n' : Numbers) (a' : A) : Type 0 where
+    pub about : About
+    pub knows : Knows words about
+    pub due : List ℕ
+    pub answered : AnswersWords answers about words n a flow due (due ++ bytes) n' a'
+
+  -- the commands are answered one after another
+  abbrev pub AnswersEach : List (List Word) → Numbers → A → List ℕ → Numbers → A → Type 0
+  AnswersEach [] n a output n' a' = (output ≡ []) × (n' ≡ n) × (a' ≡ a)
+  AnswersEach (words ∷ more) n a output n' a' = (bytes : List ℕ) × (rest : List ℕ) × (m : Numbers) × (b : A)
+      × AnswersOne words (Ok flow.GoesOn) n a bytes m b × AnswersEach more m b rest n' a' × (output ≡ bytes ++ rest)
+
+  -- the first commands of the bytes are answered, and this is still to be read
+  pub record AnswersSome (n : Numbers) (a : A) (input output : List ℕ) (next : Reading) (n' : Numbers) (a' : A) : Type 0 where
+    pub commands : List (List Word)
+    pub spelled : reading start input ≡ with_commands commands next
+    pub answered : AnswersEach commands n a output n' a'
+
+  -- all commands of the bytes are answered; the next one has come so far
+  pub record AnswersWhole (n : Numbers) (a : A) (input output : List ℕ) (state : State) (a' : A) : Type 0 where
+    pub numbers : Numbers
+    pub some : AnswersSome n a input output (open_at state) numbers a'
+
+  -- bytes that are no command are told, behind the answers to those before them
+  pub record RefusesBytes (n : Numbers) (a : A) (input output : List ℕ) (a' : A) : Type 0 where
+    pub error : ProtocolError
+    pub said : List ℕ
+    pub numbers : Numbers
+    pub some : AnswersSome n a input said (broken_by error) numbers a'
+    pub output_is : output ≡ said ++ protocol_answer error
+
+  -- the client asked for the end
+  pub record Quits (n : Numbers) (a : A) (input output : List ℕ) (a' : A) : Type 0 where
+    pub words : List Word
+    pub next : Reading
+    pub said : List ℕ
+    pub bytes : List ℕ
+    pub between : Numbers
+    pub asker : A
+    pub some : AnswersSome n a input said (with_commands (words ∷ []) next) between asker
+    pub numbers : Numbers
+    pub last : AnswersOne words (Ok flow.Quits) between asker bytes numbers a'
+    pub output_is : output ≡ said ++ bytes
+
+  -- the next command may have asked its questions, and is not answered
+  pub record AsksNext (next : Reading) (n : Numbers) (a : A) (a' : A) : Type 0 where
+    pub words : List Word
+    pub rest : Reading
+    pub next_is : next ≡ with_commands (words ∷ []) rest
+    pub refused : AllocError
+    pub numbers : Numbers
+    pub asked : AnswersOne words (Err refused) n a [] numbers a'
+
+  -- memory ran out
+  pub record RunsOut (n : Numbers) (a : A) (input output : List ℕ) (a' : A) : Type 0 where
+    pub next : Reading
+    pub between : Numbers
+    pub asker : A
+    pub some : AnswersSome n a input output next between asker
+    pub last : (a' ≡ asker) ⊎ AsksNext next between asker a'
+
+  -- a command, or bytes that are none, ended the connection
+  abbrev pub IsEnded : Served → Numbers → A → List ℕ → List ℕ → A → Type 0
+  IsEnded served.Protocol n a input output a' = RefusesBytes n a input output a'
+  IsEnded served.Quit n a input output a' = Quits n a input output a'
+  IsEnded served.Memory n a input output a' = RunsOut n a input output a'
+  IsEnded end n a input output a' = ⊥
+
+  -- only a prefix of the output was written
+  pub record WritesPart (n : Numbers) (a : A) (input output : List ℕ) (a' : A) : Type 0 where
+    pub whole : List ℕ
+    pub rest : List ℕ
+    pub parts : whole ≡ output ++ rest
+    pub done : ((next : Reading) × (numbers : Numbers) × AnswersSome n a input whole next numbers a')
+        ⊎ ((end : Served) × IsEnded end n a input whole a')
+
+  -- What a connection read and wrote when it ended in this way: the answers to the commands that its
+  -- input spells, each question asked once and in order. At Write it wrote a prefix of its output.
+  abbrev pub IsAnswered : Served → Numbers → A → List ℕ → List ℕ → A → Type 0
+  IsAnswered served.Ended n a input output a' = (state : State) × (is_at_start state.phase ≡ true) × AnswersWhole n a input output state a'
+  IsAnswered served.Truncated n a input output a' = (state : State) × (is_at_start state.phase ≡ false) × AnswersWhole n a input output state a'
+  IsAnswered served.Read n a input output a' = (state : State) × AnswersWhole n a input output state a'
+  IsAnswered served.TurnsSpent n a input output a' = (state : State) × AnswersWhole n a input output state a'
+  IsAnswered served.Write n a input output a' = WritesPart n a input output a'
+  IsAnswered end n a input output a' = IsEnded end n a input output a'
+
+-- ---- one step
+
+-- how a command, or bytes that are none, end a connection: with what is still to be read before and
+-- after, and with these bytes
+module _ {A : Type 0} (answers : A → Question → Asked → A → Type 0) (tells : List ℕ → Type 0) (number : ℕ) where
+  -- the error is told
+  pub record TellsError (next : Reading) (a : A) (bytes : List ℕ) (a' : A) : Type 0 where
+    pub error : ProtocolError
+    pub next_is : next ≡ broken_by error
+    pub asker : a' ≡ a
+    pub bytes_are : bytes ≡ protocol_answer error
+
+  -- QUIT is answered
+  pub record AnswersQuit (next : Reading) (n : Numbers) (a : A) (bytes : List ℕ) (a' : A) : Type 0 where
+    pub words : List Word
+    pub rest : Reading
+    pub next_is : next ≡ with_commands (words ∷ []) rest
+    pub numbers : Numbers
+    pub answered : AnswersOne answers tells number words (Ok flow.Quits) n a bytes numbers a'
+
+  -- nothing is told, and the next command may have asked its questions
+  pub record TellsNothing (next : Reading) (n : Numbers) (a : A) (bytes : List ℕ) (a' : A) : Type 0 where
+    pub bytes_are : bytes ≡ []
+    pub last : (a' ≡ a) ⊎ AsksNext answers tells number next n a a'
+
+  abbrev pub StopsSo : Served → Reading → Numbers → A → List ℕ → A → Type 0
+  StopsSo served.Protocol next n a bytes a' = TellsError next a bytes a'
+  StopsSo served.Quit next n a bytes a' = AnswersQuit next n a bytes a'
+  StopsSo served.Memory next n a bytes a' = TellsNothing next n a bytes a'
+  StopsSo end next n a bytes a' = ⊥
+
+-- the error was added to what is due, or there was no memory for it
+abbrev pub TellsProtocol : ProtocolError → Served → List ℕ → List ℕ → Type 0
+TellsProtocol e served.Protocol old new = new ≡ old ++ protocol_answer e
+TellsProtocol e served.Memory old new = new ≡ old
+TellsProtocol e end old new = ⊥
+
+module _ {A : Type 0} (answers : A → Question → Asked → A → Type 0) (tells : List ℕ → Type 0) (number : ℕ) where
+  -- a command may have asked its questions, and there was no memory to answer it
+  pub record LacksMemory (words : List Word) (n : Numbers) (a : A) (n' : Numbers) (a' : A) : Type 0 where
+    pub refused : AllocError
+    pub asked : AnswersOne answers tells number words (Err refused) n a [] n' a'
+
+  -- the words of a command are answered, or end the connection
+  abbrev pub AnswersDue : List Word → Result Bool Served → Numbers → A → List ℕ → List ℕ → Numbers → A → Type 0
+  AnswersDue words (Ok true) n a old new n' a' = (bytes : List ℕ) × AnswersOne answers tells number words (Ok flow.GoesOn) n a bytes n' a' × (new ≡ old ++ bytes)
+  AnswersDue words (Err served.Quit) n a old new n' a' = (bytes : List ℕ) × AnswersOne answers tells number words (Ok flow.Quits) n a bytes n' a' × (new ≡ old ++ bytes)
+  AnswersDue words (Err served.Memory) n a old new n' a' = (new ≡ old) × ((a' ≡ a) ⊎ LacksMemory words n a n' a')
+  AnswersDue words result n a old new n' a' = ⊥

@@ -1,0 +1,117 @@
+//! The loop of every protocol: read, answer what is whole, write.
+ghost use Rattle.std.specs.Prelude.{◌≡◌, ◌≢◌, ◌<◌, ◌*◌, [], List, ℕ, Ok, Err, true, IfErr, OnOk};
+ghost use Rattle.std.specs.Io.KnownBytes.{Appends, Consumes};
+ghost use Rattle.chord_serve.specs.BytesRead.{ReadsBetween};
+ghost use Rattle.chord_serve.specs.Conversing.{AnswersPart, SendsPart, AnswersAll, TakesTurn, Conversed};
+ghost use Rattle.chord_serve.specs.Ends.{IsStop, EndsInput};
+
+use crate::dialogue::Dialogue;
+use crate::due::Due;
+use crate::served::Served;
+use std::alloc::Global;
+use std::io::{Read, Write};
+
+// Answers requests into the output until none is whole (false) or the output is full (true).
+fn answer_part<D: Dialogue>(alloc: Global, dialogue: &mut D, due: &mut Due) -> Result<bool, Served>
+    requires { due.old ≡ [] }
+    ensures part { AnswersPart D.hears D.says D.stops D.waits result dialogue.old due.new dialogue.new }
+    ensures stop { IfErr result IsStop }
+    ensures shorter { result ≡ Ok true → D.unread dialogue.new < D.unread dialogue.old }
+{
+    while !due.is_full() {
+        if !dialogue.answer_next(alloc, due)? {
+            return Ok(false);
+        }
+    }
+    Ok(true)
+}
+
+// Answers some requests, and then writes the output, even if the dialogue ended.
+fn send_part<D: Dialogue, W: Write>(
+    alloc: Global,
+    dialogue: &mut D,
+    writer: &mut W,
+) -> Result<bool, Served>
+    ensures part { SendsPart D.hears D.says D.stops D.waits result dialogue.old (W.contents writer.old) (W.contents writer.new) dialogue.new }
+    ensures stop { IfErr result IsStop }
+    ensures shorter { result ≡ Ok true → D.unread dialogue.new < D.unread dialogue.old }
+{
+    let mut due = Due::new(alloc);
+    let result = answer_part(alloc, dialogue, &mut due);
+    match due.write_to(writer) {
+        Ok(()) => result,
+        Err(_) => Err(Served::Write),
+    }
+}
+
+// Answers all whole requests.
+fn answer_all<D: Dialogue, W: Write>(
+    alloc: Global,
+    dialogue: &mut D,
+    writer: &mut W,
+) -> Result<(), Served>
+    ensures stop { IfErr result IsStop }
+    ensures all { AnswersAll D.hears D.says D.stops D.waits result dialogue.old (W.contents writer.old) (W.contents writer.new) dialogue.new }
+{
+    while send_part(alloc, dialogue, writer)? {}
+    Ok(())
+}
+
+// One read of at most 4,096 bytes, then the answers to all whole requests, written together.
+fn take_turn<D: Dialogue, R: Read, W: Write>(
+    alloc: Global,
+    dialogue: &mut D,
+    reader: &mut R,
+    writer: &mut W,
+) -> Result<(), Served>
+    requires { D.waits dialogue.old }
+    ensures end { IfErr result (λ end. EndsInput end (R.remaining reader.new)) }
+    ensures bytes { ReadsBetween 0 4096 (R.remaining reader.old) (R.remaining reader.new) }
+    ensures not_spent { result ≢ Err Served.TurnsSpent }
+    ensures progress { OnOk result (ReadsBetween 1 4096 (R.remaining reader.old) (R.remaining reader.new)) }
+    ensures turn { TakesTurn D.hears D.says D.stops D.waits D.between result dialogue.old (R.remaining reader.old) (R.remaining reader.new) (W.contents writer.old) (W.contents writer.new) dialogue.new }
+{
+    let mut buffer = [0u8; 4096];
+    let count = match reader.read(&mut buffer) {
+        Ok(count) => count,
+        Err(_) => return Err(Served::Read),
+    };
+    if count == 0 {
+        if dialogue.is_between() {
+            return Err(Served::Ended);
+        }
+        return Err(Served::Truncated);
+    }
+    match dialogue.feed(&buffer[..count]) {
+        Ok(()) => answer_all(alloc, dialogue, writer),
+        Err(_) => Err(Served::Memory),
+    }
+}
+
+/// Answers the requests from the reader until the input ends, a request ends the dialogue,
+/// a call fails, or `turns` reads were made; the contract says how many bytes these may take,
+/// and tests count the reads. The answers to the requests of one read are written together, or
+/// whenever they are more than 65,536 bytes. They are also written if a request ends the dialogue.
+pub fn converse<D: Dialogue, R: Read, W: Write>(
+    alloc: Global,
+    dialogue: &mut D,
+    reader: &mut R,
+    writer: &mut W,
+    turns: u64,
+) -> Served
+    requires { D.waits dialogue.old }
+    ensures end { EndsInput result (R.remaining reader.new) }
+    // Each read takes at most 4,096 bytes, and at least one unless the input ends.
+    ensures bytes { ReadsBetween 0 (4096 * turns) (R.remaining reader.old) (R.remaining reader.new) }
+    ensures spent { result ≡ Served.TurnsSpent → ReadsBetween turns (4096 * turns) (R.remaining reader.old) (R.remaining reader.new) }
+    ensures conversed { (input : List ℕ) × (output : List ℕ) × Consumes (R.remaining reader.old) (R.remaining reader.new) input
+        × Conversed D.hears D.says D.stops D.waits D.between result dialogue.old input output dialogue.new
+        × Appends (W.contents writer.old) (W.contents writer.new) output }
+{
+    for _ in 0..turns {
+        if let Err(end) = take_turn(alloc, dialogue, reader, writer) {
+            return end;
+        }
+    }
+    Served::TurnsSpent
+}
