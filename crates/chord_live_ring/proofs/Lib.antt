@@ -1,3 +1,4 @@
 pub mod Coming
 pub mod Counting
+pub mod Looked
 pub mod Sending

@@ -12,8 +12,11 @@
 
 mod carried;
 mod dealing;
+mod deed;
 mod fault;
 mod keyed;
+mod looking;
+mod node_counts;
 mod numbers;
 mod probe;
 mod reader;
@@ -21,6 +24,7 @@ mod retirement;
 mod ring;
 mod ring_parts;
 mod seated_node;
+mod sight;
 mod slot;
 mod target;
 mod tick;
@@ -36,8 +40,10 @@ pub use chord_live_types::{
 pub use dealing::deal;
 pub use fault::RingRetireFault;
 pub use keyed::Keyed;
+pub use node_counts::{AskCounts, HandoverCounts, NodeCounts};
 pub use probe::{NoProbe, Probe};
 pub use ring::Ring;
 pub use ring_parts::RingParts;
+pub use sight::{NodeSight, OutboxSight, SegmentSight};
 pub use target::Target;
 pub use tidying::{Tidied, tidy};

@@ -1,10 +1,13 @@
-//! Nodes that retire.
+//! Nodes that retire, and nodes without which the ring would not stand.
+ghost use Rattle.std.specs.Prelude.{◌↔◌, ◌<◌, IsTrue, IfOk};
+ghost use Rattle.chord_ring.specs.Ring.{CanDepart};
 
 use crate::fault::RingRetireFault;
 use crate::ring::Ring;
 use crate::seated_node::SeatedNode;
 use crate::slot::{Slot, SlotState};
 use chord_links::Links;
+use chord_live_types::NoSuchNode;
 use chord_ring::can_depart_among;
 use chord_store::EntryStore;
 use chord_table::Naming;
@@ -92,5 +95,36 @@ impl<J: Naming, S: EntryStore> Ring<J, S> {
         let guard = slot.state.lock(rt);
         self.post_links(board, at, &*guard);
         self.retire_above(rt, board, seated, number, at + 1)
+    }
+
+    /// Whether the ring would hold together if the node crashed now: it is a member, each other
+    /// member's list has a live entry without it, and there is a principal. Takes the locks of all
+    /// nodes, as `retire` does.
+    pub fn may_crash(&self, rt: &impl Wait, number: u64) -> Result<bool, NoSuchNode>
+        ensures { IfOk result (λ may. number < J.name.slots) }
+    {
+        if !self.was_admitted(number) {
+            return Err(NoSuchNode);
+        }
+        let mut board = self.board.lock(rt);
+        Ok(self.stands_without(rt, &mut *board, 0, number))
+    }
+
+    /// Takes the locks from this slot on, and decides under all of them.
+    fn stands_without(
+        &self,
+        rt: &impl Wait,
+        board: &mut Vec<Option<Links>>,
+        at: usize,
+        number: u64,
+    ) -> bool
+        ensures { IsTrue result ↔ CanDepart board.new.items number }
+    {
+        let Some(slot) = self.slots.get(at) else {
+            return can_depart_among(board.as_slice(), number);
+        };
+        let guard = slot.state.lock(rt);
+        self.post_links(board, at, &*guard);
+        self.stands_without(rt, board, at + 1, number)
     }
 }

@@ -1,12 +1,14 @@
 //! Slots for nodes and inboxes for callers, over one table.
-ghost use Rattle.std.specs.Prelude.{◌≡◌, ◌<◌, ◌≤◌, [], true, IfOk, IfErr, IfSome, vec_len};
+ghost use Rattle.std.specs.Prelude.{◌≡◌, ◌<◌, ◌≤◌, [], true, Ok, None, IfOk, IfErr, IfSome, vec_len};
 ghost use Rattle.chord_caller.specs.Answers.{new_caller};
 ghost use Rattle.chord_caller.specs.Client.{IsCoreOf};
+ghost use Rattle.chord_live_ring.specs.Sights.{IsSightOf};
 ghost use Rattle.chord_live_types.specs.Limits.{AreWithin};
 
 use crate::numbers::Numbers;
 use crate::reader::RingReader;
 use crate::seated_node::SeatedNode;
+use crate::sight::NodeSight;
 use crate::slot::{Inbox, Slot, SlotState};
 use chord_caller::{CallerCore, ClientCore};
 use chord_ident::Id;
@@ -14,12 +16,12 @@ use chord_links::{Links, Peer};
 use chord_live_types::{
     CreateFault, JoinFault, LeaveFault, NoSuchNode, OpenClientFault, OpenFault, Settings,
 };
-use chord_node::Phase;
+use chord_node::{Holder, Phase};
 use chord_ring::join_behind;
 use chord_route::find_predecessor;
 use chord_store::EntryStore;
 use chord_table::{CallerSeat, Naming, Shared};
-use std::alloc::Global;
+use std::alloc::{AllocError, Global};
 use std::marker::Model;
 use std::sync::atomic::{AtomicBool, AtomicU64, Ordering};
 use std::sync::{Mutex, Wait};
@@ -119,12 +121,45 @@ impl<J: Naming, S: EntryStore> Ring<J, S> {
     }
 
     /// The phase of a node. None if there is no such node, or if it crashed.
-    pub(crate) fn phase_of(&self, rt: &impl Wait, number: u64) -> Option<Phase> {
-        let slot = self.slots.get(number as usize)?;
+    pub fn phase_of(&self, rt: &impl Wait, number: u64) -> Option<Phase>
+        ensures { J.name.slots ≤ number → result ≡ None }
+    {
+        let Some(slot) = self.slots.get(number as usize) else {
+            return None;
+        };
         match &*slot.state.lock(rt) {
             SlotState::Here(seated) => Some(seated.phase()),
             _ => None,
         }
+    }
+
+    /// How a node looks, by one look under its lock. None if no node of this number was admitted.
+    pub fn sight(
+        &self,
+        rt: &impl Wait,
+        alloc: Global,
+        number: u64,
+    ) -> Result<Option<NodeSight>, AllocError>
+        ensures shown { IfOk result (λ found. IfSome found (IsSightOf number)) }
+        ensures beyond { J.name.slots ≤ number → result ≡ Ok None }
+    {
+        let Some(slot) = self.slots.get(number as usize) else {
+            return Ok(None);
+        };
+        match slot.state.lock(rt).sight(&self.table, alloc)? {
+            Some(sight) if sight.number == number => Ok(Some(sight)),
+            _ => Ok(None),
+        }
+    }
+
+    /// The node of this number if it holds the identifier, else its first handover of it, if its
+    /// outbox has one. A node that crashed still has what it had. A handover stays in the outbox
+    /// until its giver hears that it was taken; by then its receiver may hold the identifier.
+    pub fn holding(&self, rt: &impl Wait, number: u64, id: Id) -> Option<Holder>
+        ensures { J.name.slots ≤ number → result ≡ None }
+    {
+        let slot = self.slots.get(number as usize)?;
+        slot.state.lock(rt).holding(id)
     }
 
     /// Puts a node into its slot.

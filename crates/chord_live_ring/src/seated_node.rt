@@ -1,46 +1,128 @@
 //! A node with its seat.
-ghost use Rattle.std.specs.Prelude.{◌≡◌, ◌≤◌, ◌++◌, [], ◌∷◌, OnErr};
+ghost use Rattle.std.specs.Prelude.{◌≡◌, ◌≤◌, ◌++◌, [], ◌∷◌, Some, None, IfOk, IfSome, IfNone, OnOk, OnErr};
+ghost use Rattle.chord_live_ring.specs.Deeds.{counted, no_counts};
+ghost use Rattle.chord_live_ring.specs.declared.deed.Deed.TheVariants.{Gave, Ticked};
+ghost use Rattle.chord_live_ring.specs.Sights.{HoldingIs, counts_after, kind_in, look_in, number_in, sight_of};
 ghost use Rattle.chord_live_ring.specs.Tidy.{TidyIs};
 ghost use Rattle.chord_node.specs.Moves.{LeaveIs, RetireIs};
+ghost use Rattle.chord_table.specs.Shown.{NodeShown};
 
 use crate::dealing::{deal_by_id, is_for};
+use crate::deed::{Deed, MessageKind};
 use crate::keyed::Keyed;
+use crate::looking::{holding_of, known_fingers, numbers_of, outbox_of, segments_of};
+use crate::node_counts::NodeCounts;
+use crate::sight::NodeSight;
 use crate::target::Target;
 use crate::tidying::{Tidied, tidy};
 use chord_ident::Id;
 use chord_links::{Links, Peer};
-use chord_node::{GiveFault, Message, Node, NotStaying, Phase, ResendPartFault, RetireFault};
+use chord_node::{
+    GiveFault, Holder, Message, Node, NotStaying, Phase, ResendPartFault, RetireFault,
+};
 use chord_ring::{CandidateFault, DropFault, StabiliseFault};
 use chord_store::EntryStore;
 use chord_table::{Envelope, Naming, NodeSeat, Shared};
-use std::alloc::AllocError;
+use std::alloc::{AllocError, Global};
 use std::marker::Model;
 
-/// A node, and the seat that shows it. Contracts see what the seat shows.
+/// A node, the seat that shows it, and counts of what it did. Contracts see what the seat shows, and
+/// the counts.
 #[derive(Drop)]
 pub struct SeatedNode<J: Naming, S: EntryStore> {
     node: Node<S>,
     seat: NodeSeat<J>,
+    counts: NodeCounts,
 }
 
 impl<J: Naming, S: EntryStore> Model for SeatedNode<J, S> {
     ghost use Rattle.std.specs.Prelude.{◌≡◌};
-    ghost use Rattle.chord_table.specs.Views.{NodeSight};
+    ghost use Rattle.chord_live_ring.specs.Sights.{Seated};
 
-    ghost Value = { NodeSight };
+    ghost Value = { Seated };
 
-    ghost view = { λ a. a.seat };
+    ghost view = { λ a. record { node = a.seat.node; messages = a.seat.messages; counts = a.counts } };
 
     ghost invariant = { λ a. a.node ≡ a.seat.node };
 }
 
+/// The number of another node, if one is known.
+fn number_in(peer: Option<Peer>) -> Option<u64>
+    ensures { result ≡ number_in peer }
+{
+    match peer {
+        Some(peer) => Some(peer.number),
+        None => None,
+    }
+}
+
+/// The kind of the message that is sent, if one is.
+fn kind_sent<J: Naming>(sent: &Option<(Target, Keyed<J>)>) -> Option<MessageKind>
+    ensures some { IfSome sent.now (λ both. result ≡ kind_in (Some both.1.envelope)) }
+    ensures none { IfNone sent.now (result ≡ None) }
+{
+    match sent {
+        Some((_, keyed)) => Some(MessageKind::of(keyed.envelope.message())),
+        None => None,
+    }
+}
+
 impl<J: Naming, S: EntryStore> SeatedNode<J, S> {
-    /// A node with the seat that it was admitted with.
+    /// A node with the seat that it was admitted with, which did nothing yet.
     pub fn new(node: Node<S>, seat: NodeSeat<J>) -> SeatedNode<J, S>
         requires { node ≡ seat.node }
-        ensures { result ≡ seat }
+        ensures { result ≡ record { node = node; messages = seat.messages; counts = no_counts } }
     {
-        SeatedNode { node, seat }
+        SeatedNode {
+            node,
+            seat,
+            counts: NodeCounts::none(),
+        }
+    }
+
+    /// Proves that the node is one of some reachable world, for which the theorem holds.
+    pub fn look(&mut self, table: &Shared<J>)
+        ensures same { self.new ≡ self.old }
+        ensures shown { NodeShown (record { node = self.old.node; messages = self.old.messages }) }
+    {
+        self.seat.look(table);
+    }
+
+    /// How the node looks now. Whether it crashed is not its own to know.
+    pub fn sight(&self, alloc: Global, crashed: bool) -> Result<NodeSight, AllocError>
+        ensures { IfOk result (λ sight. look_in sight ≡ sight_of crashed self.now.node self.now.counts) }
+    {
+        let links = self.node.links();
+        let successors = numbers_of(alloc, links.list().entries())?;
+        let segments = segments_of(alloc, &self.node)?;
+        let outbox = outbox_of(alloc, &self.node)?;
+        Ok(NodeSight {
+            number: self.node.number(),
+            id: links.me().id,
+            phase: self.node.phase(),
+            crashed,
+            predecessor: number_in(links.predecessor()),
+            successors,
+            fingers: known_fingers(links.fingers()),
+            segments,
+            pairs: self.node.pair_count(),
+            outbox,
+            counts: self.counts,
+        })
+    }
+
+    /// The node if it holds the identifier, else its first handover of it, if its outbox has one.
+    pub fn holding(&self, id: Id) -> Option<Holder>
+        ensures { HoldingIs id.number self.now.node result }
+    {
+        holding_of(&self.node, id)
+    }
+
+    /// Counts a round of upkeep.
+    pub fn count_tick(&mut self)
+        ensures { self.new ≡ record self.old { counts = counted Ticked self.old.counts } }
+    {
+        self.counts.count(Deed::Ticked);
     }
 
     /// What the node knows of the others.
@@ -57,10 +139,25 @@ impl<J: Naming, S: EntryStore> SeatedNode<J, S> {
         self.node.phase()
     }
 
-    /// Takes a message in, makes the node's call for it, and sends the answer. A message is lost if
-    /// it is not for the node, or if the node is out of memory.
+    /// Takes a message in, makes the node's call for it, sends the answer, and counts what the node
+    /// did. A message is lost if it is not for the node, or if the node is out of memory.
     pub fn answer(&mut self, table: &Shared<J>, keyed: Keyed<J>) -> Option<(Target, Keyed<J>)>
         ensures messages { self.new.messages ≡ self.old.messages ++ keyed.envelope ∷ [] }
+        ensures sent { IfSome result (λ sent. self.new.counts ≡ counts_after keyed.envelope (Some sent.1.envelope) self.old.node self.new.node self.old.counts) }
+        ensures silent { IfNone result (self.new.counts ≡ counts_after keyed.envelope None self.old.node self.new.node self.old.counts) }
+    {
+        let came = MessageKind::of(keyed.envelope.message());
+        let before = self.node.held_count();
+        let sent = self.deal_with(table, keyed);
+        let deed = Deed::of(came, kind_sent(&sent), before, self.node.held_count());
+        self.counts.count_if(deed);
+        sent
+    }
+
+    /// Takes a message in, makes the node's call for it, and sends the answer.
+    fn deal_with(&mut self, table: &Shared<J>, keyed: Keyed<J>) -> Option<(Target, Keyed<J>)>
+        ensures messages { self.new.messages ≡ self.old.messages ++ keyed.envelope ∷ [] }
+        ensures counts { self.new.counts ≡ self.old.counts }
     {
         let Keyed { envelope, id } = keyed;
         let message = self.seat.receive(table, envelope);
@@ -100,6 +197,7 @@ impl<J: Naming, S: EntryStore> SeatedNode<J, S> {
         live: bool,
     ) -> Result<Option<Peer>, StabiliseFault>
         ensures messages { self.new.messages ≡ self.old.messages }
+        ensures counts { self.new.counts ≡ self.old.counts }
         ensures err { OnErr result (self.new ≡ self.old) }
     {
         let mut links = *self.node.links();
@@ -116,6 +214,7 @@ impl<J: Naming, S: EntryStore> SeatedNode<J, S> {
         live: bool,
     ) -> Result<(), CandidateFault>
         ensures messages { self.new.messages ≡ self.old.messages }
+        ensures counts { self.new.counts ≡ self.old.counts }
         ensures err { OnErr result (self.new ≡ self.old) }
     {
         let mut links = *self.node.links();
@@ -127,6 +226,7 @@ impl<J: Naming, S: EntryStore> SeatedNode<J, S> {
     /// Drops the dead first entry, if there is another.
     pub fn drop_dead(&mut self, table: &Shared<J>, head_live: bool) -> Result<(), DropFault>
         ensures messages { self.new.messages ≡ self.old.messages }
+        ensures counts { self.new.counts ≡ self.old.counts }
         ensures err { OnErr result (self.new ≡ self.old) }
     {
         let mut links = *self.node.links();
@@ -138,6 +238,7 @@ impl<J: Naming, S: EntryStore> SeatedNode<J, S> {
     /// Hears of a node that may be its predecessor, and says whether it is now.
     pub fn rectify(&mut self, table: &Shared<J>, notifier: Peer, predecessor_live: bool) -> bool
         ensures messages { self.new.messages ≡ self.old.messages }
+        ensures counts { self.new.counts ≡ self.old.counts }
     {
         let mut links = *self.node.links();
         let gives = chord_ring::rectify(&mut links, notifier, predecessor_live);
@@ -150,6 +251,7 @@ impl<J: Naming, S: EntryStore> SeatedNode<J, S> {
         requires low { 1 ≤ finger }
         requires high { finger ≤ 128 }
         ensures messages { self.new.messages ≡ self.old.messages }
+        ensures counts { self.new.counts ≡ self.old.counts }
     {
         let mut links = *self.node.links();
         links.set_finger(finger, to);
@@ -159,6 +261,7 @@ impl<J: Naming, S: EntryStore> SeatedNode<J, S> {
     /// Cuts or finds a held segment that is not the node's own, given its predecessor.
     pub fn tidy(&mut self, table: &Shared<J>, predecessor: Id) -> Result<Tidied, AllocError>
         ensures messages { self.new.messages ≡ self.old.messages }
+        ensures counts { self.new.counts ≡ self.old.counts }
         ensures answer { TidyIs predecessor self.old.node result self.new.node }
     {
         let tidied = tidy(&mut self.node, predecessor)?;
@@ -183,11 +286,13 @@ impl<J: Naming, S: EntryStore> SeatedNode<J, S> {
         to: u64,
     ) -> Result<(u64, Envelope<J>), GiveFault>
         ensures messages { self.new.messages ≡ self.old.messages }
+        ensures counts { OnOk result (self.new.counts ≡ counted Gave self.old.counts) }
         ensures err { OnErr result (self.new ≡ self.old) }
     {
         let part = self.node.give(place, to)?;
         let number = part.number;
         let envelope = self.seat.send(table, &self.node, Message::Part(part));
+        self.counts.count(Deed::Gave);
         Ok((number, envelope))
     }
 
@@ -214,6 +319,7 @@ impl<J: Naming, S: EntryStore> SeatedNode<J, S> {
     /// Begins to leave.
     pub fn begin_leave(&mut self, table: &Shared<J>) -> Result<(), NotStaying>
         ensures messages { self.new.messages ≡ self.old.messages }
+        ensures counts { self.new.counts ≡ self.old.counts }
         ensures answer { LeaveIs self.old.node result self.new.node }
     {
         self.node.begin_leave()?;
@@ -235,6 +341,7 @@ impl<J: Naming, S: EntryStore> SeatedNode<J, S> {
     /// Retires the node, which is gone then.
     pub fn retire(&mut self, table: &Shared<J>) -> Result<(), RetireFault>
         ensures messages { self.new.messages ≡ self.old.messages }
+        ensures counts { self.new.counts ≡ self.old.counts }
         ensures answer { RetireIs self.old.node result self.new.node }
     {
         self.node.retire()?;

@@ -1,12 +1,16 @@
 //! Slots of nodes.
-ghost use Rattle.std.specs.Prelude.{◌≡◌, ◌≢◌};
-ghost use Rattle.chord_live_ring.specs.declared.slot.SlotState.TheVariants.{Here, Crashed};
+ghost use Rattle.std.specs.Prelude.{◌≡◌, ◌≢◌, false, true, Ok, None, IfOk, IfSome};
+ghost use Rattle.chord_live_ring.specs.declared.slot.SlotState.TheVariants.{Vacant, Here, Crashed};
+ghost use Rattle.chord_live_ring.specs.Sights.{HoldingIs, IsSightOf, SightIs};
 
 use crate::seated_node::SeatedNode;
+use crate::sight::NodeSight;
+use chord_ident::Id;
+use chord_node::Holder;
 use chord_store::EntryStore;
-use chord_table::{Envelope, Naming};
+use chord_table::{Envelope, Naming, Shared};
 use crossbeam_channel::{Receiver, Sender};
-use std::alloc::Global;
+use std::alloc::{AllocError, Global};
 use std::sync::Mutex;
 use std::sync::atomic::{AtomicBool, AtomicU64};
 
@@ -29,6 +33,44 @@ impl<J: Naming, S: EntryStore> SlotState<J, S> {
         match self {
             SlotState::Here(seated) => SlotState::Crashed(seated),
             other => other,
+        }
+    }
+
+    /// The node in the slot if it holds the identifier, else its first handover of it, if its
+    /// outbox has one. A node that crashed still has what it had.
+    pub fn holding(&self, id: Id) -> Option<Holder>
+        ensures vacant { self.now ≡ Vacant → result ≡ None }
+        ensures here { (seated : _) → self.now ≡ Here seated → HoldingIs id.number seated.node result }
+        ensures crashed { (seated : _) → self.now ≡ Crashed seated → HoldingIs id.number seated.node result }
+    {
+        match self {
+            SlotState::Vacant => None,
+            SlotState::Here(seated) | SlotState::Crashed(seated) => seated.holding(id),
+        }
+    }
+
+    /// How the node in the slot looks now; None if no node was admitted.
+    pub fn sight(
+        &mut self,
+        table: &Shared<J>,
+        alloc: Global,
+    ) -> Result<Option<NodeSight>, AllocError>
+        ensures same { self.new ≡ self.old }
+        ensures vacant { self.old ≡ Vacant → result ≡ Ok None }
+        ensures here { (seated : _) → self.old ≡ Here seated → IfOk result (SightIs false seated) }
+        ensures crashed { (seated : _) → self.old ≡ Crashed seated → IfOk result (SightIs true seated) }
+        ensures shown { IfOk result (λ found. IfSome found (λ sight. IsSightOf sight.number sight)) }
+    {
+        match self {
+            SlotState::Vacant => Ok(None),
+            SlotState::Here(seated) => {
+                seated.look(table);
+                Ok(Some(seated.sight(alloc, false)?))
+            }
+            SlotState::Crashed(seated) => {
+                seated.look(table);
+                Ok(Some(seated.sight(alloc, true)?))
+            }
         }
     }
 }

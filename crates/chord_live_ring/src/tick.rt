@@ -320,6 +320,16 @@ impl<J: Naming, S: EntryStore> Ring<J, S> {
         Ok(())
     }
 
+    /// Counts a round of upkeep of a node.
+    fn count_tick(&self, rt: &impl Wait, number: u64) {
+        let Some(slot) = self.slots.get(number as usize) else {
+            return;
+        };
+        if let SlotState::Here(seated) = &mut *slot.state.lock(rt) {
+            seated.count_tick();
+        }
+    }
+
     /// Does one round of upkeep of a node. Out of memory ends it early; the steps done so far stay.
     pub fn tick(&self, rt: &impl Wait, number: u64) -> Result<(), TickFault> {
         if !self.was_admitted(number) {
@@ -334,6 +344,7 @@ impl<J: Naming, S: EntryStore> Ring<J, S> {
         let Some(links) = self.links_of(rt, number) else {
             return Ok(());
         };
+        self.count_tick(rt, number);
         self.maintain_links(rt, &links);
         self.drop_dead_fingers(rt, &links);
         self.maintain_finger(rt, &links);

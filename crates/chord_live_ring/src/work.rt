@@ -13,6 +13,7 @@ use chord_table::{Envelope, Naming};
 use crossbeam_channel::Sender;
 use std::alloc::Global;
 use std::sync::Wait;
+use std::sync::atomic::Ordering;
 use std::time::{Clock, Duration};
 
 /// How many milliseconds a worker sleeps before it checks whether the ring was stopped.
@@ -101,10 +102,24 @@ impl<J: Naming, S: EntryStore> Ring<J, S> {
         unreachable!()
     }
 
+    /// The first live node from this one on, in the order of their numbers and then from node 0 on.
+    /// This one itself if none is live.
+    fn live_from(&self, number: u64) -> u64 {
+        let nodes = self.nodes.load(Ordering::SeqCst);
+        for step in 0..nodes {
+            let node = number.wrapping_add(step) % nodes;
+            if self.is_live(node) {
+                return node;
+            }
+        }
+        number
+    }
+
     /// Carries an envelope and its key's identifier from node to node, each event under that node's
-    /// lock, until a node answers a caller.
+    /// lock, until a node answers a caller. It begins at the node `via`, or at the next live one
+    /// where that has gone or crashed.
     pub fn carry_keyed(&self, rt: &impl Wait, via: u64, keyed: Keyed<J>) -> Option<Carried<J>> {
-        let mut to = via;
+        let mut to = self.live_from(via);
         let mut passed = keyed;
         for _ in 0..HOPS {
             let (target, sent) = self.answer(rt, to, &NoProbe, passed)?;
@@ -125,7 +140,7 @@ impl<J: Naming, S: EntryStore> Ring<J, S> {
     }
 
     /// Carries an envelope from node to node, on the caller's thread in place of workers, until a
-    /// node answers a caller.
+    /// node answers a caller. It begins as `carry_keyed` does.
     pub fn carry(&self, rt: &impl Wait, via: u64, envelope: Envelope<J>) -> Option<Carried<J>> {
         self.carry_keyed(rt, via, Keyed::new(envelope))
     }

@@ -18,8 +18,12 @@ use std::time::Clock;
 mod callers;
 mod dealing;
 mod growths;
+mod handing;
 mod kinds;
+mod notes;
 mod refusals;
+mod settling;
+mod sights;
 mod standing;
 mod upkeep;
 

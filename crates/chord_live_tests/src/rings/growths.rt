@@ -72,6 +72,11 @@ fn ticked<J: Naming, S: EntryStore>(
     }
 }
 
+/// Looks at node 1, again if out of memory. Says whether it was seen.
+fn is_seen<J: Naming, S: EntryStore>(rt: &impl Wait, alloc: Global, ring: &Ring<J, S>) -> bool {
+    succeeds(ring.sight(rt, alloc, 1)) || succeeds(ring.sight(rt, alloc, 1))
+}
+
 /// Adds two nodes, and does three rounds of ticks.
 fn settle<J: Naming, R: Abort + Wait>(rt: &R, alloc: Global, ring: &Ring<J, CappedStore>) {
     let is_created = created(rt, ring, CappedStore::new(alloc, 4));
@@ -84,6 +89,10 @@ fn settle<J: Naming, R: Abort + Wait>(rt: &R, alloc: Global, ring: &Ring<J, Capp
         let one = ticked(rt, ring, 1);
         assert!(rt; one == Ok(()), "node 1 is ticked at the second try");
     }
+    assert!(rt;
+        is_seen(rt, alloc, ring),
+        "node 1 is seen at the second try"
+    );
 }
 
 /// Callers are answered by two nodes, the first of which has a worker and holds `b`.
@@ -158,8 +167,18 @@ fn added<J: Naming, S: EntryStore, R: Wait + Clock>(
         | Err(AskFault::Begin(BeginFault::Submit(SubmitFault::Memory))) => {
             added_again(rt, alloc, caller)
         }
+        Err(AskFault::Wait(WaitFault::NoAnswer)) => carried(rt, caller),
         answer => answer.ok(),
     }
+}
+
+/// Carries the pending request on this thread: where the growth of its thread was refused, node 0
+/// has no worker.
+fn carried<J: Naming, S: EntryStore, R: Wait + Clock>(
+    rt: &R,
+    caller: &mut Caller<'_, J, S>,
+) -> Option<Said> {
+    said_by(caller.call_again(rt, 0, 1)).ok()
 }
 
 /// Sends the request again if it is pending, else asks another one.
@@ -215,13 +234,14 @@ fn collected<J: Naming, S: EntryStore, R: Wait + Clock>(
     }
 }
 
-/// Sends request 1 again, and collects its reply if none came.
+/// Sends request 1 again, and collects its reply if none came, or carries the request.
 fn collected_again<J: Naming, S: EntryStore, R: Wait + Clock>(
     rt: &R,
     caller: &mut Caller<'_, J, S>,
 ) -> Option<Said> {
     match said_by(caller.retry(rt, 0, 1)) {
         Ok(said) => Some(said),
+        Err(RetryFault::Wait(WaitFault::NoAnswer)) => carried(rt, caller),
         Err(_) => said_by(caller.collect(rt, 1)).ok(),
     }
 }

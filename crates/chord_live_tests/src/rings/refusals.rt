@@ -25,7 +25,7 @@ fn are_bad(alloc: Global, settings: Settings) -> bool {
     let made = RingParts::new(alloc, settings);
     let are_bad = matches!(&made, Err(NewFault::BadSettings));
     drop(made);
-    are_bad
+    are_bad && !settings.are_within()
 }
 
 #[test]
@@ -57,6 +57,7 @@ fn lists_have_limits(rt: HostRuntime) {
 fn settings_at_their_limits_are_good(rt: HostRuntime) {
     for (slots, callers, tries, wait_ms) in [(1, 0, 1, 1), (64, 64, 1_000, 60_000)] {
         let limits = settings(slots, callers, tries, wait_ms);
+        assert!(rt; limits.are_within(), "{slots} slots");
         assert!(rt;
             succeeds(RingParts::new(rt.alloc(), limits)),
             "{slots} slots"
@@ -119,7 +120,8 @@ fn create<J: Naming, R: Abort + Wait>(
     entered(rt, alloc, created)
 }
 
-fn join<J: Naming, R: Abort + Wait>(
+/// The node that joined, or why none did; then its store comes back.
+pub fn join<J: Naming, R: Abort + Wait>(
     rt: &R,
     alloc: Global,
     ring: &Ring<J, CappedStore>,
@@ -168,7 +170,7 @@ fn has_no_node<J: Naming, R: Abort + Wait + Clock>(rt: &R, ring: &Ring<J, Capped
     assert!(rt; worked == Err(NoSuchNode), "nor one to work for");
 }
 
-fn peer(number: u64, id: u128) -> Peer {
+pub fn peer(number: u64, id: u128) -> Peer {
     Peer {
         number,
         id: Id::new(id),

@@ -2,7 +2,7 @@
 ghost use Rattle.std.specs.Prelude.{◌≡◌, [], ◌∷◌};
 ghost use Rattle.chord_table.specs.Shown.{WitnessShown};
 
-use super::{Said, call, founded, inserted, retrieved, said_by, settings, succeeds};
+use super::{C, Said, call, founded, inserted, retrieved, said_by, settings, succeeds};
 use chord_ident::Id;
 use chord_links::Links;
 use chord_live::{OpenCaller, RingClient};
@@ -20,7 +20,8 @@ use std::thread;
 use std::thread::Threads;
 use std::time::{Clock, Duration};
 
-/// An identifier between those of `abc` and `eq`, whose first bytes are equal.
+/// An identifier between those of `abc` and `eq`, whose first bytes are equal. Node 1 is there where
+/// a client guesses, else at C.
 const M: u128 = 0xa99a0000000000000000000000000000;
 
 /// What a test does once the ring is settled.
@@ -95,6 +96,14 @@ fn tries_of(then: Then) -> u64 {
     if then == Then::GuessCrashed { 1 } else { 20 }
 }
 
+/// Where node 1 is.
+fn place_of(then: Then) -> Id {
+    match then {
+        Then::TwoLocks | Then::Crash | Then::Leave => Id::new(C),
+        Then::Guess | Then::GuessCrashed => Id::new(M),
+    }
+}
+
 /// A ring of two nodes in which this is done once it is settled.
 fn is_kept<R: Abort + Threads + Wait + Clock + Sync>(rt: &R, alloc: Global, then: Then) {
     match RingParts::new(alloc, settings(2, 3, tries_of(then), 1_000)) {
@@ -103,7 +112,7 @@ fn is_kept<R: Abort + Threads + Wait + Clock + Sync>(rt: &R, alloc: Global, then
     }
 }
 
-/// Starts node A, and node M, which joins by it.
+/// Starts node 0 at A, and node 1, which joins by it.
 fn two_nodes<J: Naming + Send + Sync, R: Abort + Threads + Wait + Clock + Sync>(
     rt: &R,
     alloc: Global,
@@ -114,7 +123,7 @@ fn two_nodes<J: Naming + Send + Sync, R: Abort + Threads + Wait + Clock + Sync>(
 {
     let store = CappedStore::new(alloc, 4);
     let ring = founded::<J, CappedStore, R>(rt, parts, store);
-    let joined = succeeds(ring.join(rt, Id::new(M), 0, CappedStore::new(alloc, 4)));
+    let joined = succeeds(ring.join(rt, place_of(then), 0, CappedStore::new(alloc, 4)));
     assert!(rt; joined, "a second node joins by the first");
     worked(rt, alloc, &ring, then);
     ring.close();
@@ -187,7 +196,7 @@ fn inserted_alone<J: Naming, S: EntryStore, R: Abort + Wait + Clock>(
     via: u64,
     pair: (&[u8], &[u8]),
 ) -> Result<Said, AskFault> {
-    let mut caller = ring.open_caller(rt, 4).expect(rt, "a caller");
+    let mut caller = ring.open_caller(rt, 1).expect(rt, "a caller");
     let answer = inserted(rt, alloc, &mut caller, via, pair);
     drop(caller);
     answer

@@ -2,7 +2,7 @@ use Rattle.std.proofs.Common.{None, Some, ap, ◌∙◌, sym}
 use Rattle.chord_live_ring.proofs.Coming.{acted}
 use Rattle.chord_live_ring.specs.Dealt.{message_in}
 use Rattle.chord_table.specs.Views.{NodeSight}
-use Rattle.chord_live_ring.proofs.seated_node.SeatedNode.answer.Goals as goal
+use Rattle.chord_live_ring.proofs.seated_node.SeatedNode.deal_with.Goals as goal
 
 pub send-envelope-requires : goal.send-envelope-requires
 send-envelope-requires g c =

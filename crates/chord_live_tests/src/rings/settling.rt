@@ -1,0 +1,152 @@
+//! A ring that is not settled: nodes that can't join yet, and one that may not retire.
+ghost use Rattle.std.specs.Prelude.{◌≡◌};
+
+use super::refusals::{join, peer};
+use super::{A, B, C, founded, settings, succeeds};
+use chord_ident::Id;
+use chord_live_ring::{NoProbe, Ring, RingParts, RingRetireFault};
+use chord_live_types::JoinFault;
+use chord_store::{CappedStore, EntryStore};
+use chord_table::Naming;
+use std::alloc::Global;
+use std::marker::Brand;
+use std::process::Abort;
+use std::sync::Wait;
+use std::thread;
+use std::thread::Threads;
+use std::time::{Clock, Duration};
+
+/// An identifier between C and A.
+const E: u128 = 0xe0000000000000000000000000000000;
+
+#[test]
+fn a_join_is_unsettled(rt: HostRuntime) {
+    match RingParts::new(rt.alloc(), settings(4, 1, 1, 10)) {
+        Ok(parts) => joins::<Brand, _>(&rt, rt.alloc(), parts),
+        Err(_) => assert!(rt; false, "these settings are within their limits"),
+    }
+}
+
+/// Node 1 crashes once node 0 lists it.
+fn joins<J: Naming, R: Abort + Wait + Clock>(rt: &R, alloc: Global, parts: RingParts)
+    requires { parts.name ≡ J.name }
+{
+    let ring = founded::<J, CappedStore, R>(rt, parts, CappedStore::new(alloc, 1));
+    let second = join(rt, alloc, &ring, C, 0);
+    assert!(rt; second == Ok(peer(1, C)), "the second node joins");
+    tick(rt, &ring, 1);
+    tick(rt, &ring, 0);
+    let crashed = ring.crash(rt, 1);
+    assert!(rt; crashed == Ok(()), "it crashes");
+    refuses_and_settles(rt, alloc, &ring);
+    ring.close();
+}
+
+/// E is behind node 1, as node 0 still sees it.
+fn refuses_and_settles<J: Naming, R: Abort + Wait + Clock>(
+    rt: &R,
+    alloc: Global,
+    ring: &Ring<J, CappedStore>,
+) {
+    let by_crashed = join(rt, alloc, ring, B, 1);
+    assert!(rt;
+        by_crashed == Err(JoinFault::Unsettled),
+        "nobody joins by way of a node that crashed"
+    );
+    let behind_crashed = join(rt, alloc, ring, E, 0);
+    assert!(rt;
+        behind_crashed == Err(JoinFault::Unsettled),
+        "nor behind one"
+    );
+    let before_crashed = join(rt, alloc, ring, B, 0);
+    assert!(rt;
+        before_crashed == Ok(peer(2, B)),
+        "a node joins behind one that lives"
+    );
+    tick(rt, ring, 0);
+    let settled = join(rt, alloc, ring, E, 0);
+    assert!(rt;
+        settled == Ok(peer(3, E)),
+        "and any node once node 0 lists no crashed one"
+    );
+}
+
+/// Does a tick of one node.
+fn tick<J: Naming, S: EntryStore, R: Abort + Wait + Clock>(rt: &R, ring: &Ring<J, S>, number: u64) {
+    let ticked = ring.tick(rt, number);
+    assert!(rt; ticked == Ok(()), "a node that exists is ticked");
+}
+
+#[test]
+fn a_node_that_is_needed_does_not_retire(rt: HostRuntime) {
+    match RingParts::new(rt.alloc(), settings(2, 1, 1, 1_000)) {
+        Ok(parts) => leaves::<Brand, _>(&rt, rt.alloc(), parts),
+        Err(_) => assert!(rt; false, "these settings are within their limits"),
+    }
+}
+
+/// Node 0 leaves a ring of two, each of which has a worker.
+fn leaves<J: Naming + Send + Sync, R: Abort + Threads + Wait + Clock + Sync>(
+    rt: &R,
+    alloc: Global,
+    parts: RingParts,
+)
+    requires { parts.name ≡ J.name }
+{
+    let founded = founded::<J, CappedStore, R>(rt, parts, CappedStore::new(alloc, 1));
+    let joined = succeeds(founded.join(rt, Id::new(C), 0, CappedStore::new(alloc, 1)));
+    assert!(rt; joined, "the second node joins");
+    let ring = &founded;
+    let (first, (second, _)) = thread::join(
+        rt,
+        move || ring.work(rt, 0, &NoProbe).is_ok(),
+        move || {
+            thread::join(
+                rt,
+                move || ring.work(rt, 1, &NoProbe).is_ok(),
+                move || {
+                    leave_and_retire(rt, ring);
+                    ring.stop();
+                },
+            )
+        },
+    );
+    founded.close();
+    assert!(rt; first, "worker 0 ends when the ring is stopped");
+    assert!(rt; second, "worker 1 ends when the ring is stopped");
+}
+
+/// Ticks node 0, which leaves, until it holds nothing. Gives why it does not retire then.
+fn give_all<J: Naming, S: EntryStore, R: Abort + Wait + Clock>(
+    rt: &R,
+    ring: &Ring<J, S>,
+) -> Result<(), RingRetireFault> {
+    let mut retired = ring.retire(rt, 0);
+    for _ in 0..1_000u64 {
+        if retired == Err(RingRetireFault::NotEmpty) {
+            tick(rt, ring, 0);
+            thread::sleep(rt, Duration::from_millis(1));
+            retired = ring.retire(rt, 0);
+        }
+    }
+    retired
+}
+
+/// Node 1 is not ticked while node 0 leaves, so it lists node 0 alone.
+fn leave_and_retire<J: Naming, S: EntryStore, R: Abort + Wait + Clock>(rt: &R, ring: &Ring<J, S>) {
+    tick(rt, ring, 1);
+    tick(rt, ring, 0);
+    let leaves = ring.leave(rt, 0);
+    assert!(rt; leaves == Ok(()), "node 0 begins to leave");
+    let retired = give_all(rt, ring);
+    assert!(rt;
+        retired == Err(RingRetireFault::Unsafe),
+        "node 1 would list no live node"
+    );
+    tick(rt, ring, 1);
+    let retired = ring.retire(rt, 0);
+    assert!(rt;
+        retired == Ok(()),
+        "node 0 retires once node 1 lists itself behind it"
+    );
+}

@@ -1,0 +1,422 @@
+//! How nodes look to an operator, and whether one may crash.
+ghost use Rattle.std.specs.Prelude.{◌≡◌};
+
+use super::{A, Said, call, founded, settings, succeeds};
+use chord_ident::{Id, Span};
+use chord_live::OpenCaller;
+use chord_live_ring::{
+    AskCounts, HandoverCounts, NoProbe, NodeSight, OutboxSight, Ring, RingParts, SegmentSight,
+};
+use chord_live_types::{AskFault, NoSuchNode, WaitFault};
+use chord_map::Request;
+use chord_node::{Holder, Phase};
+use chord_store::{CappedStore, EntryStore};
+use chord_table::Naming;
+use std::alloc::Global;
+use std::marker::Brand;
+use std::process::Abort;
+use std::sync::Wait;
+use std::thread;
+use std::thread::Threads;
+use std::time::{Clock, Duration};
+
+/// An identifier behind that of `abc` and before that of `b`.
+const M: u128 = 0xa99a0000000000000000000000000000;
+
+/// What a node did with requests.
+fn asks(told: u64, forwarded: u64, dropped: u64, full: u64) -> AskCounts {
+    AskCounts {
+        told,
+        forwarded,
+        dropped,
+        full,
+    }
+}
+
+/// What a node did with handovers, none of which was declined.
+fn handovers(given: u64, taken: u64) -> HandoverCounts {
+    HandoverCounts {
+        given,
+        taken,
+        declined: 0,
+    }
+}
+
+fn span(after: u128, upto: u128) -> Span {
+    Span::new(Id::new(after), Id::new(upto))
+}
+
+/// How a node looks.
+fn sight_of<J: Naming, S: EntryStore, R: Abort + Wait>(
+    rt: &R,
+    alloc: Global,
+    ring: &Ring<J, S>,
+    number: u64,
+) -> NodeSight {
+    let sight = ring.sight(rt, alloc, number).expect(rt, "memory to look");
+    sight.expect(rt, "a node of this number")
+}
+
+#[test]
+fn a_node_that_is_alone_is_seen(rt: HostRuntime) {
+    match RingParts::new(rt.alloc(), settings(2, 2, 1, 5)) {
+        Ok(parts) => alone::<Brand, _>(&rt, rt.alloc(), parts),
+        Err(_) => assert!(rt; false, "these settings are within their limits"),
+    }
+}
+
+/// A ring of one node with room for one pair.
+fn alone<J: Naming, R: Abort + Wait + Clock>(rt: &R, alloc: Global, parts: RingParts)
+    requires { parts.name ≡ J.name }
+{
+    let ring = founded::<J, CappedStore, R>(rt, parts, CappedStore::new(alloc, 1));
+    is_new(rt, &sight_of(rt, alloc, &ring, 0));
+    answers_two(rt, alloc, &ring);
+    has_answered(rt, &sight_of(rt, alloc, &ring, 0));
+    let ticked = ring.tick(rt, 0);
+    assert!(rt; ticked == Ok(()), "node 0 is ticked");
+    let ticked = ring.tick(rt, 0);
+    assert!(rt; ticked == Ok(()), "node 0 is ticked again");
+    is_ticked(rt, &sight_of(rt, alloc, &ring, 0));
+    let other = ring.sight(rt, alloc, 1);
+    let is_seen = matches!(&other, Ok(None));
+    drop(other);
+    assert!(rt; is_seen, "there is no node 1 to be seen");
+    crashes(rt, alloc, &ring);
+    ring.close();
+}
+
+fn is_new<R: Abort>(rt: &R, sight: &NodeSight) {
+    assert!(rt; sight.number == 0, "the first node has number 0");
+    assert!(rt; sight.id == Id::new(A), "and its identifier");
+    assert!(rt; sight.phase == Phase::Staying, "it stays");
+    assert!(rt; !sight.crashed, "it did not crash");
+    assert!(rt; sight.predecessor == None, "it knows no predecessor");
+    assert!(rt;
+        sight.successors.as_slice() == [0u64].as_slice(),
+        "it is its own successor"
+    );
+    assert!(rt; sight.fingers == 0, "it knows no finger");
+    let whole = SegmentSight {
+        span: span(A, A),
+        kept: 0,
+    };
+    assert!(rt;
+        sight.segments.as_slice() == [whole].as_slice(),
+        "it holds the whole circle"
+    );
+    assert!(rt; sight.pairs == 0, "it has no pair");
+    assert!(rt; sight.outbox.is_empty(), "it gives nothing");
+    assert!(rt; sight.counts.asks == asks(0, 0, 0, 0), "it got no request");
+    assert!(rt;
+        sight.counts.handovers == handovers(0, 0),
+        "it took part in no handover"
+    );
+    assert!(rt; sight.counts.ticks == 0, "it had no upkeep");
+}
+
+/// Two callers ask for room for a pair each.
+fn answers_two<J: Naming, R: Abort + Wait + Clock>(
+    rt: &R,
+    alloc: Global,
+    ring: &Ring<J, CappedStore>,
+) {
+    let mut zero = ring.open_caller(rt, 1).expect(rt, "a caller");
+    let mut one = ring.open_caller(rt, 1).expect(rt, "a second caller");
+    let added = call(rt, &mut zero, 0, Request::insert(alloc, b"a", b"x"));
+    let full = call(rt, &mut one, 0, Request::insert(alloc, b"a", b"y"));
+    drop(one);
+    drop(zero);
+    assert!(rt; added == Ok(Said::Added), "a node with room adds a pair");
+    assert!(rt;
+        full == Err(AskFault::Wait(WaitFault::Full)),
+        "a full store answers Full"
+    );
+}
+
+fn has_answered<R: Abort>(rt: &R, sight: &NodeSight) {
+    assert!(rt;
+        sight.counts.asks == asks(1, 0, 0, 1),
+        "one request was told its reply, and one that the store is full"
+    );
+    let whole = SegmentSight {
+        span: span(A, A),
+        kept: 1,
+    };
+    assert!(rt;
+        sight.segments.as_slice() == [whole].as_slice(),
+        "a reply that was told is kept, and Full is none"
+    );
+    assert!(rt; sight.pairs == 1, "one pair was added");
+}
+
+fn is_ticked<R: Abort>(rt: &R, sight: &NodeSight) {
+    assert!(rt; sight.counts.ticks == 2, "it had two rounds of upkeep");
+    assert!(rt; sight.fingers == 2, "each round finds a finger");
+}
+
+/// The only node may not crash. Once it did, it is seen as it was.
+fn crashes<J: Naming, R: Abort + Wait>(rt: &R, alloc: Global, ring: &Ring<J, CappedStore>) {
+    assert!(rt;
+        ring.may_crash(rt, 0) == Ok(false),
+        "no ring stands without its only node"
+    );
+    assert!(rt;
+        ring.may_crash(rt, 1) == Err(NoSuchNode),
+        "there is no node 1"
+    );
+    assert!(rt; ring.phase_of(rt, 0) == Some(Phase::Staying), "it stays");
+    assert!(rt; ring.phase_of(rt, 1) == None, "nobody else does");
+    let crashed = ring.crash(rt, 0);
+    assert!(rt; crashed == Ok(()), "it crashes all the same");
+    assert!(rt;
+        ring.phase_of(rt, 0) == None,
+        "a node that crashed has no phase"
+    );
+    assert!(rt;
+        ring.may_crash(rt, 0) == Ok(false),
+        "and is no member that could crash"
+    );
+    assert!(rt;
+        ring.holding(rt, 0, Id::new(A)) == Some(Holder::Node(0)),
+        "but it holds what it held"
+    );
+    let sight = sight_of(rt, alloc, ring, 0);
+    assert!(rt; sight.crashed, "a node that crashed is seen as such");
+    assert!(rt; sight.pairs == 1, "with what it had");
+    drop(sight);
+}
+
+#[test]
+fn a_handover_is_seen(rt: HostRuntime) {
+    match RingParts::new(rt.alloc(), settings(2, 3, 20, 1_000)) {
+        Ok(parts) => gives::<Brand, _>(&rt, rt.alloc(), parts),
+        Err(_) => assert!(rt; false, "these settings are within their limits"),
+    }
+}
+
+/// Node 0 holds `abc` and gives it to node 1, which joins by it.
+fn gives<J: Naming + Send + Sync, R: Abort + Threads + Wait + Clock + Sync>(
+    rt: &R,
+    alloc: Global,
+    parts: RingParts,
+)
+    requires { parts.name ≡ J.name }
+{
+    let founded = founded::<J, CappedStore, R>(rt, parts, CappedStore::new(alloc, 4));
+    let ring = &founded;
+    let mut caller = ring.open_caller(rt, 1).expect(rt, "a caller");
+    let added = call(rt, &mut caller, 0, Request::insert(alloc, b"abc", b"x"));
+    drop(caller);
+    assert!(rt; added == Ok(Said::Added), "node 0 holds all keys");
+    let joined = succeeds(ring.join(rt, Id::new(M), 0, CappedStore::new(alloc, 4)));
+    assert!(rt; joined, "a second node joins by the first");
+    for _ in 0..8u64 {
+        tick(rt, ring);
+    }
+    is_giving(rt, &sight_of(rt, alloc, ring, 0));
+    is_joined(rt, &sight_of(rt, alloc, ring, 1));
+    is_under_way(rt, ring);
+    takes(rt, alloc, ring);
+    founded.close();
+}
+
+/// Does a round of ticks.
+fn tick<J: Naming, S: EntryStore, R: Abort + Wait>(rt: &R, ring: &Ring<J, S>) {
+    let zero = ring.tick(rt, 0);
+    assert!(rt; zero == Ok(()), "node 0 is ticked");
+    let one = ring.tick(rt, 1);
+    assert!(rt; one == Ok(()), "node 1 is ticked");
+}
+
+/// Nobody took in what node 0 gave: it is in its outbox.
+fn is_giving<R: Abort>(rt: &R, sight: &NodeSight) {
+    assert!(rt;
+        sight.successors.as_slice() == [1u64, 0u64].as_slice(),
+        "node 1 comes behind node 0"
+    );
+    assert!(rt; sight.predecessor == Some(1), "and before it");
+    let own = SegmentSight {
+        span: span(M, A),
+        kept: 0,
+    };
+    assert!(rt;
+        sight.segments.as_slice() == [own].as_slice(),
+        "it holds what is its own"
+    );
+    let given = OutboxSight {
+        to: 1,
+        number: 1,
+        span: span(A, M),
+        pairs: 1,
+    };
+    assert!(rt;
+        sight.outbox.as_slice() == [given].as_slice(),
+        "it gives the rest, with `abc`"
+    );
+    assert!(rt; sight.pairs == 0, "which it has no more");
+    assert!(rt;
+        sight.counts.handovers == handovers(1, 0),
+        "it gave one segment"
+    );
+    assert!(rt; sight.counts.ticks == 8, "it had eight rounds of upkeep");
+}
+
+fn is_joined<R: Abort>(rt: &R, sight: &NodeSight) {
+    assert!(rt; sight.number == 1, "the second node has number 1");
+    assert!(rt; sight.id == Id::new(M), "and its identifier");
+    assert!(rt; sight.segments.is_empty(), "it holds nothing yet");
+    assert!(rt;
+        sight.counts.handovers == handovers(0, 0),
+        "it took nothing yet"
+    );
+}
+
+/// `abc` is held by the handover.
+fn is_under_way<J: Naming, S: EntryStore, R: Abort + Wait>(rt: &R, ring: &Ring<J, S>) {
+    let key = Id::of_bytes(b"abc");
+    let given = Holder::UnderWay {
+        from: 0,
+        to: 1,
+        number: 1,
+    };
+    assert!(rt;
+        ring.holding(rt, 0, key) == Some(given),
+        "node 0 hands the key over"
+    );
+    assert!(rt;
+        ring.holding(rt, 1, key) == None,
+        "node 1 does not hold it yet"
+    );
+    assert!(rt;
+        ring.holding(rt, 0, Id::new(A)) == Some(Holder::Node(0)),
+        "node 0 holds its own identifier"
+    );
+}
+
+/// Each node has a worker until node 1 took what node 0 gave, and is asked for it.
+fn takes<J: Naming + Send + Sync, S: EntryStore + Send, R: Abort + Threads + Wait + Clock + Sync>(
+    rt: &R,
+    alloc: Global,
+    ring: &Ring<J, S>,
+) {
+    let (first, (second, _)) = thread::join(
+        rt,
+        move || ring.work(rt, 0, &NoProbe).is_ok(),
+        move || {
+            thread::join(
+                rt,
+                move || ring.work(rt, 1, &NoProbe).is_ok(),
+                move || {
+                    has_given(rt, alloc, ring);
+                    asks_by_a_crashed_node(rt, alloc, ring);
+                    ring.stop();
+                },
+            )
+        },
+    );
+    assert!(rt; first, "worker 0 ends when the ring is stopped");
+    assert!(rt; second, "worker 1 ends when the ring is stopped");
+}
+
+/// Waits until node 0 has an empty outbox.
+fn wait_for_workers<J: Naming, S: EntryStore, R: Abort + Wait + Clock>(
+    rt: &R,
+    alloc: Global,
+    ring: &Ring<J, S>,
+) {
+    for _ in 0..10_000u64 {
+        let sight = sight_of(rt, alloc, ring, 0);
+        let is_taken = sight.outbox.is_empty();
+        drop(sight);
+        if is_taken {
+            return;
+        }
+        thread::sleep(rt, Duration::from_millis(1));
+    }
+}
+
+fn has_given<J: Naming, S: EntryStore, R: Abort + Wait + Clock>(
+    rt: &R,
+    alloc: Global,
+    ring: &Ring<J, S>,
+) {
+    wait_for_workers(rt, alloc, ring);
+    asks_by_node_0(rt, alloc, ring);
+    has_passed_on(rt, &sight_of(rt, alloc, ring, 0));
+    has_taken(rt, &sight_of(rt, alloc, ring, 1));
+    let key = Id::of_bytes(b"abc");
+    assert!(rt;
+        ring.holding(rt, 1, key) == Some(Holder::Node(1)),
+        "node 1 holds the key"
+    );
+    assert!(rt;
+        ring.holding(rt, 0, key) == None,
+        "node 0 neither holds it nor hands it over"
+    );
+    assert!(rt;
+        ring.may_crash(rt, 0) == Ok(true),
+        "the ring stands without node 0"
+    );
+}
+
+fn has_passed_on<R: Abort>(rt: &R, sight: &NodeSight) {
+    assert!(rt; sight.outbox.is_empty(), "what was given was taken");
+    assert!(rt;
+        sight.counts.asks == asks(1, 1, 0, 0),
+        "node 0 told one reply, and passed the next request on"
+    );
+    assert!(rt;
+        sight.counts.handovers == handovers(1, 0),
+        "it gave one segment"
+    );
+}
+
+fn has_taken<R: Abort>(rt: &R, sight: &NodeSight) {
+    let given = SegmentSight {
+        span: span(A, M),
+        kept: 2,
+    };
+    assert!(rt;
+        sight.segments.as_slice() == [given].as_slice(),
+        "node 1 holds what was given, with the replies to both callers"
+    );
+    assert!(rt; sight.pairs == 2, "and with both pairs");
+    assert!(rt;
+        sight.counts.asks == asks(1, 0, 0, 0),
+        "node 1 told the reply"
+    );
+    assert!(rt;
+        sight.counts.handovers == handovers(0, 1),
+        "it took one segment, however often its part came"
+    );
+}
+
+/// A new caller inserts by node 1, which crashed, under `eq`, which node 0 holds.
+fn asks_by_a_crashed_node<J: Naming, S: EntryStore, R: Abort + Wait + Clock>(
+    rt: &R,
+    alloc: Global,
+    ring: &Ring<J, S>,
+) {
+    let crashed = ring.crash(rt, 1);
+    assert!(rt; crashed == Ok(()), "node 1 crashes");
+    let mut caller = ring.open_caller(rt, 1).expect(rt, "a third caller");
+    let added = call(rt, &mut caller, 1, Request::insert(alloc, b"eq", b"x"));
+    drop(caller);
+    assert!(rt;
+        added == Ok(Said::Added),
+        "a call by a node that crashed begins at the next live one"
+    );
+}
+
+/// A new caller inserts under `abc` by node 0.
+fn asks_by_node_0<J: Naming, S: EntryStore, R: Abort + Wait + Clock>(
+    rt: &R,
+    alloc: Global,
+    ring: &Ring<J, S>,
+) {
+    let mut caller = ring.open_caller(rt, 1).expect(rt, "a second caller");
+    let added = call(rt, &mut caller, 0, Request::insert(alloc, b"abc", b"y"));
+    drop(caller);
+    assert!(rt; added == Ok(Said::Added), "node 1 adds a pair");
+}
