@@ -6,7 +6,9 @@ use chord_app_plan::{
 use chord_ident::Id;
 use chord_map::Request;
 use std::alloc::{AllocError, Global};
+use std::fs;
 use std::io::{self, Read};
+use std::time::{SystemTime, UNIX_EPOCH};
 
 /// The plan of `plans/two-nodes.toml`.
 const TWO_NODES: &str = concat!(
@@ -170,6 +172,51 @@ fn reads_slowly(alloc: Global) -> Option<bool> {
 #[test]
 fn a_plan_of_a_slow_reader(rt: HostRuntime) {
     assert!(rt; reads_slowly(rt.alloc()) == Some(true));
+}
+
+/// The path of a file that no other run has.
+fn fresh_path(rt: &HostRuntime) -> Option<String> {
+    let passed = SystemTime::now(rt).ok()?.duration_since(UNIX_EPOCH).ok()?;
+    let nanoseconds = passed.as_nanos();
+    format!(in rt.alloc(); "/tmp/two-nodes-{nanoseconds}.toml").ok()
+}
+
+/// Writes a document to a file, reads the plan in it, and removes the file.
+fn written_and_read(rt: &HostRuntime, document: &str) -> Option<Result<Plan, PlanFault>> {
+    let path = fresh_path(rt)?;
+    let written = fs::write(rt, path.as_str(), document).is_ok();
+    let read = read_plan(rt, rt.alloc(), path.as_str());
+    let removed = fs::remove_file(rt, path.as_str()).is_ok();
+    drop(path);
+    if written && removed {
+        Some(read)
+    } else {
+        drop(read);
+        None
+    }
+}
+
+/// Whether the two-node plan is read from a file.
+fn reads_a_file(rt: &HostRuntime) -> Option<bool> {
+    let plan = written_and_read(rt, TWO_NODES)?.ok()?;
+    let is_its = is_two_nodes(&plan);
+    drop(plan);
+    Some(is_its)
+}
+
+#[test]
+fn a_plan_in_a_file(rt: HostRuntime) {
+    assert!(rt; reads_a_file(&rt) == Some(true));
+}
+
+/// The whole file is looked at.
+#[test]
+fn a_file_with_a_fault_at_its_end(rt: HostRuntime) {
+    let alloc = rt.alloc();
+    let document = format!(in alloc; "{TWO_NODES}[[ask]]\n").expect(&rt, "memory for a plan");
+    let read = written_and_read(&rt, document.as_str()).expect(&rt, "a file");
+    let text = "fault plan\nask 3: caller: missing";
+    assert!(rt; refused_with(alloc, read, text) == Some(true));
 }
 
 /// A reader that fails.

@@ -10,7 +10,10 @@ use std::alloc::{AllocError, Global};
 use std::fmt::Write;
 use std::test::Fail;
 
+mod devices;
+mod disturbed;
 mod refusals;
+mod rows;
 mod worlds;
 
 /// How a session ended, and whether it wrote the right lines.

@@ -1,6 +1,7 @@
 //! Worked values.
 
 mod growths;
+mod in_place;
 
 use chord_ident::{Id, Span};
 use chord_map::{Done, Reply, Request};

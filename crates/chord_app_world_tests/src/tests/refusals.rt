@@ -1,41 +1,11 @@
 //! Lines of the console beside what they write: refusals by name, and steps that other scripts leave
 //! out.
 
-use super::{Ran, runs};
+use crate::tests::Ran;
+use crate::tests::rows::{Row, THREE, first_wrong, over};
 use chord_app_text::Finish;
-use chord_app_world::add_store;
-use chord_store::CappedStore;
 use std::alloc::{AllocError, Global};
 use std::test::Fail;
-
-/// A line of the console, and the line that it writes.
-type Row = (&'static str, &'static str);
-
-/// Runs the lines over three stores.
-fn over_three(alloc: Global, script: &str, wanted: &str) -> Result<Ran, AllocError> {
-    let mut stores = Vec::new(alloc);
-    add_store(&mut stores, CappedStore::new(alloc, u64::MAX))?;
-    add_store(&mut stores, CappedStore::new(alloc, u64::MAX))?;
-    add_store(&mut stores, CappedStore::new(alloc, u64::MAX))?;
-    Ok(runs(alloc, stores, script, wanted))
-}
-
-/// Runs the first row, the first two, and so on. Gives the last row of the first run that writes
-/// other lines.
-fn first_wrong(alloc: Global, rows: &[Row]) -> Result<Option<Row>, AllocError> {
-    let mut script = String::new(alloc);
-    let mut wanted = String::new(alloc);
-    for (line, writes) in rows {
-        script.push_str(line)?;
-        script.push('\n')?;
-        wanted.push_str(writes)?;
-        wanted.push('\n')?;
-        if over_three(alloc, script.as_str(), wanted.as_str())? != (Finish::Done, true) {
-            return Ok(Some((*line, *writes)));
-        }
-    }
-    Ok(None)
-}
 
 /// Node 0 is at 40.., node 1 at c0.., node 2 at 80...
 const UPKEEP: &[Row] = &[
@@ -75,7 +45,7 @@ const UPKEEP: &[Row] = &[
 
 #[test]
 fn upkeep_line_by_line(rt: HostRuntime) -> Result<(), Fail> {
-    let wrong = first_wrong(rt.alloc(), UPKEEP)?;
+    let wrong = first_wrong(rt.alloc(), THREE, UPKEEP)?;
     assert!(rt; wrong.is_none(), "{wrong:?}");
     Ok(())
 }
@@ -112,7 +82,7 @@ const SEGMENTS: &[Row] = &[
 
 #[test]
 fn segments_line_by_line(rt: HostRuntime) -> Result<(), Fail> {
-    let wrong = first_wrong(rt.alloc(), SEGMENTS)?;
+    let wrong = first_wrong(rt.alloc(), THREE, SEGMENTS)?;
     assert!(rt; wrong.is_none(), "{wrong:?}");
     Ok(())
 }
@@ -132,7 +102,7 @@ fn asks_long(alloc: Global, key: usize, value: usize, writes: &str) -> Result<Ra
     }
     let mut wanted = String::from_str(alloc, "node 0\ncaller 0\n")?;
     wanted.push_str(writes)?;
-    over_three(alloc, script.as_str(), wanted.as_str())
+    over(alloc, THREE, script.as_str(), wanted.as_str())
 }
 
 #[test]

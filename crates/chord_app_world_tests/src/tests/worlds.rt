@@ -9,7 +9,7 @@ use std::alloc::{AllocError, Global};
 use std::fmt::Write;
 
 /// Runs the script over two stores, the second with room for `room` pairs.
-fn over_two(alloc: Global, room: u64, script: &str, wanted: &str) -> Option<Ran> {
+pub fn over_two(alloc: Global, room: u64, script: &str, wanted: &str) -> Option<Ran> {
     let mut stores = Vec::new(alloc);
     add_store(&mut stores, CappedStore::new(alloc, u64::MAX)).ok()?;
     add_store(&mut stores, CappedStore::new(alloc, room)).ok()?;
@@ -194,7 +194,7 @@ const IN_TWO_PARTS_WRITES: &str = concat!(
 );
 
 /// A node with 65 values under one key: the script, and the lines that it should write.
-fn sixty_five_values(alloc: Global) -> Result<(String, String), AllocError> {
+pub fn sixty_five_values(alloc: Global) -> Result<(String, String), AllocError> {
     let mut script = String::from_str(alloc, "create 40000000000000000000000000000000\ncaller\n")?;
     let mut wanted = String::from_str(alloc, "node 0\ncaller 0\n")?;
     for value in 0..65u32 {

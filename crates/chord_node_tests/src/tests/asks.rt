@@ -205,14 +205,19 @@ fn follow(rt: &impl Abort, alloc: Global, mut node: Node<CappedStore>, way: Way,
     drop(node);
 }
 
-/// Node 1, which holds nothing, with node 0 in its list.
-fn neighbour(alloc: Global) -> Node<CappedStore> {
-    let alone = Links::alone(ME, 3);
+/// A node that holds nothing, and lists another one and then itself.
+fn newborn_before(alloc: Global, me: Peer, other: Peer) -> Node<CappedStore> {
+    let alone = Links::alone(me, 3);
     let mut node = Node::newborn(alloc, alone, CappedStore::new(alloc, 1));
     let mut links = alone;
-    links.set_list(SuccList::behind_successor(ME, 3, OTHER, alone.list()));
+    links.set_list(SuccList::behind_successor(me, 3, other, alone.list()));
     node.set_links(links);
     node
+}
+
+/// Node 1, at C, with node 0 in its list: the key of the calls is behind its first entry.
+fn neighbour(alloc: Global) -> Node<CappedStore> {
+    newborn_before(alloc, ME, OTHER)
 }
 
 /// Insert x, as call 1, with the most hops.
@@ -384,6 +389,44 @@ fn a_call_is_passed_on(rt: HostRuntime) {
     let node = neighbour(rt.alloc());
     assert!(rt; node.links().first() == OTHER, "the links are set");
     follow(&rt, rt.alloc(), node, Way::Lent, PASSED_ON);
+}
+
+const LAST_HOP: &[Step] = &[
+    Step {
+        rule: "a call for a key up to the first entry goes there, with one hop less",
+        call: INSERT_X,
+        seen: Seen {
+            answer: Answer::Forward {
+                to: 1,
+                number: 1,
+                hops: 254,
+            },
+            executed: None,
+        },
+    },
+    Step {
+        rule: "its last hop too needs one",
+        call: Call {
+            number: 1,
+            floor: 0,
+            hops: 0,
+            asked: Asked::Insert(b"x"),
+        },
+        seen: DROPPED,
+    },
+];
+
+/// The node at A lists C and itself, and the key of the call is between the two.
+#[test]
+fn a_call_goes_to_its_last_hop(rt: HostRuntime) {
+    let node = newborn_before(rt.alloc(), OTHER, ME);
+    assert!(rt;
+        node.links().list().entries() == [ME, OTHER].as_slice(),
+        "its list is C and A"
+    );
+    follow(&rt, rt.alloc(), node, Way::Lent, LAST_HOP);
+    let node = newborn_before(rt.alloc(), OTHER, ME);
+    follow(&rt, rt.alloc(), node, Way::TakenOver, LAST_HOP);
 }
 
 #[test]

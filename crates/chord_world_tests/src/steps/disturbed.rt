@@ -1,11 +1,12 @@
-//! Messages are left out, doubled or swapped: each identifier
-//! has one holder, and the history is that of one map.
-ghost use Rattle.std.specs.Prelude.{◌≡◌, [], List, IfOk};
+//! Messages are lost, repeated, late or out of order: each identifier has one holder, and the history
+//! is that of one map.
+ghost use Rattle.std.specs.Prelude.{◌≡◌, [], IfOk};
 ghost use Rattle.std.specs.List.{All};
-ghost use Rattle.chord_map.specs.declared.pair.Pair.{Pair};
 
-use crate::steps::deeds::{A, C, new_world, steps_of};
-use crate::steps::scripts::{FULL_STORE_AND_A_RETRY, MOVING_KEY};
+use crate::steps::deeds::{A, B, C, Deed, new_world, steps_of};
+use crate::steps::scripts::{
+    DECLINED_HANDOVER, FULL_STORE_AND_A_RETRY, MOVING_KEY, TWO_NOTES, sixty_five_and_two_parts,
+};
 use chord_ident::Id;
 use chord_map::{Done, PlainMap};
 use chord_store::{CappedStore, EntryStore};
@@ -15,6 +16,26 @@ use std::test::Fail;
 
 /// The indices of a script's steps, in the order in which they are done.
 type Order = Vec<usize>;
+
+/// What happens to one delivery of a script.
+#[derive(Clone, Copy)]
+enum Disturbance {
+    /// It is left out.
+    Lost,
+    /// It is done twice in a row.
+    Repeated,
+    /// It changes places with the next delivery, if there is one.
+    Swapped,
+    /// It is done at the end of the script.
+    Late,
+}
+
+const DISTURBANCES: [Disturbance; 4] = [
+    Disturbance::Lost,
+    Disturbance::Repeated,
+    Disturbance::Swapped,
+    Disturbance::Late,
+];
 
 /// Two stores with room for `room` pairs each.
 pub fn two_stores(alloc: Global, room: u64) -> Result<Vec<CappedStore>, AllocError>
@@ -65,6 +86,44 @@ fn swapped(alloc: Global, count: usize, one: usize, other: usize) -> Result<Orde
     Ok(order)
 }
 
+/// All indices, this one last.
+fn last(alloc: Global, count: usize, place: usize) -> Result<Order, AllocError> {
+    let mut order = without(alloc, count, place)?;
+    order.push(place)?;
+    Ok(order)
+}
+
+/// Whether the step takes in a message.
+fn is_delivery(step: &Step) -> bool {
+    matches!(step, Step::Deliver { .. } | Step::Meet { .. })
+}
+
+/// The next delivery after an index, or the index itself if there is none.
+fn next_delivery(steps: &[Step], place: usize) -> usize {
+    for (at, step) in steps.iter().enumerate() {
+        if at > place && is_delivery(step) {
+            return at;
+        }
+    }
+    place
+}
+
+/// The order of the steps with the delivery at an index disturbed.
+fn order_of(
+    alloc: Global,
+    steps: &[Step],
+    place: usize,
+    disturbance: Disturbance,
+) -> Result<Order, AllocError> {
+    let count = steps.len();
+    match disturbance {
+        Disturbance::Lost => without(alloc, count, place),
+        Disturbance::Repeated => doubled(alloc, count, place),
+        Disturbance::Swapped => swapped(alloc, count, place, next_delivery(steps, place)),
+        Disturbance::Late => last(alloc, count, place),
+    }
+}
+
 /// Does the steps in this order, whatever they answer.
 fn play<S: EntryStore>(world: &mut World<S>, stores: &mut Vec<S>, steps: &[Step], order: &[usize])
     requires { All (λ s. S.content s ≡ []) stores.old.items }
@@ -98,13 +157,14 @@ fn replays(alloc: Global, history: &[Done]) -> Result<bool, AllocError> {
     Ok(true)
 }
 
-/// Whether, after the steps in this order, four identifiers
-/// have holders and the history is that of one map.
+/// Whether, after the steps in this order, five identifiers have holders and the history is that of
+/// one map.
 fn stands(alloc: Global, room: u64, steps: &[Step], order: &[usize]) -> Result<bool, AllocError> {
     let mut stores = two_stores(alloc, room)?;
     let mut world = new_world(alloc)?;
     play(&mut world, &mut stores, steps, order);
-    for id in [Id::new(0), Id::new(A), Id::new(C), Id::of_bytes(b"abc")] {
+    let abc = Id::of_bytes(b"abc");
+    for id in [Id::new(0), Id::new(A), Id::new(B), Id::new(C), abc] {
         if world.holder(id).is_none() {
             return Ok(false);
         }
@@ -112,42 +172,35 @@ fn stands(alloc: Global, room: u64, steps: &[Step], order: &[usize]) -> Result<b
     replays(alloc, world.history())
 }
 
-/// The next delivery after an index, if there is one.
-fn next_delivery(steps: &[Step], place: usize) -> Option<usize> {
-    for (at, step) in steps.iter().enumerate() {
-        if at > place && matches!(step, Step::Deliver { .. }) {
-            return Some(at);
-        }
-    }
-    None
-}
-
-/// Whether `stands` is true with this delivery left out, doubled, and swapped with the next one.
-fn stands_without(
+/// Whether `stands` is true with this delivery disturbed in each way.
+fn stands_disturbed(
     alloc: Global,
     room: u64,
     steps: &[Step],
     place: usize,
 ) -> Result<bool, AllocError> {
-    let count = steps.len();
-    if !stands(alloc, room, steps, &without(alloc, count, place)?)? {
-        return Ok(false);
+    for disturbance in DISTURBANCES {
+        let order = order_of(alloc, steps, place, disturbance)?;
+        if !stands(alloc, room, steps, &order)? {
+            return Ok(false);
+        }
     }
-    if !stands(alloc, room, steps, &doubled(alloc, count, place)?)? {
-        return Ok(false);
-    }
-    match next_delivery(steps, place) {
-        Some(next) => stands(alloc, room, steps, &swapped(alloc, count, place, next)?),
-        None => Ok(true),
-    }
+    Ok(true)
 }
 
-/// How many deliveries of the script were disturbed, if `stands` was true each time.
-fn disturbs(alloc: Global, room: u64, steps: &[Step]) -> Result<Option<u64>, AllocError> {
+/// How many deliveries of the script were disturbed, from an index on, if `stands` was true each
+/// time.
+fn disturbs_from(
+    alloc: Global,
+    room: u64,
+    script: &[Deed],
+    first: usize,
+) -> Result<Option<u64>, AllocError> {
+    let steps = steps_of(alloc, script)?;
     let mut count: u64 = 0;
     for (place, step) in steps.iter().enumerate() {
-        if matches!(step, Step::Deliver { .. }) {
-            if !stands_without(alloc, room, steps, place)? {
+        if place >= first && is_delivery(step) {
+            if !stands_disturbed(alloc, room, &steps, place)? {
                 return Ok(None);
             }
             count = count.saturating_add(1);
@@ -156,16 +209,39 @@ fn disturbs(alloc: Global, room: u64, steps: &[Step]) -> Result<Option<u64>, All
     Ok(Some(count))
 }
 
+/// The same for all deliveries of the script.
+fn disturbs(alloc: Global, room: u64, script: &[Deed]) -> Result<Option<u64>, AllocError> {
+    disturbs_from(alloc, room, script, 0)
+}
+
 #[test]
 fn a_moving_key_is_disturbed(rt: HostRuntime) -> Result<(), Fail> {
-    let steps = steps_of(rt.alloc(), MOVING_KEY)?;
-    assert!(rt; disturbs(rt.alloc(), u64::MAX, &steps)? == Some(20));
+    assert!(rt; disturbs(rt.alloc(), u64::MAX, MOVING_KEY)? == Some(20));
     Ok(())
 }
 
 #[test]
 fn a_full_store_is_disturbed(rt: HostRuntime) -> Result<(), Fail> {
-    let steps = steps_of(rt.alloc(), FULL_STORE_AND_A_RETRY)?;
-    assert!(rt; disturbs(rt.alloc(), 1, &steps)? == Some(8));
+    assert!(rt; disturbs(rt.alloc(), 1, FULL_STORE_AND_A_RETRY)? == Some(8));
+    Ok(())
+}
+
+#[test]
+fn a_declined_handover_is_disturbed(rt: HostRuntime) -> Result<(), Fail> {
+    assert!(rt; disturbs(rt.alloc(), u64::MAX, DECLINED_HANDOVER)? == Some(8));
+    Ok(())
+}
+
+#[test]
+fn notes_are_disturbed(rt: HostRuntime) -> Result<(), Fail> {
+    assert!(rt; disturbs(rt.alloc(), u64::MAX, TWO_NOTES)? == Some(9));
+    Ok(())
+}
+
+/// Two steps and 65 calls of three are done before the handover, whose deliveries are disturbed.
+#[test]
+fn two_parts_are_disturbed(rt: HostRuntime) -> Result<(), Fail> {
+    let script = sixty_five_and_two_parts(rt.alloc())?;
+    assert!(rt; disturbs_from(rt.alloc(), u64::MAX, &script, 197)? == Some(8));
     Ok(())
 }

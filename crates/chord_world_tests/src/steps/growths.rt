@@ -1,17 +1,20 @@
-//! Each growth is refused in turn: the step answers Memory,
-//! and the rest goes on as if it were not in the list.
-// With ample memory nothing is refused. A refused step is tried again, with memory for it.
+//! A growth is refused: its step answers Memory and changes nothing. It is done again, or left out as
+//! if it were not in the script. With ample memory nothing is refused; the tests are also run with
+//! each growth refused in turn.
 ghost use Rattle.std.specs.Prelude.{◌≡◌, [], IfOk};
 ghost use Rattle.std.specs.List.{All};
 
 use crate::steps::deeds::{A, B, C, Deed, new_world, steps_of};
 use crate::steps::disturbed::two_stores;
-use crate::steps::scripts::MOVING_KEY;
+use crate::steps::scripts::{
+    ANSWERS_TO_FULL_STORE_AND_A_RETRY, ANSWERS_TO_MOVING_KEY, ANSWERS_TO_TWO_PARTS,
+    FULL_STORE_AND_A_RETRY, MOVING_KEY, VALUES, sixty_five_and_two_parts,
+};
 use chord_ident::Id;
 use chord_map::Reply;
 use chord_node::Holder;
 use chord_store::{CappedStore, EntryStore};
-use chord_world::{Outcome, Refusal, Step, StepFault, World};
+use chord_world::{Outcome, Refusal, Step, StepFault, StepResult, World, run};
 use std::alloc::{AllocError, Global};
 use std::test::Fail;
 
@@ -51,6 +54,14 @@ fn at_last<S: EntryStore>(
     match world.step(stores, step) {
         Err(Refusal::Memory) => world.step(stores, step),
         result => result,
+    }
+}
+
+/// A world, made again if memory was refused.
+fn world_at_last<S: EntryStore>(alloc: Global) -> Result<Box<World<S>>, AllocError> {
+    match new_world(alloc) {
+        Ok(world) => Ok(world),
+        Err(_) => new_world(alloc),
     }
 }
 
@@ -137,7 +148,7 @@ fn a_refused_step_is_done_again(rt: HostRuntime) -> Result<(), Fail> {
         Ok(stores) => stores,
         Err(_) => alone(alloc, CappedStore::new(alloc, 1))?,
     };
-    let mut world = new_world(alloc)?;
+    let mut world = world_at_last(alloc)?;
     let is_done = is_done_again(alloc, &mut world, &mut stores);
     drop(world);
     drop(stores);
@@ -145,13 +156,33 @@ fn a_refused_step_is_done_again(rt: HostRuntime) -> Result<(), Fail> {
     Ok(())
 }
 
-/// Does all steps, each again if memory was refused.
-fn does_each<S: EntryStore>(world: &mut World<S>, stores: &mut Vec<S>, steps: &[Step])
+/// Whether this is the expected answer.
+fn is_answer(did: Result<Outcome, Refusal>, wanted: StepResult) -> bool {
+    match wanted {
+        StepResult::Did(outcome) => did == Ok(outcome),
+        StepResult::Refused(refusal) => did == Err(refusal),
+    }
+}
+
+/// Whether each step of the script has its expected answer.
+fn does_script<S: EntryStore>(
+    alloc: Global,
+    world: &mut World<S>,
+    stores: &mut Vec<S>,
+    script: &[Deed],
+    wanted: &[StepResult],
+) -> Result<bool, AllocError>
     requires { All (λ s. S.content s ≡ []) stores.old.items }
 {
-    for step in steps {
-        let _ = at_last(world, stores, step);
+    for (deed, wanted) in script.iter().zip(wanted) {
+        let step = step_at_last(alloc, *deed)?;
+        let did = at_last(world, stores, &step);
+        drop(step);
+        if !is_answer(did, *wanted) {
+            return Ok(false);
+        }
     }
+    Ok(true)
 }
 
 /// Whether a key moves from node to node and back.
@@ -162,16 +193,11 @@ fn moves_a_key<S: EntryStore>(
 ) -> Result<bool, AllocError>
     requires { All (λ s. S.content s ≡ []) stores.old.items }
 {
-    let steps = match steps_of(alloc, MOVING_KEY) {
-        Ok(steps) => steps,
-        Err(_) => steps_of(alloc, MOVING_KEY)?,
-    };
-    does_each(world, stores, &steps);
-    drop(steps);
+    let is_done = does_script(alloc, world, stores, MOVING_KEY, ANSWERS_TO_MOVING_KEY)?;
     let (last, first) = (world.holder(Id::new(C)), world.holder(Id::new(0)));
     let taken = world.mine(0).map_or(0, |mine| mine.len());
     let is_held = last == Some(Holder::Node(0)) && first == last;
-    Ok(is_held && world.history().len() == 4 && taken == 4)
+    Ok(is_done && is_held && world.history().len() == 4 && taken == 4)
 }
 
 /// A key moves, whichever growth is refused.
@@ -179,7 +205,7 @@ fn moves_a_key<S: EntryStore>(
 fn a_key_moves_all_the_same(rt: HostRuntime) -> Result<(), Fail> {
     let alloc = rt.alloc();
     let mut stores = stores_at_last(alloc, 9)?;
-    let mut world = new_world(alloc)?;
+    let mut world = world_at_last(alloc)?;
     let moves = moves_a_key(alloc, &mut world, &mut stores);
     drop(world);
     drop(stores);
@@ -192,9 +218,6 @@ const BEGINNING: &[Row] = &[
     (Deed::Create(A), Ok(Outcome::Node(0))),
     (Deed::Open(1), Ok(Outcome::Caller(0))),
 ];
-
-/// 65 values of one byte: one more than fits into a part of a handover.
-const VALUES: &[u8] = b"ABCDEFGHIJKLMNOPQRSTUVWXYZabcdefghijklmnopqrstuvwxyz0123456789+-*";
 
 /// Caller 0 inserts a value, after `others` values before it.
 fn takes<S: EntryStore>(
@@ -293,10 +316,123 @@ fn hands_over<S: EntryStore>(
 fn a_handover_in_two_parts(rt: HostRuntime) -> Result<(), Fail> {
     let alloc = rt.alloc();
     let mut stores = stores_at_last(alloc, 65)?;
-    let mut world = new_world(alloc)?;
+    let mut world = world_at_last(alloc)?;
     let handed = hands_over(alloc, &mut world, &mut stores);
     drop(world);
     drop(stores);
     assert!(rt; handed == Ok(true));
+    Ok(())
+}
+
+/// The steps of a script, made again if memory was refused.
+fn steps_at_last(alloc: Global, script: &[Deed]) -> Result<Vec<Step>, AllocError> {
+    match steps_of(alloc, script) {
+        Ok(steps) => Ok(steps),
+        Err(_) => steps_of(alloc, script),
+    }
+}
+
+/// A world after a script, and the answers to its steps.
+type After = (Box<World<CappedStore>>, Vec<StepResult>);
+
+/// Does the script over two stores with room for `room` pairs each. A step that is refused memory is
+/// left out.
+fn after(alloc: Global, room: u64, script: &[Deed]) -> Result<After, AllocError> {
+    let steps = steps_at_last(alloc, script)?;
+    let mut stores = stores_at_last(alloc, room)?;
+    let mut world = world_at_last(alloc)?;
+    let answers = match run(alloc, &mut world, &mut stores, &steps) {
+        Ok(answers) => answers,
+        Err(_) => run(alloc, &mut world, &mut stores, &steps)?,
+    };
+    drop(steps);
+    drop(stores);
+    Ok((world, answers))
+}
+
+/// The script without the deed at this place.
+fn without(alloc: Global, script: &[Deed], place: usize) -> Result<Vec<Deed>, AllocError> {
+    let mut rest = Vec::new(alloc);
+    for (at, deed) in script.iter().enumerate() {
+        if at != place {
+            rest.push(*deed)?;
+        }
+    }
+    Ok(rest)
+}
+
+/// Whether both worlds have the same history, and the same holders, callers and links.
+fn are_alike<S: EntryStore>(one: &World<S>, other: &World<S>) -> bool {
+    for id in [Id::new(0), Id::new(A), Id::new(B), Id::new(C)] {
+        if one.holder(id) != other.holder(id) {
+            return false;
+        }
+    }
+    for number in [0, 1] {
+        if one.mine(number) != other.mine(number) || one.links(number) != other.links(number) {
+            return false;
+        }
+    }
+    one.history() == other.history()
+}
+
+/// Whether the answers are the same but for that at this place.
+fn are_others(answers: &[StepResult], place: usize, rest: &[StepResult]) -> bool {
+    let before = answers.iter().take(place);
+    let behind = answers.iter().skip(place.saturating_add(1));
+    before.chain(behind).eq(rest)
+}
+
+/// Whether the script is done as its last answers say, or, where a step was refused memory, as if
+/// that step were not in it.
+fn goes_on(
+    alloc: Global,
+    room: u64,
+    script: &[Deed],
+    last: &[StepResult],
+) -> Result<bool, AllocError> {
+    let (world, answers) = after(alloc, room, script)?;
+    let refused = StepResult::Refused(Refusal::Memory);
+    let Some(place) = answers.iter().position(|answer| *answer == refused) else {
+        let is_done = answers.ends_with(last);
+        drop(answers);
+        drop(world);
+        return Ok(is_done);
+    };
+    let shorter = without(alloc, script, place)?;
+    let (other, rest) = after(alloc, room, &shorter)?;
+    let is_same = are_others(&answers, place, &rest) && are_alike(&*world, &*other);
+    drop(shorter);
+    drop(other);
+    drop(world);
+    Ok(is_same)
+}
+
+/// A step that is refused memory is as if it were not in the script.
+#[test]
+fn a_refused_step_is_left_out(rt: HostRuntime) {
+    let alloc = rt.alloc();
+    let moves = goes_on(alloc, u64::MAX, MOVING_KEY, ANSWERS_TO_MOVING_KEY);
+    assert!(rt; moves == Ok(true), "a key moves");
+    let answers = ANSWERS_TO_FULL_STORE_AND_A_RETRY;
+    let retries = goes_on(alloc, 1, FULL_STORE_AND_A_RETRY, answers);
+    assert!(rt; retries == Ok(true), "a full store and a retry");
+}
+
+/// The script of a handover in two parts, made again if memory was refused.
+fn two_parts_at_last(alloc: Global) -> Result<Vec<Deed>, AllocError> {
+    match sixty_five_and_two_parts(alloc) {
+        Ok(script) => Ok(script),
+        Err(_) => sixty_five_and_two_parts(alloc),
+    }
+}
+
+/// The same for a handover in two parts.
+#[test]
+fn a_refused_step_of_a_handover_is_left_out(rt: HostRuntime) -> Result<(), Fail> {
+    let alloc = rt.alloc();
+    let script = two_parts_at_last(alloc)?;
+    let goes_on = goes_on(alloc, u64::MAX, &script, ANSWERS_TO_TWO_PARTS);
+    assert!(rt; goes_on == Ok(true));
     Ok(())
 }
