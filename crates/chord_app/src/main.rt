@@ -11,11 +11,12 @@ use chord_app_options::{
 };
 use chord_app_plan::{Plan, PlanFault, StoreKind, read_plan};
 use chord_app_serve::{run, serve, stay};
-use chord_app_sockets::{Host, ServerSetup, listen};
+use chord_app_sockets::{Doors, Host, OperatorPort, ServerSetup, listen};
 use chord_app_text::Finish;
 use chord_app_world::{empty_ones, world};
 use chord_store::{CappedStore, EntryStore, ListStore, NotedStore, TreeStore};
 use clap::ArgMatches;
+use std::hash::RandomState;
 use std::net::{Net, TcpListener, TcpStream};
 use std::process::ExitCode;
 use std::sync::{Arc, OnceLock, Wait};
@@ -62,12 +63,75 @@ fn plan_of(rt: &HostRuntime, path: &str) -> Result<Plan, Finish> {
 /// Where a server listens, for how long it serves, and where it logs how connections end.
 #[derive(Drop)]
 struct ServeOptions<'a> {
-    listener: TcpListener,
+    /// Where clients connect that speak in frames.
+    frames: Option<TcpListener>,
+    /// Where Redis's clients connect.
+    redis: Option<TcpListener>,
     /// How many connections it serves; with none it serves until standard input ends.
     connections: Option<usize>,
     /// For how many seconds a client may be idle if the server stays.
     idle: u64,
+    /// Where it serves operators, if it does.
+    operator: Option<OperatorDoor>,
     notes: Option<&'a HostRuntime>,
+}
+
+impl ServeOptions<'_> {
+    /// The doors of the server, if it has any.
+    fn doors(&self) -> Option<Doors<'_>> {
+        match (&self.frames, &self.redis) {
+            (Some(frames), Some(redis)) => Some(Doors::Both { frames, redis }),
+            (Some(frames), None) => Some(Doors::Frames(frames)),
+            (None, Some(redis)) => Some(Doors::Redis(redis)),
+            (None, None) => None,
+        }
+    }
+}
+
+/// Listens at the port, if there is one.
+fn listen_at<T: Host>(threads: &T, port: Option<u16>) -> Result<Option<TcpListener>, Finish> {
+    match port {
+        Some(port) => Ok(Some(listen(threads, port)?)),
+        None => Ok(None),
+    }
+}
+
+/// Where operators connect.
+#[derive(Drop)]
+struct OperatorDoor {
+    listener: TcpListener,
+    keys: RandomState,
+}
+
+impl OperatorDoor {
+    /// Listens for operators at a port, if there is one.
+    fn at<T: Host>(
+        rt: &HostRuntime,
+        threads: &T,
+        port: Option<u16>,
+    ) -> Result<Option<OperatorDoor>, Finish> {
+        let Some(port) = port else {
+            return Ok(None);
+        };
+        let keys = RandomState::new(rt)?;
+        let listener = listen(threads, port)?;
+        Ok(Some(OperatorDoor { listener, keys }))
+    }
+
+    fn port(&self) -> OperatorPort<'_> {
+        OperatorPort {
+            listener: &self.listener,
+            keys: self.keys,
+        }
+    }
+}
+
+/// The port at which operators connect, if there is one.
+fn port_of(door: &Option<OperatorDoor>) -> Option<OperatorPort<'_>> {
+    match door {
+        Some(door) => Some(door.port()),
+        None => None,
+    }
 }
 
 /// Does the command `run`, or `serve` if there is a listener, with a store for each node of the
@@ -92,13 +156,30 @@ fn start_ring<T: Host>(
         };
         stores.push(store)?;
     }
-    let Some(options) = options else {
-        return Ok(run(threads, alloc, plan, stores, rt.stdout()));
+    match options {
+        Some(options) => serve_over(rt, threads, plan, &options, stores),
+        None => Ok(run(threads, alloc, plan, stores, rt.stdout())),
+    }
+}
+
+/// Serves clients over these stores, one for each node of the plan.
+fn serve_over<'a, T: Host>(
+    rt: &HostRuntime,
+    threads: &T,
+    plan: &'a Plan,
+    options: &'a ServeOptions<'_>,
+    stores: Vec<Box<dyn EntryStore + Send>>,
+) -> Result<Finish, Finish> {
+    let Some(doors) = options.doors() else {
+        drop(stores);
+        return Err(Finish::BadCommandLine);
     };
+    let operator = port_of(&options.operator);
     let setup = ServerSetup {
-        alloc,
+        alloc: rt.alloc(),
         plan,
-        listener: &options.listener,
+        doors,
+        operator,
         notes: &options.notes,
     };
     match options.connections {
@@ -126,11 +207,15 @@ fn start_serve<T: Host>(
         Err(fault) => return print_fault(rt, fault),
     };
     let plan = plan_of(rt, line.plan)?;
-    let listener = listen(threads, line.port)?;
+    let frames = listen_at(threads, line.port)?;
+    let redis = listen_at(threads, line.redis)?;
+    let operator = OperatorDoor::at(rt, threads, line.operator)?;
     let options = ServeOptions {
-        listener,
+        frames,
+        redis,
         connections: line.connections,
         idle: line.idle,
+        operator,
         notes: if line.notes { Some(rt) } else { None },
     };
     start_ring(rt, threads, &plan, Some(options))

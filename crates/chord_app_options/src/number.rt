@@ -83,7 +83,9 @@ impl NumberOption {
     }
 
     /// Its number, if the command line has it.
-    pub fn read_if_there<'a>(self, found: &ArgMatches<'a>) -> Result<Option<u64>, WrongNumber<'a>> {
+    pub fn read_if_there<'a>(self, found: &ArgMatches<'a>) -> Result<Option<u64>, WrongNumber<'a>>
+        ensures { IfOk result (λ number. IfSome number (IsWithin self.least self.most)) }
+    {
         match self.word(found) {
             Some(_) => Ok(Some(self.read(found)?)),
             None => Ok(None),

@@ -3,9 +3,27 @@
 use crate::faults::fault_of;
 use crate::number::{NumberOption, WrongNumber};
 use crate::parts::both;
-use crate::shared::{plan_option, plan_path_of, server_port_of, server_port_option};
+use crate::shared::{plan_option, plan_path_of};
 use clap::{Arg, ArgAction, ArgGroup, ArgMatches, Command};
 use std::alloc::{AllocError, Global};
+
+const PORT: NumberOption = NumberOption {
+    name: "port",
+    value_name: "N",
+    least: 0,
+    most: 65_535,
+    default: None,
+    help: "The port on 127.0.0.1, 1 to 65535, or 0 for one that the system picks",
+};
+
+const REDIS: NumberOption = NumberOption {
+    name: "redis",
+    value_name: "N",
+    least: 0,
+    most: 65_535,
+    default: None,
+    help: "The port for Redis's clients, as --port",
+};
 
 const CONNECTIONS: NumberOption = NumberOption {
     name: "connections",
@@ -28,6 +46,15 @@ const IDLE: NumberOption = NumberOption {
     help: "With --stay: how long a client may be idle, 1 to 86400, else 300",
 };
 
+const OPERATOR: NumberOption = NumberOption {
+    name: "operator",
+    value_name: "N",
+    least: 0,
+    most: 65_535,
+    default: None,
+    help: "With --stay: an operator's port on 127.0.0.1, 1 to 65535, or 0 for any that is free",
+};
+
 fn stay_option<'a>(alloc: Global) -> Arg<'a> {
     Arg::new(alloc, "stay")
         .long("stay")
@@ -47,6 +74,17 @@ fn idle_option<'a>(alloc: Global) -> Result<Arg<'a>, AllocError> {
     IDLE.argument(alloc).conflicts_with("connections")
 }
 
+/// Where to listen: at least one of the two options.
+fn ports_group<'a>(alloc: Global) -> Result<ArgGroup<'a>, AllocError> {
+    let ports = ArgGroup::new(alloc, "ports").arg("port")?.arg("redis")?;
+    Ok(ports.required(true).multiple(true))
+}
+
+/// Only a server that stays has an operator.
+fn operator_option<'a>(alloc: Global) -> Result<Arg<'a>, AllocError> {
+    OPERATOR.argument(alloc).conflicts_with("connections")
+}
+
 /// For how long to serve: exactly one of the two options.
 fn until_group<'a>(alloc: Global) -> Result<ArgGroup<'a>, AllocError> {
     let until = ArgGroup::new(alloc, "until")
@@ -60,12 +98,15 @@ pub fn serve_command<'a>(alloc: Global) -> Result<Command<'a>, AllocError> {
     let serve = Command::new(alloc, "serve")
         .about("Serves clients over loopback, and writes how each connection ended")
         .arg(plan_option(alloc, "The ring's numbers and nodes, as TOML"))?
-        .arg(server_port_option(alloc))?
+        .arg(PORT.argument(alloc))?
+        .arg(REDIS.argument(alloc))?
         .arg(CONNECTIONS.argument(alloc))?
         .arg(stay_option(alloc))?
         .arg(notes_option(alloc));
     let (serve, idle) = both(serve, idle_option(alloc))?;
-    let (serve, until) = both(serve.arg(idle), until_group(alloc))?;
+    let (serve, operator) = both(serve.arg(idle), operator_option(alloc))?;
+    let (serve, ports) = both(serve.arg(operator), ports_group(alloc))?;
+    let (serve, until) = both(serve.group(ports), until_group(alloc))?;
     serve.group(until)
 }
 
@@ -74,13 +115,32 @@ pub fn serve_command<'a>(alloc: Global) -> Result<Command<'a>, AllocError> {
 pub struct ServeLine<'a> {
     /// The path of the plan.
     pub plan: &'a str,
-    pub port: u16,
+    /// The port for clients that speak in frames.
+    pub port: Option<u16>,
+    /// The port for Redis's clients. At least one of the two is there.
+    pub redis: Option<u16>,
     /// How many connections are served; with none, those until standard input ends.
     pub connections: Option<usize>,
     /// For how many seconds a client may be idle if the server stays.
     pub idle: u64,
+    /// The port at which operators are served, if the server stays and has one.
+    pub operator: Option<u16>,
     /// Whether each connection's end is noted on standard error.
     pub notes: bool,
+}
+
+/// A port, if the command line has it.
+fn port_at<'a>(
+    option: NumberOption,
+    found: &ArgMatches<'a>,
+) -> Result<Option<u16>, WrongNumber<'a>> {
+    let Some(port) = option.read_if_there(found)? else {
+        return Ok(None);
+    };
+    match u16::try_from(port) {
+        Ok(port) => Ok(Some(port)),
+        Err(_) => Err(option.wrong(option.word(found).unwrap_or(""))),
+    }
 }
 
 /// How many connections the command line names.
@@ -94,9 +154,11 @@ fn connections_of<'a>(found: &ArgMatches<'a>) -> Result<Option<usize>, WrongNumb
 fn read<'a>(found: &ArgMatches<'a>) -> Result<ServeLine<'a>, WrongNumber<'a>> {
     Ok(ServeLine {
         plan: plan_path_of(found),
-        port: server_port_of(found)?,
+        port: port_at(PORT, found)?,
+        redis: port_at(REDIS, found)?,
         connections: connections_of(found)?,
         idle: IDLE.read_if_there(found)?.unwrap_or(IDLE_SECONDS),
+        operator: port_at(OPERATOR, found)?,
         notes: found.get_flag("notes"),
     })
 }

@@ -14,29 +14,9 @@ const PORT: NumberOption = NumberOption {
     help: "The port on 127.0.0.1, 1 to 65535",
 };
 
-/// The option for the port at which a server listens.
-const SERVER_PORT: NumberOption = NumberOption {
-    name: "port",
-    value_name: "N",
-    least: 0,
-    most: 65_535,
-    default: None,
-    help: "The port on 127.0.0.1, 1 to 65535, or 0 for one that the system picks",
-};
-
 /// The option for the port at which a server is asked, which a command line has to have.
 pub fn port_option<'a>(alloc: Global) -> Arg<'a> {
     PORT.argument(alloc).required(true)
-}
-
-/// The option for the port at which a server listens, which a command line has to have.
-pub fn server_port_option<'a>(alloc: Global) -> Arg<'a> {
-    SERVER_PORT.argument(alloc).required(true)
-}
-
-/// The port on a command line of `serve`.
-pub fn server_port_of<'a>(found: &ArgMatches<'a>) -> Result<u16, WrongNumber<'a>> {
-    Ok(SERVER_PORT.read(found)? as u16)
 }
 
 /// The port on a command line of a client.

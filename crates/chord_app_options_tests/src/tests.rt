@@ -8,6 +8,7 @@ mod command;
 mod lines;
 mod load_lines;
 mod serve_lines;
+mod starts;
 
 /// A command line without a command is refused, with this text and status.
 #[test]

@@ -3,6 +3,7 @@
 use chord_app_plan::PlanNode;
 use chord_app_text::{Fault, Finish};
 use chord_live_ring::{CreateFault, JoinFault, NoProbe, Ring, TickFault};
+use chord_model::Phase;
 use chord_store::EntryStore;
 use chord_table::Naming;
 use std::sync::Wait;
@@ -39,6 +40,13 @@ fn enter<J: Naming, S: EntryStore>(
     }
 }
 
+/// Retires a node that is leaving and holds nothing any more, if the ring stands without it.
+fn retire_if_empty<J: Naming, S: EntryStore>(rt: &impl Wait, ring: &Ring<J, S>, number: u64) {
+    if ring.phase_of(rt, number) == Some(Phase::Leaving) {
+        let _ = ring.retire(rt, number).is_ok();
+    }
+}
+
 /// One round of upkeep of nodes 0 to `nodes` - 1. Out of memory leaves the rest for a later round.
 /// Says whether the ring still runs.
 fn tick_round<J: Naming, S: EntryStore>(rt: &impl Wait, ring: &Ring<J, S>, nodes: u64) -> bool {
@@ -46,6 +54,7 @@ fn tick_round<J: Naming, S: EntryStore>(rt: &impl Wait, ring: &Ring<J, S>, nodes
         if ring.tick(rt, number) == Err(TickFault::Stopped) {
             return false;
         }
+        retire_if_empty(rt, ring, number);
     }
     true
 }

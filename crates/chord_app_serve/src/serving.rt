@@ -3,6 +3,11 @@
 pub mod asker;
 pub mod caller_pool;
 pub mod commands;
+pub mod desk;
 pub mod idle;
+pub mod info;
+pub mod operating;
+pub mod operator;
 pub mod server;
 pub mod service;
+pub mod shown;

@@ -2,6 +2,12 @@
 #![tactic(auto)]
 
 #[cfg(test)]
+mod operators;
+#[cfg(test)]
+mod redis;
+#[cfg(test)]
 mod stay_growths;
 #[cfg(test)]
 mod stays;
+#[cfg(test)]
+mod stops;

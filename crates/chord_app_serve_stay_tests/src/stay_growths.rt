@@ -5,7 +5,7 @@
 use crate::stays::{IDLE, stay_over};
 use chord_app_plan::Plan;
 use chord_app_serve_testkit::{bound, plan_with};
-use chord_app_sockets::Host;
+use chord_app_sockets::{Doors, Host};
 use chord_app_text::Finish;
 use log::sink::Discard;
 use std::alloc::Global;
@@ -31,7 +31,15 @@ fn stays<R: Host>(
     written: &mut [u8],
 ) -> Result<(), Finish> {
     stay_over(
-        rt, alloc, plan, &listener, 4, IDLE, input, &Discard, written,
+        rt,
+        alloc,
+        plan,
+        Doors::Frames(&listener),
+        4,
+        IDLE,
+        input,
+        &Discard,
+        written,
     )
 }
 

@@ -5,7 +5,7 @@ use chord_app_serve::stay;
 use chord_app_serve_testkit::{
     Act, Acts, Answer, Ask, bound, do_acts, is_served, leave, plan_with, two_stores,
 };
-use chord_app_sockets::{Host, ServerSetup};
+use chord_app_sockets::{Doors, Host, ServerSetup};
 use chord_app_text::{Fault, Finish};
 use chord_wire::FaultCode;
 use log::Log;
@@ -33,22 +33,23 @@ struct Size {
 }
 
 /// Serves until the input ends, over two stores with room for `limit` pairs.
-pub fn stay_over<R: Host, L: Log + Sync, W: Write + Send + Drop>(
+pub fn stay_over<'a, R: Host, L: Log + Sync, W: Write + Send + Drop>(
     rt: &R,
     alloc: Global,
-    plan: &Plan,
-    listener: &TcpListener,
+    plan: &'a Plan,
+    doors: Doors<'a>,
     limit: u64,
     idle: u64,
     input: PipeReader,
-    notes: &L,
+    notes: &'a L,
     writer: W,
 ) -> Result<(), Finish> {
     let stores = two_stores(alloc, limit)?;
     let setup = ServerSetup {
         alloc,
         plan,
-        listener,
+        doors,
+        operator: None,
         notes,
     };
     stay(rt, &setup, stores, idle, input, writer)
@@ -70,7 +71,7 @@ fn stayed_and_noted<R: Host, L: Log + Sync>(
         rt,
         alloc,
         plan,
-        listener,
+        Doors::Frames(listener),
         limit,
         idle,
         input,
@@ -90,7 +91,8 @@ fn stayed_in_32_bytes<R: Host>(
 ) -> Result<(), Finish> {
     let mut room = [0u8; 32];
     let written = room.as_mut_slice();
-    stay_over(rt, alloc, plan, listener, 4, IDLE, input, &Discard, written)
+    let doors = Doors::Frames(listener);
+    stay_over(rt, alloc, plan, doors, 4, IDLE, input, &Discard, written)
 }
 
 /// What the clients do before the server's input ends, and afterwards.

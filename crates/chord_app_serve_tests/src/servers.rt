@@ -6,7 +6,7 @@ use chord_app_serve_testkit::{
     Act, Acts, Answer, Ask, ask, ask_insert, bound, changed, do_acts, expect, expect_end, insert,
     is_served, leave, plan_of, plan_with, reply_frame, request_frame, retrieve, two_stores,
 };
-use chord_app_sockets::{Host, ServerSetup, listen};
+use chord_app_sockets::{Doors, Host, ServerSetup, listen};
 use chord_app_text::{Fault, Finish};
 use chord_map::{Bytes, Reply, Request, Values};
 use chord_store::EntryStore;
@@ -62,20 +62,21 @@ impl Clients {
 }
 
 /// Serves `connections` connections over these stores.
-pub fn serve_over<R: Host, S: EntryStore + Send, L: Log + Sync>(
+pub fn serve_over<'a, R: Host, S: EntryStore + Send, L: Log + Sync>(
     rt: &R,
     alloc: Global,
-    plan: &Plan,
-    listener: &TcpListener,
+    plan: &'a Plan,
+    listener: &'a TcpListener,
     stores: Vec<S>,
     connections: usize,
-    notes: &L,
+    notes: &'a L,
     written: &mut Vec<u8>,
 ) -> Result<(), Finish> {
     let setup = ServerSetup {
         alloc,
         plan,
-        listener,
+        doors: Doors::Frames(listener),
+        operator: None,
         notes,
     };
     serve(rt, &setup, stores, connections, written)

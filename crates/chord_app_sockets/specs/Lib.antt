@@ -1,3 +1,4 @@
 pub mod Ended
 pub mod Patience
 pub mod Until
+pub mod Doors

@@ -45,6 +45,11 @@ impl Clients {
         self.removed.notify_all();
     }
 
+    /// How many connections are open.
+    pub fn count(&self, rt: &impl Wait) -> u64 {
+        self.open.lock(rt).len() as u64
+    }
+
     /// Waits until each connection was removed.
     pub fn wait_for_all(&self, rt: &impl Wait) {
         let open = self.open.lock(rt);

@@ -44,12 +44,13 @@ impl Ended {
 impl fmt::Display for Ended {
     fn fmt<W: fmt::Write>(&self, f: &mut fmt::Formatter<W>) -> fmt::Result {
         match self {
-            Ended::Served(Served::Ended) => f.write_str("ended"),
+            Ended::Served(Served::Ended | Served::Quit) => f.write_str("ended"),
             Ended::Served(Served::Truncated) => f.write_str("truncated"),
             Ended::Served(Served::Malformed(code)) => {
                 let number = code.to_number();
                 write!(f, "malformed {number}")
             }
+            Ended::Served(Served::Protocol) => f.write_str("protocol"),
             Ended::Served(Served::Read) | Ended::NotAccepted => f.write_str("read"),
             Ended::Served(Served::Write) => f.write_str("write"),
             Ended::Served(Served::TurnsSpent) => f.write_str("turnsspent"),

@@ -1,11 +1,13 @@
-//! What a server needs besides its ring: where it listens ([`ServerSetup`]), the open connections
-//! ([`Clients`]), how long it waits for each ([`PatientReader`], [`PatientWriter`]), how each ends
-//! ([`Ended`]) and is closed ([`close_slowly`]), the lines that it writes ([`Lines`]), when it ends
-//! ([`Until`], [`Stop`]), and what its handle may do ([`Host`]).
+//! What a server needs besides its ring: where it listens ([`ServerSetup`], [`Doors`],
+//! [`OperatorPort`]), the open connections ([`Clients`]), how long it waits for each
+//! ([`PatientReader`], [`PatientWriter`]), how each ends ([`Ended`]) and is closed
+//! ([`close_slowly`]), the lines that it writes ([`Lines`]), when it ends ([`Until`], [`Stop`]), and
+//! what its handle may do ([`Host`]).
 #![tactic(auto)]
 
 mod clients;
 mod closing;
+mod doors;
 mod ended;
 mod host;
 mod lines;
@@ -16,10 +18,11 @@ mod until;
 
 pub use clients::Clients;
 pub use closing::close_slowly;
+pub use doors::{Door, Doors, Protocol};
 pub use ended::Ended;
 pub use host::Host;
 pub use lines::Lines;
 pub use patience::{PatientReader, PatientWriter, prepare};
-pub use setup::{ServerSetup, listen};
+pub use setup::{OperatorPort, ServerSetup, listen};
 pub use stop::Stop;
 pub use until::Until;

@@ -1,5 +1,6 @@
 //! What a server writes.
 
+use crate::doors::{Door, Doors, Protocol};
 use crate::ended::Ended;
 use chord_app_text::Finish;
 use std::alloc::Global;
@@ -24,10 +25,28 @@ pub struct Lines<W> {
     out: Mutex<Out<W>>,
 }
 
-/// Writes the address at which clients are served.
-fn write_address<W: Write>(listener: &TcpListener, writer: &mut W) -> io::Result<()> {
+/// Writes the address at which operators are served.
+fn write_operator_address<W: Write>(listener: &TcpListener, writer: &mut W) -> io::Result<()> {
     let address = listener.local_addr()?;
-    writeln!(writer, "listening on {address}")?;
+    writeln!(writer, "operator on {address}")?;
+    writer.flush()
+}
+
+/// Writes the address of a door.
+fn write_door<W: Write>(door: Door<'_>, writer: &mut W) -> io::Result<()> {
+    let address = door.listener.local_addr()?;
+    match door.protocol {
+        Protocol::Frames => writeln!(writer, "listening on {address}"),
+        Protocol::Redis => writeln!(writer, "redis on {address}"),
+    }
+}
+
+/// Writes the addresses at which clients are served.
+fn write_doors<W: Write>(doors: Doors<'_>, writer: &mut W) -> io::Result<()> {
+    write_door(doors.first(), writer)?;
+    if let Some(second) = doors.second() {
+        write_door(second, writer)?;
+    }
     writer.flush()
 }
 
@@ -65,11 +84,18 @@ impl<W: Write> Lines<W> {
         }
     }
 
-    /// Writes the address at which clients are served, and makes room for the lines to be kept.
-    pub fn begin(&self, rt: &impl Wait, listener: &TcpListener) -> Result<(), Finish> {
+    /// Writes the addresses at which clients are served, and makes room for the lines to be kept.
+    pub fn begin(&self, rt: &impl Wait, doors: Doors<'_>) -> Result<(), Finish> {
         let mut out = self.out.lock(rt);
-        write_address(listener, &mut out.writer)?;
+        write_doors(doors, &mut out.writer)?;
         out.kept.resize(self.most_kept, None)?;
+        Ok(())
+    }
+
+    /// Writes the address at which operators are served.
+    pub fn begin_operator(&self, rt: &impl Wait, listener: &TcpListener) -> Result<(), Finish> {
+        let mut out = self.out.lock(rt);
+        write_operator_address(listener, &mut out.writer)?;
         Ok(())
     }
 

@@ -2,17 +2,29 @@
 ghost use Rattle.std.specs.Prelude.{◌≡◌, IfErr};
 ghost use Rattle.std.specs.declared.io.ErrorKind.{ErrorKind};
 
+use crate::doors::Doors;
 use chord_app_plan::Plan;
 use chord_app_text::{Fault, Finish};
 use std::alloc::Global;
+use std::hash::RandomState;
 use std::net::{Ipv4Addr, Net, TcpListener};
 
-/// A plan, where clients connect, and where to log how connections end.
+/// Where operators connect.
+#[derive(Clone, Copy)]
+pub struct OperatorPort<'a> {
+    pub listener: &'a TcpListener,
+    /// The names of fields that operators send are hashed by these.
+    pub keys: RandomState,
+}
+
+/// A plan, where clients and operators connect, and where to log how connections end.
 #[derive_where(Clone, Copy)]
 pub struct ServerSetup<'a, L> {
     pub alloc: Global,
     pub plan: &'a Plan,
-    pub listener: &'a TcpListener,
+    pub doors: Doors<'a>,
+    /// None if there is no operator. Only a server that stays has one.
+    pub operator: Option<OperatorPort<'a>>,
     pub notes: &'a L,
 }
 

@@ -1,41 +1,48 @@
 //! How `serve --stay` is stopped.
 
+use crate::doors::{Doors, wake};
 use std::io::{self, Read};
-use std::net::{Net, SocketAddr, TcpStream};
+use std::net::{Net, SocketAddr};
 use std::sync::atomic::{AtomicBool, Ordering};
-use std::thread;
-use std::time::{Clock, Duration};
+use std::time::Clock;
 
-/// How many times stopping tries to wake the server.
-const WAKES: u64 = 1_000;
-
-/// Tells the server at this address to take no more connections.
+/// Tells the server at these addresses to take no more connections.
 #[derive(Drop)]
 pub struct Stop {
-    address: SocketAddr,
+    first: SocketAddr,
+    second: Option<SocketAddr>,
     stopped: AtomicBool,
 }
 
 impl Stop {
+    /// What stops a server at one address.
     pub fn new(address: SocketAddr) -> Stop {
         Stop {
-            address,
+            first: address,
+            second: None,
             stopped: AtomicBool::new(false),
         }
+    }
+
+    /// What stops a server with these doors.
+    pub fn of(doors: Doors<'_>) -> io::Result<Stop> {
+        Ok(Stop {
+            first: doors.first().listener.local_addr()?,
+            second: doors.second_address()?,
+            stopped: AtomicBool::new(false),
+        })
     }
 
     pub fn is_stopped(&self) -> bool {
         self.stopped.load(Ordering::SeqCst)
     }
 
-    /// Stops the server, and connects to it, so that it wakes if it waits for a connection.
+    /// Stops the server, and connects to each door, so that it wakes if it waits for a connection.
     pub fn stop<R: Net + Clock>(&self, rt: &R) {
         self.stopped.store(true, Ordering::SeqCst);
-        for _ in 0..WAKES {
-            if TcpStream::connect(rt, self.address).is_ok() {
-                return;
-            }
-            thread::sleep(rt, Duration::from_millis(10));
+        wake(rt, self.first);
+        if let Some(second) = self.second {
+            wake(rt, second);
         }
     }
 

@@ -6,7 +6,7 @@ use clap::ArgMatches;
 use std::alloc::Global;
 
 const USAGE: &str =
-    "\n\nUsage: chord serve --plan <FILE> --port <N> <--connections <K>|--stay>\n\nFor more information, try '--help'.\n";
+    "\n\nUsage: chord serve --plan <FILE> <--port <N>|--redis <N>> <--connections <K>|--stay>\n\nFor more information, try '--help'.\n";
 
 /// Gives whether a command line prints this text and the usage, and its exit status.
 fn prints_usage(alloc: Global, line: &'static str, text: &str) -> Option<(bool, i32)> {
@@ -14,7 +14,7 @@ fn prints_usage(alloc: Global, line: &'static str, text: &str) -> Option<(bool, 
     prints(alloc, line, wanted.as_str())
 }
 
-/// `serve` requires a plan, a port, and one of `--connections` and `--stay`.
+/// `serve` requires a plan, a port of at least one protocol, and one of `--connections` and `--stay`.
 #[test]
 fn faults_of_serve(rt: HostRuntime) {
     for (line, text) in [
@@ -24,7 +24,7 @@ fn faults_of_serve(rt: HostRuntime) {
         ),
         (
             "chord serve --plan p --stay",
-            "error: the following required arguments were not provided:\n  --port <N>",
+            "error: the following required arguments were not provided:\n  <--port <N>|--redis <N>>",
         ),
         (
             "chord serve --plan p --port 7",
@@ -37,6 +37,10 @@ fn faults_of_serve(rt: HostRuntime) {
         (
             "chord serve --plan p --port 7 --connections 1 --idle 2",
             "error: the argument '--connections <K>' cannot be used with '--idle <SECONDS>'",
+        ),
+        (
+            "chord serve --plan p --port 7 --connections 1 --operator 2",
+            "error: the argument '--connections <K>' cannot be used with '--operator <N>'",
         ),
     ] {
         assert!(rt; prints_usage(rt.alloc(), line, text) == Some((true, 2)));
@@ -52,7 +56,7 @@ fn matched(
 ) -> Option<(bool, bool, bool)> {
     let (name, found) = matches.subcommand()?;
     let line = serve_line_of(alloc, found).ok()?;
-    let is_serve = name == "serve" && line.plan == "p" && line.port == 7;
+    let is_serve = name == "serve" && line.plan == "p" && line.port == Some(7);
     Some((is_serve, line.connections == connections, line.notes))
 }
 
@@ -128,48 +132,138 @@ fn numbers_within_limits(rt: HostRuntime) {
 #[test]
 fn a_port_that_is_no_number(rt: HostRuntime) {
     let wanted =
-        "error: invalid value '-1' for '--port <N>': a number from 0 to 65535\n\nUsage: chord serve [OPTIONS] --plan <FILE> --port <N> <--connections <K>|--stay>\n\nFor more information, try '--help'.\n";
+        "error: invalid value '-1' for '--port <N>': a number from 0 to 65535\n\nUsage: chord serve [OPTIONS] --plan <FILE> <--port <N>|--redis <N>> <--connections <K>|--stay>\n\nFor more information, try '--help'.\n";
     let printed = prints(rt.alloc(), "chord serve --plan p --port -1 --stay", wanted);
     assert!(rt; printed == Some((true, 2)));
 }
 
-/// The port of this command line, and for how many seconds a client may be idle.
-fn port_and_idle(alloc: Global, words: &[&str]) -> Option<(u16, u64)> {
+/// The ports of a command line, and for how many seconds a client may be idle.
+#[derive(Clone, Copy, Debug, PartialEq, Eq)]
+struct Waits {
+    port: Option<u16>,
+    redis: Option<u16>,
+    idle: u64,
+}
+
+/// What this command line says of them.
+fn waits_of(alloc: Global, words: &[&str]) -> Option<Waits> {
     let matches = commands(alloc).ok()?.try_get_matches_from(words).ok()?;
-    let found = port_and_idle_in(alloc, &matches);
+    let found = waits_in(alloc, &matches);
     drop(matches);
     found
 }
 
-fn port_and_idle_in(alloc: Global, matches: &ArgMatches) -> Option<(u16, u64)> {
+fn waits_in(alloc: Global, matches: &ArgMatches) -> Option<Waits> {
     let (_, found) = matches.subcommand()?;
     let line = serve_line_of(alloc, found).ok()?;
-    Some((line.port, line.idle))
+    Some(Waits {
+        port: line.port,
+        redis: line.redis,
+        idle: line.idle,
+    })
 }
 
 /// At port 0 the system picks one; a client may be idle for 300 seconds unless the line says more.
 #[test]
 fn the_port_and_idle_clients_of_serve(rt: HostRuntime) {
     let stays = ["chord", "serve", "--plan", "p", "--port", "0", "--stay"];
-    assert!(rt; port_and_idle(rt.alloc(), &stays) == Some((0, 300)));
+    let default = Waits {
+        port: Some(0),
+        redis: None,
+        idle: 300,
+    };
+    assert!(rt; waits_of(rt.alloc(), &stays) == Some(default));
     let idle = [
         "chord", "serve", "--plan", "p", "--port", "7", "--stay", "--idle", "86400",
     ];
-    assert!(rt; port_and_idle(rt.alloc(), &idle) == Some((7, 86_400)));
+    let long = Waits {
+        port: Some(7),
+        redis: None,
+        idle: 86_400,
+    };
+    assert!(rt; waits_of(rt.alloc(), &idle) == Some(long));
+}
+
+/// Redis's clients have a port of their own, beside the other one or alone.
+#[test]
+fn the_port_of_redis_clients(rt: HostRuntime) {
+    let both = [
+        "chord", "serve", "--plan", "p", "--redis", "6379", "--port", "7", "--stay",
+    ];
+    let two = Waits {
+        port: Some(7),
+        redis: Some(6379),
+        idle: 300,
+    };
+    assert!(rt; waits_of(rt.alloc(), &both) == Some(two));
+    let alone = ["chord", "serve", "--plan", "p", "--redis", "0", "--stay"];
+    let one = Waits {
+        port: None,
+        redis: Some(0),
+        idle: 300,
+    };
+    assert!(rt; waits_of(rt.alloc(), &alone) == Some(one));
+}
+
+/// The port for operators of this command line, if it has one.
+fn operator_port(alloc: Global, words: &[&str]) -> Option<Option<u16>> {
+    let matches = commands(alloc).ok()?.try_get_matches_from(words).ok()?;
+    let found = operator_port_in(alloc, &matches);
+    drop(matches);
+    found
+}
+
+fn operator_port_in(alloc: Global, matches: &ArgMatches) -> Option<Option<u16>> {
+    let (_, found) = matches.subcommand()?;
+    let line = serve_line_of(alloc, found).ok()?;
+    Some(line.operator)
+}
+
+/// A server has an operator only where its line says so; at port 0 the system picks a port.
+#[test]
+fn the_operator_of_serve(rt: HostRuntime) {
+    let alone = ["chord", "serve", "--plan", "p", "--port", "7", "--stay"];
+    assert!(rt; operator_port(rt.alloc(), &alone) == Some(None));
+    let operated = [
+        "chord",
+        "serve",
+        "--plan",
+        "p",
+        "--port",
+        "7",
+        "--stay",
+        "--operator",
+        "0",
+    ];
+    assert!(rt; operator_port(rt.alloc(), &operated) == Some(Some(0)));
+    let wrong = [
+        "chord",
+        "serve",
+        "--plan",
+        "p",
+        "--port",
+        "7",
+        "--stay",
+        "--operator",
+        "65536",
+    ];
+    assert!(rt; operator_port(rt.alloc(), &wrong) == None);
 }
 
 const SERVE_HELP: &str = concat!(
     "Serves clients over loopback, and writes how each connection ended\n",
     "\n",
-    "Usage: chord serve [OPTIONS] --plan <FILE> --port <N> <--connections <K>|--stay>\n",
+    "Usage: chord serve [OPTIONS] --plan <FILE> <--port <N>|--redis <N>> <--connections <K>|--stay>\n",
     "\n",
     "Options:\n",
     "      --plan <FILE>      The ring's numbers and nodes, as TOML\n",
     "      --port <N>         The port on 127.0.0.1, 1 to 65535, or 0 for one that the system picks\n",
+    "      --redis <N>        The port for Redis's clients, as --port\n",
     "      --connections <K>  How many connections are served, 1 to 65535\n",
     "      --stay             Serves until standard input ends\n",
     "      --notes            Notes on standard error how each connection ends, as it ends\n",
     "      --idle <SECONDS>   With --stay: how long a client may be idle, 1 to 86400, else 300\n",
+    "      --operator <N>     With --stay: an operator's port on 127.0.0.1, 1 to 65535, or 0 for any that is free\n",
     "  -h, --help             Print help\n",
 );
 

@@ -8,6 +8,7 @@ use chord_store::EntryStore;
 use chord_table::Naming;
 use std::alloc::{AllocError, Global};
 use std::collections::VecDeque;
+use std::sync::atomic::{AtomicU64, Ordering};
 use std::sync::{Mutex, Wait};
 use std::time::Clock;
 
@@ -34,6 +35,8 @@ impl<'r, J: Naming, S: EntryStore> Resting<'r, J, S> {
 pub struct CallerPool<'r, J: Naming, S: EntryStore> {
     ring: &'r Ring<J, S>,
     keeps_callers: bool,
+    /// How many callers serve a connection now.
+    serving: AtomicU64,
     resting: Mutex<Resting<'r, J, S>>,
 }
 
@@ -50,6 +53,7 @@ impl<'r, J: Naming, S: EntryStore> CallerPool<'r, J, S> {
         Ok(CallerPool {
             ring,
             keeps_callers: callers > 0,
+            serving: AtomicU64::new(0),
             resting,
         })
     }
@@ -64,9 +68,21 @@ impl<'r, J: Naming, S: EntryStore> CallerPool<'r, J, S> {
         self.resting.lock(rt).pending.pop_front()
     }
 
+    /// How many callers serve a connection now.
+    pub fn serving(&self) -> u64 {
+        self.serving.load(Ordering::SeqCst)
+    }
+
+    /// Takes an idle caller for a connection, as `find` finds one.
+    pub fn take<R: Wait + Clock>(&self, rt: &R, via: u64) -> Result<IdleCaller<'r, J, S>, Ended> {
+        let idle = self.find(rt, via)?;
+        self.serving.fetch_add(1, Ordering::SeqCst);
+        Ok(idle)
+    }
+
     /// Takes an idle caller; else opens one; else resends the pending requests of the caller that
     /// waited longest. If that leaves it pending, says how the connection ends.
-    pub fn take<R: Wait + Clock>(&self, rt: &R, via: u64) -> Result<IdleCaller<'r, J, S>, Ended> {
+    fn find<R: Wait + Clock>(&self, rt: &R, via: u64) -> Result<IdleCaller<'r, J, S>, Ended> {
         if let Some(idle) = self.rested(rt) {
             return Ok(idle);
         }
@@ -80,14 +96,20 @@ impl<'r, J: Naming, S: EntryStore> CallerPool<'r, J, S> {
         match IdleCaller::settle(rt, caller, via) {
             Ok(idle) => Ok(idle),
             Err(caller) => {
-                self.give_back(rt, caller);
+                self.keep(rt, caller);
                 Err(none)
             }
         }
     }
 
-    /// Takes a caller back, for later connections. Drops it if there is room for none.
+    /// Takes a caller back from a connection, for later ones.
     pub fn give_back<R: Wait>(&self, rt: &R, caller: RingClient<'r, J, S>) {
+        self.serving.fetch_sub(1, Ordering::SeqCst);
+        self.keep(rt, caller);
+    }
+
+    /// Keeps a caller for later connections. Drops it if there is room for none.
+    fn keep<R: Wait>(&self, rt: &R, caller: RingClient<'r, J, S>) {
         if self.keeps_callers {
             self.resting.lock(rt).add(caller);
         } else {

@@ -66,7 +66,7 @@ fn stop_at_end<R: Host, L, I: Read + Send + Drop + 'static>(
     setup: &ServerSetup<'_, L>,
     input: I,
 ) -> Result<Arc<Stop>, Finish> {
-    let stop = Arc::new(setup.alloc, Stop::new(setup.listener.local_addr()?))?;
+    let stop = Arc::new(setup.alloc, Stop::of(setup.doors)?)?;
     stop_behind(rt, &stop, input)?;
     Ok(stop)
 }

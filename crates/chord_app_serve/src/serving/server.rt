@@ -2,32 +2,52 @@
 ghost use Rattle.std.specs.Prelude.{◌≡◌};
 
 use crate::serving::caller_pool::CallerPool;
-use crate::serving::service::{Service, node_of};
+use crate::serving::desk::Desk;
+use crate::serving::service::{Service, Visit, node_of};
 use chord_app_sockets::{
-    Clients, Ended, Host, Lines, PatientReader, PatientWriter, ServerSetup, Until, close_slowly,
-    prepare,
+    Clients, Door, Doors, Ended, Host, Lines, PatientReader, PatientWriter, Protocol, ServerSetup,
+    Until, close_slowly, prepare,
 };
 use chord_app_text::Finish;
 use chord_live_ring::{Ring, RingParts};
-use chord_serve::{Served, tell_callers_spent};
+use chord_resp::put_error;
+use chord_resp_serve::ServerInfo;
+use chord_serve::{Due, Served, tell_callers_spent};
 use chord_store::EntryStore;
 use chord_table::Naming;
 use log::Log;
+use std::alloc::Global;
 use std::io::{self, Write};
-use std::net::{TcpListener, TcpStream};
+use std::net::TcpStream;
 use std::sync::Arc;
+use std::sync::atomic::{AtomicU64, Ordering};
 use std::thread;
 use std::thread::Scope;
 use std::time::Duration;
 
 /// What all connections of a server share.
 #[derive(Drop)]
-struct Server<'s, 'r, J: Naming, S: EntryStore, R, L, W> {
-    service: &'s Service<'r, J, S, R, L>,
-    pool: CallerPool<'r, J, S>,
-    clients: Clients,
-    lines: &'s Lines<W>,
-    until: Until<'s>,
+pub struct Server<'s, 'r, J: Naming, S: EntryStore, R, L, W> {
+    pub service: &'s Service<'r, J, S, R, L>,
+    pub pool: CallerPool<'r, J, S>,
+    pub clients: Clients,
+    pub lines: &'s Lines<W>,
+    pub until: Until<'s>,
+    /// How many connections of clients got a number, at all doors.
+    numbers: AtomicU64,
+    pub desk: Desk<'s>,
+}
+
+/// Tells a client that no caller is left for its connection, in the words of its protocol.
+fn tell_spent<W: Write>(alloc: Global, protocol: Protocol, writer: &mut W) -> io::Result<()> {
+    match protocol {
+        Protocol::Frames => tell_callers_spent(alloc, writer),
+        Protocol::Redis => {
+            let mut due = Due::new(alloc);
+            put_error(&mut due.bytes, b"ERR max number of clients reached")?;
+            due.write_to(writer)
+        }
+    }
 }
 
 impl<'s, 'r, J: Naming, S: EntryStore, R: Host, L: Log, W: Write> Server<'s, 'r, J, S, R, L, W> {
@@ -40,7 +60,7 @@ impl<'s, 'r, J: Naming, S: EntryStore, R: Host, L: Log, W: Write> Server<'s, 'r,
     }
 
     /// Serves a client by a caller of the pool, or tells it that none is left.
-    fn serve_client(&self, number: u64, stream: &TcpStream) -> Ended {
+    fn serve_client(&self, number: u64, protocol: Protocol, stream: &TcpStream) -> Ended {
         let service = self.service;
         let via = node_of(number, service.nodes);
         let mut writer = PatientWriter::new(stream);
@@ -48,28 +68,54 @@ impl<'s, 'r, J: Naming, S: EntryStore, R: Host, L: Log, W: Write> Server<'s, 'r,
             Ok(idle) => idle,
             Err(none) => {
                 if none == Ended::CallersSpent {
-                    let _ = tell_callers_spent(service.alloc, &mut writer).is_ok();
+                    let _ = tell_spent(service.alloc, protocol, &mut writer).is_ok();
                 }
                 return none;
             }
         };
         let mut reader = PatientReader::new(stream, &self.clients, self.until.idle());
         let turns = self.until.turns();
-        let (served, caller) = service.serve_by(idle, via, &mut reader, &mut writer, turns);
+        let visit = Visit {
+            protocol,
+            via,
+            server: ServerInfo {
+                number,
+                source: self,
+            },
+        };
+        let (served, caller) = service.serve_by(idle, visit, &mut reader, &mut writer, turns);
         self.pool.give_back(service.rt, caller);
         Ended::by(served, reader.is_idle() || writer.is_idle())
     }
 
     /// Serves a connection to its end. Notes how it ended before closing it.
-    fn run_client(&self, number: u64, stream: Arc<TcpStream>) {
+    fn run_client(&self, number: u64, protocol: Protocol, stream: Arc<TcpStream>) {
         prepare(&stream, self.until.idle());
-        let ended = self.serve_client(number, &stream);
+        let ended = self.serve_client(number, protocol, &stream);
         self.tell(number, &ended);
         if ended.is_closed_slowly() {
             close_slowly(self.service.rt, &stream);
         }
         self.clients.forget(self.service.rt, number);
         drop(stream);
+    }
+
+    /// Whether the server takes one more connection.
+    fn takes_more(&self) -> bool {
+        !self.until.is_stopped() && self.numbers.load(Ordering::SeqCst) < self.until.most()
+    }
+
+    /// The number of a connection that was accepted, if the server takes it.
+    fn next_number(&self) -> Option<u64> {
+        if self.until.is_stopped() {
+            return None;
+        }
+        let number = self.numbers.fetch_add(1, Ordering::SeqCst);
+        if number < self.until.most() {
+            Some(number)
+        } else {
+            None
+        }
     }
 }
 
@@ -88,6 +134,7 @@ impl<
         &'t self,
         scope: &'t Scope<'t, E>,
         number: u64,
+        protocol: Protocol,
         stream: TcpStream,
     ) -> bool {
         let Ok(stream) = Arc::new(self.service.alloc, stream) else {
@@ -97,12 +144,20 @@ impl<
             drop(stream);
             return false;
         }
-        scope.spawn(move || self.run_client(number, stream)).is_ok()
+        scope
+            .spawn(move || self.run_client(number, protocol, stream))
+            .is_ok()
     }
 
     /// Starts the thread of a connection, or ends it if there is no memory for that.
-    fn start_client<E: 't>(&'t self, scope: &'t Scope<'t, E>, number: u64, stream: TcpStream) {
-        if !self.run_beside(scope, number, stream) {
+    fn start_client<E: 't>(
+        &'t self,
+        scope: &'t Scope<'t, E>,
+        number: u64,
+        protocol: Protocol,
+        stream: TcpStream,
+    ) {
+        if !self.run_beside(scope, number, protocol, stream) {
             self.tell(number, &Ended::Served(Served::Memory));
             self.clients.forget(self.service.rt, number);
         }
@@ -113,10 +168,11 @@ impl<
         &'t self,
         scope: &'t Scope<'t, E>,
         number: u64,
+        protocol: Protocol,
         accepted: io::Result<TcpStream>,
     ) {
         match accepted {
-            Ok(stream) => self.start_client(scope, number, stream),
+            Ok(stream) => self.start_client(scope, number, protocol, stream),
             Err(_) => {
                 self.tell(number, &Ended::NotAccepted);
                 thread::sleep(self.service.rt, Duration::from_millis(10));
@@ -124,23 +180,51 @@ impl<
         }
     }
 
-    /// Accepts connections, each on a thread of its own, as long as the server takes any. Then
-    /// waits for those that are open, or ends them if the server was stopped.
-    fn accept<E: 't>(&'t self, scope: &'t Scope<'t, E>, listener: &TcpListener) {
-        for (number, accepted) in (0..self.until.most()).zip(listener.incoming()) {
-            if self.until.is_stopped() {
-                drop(accepted);
-                break;
+    /// Accepts connections at a door, each on a thread of its own, as long as the server takes any.
+    fn accept<E: 't>(&'t self, scope: &'t Scope<'t, E>, door: Door<'t>) {
+        for _ in 0..u64::MAX {
+            if !self.takes_more() {
+                return;
             }
-            self.meet(scope, number, accepted);
+            let accepted = door.listener.accept().map(|(stream, _)| stream);
+            let Some(number) = self.next_number() else {
+                drop(accepted);
+                return;
+            };
+            self.meet(scope, number, door.protocol, accepted);
         }
+    }
+
+    /// Accepts connections at the second door, and then wakes the first.
+    fn accept_second<E: 't>(&'t self, scope: &'t Scope<'t, E>, doors: Doors<'t>, door: Door<'t>) {
+        self.accept(scope, door);
+        doors.first().wake(self.service.rt);
+    }
+
+    /// Accepts connections at each door. The one that gets the last connection wakes the other.
+    fn accept_at<E: 't>(&'t self, scope: &'t Scope<'t, E>, doors: Doors<'t>) -> Result<(), Finish> {
+        let Some(second) = doors.second() else {
+            self.accept(scope, doors.first());
+            return Ok(());
+        };
+        let Ok(beside) = scope.spawn(move || self.accept_second(scope, doors, second)) else {
+            return Err(Finish::OutOfMemory);
+        };
+        self.accept(scope, doors.first());
+        second.wake(self.service.rt);
+        beside.join(self.service.rt);
+        Ok(())
+    }
+
+    /// Waits for the connections that are open, or ends them if the server was stopped.
+    fn end_clients(&self) {
         match self.until {
             Until::Connections(_) => self.clients.wait_for_all(self.service.rt),
             Until::Stopped { .. } => self.clients.end_all(self.service.rt),
         }
     }
 
-    /// Starts the nodes, writes the address at which clients are served, and serves them.
+    /// Starts the nodes, writes the addresses at which clients are served, and serves them.
     fn start_and_accept<E: 't>(
         &'t self,
         setup: &'t ServerSetup<'t, L>,
@@ -149,9 +233,11 @@ impl<
     ) -> Result<(), Finish> {
         self.service
             .start(scope, setup.plan.nodes.as_slice(), stores)?;
-        self.lines.begin(self.service.rt, setup.listener)?;
-        self.accept(scope, setup.listener);
-        Ok(())
+        self.lines.begin(self.service.rt, setup.doors)?;
+        self.start_operators(scope)?;
+        let accepted = self.accept_at(scope, setup.doors);
+        self.end_clients();
+        accepted
     }
 }
 
@@ -173,6 +259,7 @@ fn serve_ring<
 ) -> Result<(), Finish> {
     thread::scope(thread::scope_env(), starter, |scope| {
         let ended = server.start_and_accept(setup, scope, stores);
+        server.end_operators();
         server.service.ring.stop();
         ended
     })
@@ -196,12 +283,15 @@ fn serve_with<
     let service = Service::new(rt, ring, setup);
     let kept = until.kept_callers(setup.plan.settings.callers);
     let pool = CallerPool::new(setup.alloc, ring, kept)?;
+    let desk = Desk::new(rt, setup)?;
     let server = Server {
         service: &service,
         pool,
         clients: Clients::new(setup.alloc),
         lines,
         until,
+        numbers: AtomicU64::new(0),
+        desk,
     };
     let served = serve_ring(rt, &server, setup, stores);
     drop(server);

@@ -5,10 +5,11 @@ use crate::nodes::{start_nodes, tick_in_turn};
 use crate::serving::asker::RingAsker;
 use crate::serving::idle::IdleCaller;
 use chord_app_plan::PlanNode;
-use chord_app_sockets::{Ended, ServerSetup};
+use chord_app_sockets::{Ended, Protocol, ServerSetup};
 use chord_app_text::Finish;
 use chord_live::RingClient;
 use chord_live_ring::Ring;
+use chord_resp_serve::{Informs, ServerInfo, serve_commands};
 use chord_serve::{Served, serve};
 use chord_store::EntryStore;
 use chord_table::Naming;
@@ -27,6 +28,14 @@ pub struct Service<'r, J: Naming, S: EntryStore, R, L> {
     pub ring: &'r Ring<J, S>,
     pub nodes: u64,
     pub notes: &'r L,
+}
+
+/// What a client speaks, the node at which it asks, and what it is told of the server.
+#[derive_where(Clone, Copy)]
+pub struct Visit<'a, N> {
+    pub protocol: Protocol,
+    pub via: u64,
+    pub server: ServerInfo<'a, N>,
 }
 
 /// The node at which a connection asks: its number modulo the number of nodes.
@@ -72,17 +81,23 @@ impl<'r, J: Naming, S: EntryStore, R: Wait + Clock, L: Log> Service<'r, J, S, R,
         }
     }
 
-    /// Serves a client by this caller, with at most `turns` reads. Gives the caller back.
-    pub fn serve_by<I: Read, O: Write>(
+    /// Serves a client that speaks this protocol, by this caller, with at most `turns` reads. Gives
+    /// the caller back.
+    pub fn serve_by<I: Read, O: Write, N: Informs>(
         &self,
         idle: IdleCaller<'r, J, S>,
-        via: u64,
+        visit: Visit<'_, N>,
         reader: &mut I,
         writer: &mut O,
         turns: u64,
     ) -> (Served, RingClient<'r, J, S>) {
-        let mut asker = RingAsker::new(self.rt, idle, via);
-        let served = serve(self.alloc, reader, writer, &mut asker, turns);
+        let asker = RingAsker::new(self.rt, idle, visit.via);
+        let (served, asker) = match visit.protocol {
+            Protocol::Frames => serve(self.alloc, reader, writer, asker, turns),
+            Protocol::Redis => {
+                serve_commands(self.alloc, reader, writer, asker, visit.server, turns)
+            }
+        };
         (served, asker.into_caller())
     }
 

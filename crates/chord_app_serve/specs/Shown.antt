@@ -1,0 +1,91 @@
+-- How a node of a ring is shown to its operator, and what the operator is told. Source: our own.
+use Rattle.std.specs.Prelude.{◌≡◌, ℕ, Bool, true, false, map, Option, Some, None, All, Ok, Err}
+use Rattle.chord_app_operator.specs.Questions.{Question, Sight, Crash, Join, Answer, Seen, Joined, HasCrashed}
+use Rattle.chord_app_operator.specs.declared.operator.refusals.JoinRefusal.TheVariants as join
+use Rattle.chord_app_operator.specs.declared.operator.refusals.CrashRefusal.{CrashRefusal}
+use Rattle.chord_app_operator.specs.declared.operator.refusals.CrashRefusal.TheVariants as crash
+use Rattle.chord_app_operator.specs.declared.request.store_kind.StoreKind.{StoreKind}
+use Rattle.chord_app_operator.specs.declared.request.store_kind.StoreKind.TheVariants as kind
+use Rattle.chord_app_operator.specs.declared.sight.node.NodeSight.{NodeSight}
+use Rattle.chord_app_operator.specs.declared.sight.parts.OutboxSight.{OutboxSight}
+use Rattle.chord_app_operator.specs.declared.sight.parts.SegmentSight.{SegmentSight}
+use Rattle.chord_app_operator.specs.declared.sight.phase.Phase.{Phase}
+use Rattle.chord_app_operator.specs.declared.sight.phase.Phase.TheVariants as shown
+use Rattle.chord_app_operator.specs.declared.sight.counts.AskCounts.{AskCounts}
+use Rattle.chord_app_operator.specs.declared.sight.counts.HandoverCounts.{HandoverCounts}
+use Rattle.chord_app_plan.specs.declared.node.StoreKind.{StoreKind as PlanStore}
+use Rattle.chord_app_plan.specs.declared.node.StoreKind.TheVariants as plan
+use Rattle.chord_live_ring.specs.declared.node_counts.AskCounts.{AskCounts as RingAsks}
+use Rattle.chord_live_ring.specs.declared.node_counts.HandoverCounts.{HandoverCounts as RingHandovers}
+use Rattle.chord_live_ring.specs.declared.sight.NodeSight.{NodeSight as RingNode}
+use Rattle.chord_live_ring.specs.declared.sight.OutboxSight.{OutboxSight as RingItem}
+use Rattle.chord_live_ring.specs.declared.sight.SegmentSight.{SegmentSight as RingSegment}
+use Rattle.chord_live_ring.specs.Sights.{IsSightOf}
+use Rattle.chord_live_types.specs.declared.settings.Settings.{Settings}
+use Rattle.chord_model.specs.declared.phase.Phase.{Phase as RingPhase}
+use Rattle.chord_model.specs.declared.phase.Phase.TheVariants as phase
+
+-- the kind of a node's store: one that notes its count is a list
+abbrev pub store_shown : PlanStore → StoreKind
+store_shown plan.Tree = kind.Tree
+store_shown plan.List = kind.List
+store_shown plan.Noted = kind.List
+store_shown (plan.Capped limit) = kind.Capped
+
+-- the phase of a node that crashed or not
+abbrev pub phase_shown : Bool → RingPhase → Phase
+phase_shown true before = shown.Crashed
+phase_shown false phase.Staying = shown.Staying
+phase_shown false phase.Leaving = shown.Leaving
+phase_shown false phase.Gone = shown.Gone
+
+abbrev pub segment_shown : RingSegment → SegmentSight
+segment_shown segment = record { span = segment.span; kept = segment.kept }
+
+abbrev pub item_shown : RingItem → OutboxSight
+item_shown item = record { to = item.to; number = item.number; span = item.span; pairs = item.pairs }
+
+abbrev pub asks_shown : RingAsks → AskCounts
+asks_shown asks = record { told = asks.told; forwarded = asks.forwarded; dropped = asks.dropped; full = asks.full }
+
+abbrev pub handovers_shown : RingHandovers → HandoverCounts
+handovers_shown handovers = record { given = handovers.given; taken = handovers.taken; declined = handovers.declined }
+
+-- all that a ring tells of a node is shown, as it is
+pub record ShowsNode (sight : RingNode) (shown : NodeSight) : Type 0 where
+  pub node : shown.node ≡ sight.number
+  pub id : shown.id ≡ sight.id
+  pub phase : shown.phase ≡ phase_shown sight.crashed sight.phase
+  pub predecessor : shown.predecessor ≡ sight.predecessor
+  pub successors : shown.successors.items ≡ sight.successors.items
+  pub fingers : shown.fingers ≡ sight.fingers
+  pub segments : shown.segments.items ≡ map segment_shown sight.segments.items
+  pub pairs : shown.pairs ≡ sight.pairs
+  pub outbox : shown.outbox.items ≡ map item_shown sight.outbox.items
+  pub asks : shown.asks ≡ asks_shown sight.counts.asks
+  pub handovers : shown.handovers ≡ handovers_shown sight.counts.handovers
+  pub ticks : shown.ticks ≡ sight.counts.ticks
+
+-- a node of some reachable world, of which the theorem holds, looks so
+pub record IsShownNode (shown : NodeSight) : Type 0 where
+  pub number : ℕ
+  pub sight : RingNode
+  pub seen : IsSightOf number sight
+  pub shows : ShowsNode sight shown
+
+-- why a node does not crash: it is no member, or the ring would not stand without it and the crash
+-- is not forced
+abbrev pub crash_refusal : Bool → Bool → Bool → Option CrashRefusal
+crash_refusal false stands forced = Some crash.NotLive
+crash_refusal true stands true = None
+crash_refusal true true false = None
+crash_refusal true false false = Some crash.Unsafe
+
+-- What the operator of a ring with these settings may be told. The ring is shown with nodes of
+-- reachable worlds. No node joins: there is no spare store. Unsafe is not told where a crash is
+-- forced.
+abbrev pub Tells : Settings → Question → Answer → Type 0
+Tells settings Sight (Seen (Ok sight)) = (sight.successors ≡ settings.successors) × (sight.slots ≡ settings.slots) × (sight.callers.all ≡ settings.callers) × All IsShownNode sight.nodes.items
+Tells settings (Join request) (Joined result) = result ≡ Err join.NoStore
+Tells settings (Crash request) (HasCrashed (Err crash.Unsafe)) = request.is_forced ≡ false
+Tells settings question answer = Unit {0}

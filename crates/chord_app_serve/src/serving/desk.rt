@@ -1,0 +1,82 @@
+//! What the operators of a server share.
+
+use crate::serving::shown::store_shown;
+use chord_app_operator::StoreKind;
+use chord_app_plan::Plan;
+use chord_app_sockets::{Clients, OperatorPort, ServerSetup, Stop};
+use std::alloc::Global;
+use std::hash::RandomState;
+use std::io;
+use std::net::TcpListener;
+use std::sync::Mutex;
+use std::time::{Clock, Instant};
+
+/// Where operators come in.
+#[derive(Drop)]
+pub struct OperatorDoor<'s> {
+    pub listener: &'s TcpListener,
+    pub port: u16,
+    pub keys: RandomState,
+    /// Tells those who accept that the server ends.
+    pub stop: Stop,
+    pub open: Clients,
+}
+
+impl<'s> OperatorDoor<'s> {
+    fn new(alloc: Global, port: OperatorPort<'s>) -> io::Result<OperatorDoor<'s>> {
+        let address = port.listener.local_addr()?;
+        Ok(OperatorDoor {
+            listener: port.listener,
+            port: address.port(),
+            keys: port.keys,
+            stop: Stop::new(address),
+            open: Clients::new(alloc),
+        })
+    }
+}
+
+/// The plan of a server, since when it runs, and where its operators come in, if there is a port
+/// for them.
+#[derive(Drop)]
+pub struct Desk<'s> {
+    pub plan: &'s Plan,
+    /// None if the clock could not be read.
+    began: Option<Instant>,
+    /// Held from the look that says that a node may crash until it has crashed.
+    pub crashing: Mutex<()>,
+    pub door: Option<OperatorDoor<'s>>,
+}
+
+impl<'s> Desk<'s> {
+    pub fn new<R: Clock, L>(rt: &R, setup: &ServerSetup<'s, L>) -> io::Result<Desk<'s>> {
+        let door = match setup.operator {
+            Some(port) => Some(OperatorDoor::new(setup.alloc, port)?),
+            None => None,
+        };
+        Ok(Desk {
+            plan: setup.plan,
+            began: Instant::now(rt).ok(),
+            crashing: Mutex::new(()),
+            door,
+        })
+    }
+
+    /// For how many milliseconds the server has run.
+    pub fn uptime_ms<R: Clock>(&self, rt: &R) -> u64 {
+        let Some(began) = &self.began else {
+            return 0;
+        };
+        match began.elapsed(rt) {
+            Ok(passed) => u64::try_from(passed.as_millis()).unwrap_or(u64::MAX),
+            Err(_) => 0,
+        }
+    }
+
+    /// The kind of a node's store.
+    pub fn store_of(&self, node: u64) -> StoreKind {
+        match self.plan.nodes.get(node as usize) {
+            Some(node) => store_shown(node.store),
+            None => StoreKind::Tree,
+        }
+    }
+}

@@ -1,0 +1,169 @@
+//! The operator of a server's ring.
+ghost use Rattle.std.specs.Prelude.{◌≡◌, false, All, Err, IfOk, IfSome};
+ghost use Rattle.chord_app_operator.specs.declared.operator.refusals.CrashRefusal.TheVariants as CrashRefusals;
+ghost use Rattle.chord_app_serve.specs.Shown.{crash_refusal, IsShownNode, Tells};
+
+use crate::serving::caller_pool::CallerPool;
+use crate::serving::desk::Desk;
+use crate::serving::shown::node_shown;
+use chord_app_operator::{
+    CallerCounts, CrashRefusal, CrashRequest, Holder, JoinRefusal, JoinRequest, LeaveRefusal,
+    NodeSight, Operator, PairsPage, PairsRequest, RingSight,
+};
+use chord_app_sockets::{Clients, Host, Until};
+use chord_ident::Id;
+use chord_live_ring::Ring;
+use chord_live_types::LeaveFault;
+use chord_model::Phase;
+use chord_store::EntryStore;
+use chord_table::Naming;
+use std::alloc::{AllocError, Global};
+use std::sync::Wait;
+use std::time::Clock;
+
+/// Does what an operator asks for, at a server's ring.
+#[derive(Drop)]
+pub struct RingOperator<'t, 's, 'r, J: Naming, S: EntryStore, R> {
+    pub rt: &'r R,
+    pub ring: &'r Ring<J, S>,
+    pub pool: &'t CallerPool<'r, J, S>,
+    pub clients: &'t Clients,
+    pub until: Until<'s>,
+    pub desk: &'t Desk<'s>,
+}
+
+impl<'t, 's, 'r, J: Naming, S: EntryStore, R: Wait + Clock> RingOperator<'t, 's, 'r, J, S, R> {
+    /// How many nodes there may be.
+    fn slots(&self) -> u64 {
+        self.desk.plan.settings.slots as u64
+    }
+
+    /// A node as it looks now, if it was admitted.
+    fn node_at(&self, alloc: Global, number: u64) -> Result<Option<NodeSight>, AllocError>
+        ensures { IfOk result (λ found. IfSome found IsShownNode) }
+    {
+        let Some(sight) = self.ring.sight(self.rt, alloc, number)? else {
+            return Ok(None);
+        };
+        let shown = node_shown(alloc, sight, self.desk.store_of(number))?;
+        Ok(Some(shown))
+    }
+
+    /// The nodes that there are, each as it looks now.
+    fn nodes(&self, alloc: Global) -> Result<Vec<NodeSight>, AllocError>
+        ensures { IfOk result (λ nodes. All IsShownNode nodes.items) }
+    {
+        let mut nodes = Vec::new(alloc);
+        for number in 0..self.slots() {
+            let Some(node) = self.node_at(alloc, number)? else {
+                return Ok(nodes);
+            };
+            nodes.push(node)?;
+        }
+        Ok(nodes)
+    }
+
+    /// Crashes a node, unless that is refused.
+    fn crash_node(&self, request: CrashRequest) -> Result<(), CrashRefusal>
+        ensures { result ≡ Err CrashRefusals.Unsafe → request.is_forced ≡ false }
+    {
+        let is_member = self.ring.is_live(request.node);
+        let stands = self.ring.may_crash(self.rt, request.node) == Ok(true);
+        if let Some(refusal) = crash_refusal(is_member, stands, request.is_forced) {
+            return Err(refusal);
+        }
+        match self.ring.crash(self.rt, request.node) {
+            Ok(()) => Ok(()),
+            Err(_) => Err(CrashRefusal::NoSuchNode),
+        }
+    }
+}
+
+/// Why a node does not crash, if it does not.
+fn crash_refusal(is_member: bool, stands_without: bool, is_forced: bool) -> Option<CrashRefusal>
+    ensures { result ≡ crash_refusal is_member stands_without is_forced }
+{
+    if !is_member {
+        return Some(CrashRefusal::NotLive);
+    }
+    if is_forced || stands_without {
+        return None;
+    }
+    Some(CrashRefusal::Unsafe)
+}
+
+impl<'t, 's, 'r, J: Naming, S: EntryStore, R: Host> Operator for RingOperator<'t, 's, 'r, J, S, R> {
+    ghost answers = { λ old question answer new. (new ≡ old) × Tells old.desk.now.plan.now.settings question answer };
+
+    fn sight(&mut self, alloc: Global) -> Result<RingSight, AllocError> {
+        let nodes = self.nodes(alloc)?;
+        let settings = self.desk.plan.settings;
+        Ok(RingSight {
+            successors: settings.successors as u64,
+            slots: settings.slots as u64,
+            callers: CallerCounts {
+                open: self.pool.serving(),
+                all: settings.callers as u64,
+            },
+            connections: self.clients.count(self.rt),
+            uptime_ms: self.desk.uptime_ms(self.rt),
+            nodes,
+        })
+    }
+
+    fn is_healthy(&mut self) -> bool {
+        for number in 0..self.slots() {
+            if self.ring.phase_of(self.rt, number) == Some(Phase::Staying) {
+                return true;
+            }
+        }
+        false
+    }
+
+    /// No node joins while the server runs.
+    fn join(&mut self, _request: JoinRequest) -> Result<u64, JoinRefusal> {
+        Err(JoinRefusal::NoStore)
+    }
+
+    fn leave(&mut self, node: u64) -> Result<(), LeaveRefusal> {
+        match self.ring.leave(self.rt, node) {
+            Ok(()) => Ok(()),
+            Err(LeaveFault::NoSuchNode) => Err(LeaveRefusal::NoSuchNode),
+            Err(LeaveFault::NotStaying) => Err(LeaveRefusal::NotStaying),
+        }
+    }
+
+    fn crash(&mut self, request: CrashRequest) -> Result<(), CrashRefusal> {
+        if !self.ring.was_admitted(request.node) {
+            return Err(CrashRefusal::NoSuchNode);
+        }
+        let turn = self.desk.crashing.lock(self.rt);
+        let crashed = self.crash_node(request);
+        drop(turn);
+        crashed
+    }
+
+    /// Asks one node after another, each under its lock. A node that holds the identifier counts
+    /// before a handover of it.
+    fn holder(&mut self, id: Id) -> Holder {
+        let mut found = Holder::Moved;
+        for number in 0..self.slots() {
+            match self.ring.holding(self.rt, number, id) {
+                Some(chord_model::Holder::Node(node)) => return Holder::Node(node),
+                Some(chord_model::Holder::UnderWay { from, to, number }) => {
+                    found = Holder::Handover { from, to, number };
+                }
+                None => {}
+            }
+        }
+        found
+    }
+
+    fn pairs(&mut self, _alloc: Global, _request: PairsRequest) -> Result<PairsPage, AllocError> {
+        Err(AllocError)
+    }
+
+    fn stop(&mut self) {
+        self.until.stop(self.rt);
+    }
+}

@@ -1,0 +1,9 @@
+//! The tests of `chord_app_sockets`.
+#![tactic(auto)]
+
+#[cfg(test)]
+mod closing;
+#[cfg(test)]
+mod ends;
+#[cfg(test)]
+mod patience;
