@@ -1,0 +1,160 @@
+#!/usr/bin/env bash
+# Redis's own tools as clients of `chord serve --redis`, and both servers beside each other:
+#     bench/redis.sh [REQUESTS [ROUNDS]]     requests a cell (100,000), and rounds (3)
+# Needs the toolchain and redis-cli. What also needs redis-server with redis-benchmark, or python3
+# with its module redis, is skipped with a word where they are missing; it installs nothing. Rows of
+# the last part are medians of requests a second as multiples of Redis's in the same round, over 16
+# nodes. It ends with a status other than 0 where a client was answered otherwise than it says.
+set -euo pipefail
+cd "$(dirname "$0")/.."
+requests=${1-100000} rounds=${2-3} port=17600
+for word in redis-cli rt; do
+    command -v "$word" > /dev/null || { echo "bench/redis.sh needs $word" >&2 && exit 2; }
+done
+room=$(mktemp -d)
+cleanup() { kill $(jobs -p) 2> /dev/null || true; rm -rf "$room"; }
+trap cleanup EXIT
+(cd crates/chord_app && rt run -- --version) > "$room/log" 2>&1 || { cat "$room/log" >&2 && exit 1; }
+{
+    printf 'slots = 16\ncallers = 64\nsuccessors = 4\ntries = 3\nwait = 100\n'
+    for place in $(seq 0 15); do
+        printf '[[node]]\nid = "%x0000000000000000000000000000000"\nstore = "tree"\n' "$place"
+    done
+} > "$room/plan.toml"
+
+# Waits until a server listens at the port.
+await() {
+    for _ in $(seq 200); do
+        (exec 3<> "/dev/tcp/127.0.0.1/$port") 2> /dev/null && return
+        sleep 0.05
+    done
+    echo "nobody listens" >&2 && exit 1
+}
+
+# start SERVER: a new server at a port of its own. stop ends it.
+start() {
+    port=$((port + 1)) hold=''
+    case $1 in
+    redis) redis-server --port $port --save '' --appendonly no > /dev/null & ;;
+    chord)
+        mkfifo "$room/input.$port"
+        crates/chord_app/out/chord_app serve --plan "$room/plan.toml" --redis $port --stay < "$room/input.$port" > /dev/null &
+        exec {hold}> "$room/input.$port"
+        ;;
+    esac
+    server=$!
+    await
+}
+stop() {
+    [ -z "$hold" ] || exec {hold}>&-
+    kill $server 2> /dev/null || true
+    wait $server 2> /dev/null || true
+}
+
+# tells WANTED WORD..: the command of these words is answered so by redis-cli.
+wrong=0
+tells() {
+    local wanted=$1 got
+    shift
+    got=$(redis-cli -p $port "$@" | tr '\n' ' ')
+    [ "$got" = "$wanted " ] || { echo "redis-cli $*: $got" && wrong=1; }
+}
+
+start chord
+tells '2' SADD abc y x
+tells '0' SADD abc x
+tells 'x y' SMEMBERS abc
+tells '2' SCARD abc
+tells '1' SISMEMBER abc x
+tells '1 0' SMISMEMBER abc x z
+tells '1' EXISTS abc abd
+tells 'set' TYPE abc
+tells 'none' TYPE abd
+tells '1' SREM abc y z
+tells 'PONG' PING
+tells 'hello' ECHO hello
+tells 'OK' SELECT 0
+tells 'OK' CLIENT SETNAME me
+tells '17' COMMAND COUNT
+tells "ERR unknown command 'GET' " GET abc
+echo "redis-cli by command: $([ $wrong = 0 ] && echo as wanted || echo NOT as wanted)"
+seq 100000 | sed 's/.*/SADD key:& value:&/' | redis-cli -p $port --pipe > "$room/pipe"
+grep -q 'errors: 0, replies: 100000' "$room/pipe" || { cat "$room/pipe" && wrong=1; }
+echo "redis-cli --pipe: $(tail -1 "$room/pipe")"
+if python3 -c 'import redis' 2> /dev/null; then
+    python3 - $port << 'PYTHON' || wrong=1
+import sys, threading, redis
+
+pool = redis.ConnectionPool(host="127.0.0.1", port=int(sys.argv[1]), max_connections=32)
+faults = []
+
+
+def work(name):
+    try:
+        client = redis.Redis(connection_pool=pool)
+        for turn in range(100):
+            key = f"{name}:{turn}"
+            with client.pipeline(transaction=False) as pipe:
+                for member in ("b", "a", "b"):
+                    pipe.sadd(key, member)
+                pipe.smembers(key)
+                answers = pipe.execute()
+            if answers != [1, 1, 0, {b"a", b"b"}] or client.srem(key, "a", "c") != 1:
+                faults.append((key, answers))
+    except Exception as fault:
+        faults.append((name, fault))
+
+
+threads = [threading.Thread(target=work, args=(name,)) for name in range(32)]
+for thread in threads:
+    thread.start()
+for thread in threads:
+    thread.join()
+print("python3-redis, a pool of 32:", faults[:3] or "as wanted")
+sys.exit(1 if faults else 0)
+PYTHON
+else
+    echo "python3-redis: skipped, python3 has no module redis"
+fi
+stop
+
+if ! command -v redis-server > /dev/null || ! command -v redis-benchmark > /dev/null; then
+    echo "redis-benchmark: skipped, redis-server or redis-benchmark is missing"
+    exit $wrong
+fi
+
+# The median of numbers, one a line.
+median() { sort -g | awk '{ all[NR] = $1 } END { print all[int((NR + 1) / 2)] }'; }
+
+# cell SERVER KIND CLIENTS FLIGHT: sets `rate` to the requests a second that redis-benchmark says.
+cell() {
+    local words
+    start "$1"
+    case $2 in
+    SADD) words='SADD key:__rand_int__ member:__rand_int__' ;;
+    SMEMBERS1) words='SMEMBERS one' ;;
+    SMEMBERS100) words='SMEMBERS hundred' ;;
+    SISMEMBER) words='SISMEMBER one a' ;;
+    esac
+    redis-cli -p $port SADD one a > /dev/null
+    redis-cli -p $port SADD hundred $(seq 100) > /dev/null
+    rate=$(redis-benchmark -p $port -n "$requests" -r 100000 -c "$3" -P "$4" --csv $words | tail -1 | cut -d, -f2 | tr -d '"')
+    stop
+}
+
+for kind in SADD SMEMBERS1 SMEMBERS100 SISMEMBER; do
+    echo "$kind: as a multiple of Redis (requests a second of Redis)"
+    for shape in "1 1" "16 1" "64 1" "1 16" "16 16" "64 16"; do
+        : > "$room/rows"
+        for _ in $(seq "$rounds"); do
+            cell redis $kind $shape
+            of_redis=$rate
+            cell chord $kind $shape
+            echo "$rate $of_redis" >> "$room/rows"
+        done
+        ratio=$(awk '{ printf "%.2f\n", $1 / $2 }' "$room/rows" | median)
+        base=$(awk '{ print $2 }' "$room/rows" | median)
+        echo "  -c ${shape/ / -P }: $ratio ($base)"
+    done
+done
+exit $wrong
