@@ -1,5 +1,5 @@
 -- Reading answers gives exactly the fault of the table.
-use Rattle.std.proofs.Common.{◌≡◌, ◌≢◌, ℕ, zero, suc, ◌^◌, ◌<◌, ◌||◌, Bool, true, false, cond, eqb, ltb, List, [], ◌∷◌, ◌++◌, length, Option, Some, None, Ok, Err, refl, sym, ap, subst, ◌∙◌, arith, ◌⊎◌, inl, inr}
+use Rattle.std.proofs.Common.{◌≡◌, ◌≢◌, ℕ, zero, suc, ◌^◌, ◌<◌, ◌≤◌, ◌||◌, true, false, cond, eqb, ltb, List, [], ◌∷◌, ◌++◌, length, Option, Some, None, Result, Ok, Err, refl, sym, ap, subst, ◌∙◌, arith, inl, inr}
 use Rattle.std.specs.Int.{w32, w64, to_be_bytes}
 use Rattle.std.proofs.lemmas.Bool.{true≢false, eqb-true, eqb-false, ne_eqb, eq-eqb, cases_Bool}
 use Rattle.std.proofs.lemmas.List.{nil_from_length}
@@ -11,13 +11,14 @@ use Rattle.chord_wire.specs.declared.fault.WireFault.{WireFault}
 use Rattle.chord_wire.specs.declared.fault.FaultCode.TheVariants.{BadLength, BadVersion, BadOperation, BadValue, Trailing}
 use Rattle.chord_wire.specs.Fault.{fault, code_of}
 use Rattle.chord_wire.specs.Spelling.{IsBytes}
-use Rattle.chord_wire.specs.Replies.{kind_of, number_of, fields_of, IsAnswer}
-use Rattle.chord_wire.specs.Reading.{◌>>=◌, number_at, value_at}
+use Rattle.chord_wire.specs.Replies.{kind_of, number_of, fields_of, IsAnswer, answer_body}
+use Rattle.chord_wire.specs.Reading.{◌>>=◌, number_at, value_at, next_of}
 use Rattle.chord_wire.specs.ReadingReplies.{or_fault, status_of, status_at, code_at, is_above, value_above, rising_at, values_from, answer_at, answer_fields, answer_in, next_answer}
-use Rattle.chord_wire.specs.FaultTable.{AnswerHead, IsKind, BeginsWithAnswer, AnswerFaultOf}
-use Rattle.chord_wire.specs.FaultTable.AnswerFaultOf.{Bad_length, Bad_version, Bad_operation, Bad_value, Trails}
+use Rattle.chord_wire.specs.FaultTable.{AnswerHead, IsKind, BeginsWithAnswer, AnswerFaultFrom}
+use Rattle.chord_wire.specs.FaultTable.AnswerFaultFrom.{Bad_length, Bad_version, Bad_operation, Bad_value, Trails}
 use Rattle.chord_wire.proofs.Steps.{wide64, number_again}
-use Rattle.chord_wire.proofs.AnswerLaws.{answers, answer_takes, status_again, fault_again, known_kind, is_answer}
+use Rattle.chord_wire.proofs.NextLaws.{IsRead}
+use Rattle.chord_wire.proofs.AnswerLaws.{answer_takes, status_again, fault_again, known_kind, is_answer}
 use Rattle.chord_wire.proofs.FaultLaws.{Fails, fails_ok, fails_err, fails_if, fails_then, fails_so, number_fails, value_fails, broke, body_of, fields_fit, next_fails, length_reads, ok_then, err_not, err_is, next_fault}
 use Rattle.chord_wire.proofs.FaultLaws.Broke.{First, Then}
 
@@ -82,14 +83,14 @@ answer_read : (a : Answer) (rest : List ℕ) → IsAnswer a → answer_at (kind_
 answer_read (answer.Reply number reply) rest fits = status_again number reply rest fits.1
 answer_read (answer.Fault number code) rest fits = fault_again number code rest fits.1
 
-begins_read : {bytes : List ℕ} (head : AnswerHead bytes) (a : Answer) (rest : List ℕ) → BeginsWithAnswer head a rest → answer_at head.op head.number head.fields ≡ Ok (a, rest)
+begins_read : {least : ℕ} {bytes : List ℕ} (head : AnswerHead least bytes) (a : Answer) (rest : List ℕ) → BeginsWithAnswer head a rest → answer_at head.op head.number head.fields ≡ Ok (a, rest)
 begins_read head a rest begins =
     ap (answer_at head.op head.number) begins.parts
     ∙ ap (λ (k : ℕ). answer_at k head.number (fields_of a ++ rest)) (sym begins.kind)
     ∙ ap (λ (n : ℕ). answer_at (kind_of a) n (fields_of a ++ rest)) (sym begins.number)
     ∙ answer_read a rest begins.is_answer
 
-kind_of_begun : {bytes : List ℕ} (head : AnswerHead bytes) (a : Answer) (rest : List ℕ) → BeginsWithAnswer head a rest → IsKind head.op
+kind_of_begun : {least : ℕ} {bytes : List ℕ} (head : AnswerHead least bytes) (a : Answer) (rest : List ℕ) → BeginsWithAnswer head a rest → IsKind head.op
 kind_of_begun head a rest begins = subst IsKind begins.kind (is_kind a)
   where
     is_reply_kind : (reply : Reply) → IsKind (kind_of (answer.Reply 0 reply))
@@ -112,7 +113,7 @@ bad_kind : (version kind : ℕ) (rest : List ℕ) → version ≡ 1 → (((eqb k
 unfolding answer_in
 bad_kind version kind rest one not_so = rw (eq-eqb version 1 one, not_so) refl
 
-known_reads : {bytes : List ℕ} (head : AnswerHead bytes) → head.version ≡ 1 → IsKind head.op → answer_in (body_of head) ≡ answer_fields head.op (to_be_bytes w64 head.number ++ head.fields)
+known_reads : {least : ℕ} {bytes : List ℕ} (head : AnswerHead least bytes) → head.version ≡ 1 → IsKind head.op → answer_in (body_of head) ≡ answer_fields head.op (to_be_bytes w64 head.number ++ head.fields)
 unfolding answer_in
 known_reads head one known = rw (eq-eqb head.version 1 one, kind_test head.op known) refl
 
@@ -126,7 +127,7 @@ unfolding answer_fields
 trailing_reads kind number fields rest a fits h some = rw (number_again w64 (2 ^ 64) wide64 (fault BadLength 0) number fields fits, h, some) refl
 
 -- the fields begin with the answer that is read
-begun : {bytes : List ℕ} (head : AnswerHead bytes) (x : Answer × List ℕ) → IsKind head.op → IsBytes bytes → answer_at head.op head.number head.fields ≡ Ok x → BeginsWithAnswer head x.0 x.1
+begun : {least : ℕ} {bytes : List ℕ} (head : AnswerHead least bytes) (x : Answer × List ℕ) → IsKind head.op → IsBytes bytes → answer_at head.op head.number head.fields ≡ Ok x → BeginsWithAnswer head x.0 x.1
 begun head x known fits e =
     let t = answer_takes head.op head.number head.fields x known (fields_fit head fits) e in
     record {
@@ -136,52 +137,57 @@ begun head x known fits e =
       is_answer = is_answer x.0 (subst (λ (n : ℕ). n < 2 ^ 64) (sym t.2) head.number_fits) t.3;
     }
 
-pub is_fault : (bytes : List ℕ) (f : WireFault) → IsBytes bytes → AnswerFaultOf bytes f → next_answer bytes ≡ Err f
-is_fault bytes _ fits (Bad_length count rest front small out) = length_reads answers bytes count rest front small out
-is_fault bytes _ fits (Bad_version head bad) = next_fails answers head (fault BadVersion 0) (bad_version head.version head.op _ bad)
-is_fault bytes _ fits (Bad_operation head one bad) =
-    next_fails answers head (fault BadOperation 0)
-    (elim (cases_Bool (((eqb head.op 129 || eqb head.op 130) || eqb head.op 131) || eqb head.op 255)) [
-      | inl is_so ↦ absurd (bad (known_kind head.op is_so))
-      | inr not_so ↦ bad_kind head.version head.op _ one not_so
-    ])
-is_fault bytes _ fits (Bad_value head one known bad) =
-    let d = fault BadValue head.number in
-    let none = fails_so d (answer_at head.op head.number head.fields) (answer_fails head.op head.number head.fields) (λ x e. bad x.0 x.1 (begun head x known fits e)) in
-    next_fails answers head d (known_reads head one known ∙ value_reads head.op head.number head.fields d head.number_fits none)
-is_fault bytes _ fits (Trails head a rest one begins some) =
-    next_fails answers head (fault Trailing head.number) (known_reads head one (kind_of_begun head a rest begins)
-    ∙ trailing_reads head.op head.number head.fields rest a head.number_fits (begins_read head a rest begins) (ne_eqb (length rest) 0 (λ e. some (nil_from_length rest e))))
+module _ {next : List ℕ → Result (Option (Answer × List ℕ)) WireFault} {least : ℕ} (reads : IsRead next least 4098014 answer_in IsAnswer answer_body) where
+  pub is_fault : (bytes : List ℕ) (f : WireFault) → IsBytes bytes → AnswerFaultFrom least bytes f → next bytes ≡ Err f
+  is_fault bytes _ fits (Bad_length count rest front small out) = length_reads reads bytes count rest front small out
+  is_fault bytes _ fits (Bad_version head bad) = next_fails reads head (fault BadVersion 0) (bad_version head.version head.op _ bad)
+  is_fault bytes _ fits (Bad_operation head one bad) =
+      next_fails reads head (fault BadOperation 0)
+      (elim (cases_Bool (((eqb head.op 129 || eqb head.op 130) || eqb head.op 131) || eqb head.op 255)) [
+        | inl is_so ↦ absurd (bad (known_kind head.op is_so))
+        | inr not_so ↦ bad_kind head.version head.op _ one not_so
+      ])
+  is_fault bytes _ fits (Bad_value head one known bad) =
+      let d = fault BadValue head.number in
+      let none = fails_so d (answer_at head.op head.number head.fields) (answer_fails head.op head.number head.fields) (λ x e. bad x.0 x.1 (begun head x known fits e)) in
+      next_fails reads head d (known_reads head one known ∙ value_reads head.op head.number head.fields d head.number_fits none)
+  is_fault bytes _ fits (Trails head a rest one begins some) =
+      next_fails reads head (fault Trailing head.number) (known_reads head one (kind_of_begun head a rest begins)
+      ∙ trailing_reads head.op head.number head.fields rest a head.number_fits (begins_read head a rest begins) (ne_eqb (length rest) 0 (λ e. some (nil_from_length rest e))))
 
 -- ---- from reading to the table
 
-fields_fault : {bytes : List ℕ} (head : AnswerHead bytes) (f : WireFault) → IsBytes bytes → head.version ≡ 1 → IsKind head.op → answer_fields head.op (to_be_bytes w64 head.number ++ head.fields) ≡ Err f → AnswerFaultOf bytes f
+fields_fault : {least : ℕ} {bytes : List ℕ} (head : AnswerHead least bytes) (f : WireFault) → IsBytes bytes → head.version ≡ 1 → IsKind head.op → answer_fields head.op (to_be_bytes w64 head.number ++ head.fields) ≡ Err f → AnswerFaultFrom least bytes f
 unfolding answer_fields
-fields_fault {bytes} head f fits one known e =
+fields_fault {least} {bytes} head f fits one known e =
     let n = head.number in
     let i = rw (number_again w64 (2 ^ 64) wide64 (fault BadLength 0) n head.fields head.number_fits) at e in
     elim (broke (answer_at head.op n head.fields) (λ x. cond (eqb (length x.1) 0) (Ok x.0) (Err (fault Trailing n))) f i) [
       | First b ↦ let bad : (a : Answer) (rest : List ℕ) → ¬ BeginsWithAnswer head a rest = λ a rest begins. err_not f (a, rest) (sym b ∙ begins_read head a rest begins) in
-          subst (AnswerFaultOf bytes) (sym (answer_fails head.op n head.fields f b)) (Bad_value head one known bad)
+          subst (AnswerFaultFrom least bytes) (sym (answer_fails head.op n head.fields f b)) (Bad_value head one known bad)
       | Then x b h ↦ let a = ok_then (eqb (length x.1) 0) x.0 (Err (fault Trailing n)) f h in
           let some : x.1 ≢ [] = λ none. eqb-false (length x.1) 0 a.0 (ap length none) in
-          subst (AnswerFaultOf bytes) (err_is {A = Answer} (fault Trailing n) f a.1) (Trails head x.0 x.1 one (begun head x known fits b) some)
+          subst (AnswerFaultFrom least bytes) (err_is {A = Answer} (fault Trailing n) f a.1) (Trails head x.0 x.1 one (begun head x known fits b) some)
     ]
 
-head_fault : {bytes : List ℕ} (head : AnswerHead bytes) (f : WireFault) → IsBytes bytes → answer_in (body_of head) ≡ Err f → AnswerFaultOf bytes f
-head_fault {bytes} head f fits e =
+pub head_fault : {least : ℕ} {bytes : List ℕ} (head : AnswerHead least bytes) (f : WireFault) → IsBytes bytes → answer_in (body_of head) ≡ Err f → AnswerFaultFrom least bytes f
+head_fault {least} {bytes} head f fits e =
     let tail = to_be_bytes w64 head.number ++ head.fields in
     elim (cases_Bool (eqb head.version 1)) [
       | inr not_one ↦ let bad : head.version ≢ 1 = eqb-false head.version 1 not_one in
-          subst (AnswerFaultOf bytes) (err_is {A = Answer} (fault BadVersion 0) f (sym (bad_version head.version head.op tail bad) ∙ e)) (Bad_version head bad)
+          subst (AnswerFaultFrom least bytes) (err_is {A = Answer} (fault BadVersion 0) f (sym (bad_version head.version head.op tail bad) ∙ e)) (Bad_version head bad)
       | inl is_one ↦ let one = eqb-true head.version 1 is_one in
           elim (cases_Bool (((eqb head.op 129 || eqb head.op 130) || eqb head.op 131) || eqb head.op 255)) [
             | inr not_so ↦ let bad : ¬ IsKind head.op = λ known. absurd (true≢false (sym (kind_test head.op known) ∙ not_so)) in
-                subst (AnswerFaultOf bytes) (err_is {A = Answer} (fault BadOperation 0) f (sym (bad_kind head.version head.op tail one not_so) ∙ e)) (Bad_operation head one bad)
+                subst (AnswerFaultFrom least bytes) (err_is {A = Answer} (fault BadOperation 0) f (sym (bad_kind head.version head.op tail one not_so) ∙ e)) (Bad_operation head one bad)
             | inl is_so ↦ let known = known_kind head.op is_so in fields_fault head f fits one known (sym (known_reads head one known) ∙ e)
           ]
     ]
 
-pub fault_is : (bytes : List ℕ) (f : WireFault) → IsBytes bytes → next_answer bytes ≡ Err f → AnswerFaultOf bytes f
+-- a body of ten bytes has a version, a kind and a number
+pub fault_from : (least : ℕ) (bytes : List ℕ) (f : WireFault) → 10 ≤ least → IsBytes bytes → next_of least 4098014 answer_in bytes ≡ Err f → AnswerFaultFrom least bytes f
+fault_from least bytes f ten = next_fault least 4098014 answer_in (AnswerFaultFrom least) (λ bytes count rest parts fits out. Bad_length count rest parts fits out) (λ bytes head. head_fault head) ten bytes f
+
+pub fault_is : (bytes : List ℕ) (f : WireFault) → IsBytes bytes → next_answer bytes ≡ Err f → AnswerFaultFrom 11 bytes f
 unfolding next_answer
-fault_is = next_fault 11 4098014 answer_in AnswerFaultOf (λ bytes count rest parts fits out. Bad_length count rest parts fits out) (λ bytes head. head_fault head) (omega arith)
+fault_is bytes f = fault_from 11 bytes f (omega arith)

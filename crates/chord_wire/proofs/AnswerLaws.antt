@@ -1,5 +1,5 @@
 -- What a frame answers is what it spells, and a spelling is read again.
-use Rattle.std.proofs.Common.{◌≡◌, ◌≢◌, ℕ, zero, suc, ◌^◌, ◌<◌, ◌≤◌, ◌||◌, not, Bool, true, false, cond, eqb, ltb, List, [], ◌∷◌, ◌++◌, length, Option, Some, None, Result, Ok, Err, refl, sym, ap, subst, ◌∙◌, append_assoc, arith, ◌⊎◌, inl, inr}
+use Rattle.std.proofs.Common.{◌≡◌, ◌≢◌, ℕ, zero, suc, ◌^◌, ◌<◌, ◌≤◌, ◌||◌, not, Bool, true, false, cond, eqb, ltb, List, [], ◌∷◌, ◌++◌, length, Option, Some, None, Ok, Err, refl, sym, ap, subst, ◌∙◌, append_assoc, arith, ◌⊎◌, inl, inr}
 use Rattle.std.specs.List.{flat_map, AllByRecursion}
 use Rattle.std.specs.Int.{w32, w64, to_be_bytes}
 use Rattle.std.proofs.lemmas.Bool.{ltb-false, le-ltb, eqb-true, not-false, or_cases}
@@ -7,19 +7,19 @@ use Rattle.std.proofs.lemmas.List.{nil_from_length, append-nil}
 use Rattle.std.proofs.lemmas.List.Concat.{flat_map-cons}
 use Rattle.chord_wire.specs.declared.fault.WireFault.{WireFault}
 use Rattle.chord_wire.specs.declared.fault.FaultCode.{FaultCode}
-use Rattle.chord_wire.specs.declared.fault.FaultCode.TheVariants.{BadLength, BadVersion, BadOperation, BadKey, BadValue, Trailing, Memory, NumberReused, BadNumber, Full, NoAnswer, BadFloor, CallersSpent}
+use Rattle.chord_wire.specs.declared.fault.FaultCode.TheVariants.{BadLength, BadVersion, BadOperation, BadKey, BadValue, Trailing, Memory, NumberReused, BadNumber, Full, NoAnswer, BadFloor, CallersSpent, SessionKnown, NoSession, OutOfPlace}
 use Rattle.chord_map.specs.declared.reply.Reply.{Reply}
 use Rattle.chord_map.specs.declared.reply.Reply.TheVariants.{Added, Present, SetFull, Values, Removed, Absent}
 use Rattle.chord_wire.specs.declared.answer.Answer.{Answer}
 use Rattle.chord_wire.specs.declared.answer.Answer.TheVariants as answer
-use Rattle.chord_wire.specs.Fault.{fault, out_of_memory, code_of, code_number}
+use Rattle.chord_wire.specs.Fault.{fault, code_of, code_number}
 use Rattle.chord_map.specs.Checked.{IsValue}
-use Rattle.chord_wire.specs.Spelling.{IsBytes, frame, value_field}
+use Rattle.chord_wire.specs.Spelling.{IsBytes, value_field}
 use Rattle.chord_wire.specs.Replies.{IsReply, IsAnswer, reply_kind, reply_fields, values_field, answer_body, kind_of, number_of, fields_of}
 use Rattle.chord_wire.specs.FaultTable.{IsKind}
 use Rattle.chord_wire.specs.Reading.{◌>>=◌, number_at, value_at}
 use Rattle.chord_wire.specs.ReadingReplies.{is_above, or_fault, status_of, status_at, code_at, value_above, rising_at, values_from, answer_at, answer_at_end, answer_fields, answer_in, next_answer}
-use Rattle.chord_wire.proofs.Steps.{IsBytes-rest, IsBytes-front, IsBytes-back, bind_ok, guard_on, guard_then, ok_is, Takes, Takes-then, wide32, wide64, number_takes, number_again}
+use Rattle.chord_wire.proofs.Steps.{IsBytes-rest, bind_ok, guard_on, guard_then, ok_is, Takes, Takes-then, wide32, wide64, number_takes, number_again}
 use Rattle.chord_wire.proofs.NextLaws.{IsRead}
 use Rattle.chord_wire.proofs.RequestLaws.{ends}
 use Rattle.chord_wire.proofs.Rising.{AreRising, are_rising, is_sorted}
@@ -79,6 +79,9 @@ code_again Full ne = refl
 code_again NoAnswer ne = refl
 code_again BadFloor ne = refl
 code_again CallersSpent ne = refl
+code_again SessionKnown ne = refl
+code_again NoSession ne = refl
+code_again OutOfPlace ne = refl
 
 abbrev there_is : {X : Type 0} → X → Option X
 there_is x = Some x
@@ -117,8 +120,11 @@ code_takes n code =
     (case_of (CodeTaken n) n 10 Full _ code (λ e. (e, λ h. absurd cc))
     (case_of (CodeTaken n) n 11 NoAnswer _ code (λ e. (e, λ h. absurd cc))
     (case_of (CodeTaken n) n 12 BadFloor _ code (λ e. (e, λ h. absurd cc))
-    (case_of (CodeTaken n) n 15 CallersSpent None code (λ e. (e, λ h. absurd cc))
-    (λ e. absurd (no_code code e)))))))))))))
+    (case_of (CodeTaken n) n 13 SessionKnown _ code (λ e. (e, λ h. absurd cc))
+    (case_of (CodeTaken n) n 14 NoSession _ code (λ e. (e, λ h. absurd cc))
+    (case_of (CodeTaken n) n 15 CallersSpent _ code (λ e. (e, λ h. absurd cc))
+    (case_of (CodeTaken n) n 16 OutOfPlace None code (λ e. (e, λ h. absurd cc))
+    (λ e. absurd (no_code code e))))))))))))))))
 
 -- ---- statuses
 

@@ -1,5 +1,5 @@
 -- Reading gives exactly the fault of the table.
-use Rattle.std.proofs.Common.{◌≡◌, ◌≢◌, ℕ, ◌+◌, ◌-◌, ◌^◌, ◌<◌, ◌≤◌, ◌&&◌, ◌||◌, not, Bool, true, false, cond, eqb, ltb, leb, List, [], ◌∷◌, ◌++◌, length, take, drop, Option, Some, None, Result, Ok, Err, refl, sym, ap, subst, ◌∙◌, append_assoc, arith, ◌⊎◌, inl, inr}
+use Rattle.std.proofs.Common.{◌≡◌, ◌≢◌, ℕ, ◌+◌, ◌-◌, ◌^◌, ◌<◌, ◌≤◌, ◌&&◌, ◌||◌, Bool, true, false, cond, eqb, ltb, leb, List, [], ◌∷◌, ◌++◌, length, take, drop, Option, Some, None, Result, Ok, Err, refl, sym, ap, subst, ◌∙◌, arith, ◌⊎◌, inl, inr}
 use Rattle.std.specs.Int.{Width, w16, w32, w64, byte_len, from_be_bytes, to_be_bytes}
 use Rattle.std.proofs.lemmas.Bool.{true≢false, ltb-true, eqb-true, eqb-false, lt-ltb, le-ltb, ne_eqb, eq-eqb, or_cases, or_left, or_right, and_parts, and_from, cond-true, cond-false, cases_Bool}
 use Rattle.std.proofs.lemmas.List.{nil_from_length, length-append, take_at}
@@ -9,11 +9,11 @@ use Rattle.chord_wire.specs.declared.request.WireRequest.{WireRequest}
 use Rattle.chord_wire.specs.declared.fault.WireFault.{WireFault}
 use Rattle.chord_wire.specs.declared.fault.FaultCode.TheVariants.{BadLength, BadVersion, BadOperation, BadFloor, BadKey, BadValue, Trailing}
 use Rattle.chord_wire.specs.Fault.{fault}
-use Rattle.chord_wire.specs.Spelling.{IsBytes, operation, operands, key_field, floor_field, frame}
+use Rattle.chord_wire.specs.Spelling.{IsBytes, operands, key_field, floor_field, frame}
 use Rattle.chord_wire.specs.Reading.{◌>>=◌, number_at, bytes_at, floor_at, key_at, value_at, operands_at, fields_at, request_in, body_of_length, body_at, of_body, next_of, next_request}
 use Rattle.chord_wire.specs.FaultTable.{Head, RequestHead, IsVersion, IsKnown, BeginsWithKey, BeginsWithValue, Floored, FaultOf}
 use Rattle.chord_wire.specs.FaultTable.FaultOf.{Bad_length, Bad_version, Bad_operation, Bad_floor, Bad_key, Bad_value, Trails}
-use Rattle.chord_wire.proofs.Steps.{IsBytes-rest, IsBytes-front, IsBytes-back, wide32, wide64, number_takes, number_again}
+use Rattle.chord_wire.proofs.Steps.{IsBytes-rest, IsBytes-back, wide32, wide64, number_takes, number_again}
 use Rattle.chord_wire.proofs.FieldLaws.{floor_takes, floor_again, key_takes, key_again, value_takes, value_again, operands_take, operands_again}
 use Rattle.chord_wire.proofs.RequestLaws.{requests}
 use Rattle.chord_wire.proofs.NextLaws.{IsRead, BodyFound, body_takes, body_again, body_fits}
@@ -45,7 +45,7 @@ fails_so d (Err e) f none = ap (λ (w : WireFault). Err w) (f e refl)
 pub number_fails : (w : Width) (d : WireFault) (bytes : List ℕ) → Fails d (number_at w d bytes)
 number_fails w d bytes = fails_if d (ltb (length bytes) (byte_len w)) (Err d) (Ok (from_be_bytes w (take (byte_len w) bytes), drop (byte_len w) bytes)) (fails_err d) (fails_ok d _)
 
-bytes_fail : (refused : Bool) (d : WireFault) (count : ℕ) (bytes : List ℕ) → Fails d (bytes_at refused d count bytes)
+pub bytes_fail : (refused : Bool) (d : WireFault) (count : ℕ) (bytes : List ℕ) → Fails d (bytes_at refused d count bytes)
 bytes_fail refused d count bytes = fails_if d (refused || ltb (length bytes) count) (Err d) (Ok (take count bytes, drop count bytes)) (fails_err d) (fails_ok d _)
 
 floor_fails : (version number : ℕ) (bytes : List ℕ) → Fails (fault BadFloor number) (floor_at version number bytes)
@@ -103,7 +103,7 @@ body_there {least} {most} head small =
     ap (body_at least most) head.front ∙ body_again least most (body_of head) head.behind small (omega (arith, len, low)) (omega (arith, len, high))
 
 -- the head of a body that was found
-head_in : (least most : ℕ) (bytes : List ℕ) (version op : ℕ) (after rest : List ℕ) → 10 ≤ least → IsBytes bytes → BodyFound least most bytes (version ∷ op ∷ after) rest
+pub head_in : (least most : ℕ) (bytes : List ℕ) (version op : ℕ) (after rest : List ℕ) → 10 ≤ least → IsBytes bytes → BodyFound least most bytes (version ∷ op ∷ after) rest
     → (head : Head least most bytes) × (version ∷ op ∷ after ≡ body_of head)
 head_in least most bytes version op after rest ten fits t =
     let low = t.low in
@@ -160,7 +160,7 @@ length_refused least most count rest small out =
     ∙ ap (λ (k : ℕ). body_of_length least most k (drop 4 bytes)) n
     ∙ cond-true (ltb count least || ltb most count) (Err (fault BadLength 0)) _ out
 
-no_body : (least most : ℕ) (bytes : List ℕ) (count : ℕ) (rest : List ℕ) → bytes ≡ to_be_bytes w32 count ++ rest → count < 2 ^ 32 → (count < least) ⊎ (most < count) → body_at least most bytes ≡ Err (fault BadLength 0)
+pub no_body : (least most : ℕ) (bytes : List ℕ) (count : ℕ) (rest : List ℕ) → bytes ≡ to_be_bytes w32 count ++ rest → count < 2 ^ 32 → (count < least) ⊎ (most < count) → body_at least most bytes ≡ Err (fault BadLength 0)
 no_body least most bytes count rest front small out =
     let test : (ltb count least || ltb most count) ≡ true =
     elim out [
@@ -390,7 +390,7 @@ fields_fault {bytes} head f fits known e =
           operands_fault head x.1 floored f t.0.rest_fits h
     ]
 
-head_fault : {bytes : List ℕ} (head : RequestHead bytes) (f : WireFault) → IsBytes bytes → request_in (body_of head) ≡ Err f → FaultOf bytes f
+pub head_fault : {bytes : List ℕ} (head : RequestHead bytes) (f : WireFault) → IsBytes bytes → request_in (body_of head) ≡ Err f → FaultOf bytes f
 head_fault {bytes} head f fits e =
     let tail = to_be_bytes w64 head.number ++ head.fields in
     elim (cases_Bool (eqb head.version 1 || eqb head.version 2)) [

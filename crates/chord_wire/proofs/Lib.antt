@@ -11,3 +11,5 @@ pub mod StreamLaws
 pub mod AnswerLaws
 pub mod FaultLaws
 pub mod AnswerFaults
+pub mod SessionLaws
+pub mod SessionFaultLaws

@@ -1,19 +1,17 @@
 -- A body of a request asks what it spells, and a spelling is read again, whatever bytes follow.
-use Rattle.std.proofs.Common.{◌≡◌, ℕ, ◌+◌, ◌-◌, ◌^◌, ◌<◌, ◌≤◌, ◌&&◌, ◌||◌, not, Bool, true, false, cond, eqb, ltb, List, [], ◌∷◌, ◌++◌, length, take, drop, Option, Some, None, Result, Ok, Err, refl, sym, ap, subst, ◌∙◌, append_assoc, arith, ◌⊎◌, inl, inr}
-use Rattle.std.specs.Int.{w32, w64, to_be_bytes, from_be_bytes}
-use Rattle.std.proofs.lemmas.Bool.{ltb-true, ltb-false, eqb-true, le-ltb, eq-eqb, not-false, or_cases, or_parts, or_from, or_left, or_right, and_parts, cond-false, cases_Bool}
-use Rattle.std.proofs.lemmas.List.{nil_from_length, append-nil, take-append-drop, length-take, length-append, take_at, drop_at, take-append-le, drop-append-le}
-use Rattle.std.proofs.lemmas.Nat.{from_be_bytes-to_be_bytes_4}
+use Rattle.std.proofs.Common.{◌≡◌, ℕ, ◌^◌, ◌<◌, ◌≤◌, ◌&&◌, ◌||◌, not, true, cond, eqb, ltb, List, [], ◌∷◌, ◌++◌, length, Some, Ok, Err, refl, sym, ap, subst, ◌∙◌, arith, ◌⊎◌, inl, inr}
+use Rattle.std.specs.Int.{w64, to_be_bytes}
+use Rattle.std.proofs.lemmas.Bool.{ltb-true, eqb-true, eq-eqb, not-false, or_cases, or_left, or_right, and_parts}
+use Rattle.std.proofs.lemmas.List.{nil_from_length, append-nil, length-append}
 use Rattle.chord_map.specs.declared.request.Request.{Request}
 use Rattle.chord_map.specs.declared.request.Request.TheVariants.{Insert, Retrieve, Remove}
 use Rattle.chord_wire.specs.declared.request.WireRequest.{WireRequest}
-use Rattle.chord_wire.specs.declared.fault.WireFault.{WireFault}
 use Rattle.chord_wire.specs.declared.fault.FaultCode.TheVariants.{BadLength, BadVersion, BadOperation, Trailing}
-use Rattle.chord_wire.specs.Fault.{fault, out_of_memory}
+use Rattle.chord_wire.specs.Fault.{fault}
 use Rattle.chord_map.specs.Checked.{IsRequest}
-use Rattle.chord_wire.specs.Spelling.{IsBytes, operation, operands, key_field, value_field, floor_field, request_body, frame, HasFloor, IsWireRequest}
+use Rattle.chord_wire.specs.Spelling.{IsBytes, operation, operands, key_field, value_field, floor_field, request_body, HasFloor, IsWireRequest}
 use Rattle.chord_wire.specs.Reading.{◌>>=◌, number_at, floor_at, operands_at, fields_at, request_in, body_at, next_request}
-use Rattle.chord_wire.proofs.Steps.{IsBytes-rest, IsBytes-drop, IsBytes-front, IsBytes-back, bind_ok, guard_then, guard_on, Takes, Takes-then, wide32, wide64, number_takes, number_again}
+use Rattle.chord_wire.proofs.Steps.{IsBytes-rest, bind_ok, guard_then, guard_on, Takes-then, wide64, number_takes, number_again}
 use Rattle.chord_wire.proofs.NextLaws.{IsRead}
 use Rattle.chord_wire.proofs.FieldLaws.{floor_takes, floor_again, operands_take, operands_again}
 

@@ -68,26 +68,31 @@ pub data FaultOf (bytes : List ℕ) : WireFault → Type 0 where
 
 -- ---- answers
 
-abbrev pub AnswerHead : List ℕ → Type 0
-AnswerHead bytes = Head 11 4098014 bytes
+-- the first frame of answers whose bodies have `least` bytes or more
+abbrev pub AnswerHead : ℕ → List ℕ → Type 0
+AnswerHead least bytes = Head least 4098014 bytes
 
 -- the kinds of answers: to an insert or a remove, to a retrieve, or a fault
 abbrev pub IsKind : ℕ → Type 0
 IsKind kind = ((kind ≡ 129) ⊎ (kind ≡ 131)) ⊎ ((kind ≡ 130) ⊎ (kind ≡ 255))
 
 -- the frame's fields begin with those of this answer, and the rest comes after them
-pub record BeginsWithAnswer {bytes : List ℕ} (head : AnswerHead bytes) (answer : Answer) (rest : List ℕ) : Type 0 where
+pub record BeginsWithAnswer {least : ℕ} {bytes : List ℕ} (head : AnswerHead least bytes) (answer : Answer) (rest : List ℕ) : Type 0 where
   pub kind : kind_of answer ≡ head.op
   pub number : number_of answer ≡ head.number
   pub parts : head.fields ≡ fields_of answer ++ rest
   pub is_answer : IsAnswer answer
 
-pub data AnswerFaultOf (bytes : List ℕ) : WireFault → Type 0 where
-  Bad_length : (count : ℕ) (rest : List ℕ) → bytes ≡ to_be_bytes w32 count ++ rest → count < 2 ^ 32 → (count < 11) ⊎ (4098014 < count)
-      → AnswerFaultOf bytes (fault BadLength 0)
-  Bad_version : (head : AnswerHead bytes) → head.version ≢ 1 → AnswerFaultOf bytes (fault BadVersion 0)
-  Bad_operation : (head : AnswerHead bytes) → head.version ≡ 1 → ¬ IsKind head.op → AnswerFaultOf bytes (fault BadOperation 0)
-  Bad_value : (head : AnswerHead bytes) → head.version ≡ 1 → IsKind head.op → ((answer : Answer) (rest : List ℕ) → ¬ BeginsWithAnswer head answer rest)
-      → AnswerFaultOf bytes (fault BadValue head.number)
-  Trails : (head : AnswerHead bytes) (answer : Answer) (rest : List ℕ) → head.version ≡ 1 → BeginsWithAnswer head answer rest → rest ≢ []
-      → AnswerFaultOf bytes (fault Trailing head.number)
+-- the fault of answers whose bodies have `least` bytes or more
+pub data AnswerFaultFrom (least : ℕ) (bytes : List ℕ) : WireFault → Type 0 where
+  Bad_length : (count : ℕ) (rest : List ℕ) → bytes ≡ to_be_bytes w32 count ++ rest → count < 2 ^ 32 → (count < least) ⊎ (4098014 < count)
+      → AnswerFaultFrom least bytes (fault BadLength 0)
+  Bad_version : (head : AnswerHead least bytes) → head.version ≢ 1 → AnswerFaultFrom least bytes (fault BadVersion 0)
+  Bad_operation : (head : AnswerHead least bytes) → head.version ≡ 1 → ¬ IsKind head.op → AnswerFaultFrom least bytes (fault BadOperation 0)
+  Bad_value : (head : AnswerHead least bytes) → head.version ≡ 1 → IsKind head.op → ((answer : Answer) (rest : List ℕ) → ¬ BeginsWithAnswer head answer rest)
+      → AnswerFaultFrom least bytes (fault BadValue head.number)
+  Trails : (head : AnswerHead least bytes) (answer : Answer) (rest : List ℕ) → head.version ≡ 1 → BeginsWithAnswer head answer rest → rest ≢ []
+      → AnswerFaultFrom least bytes (fault Trailing head.number)
+
+abbrev pub AnswerFaultOf : List ℕ → WireFault → Type 0
+AnswerFaultOf bytes f = AnswerFaultFrom 11 bytes f

@@ -6,3 +6,6 @@ pub mod Reading
 pub mod ReadingReplies
 pub mod Streams
 pub mod FaultTable
+pub mod SessionSpelling
+pub mod SessionReading
+pub mod SessionFaults

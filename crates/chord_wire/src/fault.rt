@@ -35,6 +35,12 @@ pub enum FaultCode {
     BadFloor,
     #[error("no caller is left for the connection")]
     CallersSpent,
+    #[error("the session is known already")]
+    SessionKnown,
+    #[error("no such session is kept")]
+    NoSession,
+    #[error("the frame does not belong here")]
+    OutOfPlace,
 }
 
 impl FaultCode {
@@ -54,7 +60,10 @@ impl FaultCode {
             codes::FULL => Some(FaultCode::Full),
             codes::NO_ANSWER => Some(FaultCode::NoAnswer),
             codes::BAD_FLOOR => Some(FaultCode::BadFloor),
+            codes::SESSION_KNOWN => Some(FaultCode::SessionKnown),
+            codes::NO_SESSION => Some(FaultCode::NoSession),
             codes::CALLERS_SPENT => Some(FaultCode::CallersSpent),
+            codes::OUT_OF_PLACE => Some(FaultCode::OutOfPlace),
             _ => None,
         }
     }
@@ -77,6 +86,9 @@ impl FaultCode {
             FaultCode::NoAnswer => codes::NO_ANSWER,
             FaultCode::BadFloor => codes::BAD_FLOOR,
             FaultCode::CallersSpent => codes::CALLERS_SPENT,
+            FaultCode::SessionKnown => codes::SESSION_KNOWN,
+            FaultCode::NoSession => codes::NO_SESSION,
+            FaultCode::OutOfPlace => codes::OUT_OF_PLACE,
         }
     }
 }

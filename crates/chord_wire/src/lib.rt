@@ -5,6 +5,9 @@
 //! client. The writers, as [`write_request`] and [`write_reply`], make one
 //! frame each. A frame that breaks a rule is a [`WireFault`] with its code.
 //!
+//! A session may outlive its connection. Its frames are read by [`SessionFrames`] and
+//! [`SessionAnswers`], which know [`Opening`] and the frames that end a session too.
+//!
 //! [`laws`] says that every stream has one reading, however it was cut.
 #![tactic(auto)]
 
@@ -17,7 +20,12 @@ pub mod laws;
 mod reader;
 mod reading;
 mod request;
+mod session_answer;
+mod session_answers;
+mod session_frame;
+mod session_frames;
 mod stream;
+mod token;
 mod writing;
 
 pub use answer::Answer;
@@ -25,5 +33,11 @@ pub use answers::Answers;
 pub use fault::{FaultCode, WireFault};
 pub use frames::Frames;
 pub use request::WireRequest;
+pub use session_answer::SessionAnswer;
+pub use session_answers::SessionAnswers;
+pub use session_frame::{Opening, SessionFrame};
+pub use session_frames::SessionFrames;
+pub use token::Token;
+pub use writing::sessions::{write_close, write_closed, write_open, write_opened};
 pub use writing::writable::is_writable;
 pub use writing::{write_fault, write_reply, write_request, write_request_2};

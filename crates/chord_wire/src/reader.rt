@@ -53,6 +53,12 @@ impl<T: Framed> Reader<T> {
         self.stream.left()
     }
 
+    pub(crate) fn as_slice(&self) -> &[u8]
+        ensures { result.now ≡ self.now }
+    {
+        self.stream.as_slice()
+    }
+
     /// Adds a piece of the stream.
     pub fn feed(&mut self, piece: &[u8]) -> Result<(), WireFault>
         ensures ok { OnOk result (self.new ≡ self.old ++ piece.now) }

@@ -4,4 +4,6 @@ pub mod answer_body;
 pub mod fields;
 pub mod frame;
 pub mod request_body;
+pub mod session_answer_body;
+pub mod session_body;
 pub mod values;

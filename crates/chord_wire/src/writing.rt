@@ -14,6 +14,7 @@ use chord_map::{Reply, Request};
 use std::alloc::{AllocError, Global};
 
 pub mod fields;
+pub mod sessions;
 pub mod writable;
 
 // The bytes of version, operation and number.

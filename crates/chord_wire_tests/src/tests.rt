@@ -1,6 +1,7 @@
 //! Worked frames.
 
 mod growths;
+mod sessions;
 
 use chord_map::{Bytes, Reply, Request, Values};
 use chord_wire::{
@@ -554,7 +555,7 @@ fn is_read_back(alloc: Global, number: u8) -> bool {
 
 #[test]
 fn faults_are_read_back(rt: HostRuntime) {
-    for number in [1, 2, 3, 4, 5, 6, 8, 9, 10, 11, 12, 15] {
+    for number in [1, 2, 3, 4, 5, 6, 8, 9, 10, 11, 12, 13, 14, 15, 16] {
         assert!(rt; is_read_back(rt.alloc(), number), "{number}");
     }
 }
@@ -568,7 +569,7 @@ fn is_code_written(alloc: Global, number: u8) -> Option<bool> {
 
 #[test]
 fn faults_are_written(rt: HostRuntime) {
-    for number in [1, 2, 3, 4, 5, 6, 8, 9, 10, 11, 12, 15] {
+    for number in [1, 2, 3, 4, 5, 6, 8, 9, 10, 11, 12, 13, 14, 15, 16] {
         let written = is_code_written(rt.alloc(), number);
         assert!(rt; written == Some(true), "{number}");
     }
@@ -584,7 +585,7 @@ fn fault_of_number(alloc: Global, number: u8) -> Option<FaultCode> {
 
 #[test]
 fn no_other_code_is_a_fault(rt: HostRuntime) {
-    for number in [0, 7, 13, 14, 16] {
+    for number in [0, 7, 17] {
         let code = FaultCode::from_number(number);
         assert!(rt; code == None, "{number} is no code");
         let fault = fault_of_number(rt.alloc(), number);
