@@ -1,11 +1,12 @@
 -- One step of a reading, and a reading that goes on with more bytes.
-use Rattle.std.proofs.Common.{◌≡◌, ℕ, ◌+◌, ◌<◌, List, [], ◌∷◌, ◌++◌, length, drop, get_or, Err, refl, sym, ap, ◌∙◌, add-one, drop-cons}
+use Rattle.std.proofs.Common.{◌≡◌, ℕ, ◌+◌, ◌-◌, ◌<◌, ◌≤◌, take, arith, List, [], ◌∷◌, ◌++◌, length, drop, get_or, Err, refl, sym, ap, ◌∙◌, add-one, drop-cons}
+use Rattle.std.proofs.lemmas.List.{take_rest, length-drop, drop-drop}
 use Rattle.chord_resp.specs.declared.reading.protocol_error.ProtocolError.{ProtocolError}
 use Rattle.chord_resp.specs.declared.reading.read_error.ReadError.{ReadError}
 use Rattle.chord_resp.specs.declared.reading.read_error.ReadError.TheVariants as error
 use Rattle.chord_resp.specs.declared.reading.word.Word.{Word}
 use Rattle.chord_resp.specs.Machine.{State, Outcome, Goes, Gives, Fails, start, step}
-use Rattle.chord_resp.specs.Reading.{Reading, Open, Broken, reading, after, with_commands, with_more, StepIs, TakesNext, keeps}
+use Rattle.chord_resp.specs.Reading.{Reading, Open, Broken, reading, after, with_commands, with_more, StepIs, Skims, TakesNext, keeps}
 
 -- the reading of the bytes from this index on, after what the byte there does
 pub reading_at : (s : State) (bytes : List ℕ) (i : ℕ) → i < length bytes → reading s (drop i bytes) ≡ after (step s (get_or bytes i 0)) (λ t. reading t (drop (i + 1) bytes))
@@ -44,3 +45,15 @@ stops s s' new bytes i lt (error.Protocol f) rest h = (sym rest ∙ fails s byte
 stops s s' new bytes i lt error.Memory rest h =
     let front : drop i bytes ≡ get_or bytes i 0 ∷ drop (i + 1) bytes = rw (add-one, drop-cons bytes i 0) refl in
     ((get_or bytes i 0, drop (i + 1) bytes, front, rw h.1 h.0), rw h.1 rest)
+
+-- bytes that are read together, behind others: where they end, and what is read from there on
+module _ (s s' new : State) (bytes : List ℕ) (i n : ℕ) where
+  pub within : i ≤ length bytes → Skims s (take (length bytes - i) (drop i bytes)) n new → i + n ≤ length bytes
+  within there h =
+      let few : n ≤ length (drop i bytes) = rw (take_rest bytes i) at h.0 in
+      omega (arith, there, rw (length-drop i bytes) at few)
+
+  pub on : reading s (drop i bytes) ≡ reading s' bytes → Skims s (take (length bytes - i) (drop i bytes)) n new → reading new (drop (i + n) bytes) ≡ reading s' bytes
+  on rest h =
+      let read : reading s (drop i bytes) ≡ reading new (drop n (drop i bytes)) = rw (take_rest bytes i) at h.1 in
+      sym (rw (drop-drop n i bytes) at read) ∙ rest

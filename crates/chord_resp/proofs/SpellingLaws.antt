@@ -1,15 +1,15 @@
 -- A command that is written as an array is read.
-use Rattle.std.proofs.Common.{◌≡◌, ℕ, suc, ◌-◌, ◌^◌, ◌<◌, ◌≤◌, false, cond, eqb, ltb, leb, List, [], ◌∷◌, ◌++◌, map, length, refl, ap, ◌∙◌, append_assoc, arith, inl, inr}
+use Rattle.std.proofs.Common.{◌≡◌, ℕ, suc, ◌+◌, ◌-◌, take, drop, sym, ◌^◌, ◌<◌, ◌≤◌, false, cond, eqb, ltb, leb, List, [], ◌∷◌, ◌++◌, map, length, refl, ap, ◌∙◌, append_assoc, arith, inl, inr}
 use Rattle.std.specs.Prelude.{decimal}
 use Rattle.std.specs.List.{flat_map, AllByRecursion}
 use Rattle.std.proofs.lemmas.Bool.{ne_eqb, cases_Bool}
 use Rattle.std.proofs.lemmas.Bool.Decides.{nat_tests}
 use Rattle.std.proofs.lemmas.Fmt.{decimal_nonempty}
-use Rattle.std.proofs.lemmas.List.{append-nil}
+use Rattle.std.proofs.lemmas.List.{append-nil, length-take-le, take-append-drop}
 use Rattle.std.proofs.lemmas.List.Concat.{flat_map-cons}
 use Rattle.chord_resp.specs.declared.reading.phase.Phase.TheVariants as phase
 use Rattle.chord_resp.specs.declared.reading.word.Word.{Word}
-use Rattle.chord_resp.specs.Machine.{State, Outcome, Goes, Gives, start, step, word_of, word_of_length}
+use Rattle.chord_resp.specs.Machine.{State, Outcome, Goes, Gives, start, step, kept, word_of, word_of_length}
 use Rattle.chord_resp.specs.Reading.{reading, after, with_commands}
 use Rattle.chord_resp.specs.Spelling.{newline, bulk, array, AreWords}
 use Rattle.chord_resp.proofs.NumberLaws.{at, goes_by, counts, sizes, number_read}
@@ -22,9 +22,6 @@ some_digits : (n : ℕ) → n < 2 ^ 64 → eqb (length (decimal n)) 0 ≡ false
 some_digits n fits = ne_eqb (length (decimal n)) 0 (λ e. absurd (omega (arith, decimal_nonempty n fits, e)))
 
 -- ---- the bytes of a word
-
-abbrev kept : ℕ → List ℕ → List ℕ → List ℕ
-kept count p more = cond (ltb 4096 count) p (p ++ more)
 
 kept_on : (count : ℕ) (p : List ℕ) (byte : ℕ) (bytes : List ℕ) → kept count (kept count p (byte ∷ [])) bytes ≡ kept count p (byte ∷ bytes)
 kept_on count p byte bytes =
@@ -40,17 +37,35 @@ body_byte w ws p count left byte =
     let less : suc left - 1 ≡ left = omega arith in
     rw (some, less) refl
 
+-- the first bytes of a word, and how many bytes of it are left
+pub body_part : (w : ℕ) (ws : List Word) (p : List ℕ) (count left : ℕ) (bytes rest : List ℕ)
+    → reading (at (phase.Body count (length bytes + left)) w ws p) (bytes ++ rest) ≡ reading (at (phase.Body count left) w ws (kept count p bytes)) rest
+body_part w ws p count left [] rest =
+    let none : length {A = ℕ} [] + left ≡ left = omega arith in
+    elim (cases_Bool (ltb 4096 count)) [
+      | inl long ↦ rw (none, long) refl
+      | inr short ↦ rw (none, short, append-nil p) refl
+    ]
+body_part w ws p count left (byte ∷ bytes) rest =
+    let one_less : length (byte ∷ bytes) + left ≡ suc (length bytes + left) = omega arith in
+    rw one_less (goes_by (at (phase.Body count (suc (length bytes + left))) w ws p) (at (phase.Body count (length bytes + left)) w ws (kept count p (byte ∷ []))) byte (bytes ++ rest) (body_byte w ws p count (length bytes + left) byte)
+    ∙ body_part w ws (kept count p (byte ∷ [])) count left bytes rest
+    ∙ ap (λ (q : List ℕ). reading (at (phase.Body count left) w ws q) rest) (kept_on count p byte bytes))
+
 body_read : (w : ℕ) (ws : List Word) (p : List ℕ) (count : ℕ) (bytes rest : List ℕ)
     → reading (at (phase.Body count (length bytes)) w ws p) (bytes ++ rest) ≡ reading (at (phase.Body count 0) w ws (kept count p bytes)) rest
-body_read w ws p count [] rest =
-    elim (cases_Bool (ltb 4096 count)) [
-      | inl long ↦ rw long refl
-      | inr short ↦ rw (short, append-nil p) refl
-    ]
-body_read w ws p count (byte ∷ bytes) rest =
-    goes_by (at (phase.Body count (length (byte ∷ bytes))) w ws p) (at (phase.Body count (length bytes)) w ws (kept count p (byte ∷ []))) byte (bytes ++ rest) (body_byte w ws p count (length bytes) byte)
-    ∙ body_read w ws (kept count p (byte ∷ [])) count bytes rest
-    ∙ ap (λ (q : List ℕ). reading (at (phase.Body count 0) w ws q) rest) (kept_on count p byte bytes)
+body_read w ws p count bytes rest =
+    let all : length bytes + 0 ≡ length bytes = omega arith in
+    rw all at (body_part w ws p count 0 bytes rest)
+
+-- the first bytes of a word, read together
+pub skimmed : (w : ℕ) (ws : List Word) (p : List ℕ) (count left n : ℕ) (bytes : List ℕ) → n ≤ left → n ≤ length bytes
+    → reading (at (phase.Body count left) w ws p) bytes ≡ reading (at (phase.Body count (left - n)) w ws (kept count p (take n bytes))) (drop n bytes)
+skimmed w ws p count left n bytes few there =
+    let taken : length (take n bytes) ≡ n = length-take-le n bytes there in
+    let whole : length (take n bytes) + (left - n) ≡ left = omega (arith, taken, few) in
+    ap (reading (at (phase.Body count left) w ws p)) (sym (take-append-drop n bytes))
+    ∙ (rw whole at (body_part w ws p count (left - n) (take n bytes) (drop n bytes)))
 
 -- ---- a word
 

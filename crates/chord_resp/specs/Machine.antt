@@ -124,6 +124,10 @@ count_end_step s number byte =
     else Goes (record { phase = phase.Mark; wanted = number; words = []; partial = [] }))
     else Fails BadCount
 
+-- the bytes of a word that are kept, if the word has this length
+abbrev pub kept : ℕ → List ℕ → List ℕ → List ℕ
+kept count partial bytes = if nat_lt 4096 count then partial else partial ++ bytes
+
 -- a byte of a word, or the `\r` behind it
 abbrev pub body_step : State → ℕ → ℕ → ℕ → Outcome
 body_step s count left byte =

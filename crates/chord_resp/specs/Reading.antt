@@ -1,5 +1,5 @@
 -- What a stream of bytes spells. Source: our own.
-use Rattle.std.specs.Prelude.{◌≡◌, ℕ, List, [], ◌∷◌, ◌++◌, length, Bool, true, false, not, ◌&&◌, ◌==◌, nat_lt, Option, Some, None, Result, Ok, Err}
+use Rattle.std.specs.Prelude.{◌≡◌, ◌≤◌, ℕ, List, [], ◌∷◌, ◌++◌, length, drop, Bool, true, false, not, ◌&&◌, ◌==◌, nat_lt, Option, Some, None, Result, Ok, Err}
 use Rattle.chord_resp.specs.declared.reading.phase.Phase.{Phase}
 use Rattle.chord_resp.specs.declared.reading.phase.Phase.TheVariants as phase
 use Rattle.chord_resp.specs.declared.reading.protocol_error.ProtocolError.{ProtocolError}
@@ -83,6 +83,10 @@ StepIs outcome kept old (Err error.Memory) new = (kept ≡ true) × (new ≡ old
 -- the next byte is to be kept
 abbrev pub KeepsNext : Reader → Type 0
 KeepsNext r = (byte : ℕ) × (bytes : List ℕ) × (r.bytes ≡ byte ∷ bytes) × (keeps r.state.phase byte ≡ true)
+
+-- the machine has read this number of the bytes, and no command has ended
+abbrev pub Skims : State → List ℕ → ℕ → State → Type 0
+Skims old bytes count new = (count ≤ length bytes) × (reading old bytes ≡ reading new (drop count bytes))
 
 -- A call takes the next command. If none is whole it reads all bytes. An error takes nothing, so
 -- that the same call answers it again, or goes on once there is memory.

@@ -2,4 +2,5 @@
 
 mod askers;
 mod commands;
+mod growths;
 mod sessions;

@@ -1,7 +1,7 @@
 //! Reading a client's bytes, one at a time.
-ghost use Rattle.std.specs.Prelude.{◌≡◌, ◌<◌, true, false, nat_lt, IfOk};
-ghost use Rattle.chord_resp.specs.Machine.{start, step, went, line_step, space_step, line_end, count_end_step, body_step, end_step, word_of_length};
-ghost use Rattle.chord_resp.specs.Reading.{StepIs, keeps, is_at_start};
+ghost use Rattle.std.specs.Prelude.{◌≡◌, ◌<◌, true, false, nat_lt, IfOk, OnOk, OnErr};
+ghost use Rattle.chord_resp.specs.Machine.{start, step, kept, went, line_step, space_step, line_end, count_end_step, body_step, end_step, word_of_length};
+ghost use Rattle.chord_resp.specs.Reading.{StepIs, Skims, KeepsNext, keeps, is_at_start};
 
 use crate::limits::{LINE_BYTES, WORD_BYTES};
 use crate::reading::line::{add_word, has_no_room, without_return};
@@ -54,6 +54,38 @@ impl Machine {
         ensures { result ≡ is_at_start self.now.phase }
     {
         self.phase == Phase::Start
+    }
+
+    // Keeps bytes of a word of this length.
+    fn keep(&mut self, length: u32, bytes: &[u8]) -> Result<(), AllocError>
+        ensures ok { OnOk result (self.new ≡ record { phase = self.old.phase; wanted = self.old.wanted; words = self.old.words; partial = kept length self.old.partial bytes.now }) }
+        ensures err { OnErr result (self.new ≡ self.old) }
+    {
+        if length > WORD_BYTES {
+            return Ok(());
+        }
+        self.partial.extend_from_slice(bytes)
+    }
+
+    /// Reads bytes of a word together, up to its end, and tells how many. None are read where no
+    /// word is being read.
+    pub fn skim(&mut self, bytes: &[u8]) -> Result<usize, AllocError>
+        ensures read { IfOk result (λ count. Skims self.old bytes.now count self.new) }
+        ensures err { OnErr result (KeepsNext (record { state = self.old; bytes = bytes.now }) × (self.new ≡ self.old)) }
+    {
+        let Phase::Body { length, left } = self.phase else {
+            return Ok(0);
+        };
+        let count = bytes.len().min(left as usize);
+        if count == 0 {
+            return Ok(0);
+        }
+        self.keep(length, &bytes[..count])?;
+        self.phase = Phase::Body {
+            length,
+            left: left - count as u32,
+        };
+        Ok(count)
     }
 
     /// Takes one byte, which may end a command.

@@ -19,8 +19,20 @@ pub fn take_from(machine: &mut Machine, bytes: &[u8]) -> Taken
     ensures found { TakesNext (record { state = machine.old; bytes = bytes.now }) result.found (record { state = machine.new; bytes = drop result.count bytes.now }) }
 {
     let mut count = 0;
-    for byte in bytes {
-        match machine.step(*byte) {
+    while count < bytes.len() {
+        match machine.skim(&bytes[count..]) {
+            Ok(skimmed) => count += skimmed,
+            Err(_) => {
+                return Taken {
+                    count,
+                    found: Err(ReadError::Memory),
+                };
+            }
+        }
+        if count == bytes.len() {
+            break;
+        }
+        match machine.step(bytes[count]) {
             Ok(None) => count += 1,
             Ok(Some(words)) => {
                 return Taken {

@@ -14,14 +14,14 @@ const COMMANDS: &[u8] = b"*3\r\n$4\r\nSADD\r\n$1\r\nk\r\n$1\r\nv\r\nSMEMBERS k\r
 const ANSWERS: &[u8] = b":1\r\n*1\r\n$1\r\nv\r\n+PONG\r\n";
 
 /// A request that no test asks.
-const NO_TROUBLE: Script = Script {
+pub const NO_TROUBLE: Script = Script {
     number: 0,
     trouble: Trouble::Memory,
     vain: 0,
 };
 
 /// Tells one line.
-struct OneLine;
+pub struct OneLine;
 
 impl Informs for OneLine {
     ghost tells = { λ _ text. text ≡ codes "a:b\r\n" };
@@ -61,7 +61,7 @@ struct Seen {
 }
 
 /// How long the text is, if it begins the other one.
-fn begun(whole: &[u8], text: &[u8]) -> Option<usize> {
+pub fn begun(whole: &[u8], text: &[u8]) -> Option<usize> {
     let front = whole.get(..text.len())?;
     if front == text {
         Some(text.len())
