@@ -68,7 +68,7 @@ has-tree (e ∷ es) rises q =
 
 -- the pairs of a tree are sorted
 
-in_under : (key : List ℕ) (vs : List (List ℕ)) (p : Pair) → Has (pairs_under key vs) p → (p.key ≡ key) × Has vs p.value
+pub in_under : (key : List ℕ) (vs : List (List ℕ)) (p : Pair) → Has (pairs_under key vs) p → (p.key ≡ key) × Has vs p.value
 in_under key [] p h = absurd h
 in_under key (v ∷ vs) p (inl e) = (ap (λ (x : Pair). x.key) (sym e), inl (ap (λ (x : Pair). x.value) e))
 in_under key (v ∷ vs) p (inr h) = let r = in_under key vs p h in (r.0, inr r.1)
@@ -80,7 +80,7 @@ same_key_less p q same less =
 key_less : (p q : Pair) → slice_cmp nat_cmp p.key q.key ≡ Less → pair_cmp p q ≡ Less
 key_less p q less = ap (λ (r : Ordering). ordering_then r (slice_cmp nat_cmp p.value q.value)) less
 
-rises-under : (key : List ℕ) (vs : List (List ℕ)) → Rises (slice_cmp nat_cmp) vs → RisingPairs (pairs_under key vs)
+pub rises-under : (key : List ℕ) (vs : List (List ℕ)) → Rises (slice_cmp nat_cmp) vs → RisingPairs (pairs_under key vs)
 rises-under key [] r = tt
 rises-under key (v ∷ vs) r =
     (λ q h. let at = in_under key vs q h in same_key_less (pair_of key v) q (sym at.0) (r.0 q.value at.1), rises-under key vs r.1)
@@ -162,7 +162,7 @@ module _ (es fs : List (Key × ValueSet)) (es_rises : IsStrictlySortedBy key_cmp
 
 -- the values under a key are those of its set, in order
 
-values-under : (key : List ℕ) (vs : List (List ℕ)) → values_at key (pairs_under key vs) ≡ vs
+pub values-under : (key : List ℕ) (vs : List (List ℕ)) → values_at key (pairs_under key vs) ≡ vs
 values-under key [] = refl
 values-under key (v ∷ vs) =
     ap (λ b. map (λ (p : Pair). p.value) (cond b (pair_of key v ∷ filter (λ (p : Pair). bytes_eq p.key key) (pairs_under key vs)) (filter (λ (p : Pair). bytes_eq p.key key) (pairs_under key vs)))) (bytes_itself key key refl)
@@ -311,3 +311,18 @@ few-set (Some set) = set.few
 -- no key of a tree has more values than a set takes
 pub few-tree : (es : List (Key × ValueSet)) → IsStrictlySortedBy key_cmp (keys_of es) → HasFew (pairs_of_sets es)
 few-tree es rises key = rw (values-tree es rises key (lookup (has_bytes key) es) refl) (few-set (lookup (has_bytes key) es))
+
+-- one key further in a scan that counts the pairs inside the span
+pub count_first : (span : Span) (es rest : List (Key × ValueSet)) (e : Key × ValueSet) (b : Bool) → es ≡ e ∷ rest → b ≡ in_span span (key_id e.0)
+    → length (pairs_inside span (pairs_of_sets es)) ≡ cond b (length e.1.values) 0 + length (pairs_inside span (pairs_of_sets rest))
+unfolding pairs_inside
+count_first span es rest e b is test =
+    ap (λ (xs : List (Key × ValueSet)). length (pairs_inside span (pairs_of_sets xs))) is
+    ∙ ap (λ (ps : List Pair). length ps) (filter-append (λ (q : Pair). in_span span (key_id q.key)) (pairs_under e.0 e.1.values) (pairs_of_sets rest))
+    ∙ length-append (pairs_inside span (pairs_under e.0 e.1.values)) (pairs_inside span (pairs_of_sets rest))
+    ∙ ap (λ (ps : List Pair). length ps + length (pairs_inside span (pairs_of_sets rest))) (inside-under span e.0 e.1.values b test)
+    ∙ ap (λ (n : ℕ). n + length (pairs_inside span (pairs_of_sets rest))) (under_count b)
+  where
+    under_count : (b : Bool) → length (cond b (pairs_under e.0 e.1.values) []) ≡ cond b (length e.1.values) 0
+    under_count true = length-under e.0 e.1.values
+    under_count false = refl

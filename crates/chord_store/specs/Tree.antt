@@ -1,6 +1,5 @@
 -- The pairs of a tree that maps each key to its set of values.
-use Rattle.std.specs.Prelude.{ℕ, Bool, false, List, [], ◌∷◌, ◌++◌, map, Option, None, Some, bytes_eq}
-use Rattle.std.specs.List.{list_any}
+use Rattle.std.specs.Prelude.{ℕ, Bool, false, List, [], ◌∷◌, ◌++◌, map, Option, None, Some}
 use Rattle.std.specs.declared.cmp.Ordering.{Ordering}
 use Rattle.std.specs.BTreeMap.{is_at}
 use Rattle.std.specs.Ordering.{nat_cmp}
@@ -39,7 +38,3 @@ set_has value (Some set) = has_value value set.values
 abbrev pub set_values : Option ValueSet → List (List ℕ)
 set_values None = []
 set_values (Some set) = set.values
-
--- whether one of the pairs has the key
-abbrev pub has_key : List ℕ → List Pair → Bool
-has_key key pairs = list_any (λ (pair : Pair). bytes_eq pair.key key) pairs

@@ -1,15 +1,14 @@
 //! The pairs of a map as a tree of sets.
-ghost use Rattle.std.specs.Prelude.{◌≡◌, ◌≢◌, ◌↔◌, ◌+◌, ◌<◌, ◌≤◌, ◌^◌, ◌-◌, ◌++◌, ◌∷◌, ◌&&◌, List, [], true, false, not, length, IsTrue, IfOk, IsOk, OnOk, OnErr};
+ghost use Rattle.std.specs.Prelude.{◌≡◌, ◌≢◌, ◌↔◌, ◌+◌, ◌<◌, ◌≤◌, ◌^◌, ◌-◌, ◌++◌, ◌∷◌, [], length, IsTrue, IfOk, IsOk, OnOk};
 ghost use Rattle.std.specs.BTreeMap.{keys};
 ghost use Rattle.std.specs.Map.{lookup};
 ghost use Rattle.std.specs.List.Sorted.{IsStrictlySortedBy};
 ghost use Rattle.chord_map.specs.Copies.{AreFew};
-ghost use Rattle.chord_map.specs.declared.pair.Pair.{Pair as PairOf};
-ghost use Rattle.chord_map.specs.Map.{has_pair, insert_pair, remove_pair, values_at};
+ghost use Rattle.chord_map.specs.Map.{has_pair, remove_pair, values_at};
 ghost use Rattle.chord_map.specs.Pairs.{IsRising};
 ghost use Rattle.chord_store.specs.Inside.{pairs_inside, pairs_outside};
 ghost use Rattle.chord_store.specs.Store.{AddIs, HasFew};
-ghost use Rattle.chord_store.specs.Tree.{has_bytes, has_key, pairs_of_sets, pairs_under, set_values, key_cmp};
+ghost use Rattle.chord_store.specs.Tree.{has_bytes, pairs_of_sets, pairs_under, set_values, key_cmp};
 
 use crate::outcome::Inserted;
 use crate::value_set::ValueSet;
@@ -108,17 +107,6 @@ impl Tree {
         }
     }
 
-    /// Adds the pair, unless it is there.
-    pub fn put(&mut self, pair: &Pair) -> Result<(), AllocError>
-        requires room { length self.old < 2 ^ 64 - 1 }
-        requires few { length (values_at pair.now.key self.old) < 1000 }
-        ensures ok { OnOk result (self.new ≡ insert_pair pair.now self.old) }
-        ensures err { OnErr result (self.new ≡ self.old) }
-    {
-        self.insert(&pair.key, pair.value.as_slice())?;
-        Ok(())
-    }
-
     /// Removes the pair, and answers whether it was there.
     pub fn remove(&mut self, key: &Bytes, value: &[u8]) -> bool
         ensures was_there { result ≡ has_pair (record { key = key.now; value = value.now }) self.old }
@@ -132,21 +120,22 @@ impl Tree {
         }
     }
 
+    /// The number of pairs whose keys lie in the span. It computes each key's identifier once.
+    pub fn count_span(&self, span: &Span) -> u64
+        ensures { result ≡ length (pairs_inside span.now self.now) }
+    {
+        if self.count == 0 {
+            return 0;
+        }
+        count_inside(&self.sets, span)
+    }
+
     /// Drops the pairs whose keys lie in the span. It computes each key's identifier once.
     pub fn take_out(&mut self, span: &Span)
         ensures { self.new ≡ pairs_outside span.now self.old }
     {
         drop_span(&mut self.sets, span);
         self.count = count_values(&self.sets);
-    }
-
-    /// Drops the pairs whose keys lie in the span; these are their copies. Each costs one look-up.
-    pub fn drop_copied(&mut self, _span: &Span, copies: &[Pair])
-        requires { pairs_inside _span.now self.old ≡ copies.now }
-        ensures { self.new ≡ pairs_outside _span.now self.old }
-    {
-        drop_keys(&mut self.sets, copies);
-        self.count -= copies.len() as u64;
     }
 
     /// Copies of the pairs whose keys lie in the span,
@@ -226,17 +215,6 @@ fn drop_span(sets: &mut BTreeMap<Bytes, ValueSet>, span: &Span)
     sets.retain(|key, _| !span.contains(Id::of_bytes(key.as_slice())));
 }
 
-// Drops the sets under the keys of the pairs.
-fn drop_keys(sets: &mut BTreeMap<Bytes, ValueSet>, pairs: &[Pair])
-    requires { IsStrictlySortedBy key_cmp (keys sets.old) }
-    ensures ordered { IsStrictlySortedBy key_cmp (keys sets.new) }
-    ensures change { (q : PairOf) → has_pair q (pairs_of_sets sets.new.entries) ≡ (not (has_key q.key pairs.now) && has_pair q (pairs_of_sets sets.old.entries)) }
-{
-    for pair in pairs {
-        sets.remove(&pair.key);
-    }
-}
-
 // The number of values in all sets.
 fn count_values(sets: &BTreeMap<Bytes, ValueSet>) -> u64
     requires { length (pairs_of_sets sets.now.entries) < 2 ^ 64 }
@@ -245,6 +223,20 @@ fn count_values(sets: &BTreeMap<Bytes, ValueSet>) -> u64
     let mut total = 0;
     for (_, set) in sets.iter() {
         total += set.len() as u64;
+    }
+    total
+}
+
+// The number of values in the sets whose keys lie in the span.
+fn count_inside(sets: &BTreeMap<Bytes, ValueSet>, span: &Span) -> u64
+    requires { length (pairs_of_sets sets.now.entries) < 2 ^ 64 }
+    ensures { result ≡ length (pairs_inside span.now (pairs_of_sets sets.now.entries)) }
+{
+    let mut total = 0;
+    for (key, set) in sets.iter() {
+        if span.contains(Id::of_bytes(key.as_slice())) {
+            total += set.len() as u64;
+        }
     }
     total
 }

@@ -1,41 +1,68 @@
-//! A store over a tree.
-ghost use Rattle.std.specs.Prelude.{◌≡◌, ◌-◌, ◌^◌, List, [], length};
+//! A store by the identifiers of its keys.
+ghost use Rattle.std.specs.Prelude.{◌≡◌, ◌≤◌, ◌<◌, ◌-◌, ◌^◌, List, [], length, true, IfSome, IfNone};
 ghost use Rattle.chord_map.specs.declared.pair.Pair.{Pair};
+ghost use Rattle.chord_ident.specs.Circle.{cuts};
+ghost use Rattle.chord_store.specs.Cut.{CutsLeaveFewer, part_up_to};
 ghost use Rattle.chord_store.specs.Inside.{pairs_inside};
 ghost use Rattle.chord_store.specs.Store.{HasFew, InsertIs, PutAllIs};
 
+use crate::cut::cut_after;
 use crate::outcome::{Inserted, StoreFault};
+use crate::placed::Placed;
 use crate::store::EntryStore;
-use crate::tree::Tree;
-use chord_ident::Span;
+use chord_ident::{Id, Span};
 use chord_map::limits::SET_VALUES;
 use chord_map::{Bytes, Pair, Values};
 use std::alloc::{AllocError, Global};
 use std::marker::Model;
 
-// The most pairs of a tree: their count is a 64-bit number.
+// The most pairs of a store: their count is a 64-bit number.
 const LIMIT: u64 = u64::MAX;
 
-/// A store whose insert, remove and look-up take time logarithmic
-/// in the number of keys. It has no limit of its own.
+// The keys of a shard at which it is halved. A shard's hash map moves all
+// its slots when it grows, so a larger one would make single inserts slow.
+const SHARD_KEYS: usize = 4096;
+
+/// A store in shards of neighbouring identifiers, each a hash map. An insert, a remove and a
+/// look-up search the shards and look one key up; what concerns a span reads the shards of the
+/// span alone. It has no limit of its own.
 #[derive(Drop)]
 pub struct TreeStore {
-    tree: Tree,
+    placed: Placed,
 }
 
 impl Model for TreeStore {
     ghost Value = { List Pair };
 
-    ghost view = { λ store. store.tree };
+    ghost view = { λ store. store.placed };
 }
 
 impl TreeStore {
     pub fn new(alloc: Global) -> TreeStore
         ensures { result ≡ [] }
     {
+        TreeStore::with_shards(alloc, SHARD_KEYS)
+    }
+
+    /// An empty store whose shards are halved when they have `most` keys.
+    pub fn with_shards(alloc: Global, most: usize) -> TreeStore
+        ensures { result ≡ [] }
+    {
         TreeStore {
-            tree: Tree::new(alloc),
+            placed: Placed::new(alloc, most),
         }
+    }
+
+    /// The first identifier of the span at which a cut leaves at least `n` pairs before it, or none
+    /// where no cut does. It counts some parts of the span, as many as an identifier has digits.
+    pub fn cut_after(&self, span: &Span, n: u64) -> Option<Id>
+        requires { 0 < n }
+        ensures cut { IfSome result (λ at. cuts span.now at ≡ true) }
+        ensures enough { IfSome result (λ at. n ≤ length (pairs_inside (part_up_to span.now at) self.now)) }
+        ensures first { IfSome result (λ at. CutsLeaveFewer (part_up_to span.now at) n self.now) }
+        ensures none { IfNone result (CutsLeaveFewer span.now n self.now) }
+    {
+        cut_after(&self.placed, *span, n)
     }
 }
 
@@ -45,80 +72,80 @@ impl EntryStore for TreeStore {
     ghost limit = { λ _. 2 ^ 64 - 1 };
 
     fn insert(&mut self, key: &Bytes, value: &[u8]) -> Result<Inserted, StoreFault> {
-        insert_new(&mut self.tree, key, value)
+        insert_new(&mut self.placed, key, value)
     }
 
     fn remove(&mut self, key: &Bytes, value: &[u8]) -> bool {
-        self.tree.remove(key, value)
+        self.placed.remove(key, value)
     }
 
     fn take_out(&mut self, span: &Span) {
-        self.tree.take_out(span);
+        self.placed.take_out(span);
     }
 
     fn drop_copied(&mut self, span: &Span, copies: &[Pair]) {
-        self.tree.drop_copied(span, copies);
+        self.placed.drop_copied(span, copies);
     }
 
     fn count(&self) -> u64 {
-        self.tree.len()
+        self.placed.len()
     }
 
     fn values(&self, alloc: Global, key: &Bytes) -> Result<Values, AllocError> {
-        self.tree.values(alloc, key)
+        self.placed.values(alloc, key)
     }
 
     fn copy_span(&self, alloc: Global, span: &Span) -> Result<Vec<Pair>, AllocError> {
-        self.tree.copy_span(alloc, span)
+        self.placed.copy_span(alloc, span)
     }
 
     fn put_all(&mut self, span: &Span, pairs: &[Pair]) -> Result<(), StoreFault> {
-        put_all_new(&mut self.tree, span, pairs)
+        put_all_new(&mut self.placed, span, pairs)
     }
 }
 
 // Adds the value under the key, if it is new and the set has room.
-fn insert_new(tree: &mut Tree, key: &Bytes, value: &[u8]) -> Result<Inserted, StoreFault>
-    ensures { InsertIs (record { key = key.now; value = value.now }) tree.old (2 ^ 64 - 1) result tree.new }
+fn insert_new(placed: &mut Placed, key: &Bytes, value: &[u8]) -> Result<Inserted, StoreFault>
+    ensures { InsertIs (record { key = key.now; value = value.now }) placed.old (2 ^ 64 - 1) result placed.new }
 {
-    if tree.len() == LIMIT {
-        return insert_into_full(tree, key, value);
+    if placed.len() == LIMIT {
+        return insert_into_full(placed, key, value);
     }
-    match tree.insert(key, value) {
+    match placed.insert(key, value) {
         Ok(did) => Ok(did),
         Err(_) => Err(StoreFault::Memory),
     }
 }
 
-// The answer to an insert into a full tree.
-fn insert_into_full(tree: &Tree, key: &Bytes, value: &[u8]) -> Result<Inserted, StoreFault>
-    requires { length tree.now ≡ 2 ^ 64 - 1 }
-    ensures { InsertIs (record { key = key.now; value = value.now }) tree.now (2 ^ 64 - 1) result tree.now }
+// The answer to an insert into a full store.
+fn insert_into_full(placed: &Placed, key: &Bytes, value: &[u8]) -> Result<Inserted, StoreFault>
+    requires { length placed.now ≡ 2 ^ 64 - 1 }
+    ensures { InsertIs (record { key = key.now; value = value.now }) placed.now (2 ^ 64 - 1) result placed.now }
 {
-    if tree.contains(key, value) {
+    if placed.contains(key, value) {
         return Ok(Inserted::Present);
     }
-    if tree.count_under(key) >= SET_VALUES {
+    if placed.count_under(key) >= SET_VALUES {
         return Ok(Inserted::SetFull);
     }
     Err(StoreFault::Full)
 }
 
-// Adds all the pairs, which lie in a span where the tree has none, or none of them.
-fn put_all_new(tree: &mut Tree, span: &Span, pairs: &[Pair]) -> Result<(), StoreFault>
-    requires vacant { pairs_inside span.now tree.old ≡ [] }
+// Adds all the pairs, which lie in a span where the store has none, or none of them.
+fn put_all_new(placed: &mut Placed, span: &Span, pairs: &[Pair]) -> Result<(), StoreFault>
+    requires vacant { pairs_inside span.now placed.old ≡ [] }
     requires within { pairs_inside span.now pairs.now ≡ pairs.now }
     requires few { HasFew pairs.now }
-    ensures { PutAllIs pairs.now tree.old (2 ^ 64 - 1) result tree.new }
+    ensures { PutAllIs pairs.now placed.old (2 ^ 64 - 1) result placed.new }
 {
-    if LIMIT - tree.len() < pairs.len() as u64 {
+    if LIMIT - placed.len() < pairs.len() as u64 {
         return Err(StoreFault::Full);
     }
     for pair in pairs {
-        match tree.put(pair) {
+        match placed.put(pair) {
             Ok(()) => {}
             Err(_) => {
-                tree.take_out(span);
+                placed.take_out(span);
                 return Err(StoreFault::Memory);
             }
         }

@@ -12,6 +12,7 @@ use std::sync::{Arc, OnceLock};
 use std::test::Fail;
 
 mod growths;
+mod shards;
 
 // A key short enough to need no memory.
 fn key(alloc: Global, bytes: &[u8]) -> Bytes {

@@ -215,6 +215,12 @@ fn a_tree_refuses_growths(rt: HostRuntime) {
 }
 
 #[test]
+fn a_tree_of_small_shards_refuses_growths(rt: HostRuntime) {
+    let alloc = rt.alloc();
+    refuses_growths(&rt, alloc, TreeStore::with_shards(alloc, 2));
+}
+
+#[test]
 fn a_capped_store_refuses_growths(rt: HostRuntime) {
     let alloc = rt.alloc();
     refuses_growths(&rt, alloc, CappedStore::new(alloc, COUNT as u64));
