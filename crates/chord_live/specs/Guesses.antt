@@ -14,6 +14,6 @@ guess_at guesses id = slice_index_or guesses.nodes (id / 2 ^ 120) None
 abbrev pub with_guess : Guesses → ℕ → Option ℕ → Guesses
 with_guess guesses id node = record guesses { nodes = slice_set guesses.nodes (id / 2 ^ 120) node }
 
--- the number, if it fits into a byte
-abbrev pub byte_of : ℕ → Option ℕ
-byte_of number = if nat_lt number 256 then Some number else None
+-- the number, if it fits into 16 bits
+abbrev pub kept_number : ℕ → Option ℕ
+kept_number number = if nat_lt number 65536 then Some number else None

@@ -1,14 +1,14 @@
 //! Which node answered last.
 ghost use Rattle.std.specs.Prelude.{◌≡◌, ◌<◌, ◌/◌, ◌^◌};
-ghost use Rattle.chord_live.specs.Guesses.{no_guesses, guess_at, with_guess, byte_of};
+ghost use Rattle.chord_live.specs.Guesses.{no_guesses, guess_at, with_guess, kept_number};
 
 use chord_ident::Id;
 
 /// For each value of an identifier's first byte, the node that answered last, if any. A number
-/// above 255 is not remembered; those of a ring are below 64.
+/// above 65,535 is not remembered; those of a ring are below 4,096.
 #[derive(Drop)]
 pub struct Guesses {
-    nodes: [Option<u8>; 256],
+    nodes: [Option<u16>; 256],
 }
 
 /// The first byte of an identifier.
@@ -40,9 +40,9 @@ impl Guesses {
 
     /// Remembers that this node answered for the identifier.
     pub fn remember(&mut self, id: Id, number: u64)
-        ensures { self.new ≡ with_guess self.old id.number (byte_of number) }
+        ensures { self.new ≡ with_guess self.old id.number (kept_number number) }
     {
-        self.nodes[place_of(id)] = u8::try_from(number).ok();
+        self.nodes[place_of(id)] = u16::try_from(number).ok();
     }
 
     /// Forgets the node for identifiers with the same first byte.

@@ -16,7 +16,7 @@ use crate::route::Route;
 use crate::seated_core::SeatedCore;
 use chord_caller::ClientCore;
 use chord_ident::Id;
-use chord_live_ring::{Carried, Keyed, Ring, Target};
+use chord_live_ring::{Carried, Keyed, ReturnedCaller, Ring, Target};
 use chord_live_types::{AskFault, BeginFault, RetryFault, WaitFault};
 use chord_map::{Reply, Request};
 use chord_store::EntryStore;
@@ -89,6 +89,14 @@ impl<'a, J: Naming, S: EntryStore, C: AskingCore> RingCaller<'a, J, S, C> {
         ensures { result ≡ is_pending number self.now.caller }
     {
         self.own.is_pending(number)
+    }
+
+    /// The caller's seat, to be given back to the ring when that ends. Replies that it keeps are
+    /// dropped.
+    pub fn into_returned(self) -> ReturnedCaller<J>
+        ensures { result ≡ self.entry }
+    {
+        self.own.into_returned()
     }
 
     /// A witness of the caller as it is now. One look of joined witnesses proves something of all

@@ -12,6 +12,7 @@ ghost use Rattle.chord_table.specs.Shown.{CallerShown};
 
 use crate::asking_core::AskingCore;
 use chord_caller::{ResendFault, SubmitFault};
+use chord_live_ring::ReturnedCaller;
 use chord_live_types::WaitFault;
 use chord_map::{Reply, Request};
 use chord_node::Message;
@@ -108,6 +109,16 @@ impl<J: Naming, C: AskingCore> SeatedCore<J, C> {
             Err(ResendFault::Memory) => return Err(AllocError),
         };
         Ok(self.seat.resend(table, ask))
+    }
+
+    /// The caller's seat, to be given back to the ring. What the core stores is dropped.
+    pub fn into_returned(self) -> ReturnedCaller<J>
+        ensures { result ≡ self }
+    {
+        let SeatedCore { core, seat } = self;
+        let number = core.number();
+        drop(core);
+        ReturnedCaller::new(number, seat)
     }
 
     /// A witness of the caller as it is now.

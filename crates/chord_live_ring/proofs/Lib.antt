@@ -1,4 +1,5 @@
 pub mod Coming
 pub mod Counting
+pub mod Gathering
 pub mod Looked
 pub mod Sending

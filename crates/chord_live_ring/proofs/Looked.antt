@@ -1,5 +1,5 @@
 -- Lists that are looked at item by item.
-use Rattle.std.proofs.Common.{◌≡◌, ℕ, ◌+◌, ◌<◌, ◌∙◌, Option, Some, None, suc, List, [], ◌∷◌, ◌++◌, length, map, take, get_or, refl, ap, add-one, arith}
+use Rattle.std.proofs.Common.{◌≡◌, ℕ, ◌+◌, ◌<◌, ◌∙◌, Option, Some, None, List, [], ◌∷◌, ◌++◌, length, map, take, get_or, refl, ap, add-one, arith}
 use Rattle.std.proofs.Math.Seq.{take-suc}
 use Rattle.std.proofs.lemmas.Option.{slice_get-map, slice_get_within, get_or_from_slice_get}
 use Rattle.std.specs.Option.{option_map}
@@ -7,7 +7,6 @@ use Rattle.std.specs.Prelude.{slice_get}
 use Rattle.chord_handover.specs.Handover.{Item}
 use Rattle.chord_ident.specs.declared.span.Span.{Span}
 use Rattle.chord_live_ring.specs.Sights.{outbox_sight}
-use Rattle.chord_live_ring.specs.declared.sight.OutboxSight.{OutboxSight}
 use Rattle.chord_node.specs.View.{item_view, pairs_of_item}
 
 -- the items before this index, and the one at it

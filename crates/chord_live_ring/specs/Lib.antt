@@ -1,3 +1,4 @@
+pub mod Closings
 pub mod Counts
 pub mod Dealt
 pub mod Deeds

@@ -2,7 +2,7 @@
 //!
 //! A [`Ring`] has a slot for each node and an inbox for each node and each caller. It starts no
 //! thread: its user calls [`Ring::work`] for each node on a thread of its own, and [`Ring::tick`]
-//! now and then. Each node's lock holds the node with its seat of the table, and each message under
+//! for each now and then. Each node's lock holds the node with its seat of the table, and each message under
 //! way is an envelope.
 //!
 //! Who asks the ring is admitted by [`Ring::admit_caller`] or [`Ring::admit_client`], which give the
@@ -11,6 +11,7 @@
 #![tactic(auto)]
 
 mod carried;
+mod closing;
 mod dealing;
 mod deed;
 mod fault;
@@ -20,9 +21,12 @@ mod node_counts;
 mod numbers;
 mod probe;
 mod reader;
+mod resting;
 mod retirement;
+mod returned_caller;
 mod ring;
 mod ring_parts;
+mod round;
 mod seated_node;
 mod sight;
 mod slot;
@@ -37,13 +41,16 @@ pub use chord_live_types::{
     CreateFault, JoinFault, LeaveFault, NewFault, NoSuchNode, OpenClientFault, OpenFault, Settings,
     TickFault,
 };
+pub use closing::Closed;
 pub use dealing::deal;
 pub use fault::RingRetireFault;
 pub use keyed::Keyed;
 pub use node_counts::{AskCounts, HandoverCounts, NodeCounts};
 pub use probe::{NoProbe, Probe};
+pub use returned_caller::ReturnedCaller;
 pub use ring::Ring;
 pub use ring_parts::RingParts;
+pub use round::Round;
 pub use sight::{NodeSight, OutboxSight, SegmentSight};
 pub use target::Target;
 pub use tidying::{Tidied, tidy};

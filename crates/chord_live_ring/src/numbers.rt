@@ -4,6 +4,7 @@ ghost use Rattle.chord_caller.specs.Answers.{new_caller};
 ghost use Rattle.chord_caller.specs.Client.{IsCoreOf};
 ghost use Rattle.chord_links.specs.NodeLinks.{alone};
 ghost use Rattle.chord_live_types.specs.declared.caller.OpenClientFault.TheVariants.{CallersSpent, Memory};
+ghost use Rattle.chord_live_ring.specs.Counts.{numbers_below};
 ghost use Rattle.chord_model.specs.Node.{founder, newborn};
 
 use crate::seated_node::SeatedNode;
@@ -32,13 +33,13 @@ pub struct Numbers<J: Naming> {
 
 impl<J: Naming> Model for Numbers<J> {
     ghost use Rattle.std.specs.Prelude.{◌≡◌, ◌<◌, All, length};
-    ghost use Rattle.chord_live_ring.specs.Counts.{Counts};
+    ghost use Rattle.chord_live_ring.specs.Counts.{Counts, numbers_below};
 
     ghost Value = { Counts };
 
     ghost view = { λ a. record { nodes = a.nodes; callers = a.callers; ids = a.ids.items } };
 
-    ghost invariant = { λ a. (a.slots ≡ J.name.slots) × (a.places ≡ J.name.callers) × (length a.registrar.nodes ≡ a.nodes) × All (λ number. number < a.nodes) a.registrar.nodes × All (λ number. number < a.callers) a.registrar.callers };
+    ghost invariant = { λ a. (a.slots ≡ J.name.slots) × (a.places ≡ J.name.callers) × (length a.registrar.nodes ≡ a.nodes) × All (λ number. number < a.nodes) a.registrar.nodes × All (λ number. number < a.callers) a.registrar.callers × (a.registrar.nodes ≡ numbers_below a.nodes) × (a.registrar.callers ≡ numbers_below a.callers) };
 }
 
 impl<J: Naming> Numbers<J> {
@@ -65,6 +66,21 @@ impl<J: Naming> Numbers<J> {
         ensures { result ≡ self.now.nodes }
     {
         self.nodes
+    }
+
+    /// How many callers there are.
+    pub fn callers(&self) -> usize
+        ensures { result ≡ self.now.callers }
+    {
+        self.callers
+    }
+
+    /// The registrar, once nobody is admitted any more.
+    pub fn into_registrar(self) -> Registrar<J>
+        ensures nodes { result.nodes ≡ numbers_below self.nodes }
+        ensures callers { result.callers ≡ numbers_below self.callers }
+    {
+        self.registrar
     }
 
     /// Whether there is a free number for a node.

@@ -74,6 +74,7 @@ impl<J: Naming, S: EntryStore> Ring<J, S> {
         }
         self.retire_above(rt, board, seated, number, number.saturating_add(1))?;
         slot.live.store(false, Ordering::SeqCst);
+        self.stir(rt);
         Ok(())
     }
 

@@ -24,7 +24,7 @@ use chord_table::{CallerSeat, Naming, Shared};
 use std::alloc::{AllocError, Global};
 use std::marker::Model;
 use std::sync::atomic::{AtomicBool, AtomicU64, Ordering};
-use std::sync::{Mutex, Wait};
+use std::sync::{Condvar, Mutex, Wait};
 
 /// Nodes, inboxes and their table. Contracts see the settings.
 #[derive(Drop)]
@@ -42,6 +42,10 @@ pub struct Ring<J: Naming, S: EntryStore> {
     /// How many of the next waits skip polling.
     pub(crate) polls_to_skip: AtomicU64,
     pub(crate) stopped: AtomicBool,
+    /// Whether a node came, began to leave, retired or crashed since the last rest.
+    pub(crate) stirred: Mutex<bool>,
+    pub(crate) stirring: Condvar,
+    ghost sized: { J.name.slots ≡ settings.slots },
     ghost within: { AreWithin settings },
     ghost counted: { vec_len slots ≡ J.name.slots },
     ghost listed: { vec_len inboxes ≡ J.name.callers },
@@ -63,7 +67,14 @@ impl<J: Naming, S: EntryStore> Ring<J, S> {
         number < self.nodes.load(Ordering::SeqCst) && number < self.slots.len() as u64
     }
 
-    /// How many nodes there may be.
+    /// How many nodes were admitted. Their numbers are those below.
+    pub fn node_count(&self) -> u64
+        ensures { result ≤ J.name.slots }
+    {
+        self.nodes.load(Ordering::SeqCst).min(self.slot_count())
+    }
+
+    /// How many nodes there may ever be.
     pub(crate) fn slot_count(&self) -> u64
         ensures { result ≡ J.name.slots }
     {
@@ -86,6 +97,14 @@ impl<J: Naming, S: EntryStore> Ring<J, S> {
     /// The table on which all actors of the ring have their seats.
     pub fn table(&self) -> &Shared<J> {
         &self.table
+    }
+
+    /// How large the ring is, and how long its callers wait.
+    pub fn settings(&self) -> Settings
+        ensures setting { result ≡ self.now }
+        ensures slots { J.name.slots ≡ self.now.slots }
+    {
+        self.settings
     }
 
     /// How many times a request is sent at most.
@@ -170,6 +189,7 @@ impl<J: Naming, S: EntryStore> Ring<J, S> {
         drop(std::mem::replace(&mut *slot.state.lock(rt), SlotState::Here(seated)));
         slot.live.store(true, Ordering::SeqCst);
         self.nodes.store(number as u64 + 1, Ordering::SeqCst);
+        self.stir(rt);
     }
 
     /// Admits the first node, or gives the store back.
@@ -264,12 +284,16 @@ impl<J: Naming, S: EntryStore> Ring<J, S> {
         let Some(slot) = self.slots.get(number as usize) else {
             return Err(LeaveFault::NoSuchNode);
         };
-        match &mut *slot.state.lock(rt) {
+        let begun = match &mut *slot.state.lock(rt) {
             SlotState::Here(seated) => seated
                 .begin_leave(&self.table)
                 .map_err(|_| LeaveFault::NotStaying),
             _ => Err(LeaveFault::NotStaying),
+        };
+        if begun.is_ok() {
+            self.stir(rt);
         }
+        begun
     }
 
     /// Crashes a node: it takes no further step, others find it dead, and its store stays as it is.
@@ -284,6 +308,8 @@ impl<J: Naming, S: EntryStore> Ring<J, S> {
         slot.live.store(false, Ordering::SeqCst);
         let place = std::mem::replace(&mut *guard, SlotState::Vacant);
         drop(std::mem::replace(&mut *guard, place.crashed()));
+        drop(guard);
+        self.stir(rt);
         Ok(())
     }
 

@@ -12,8 +12,8 @@ use chord_store::EntryStore;
 use chord_table::{Naming, Registrar, TableParts};
 use std::alloc::{AllocError, Global};
 use std::marker::Model;
-use std::sync::Mutex;
 use std::sync::atomic::{AtomicBool, AtomicU64};
+use std::sync::{Condvar, Mutex};
 
 /// A ring that has no name yet. Contracts see the name that it will get, and its settings.
 #[derive(Drop)]
@@ -79,6 +79,8 @@ impl RingParts {
             inboxes,
             polls_to_skip: AtomicU64::new(0),
             stopped: AtomicBool::new(false),
+            stirred: Mutex::new(false),
+            stirring: Condvar::new(),
         })
     }
 }

@@ -80,6 +80,26 @@ impl<J: Naming, S: EntryStore> SeatedNode<J, S> {
         }
     }
 
+    /// The node's number.
+    pub fn number(&self) -> u64
+        ensures { result ≡ self.now.node.number }
+    {
+        self.node.number()
+    }
+
+    /// The node's seat. The node is dropped.
+    pub fn into_seat(self) -> NodeSeat<J>
+        ensures { result ≡ record { node = self.node; messages = self.messages } }
+    {
+        let SeatedNode {
+            node,
+            seat,
+            counts: _,
+        } = self;
+        drop(node);
+        seat
+    }
+
     /// Proves that the node is one of some reachable world, for which the theorem holds.
     pub fn look(&mut self, table: &Shared<J>)
         ensures same { self.new ≡ self.old }

@@ -1,8 +1,10 @@
 //! The upkeep of nodes.
-ghost use Rattle.std.specs.Prelude.{◌≤◌};
+ghost use Rattle.std.specs.Prelude.{◌≡◌, ◌≤◌, Err};
+ghost use Rattle.chord_live_types.specs.declared.ring.TickFault.TheVariants.{NoSuchNode};
 
 use crate::reader::RingReader;
 use crate::ring::Ring;
+use crate::round::Round;
 use crate::seated_node::SeatedNode;
 use crate::slot::SlotState;
 use crate::target::Target;
@@ -25,6 +27,8 @@ const FINGERS: u64 = 128;
 #[derive(Clone, Copy)]
 enum NextMove {
     Done,
+    /// Nothing more: a held segment was cut.
+    WasCut,
     /// To give the held segment at this index, which ends here, to another node.
     Give(usize, Id),
 }
@@ -155,7 +159,8 @@ impl<J: Naming, S: EntryStore> Ring<J, S> {
                 Some(end) => Ok(NextMove::Give(place, end)),
                 None => Ok(NextMove::Done),
             },
-            _ => Ok(NextMove::Done),
+            Tidied::Cut => Ok(NextMove::WasCut),
+            Tidied::Nothing => Ok(NextMove::Done),
         }
     }
 
@@ -170,10 +175,26 @@ impl<J: Naming, S: EntryStore> Ring<J, S> {
     }
 
     /// Cuts at a node, or gives away a held segment that is another node's.
-    fn maintain_segments(&self, rt: &impl Wait, number: u64) -> Result<(), AllocError> {
-        let NextMove::Give(place, end) = self.tidy_at(rt, number)? else {
-            return Ok(());
-        };
+    fn maintain_segments(&self, rt: &impl Wait, number: u64) -> Result<Round, AllocError> {
+        match self.tidy_at(rt, number)? {
+            NextMove::Done => Ok(Round::Quiet),
+            NextMove::WasCut => Ok(Round::Busy),
+            NextMove::Give(place, end) => {
+                self.give_to_holder(rt, number, place, end)?;
+                Ok(Round::Quiet)
+            }
+        }
+    }
+
+    /// Gives the held segment at this index, which ends here, to the node that it belongs to, if
+    /// that stays.
+    fn give_to_holder(
+        &self,
+        rt: &impl Wait,
+        number: u64,
+        place: usize,
+        end: Id,
+    ) -> Result<(), AllocError> {
         let reader = RingReader { ring: self, rt };
         let Ok(peer) = find_successor(&reader, number, end) else {
             return Ok(());
@@ -309,15 +330,36 @@ impl<J: Naming, S: EntryStore> Ring<J, S> {
         }
     }
 
-    /// Sends all parts of all outbox items again.
-    fn maintain_outbox(&self, rt: &impl Wait, number: u64) -> Result<(), AllocError> {
+    /// Sends all parts of the outbox items again, but for those to nodes that crashed.
+    fn maintain_outbox(&self, rt: &impl Wait, number: u64) -> Result<Round, AllocError> {
+        let mut round = Round::Quiet;
         for place in 0..u64::MAX {
             let Some((to, item)) = self.outbox_item(rt, number, place) else {
-                return Ok(());
+                return Ok(round);
             };
-            self.send_parts(rt, number, to, item, 1)?;
+            if self.phase_of(rt, to).is_some() {
+                self.send_parts(rt, number, to, item, 1)?;
+                round = Round::Busy;
+            }
         }
-        Ok(())
+        Ok(round)
+    }
+
+    /// Cuts and gives segments, and sends handovers again.
+    fn maintain_holdings(&self, rt: &impl Wait, number: u64) -> Result<Round, AllocError> {
+        let cut = self.maintain_segments(rt, number)?;
+        self.maintain_leaving(rt, number)?;
+        let sent = self.maintain_outbox(rt, number)?;
+        Ok(cut.with(sent))
+    }
+
+    /// Whether a node's links are other ones than these before.
+    fn changed_since(&self, rt: &impl Wait, before: &Links) -> Round {
+        if self.links_of(rt, before.me().number) == Some(*before) {
+            Round::Quiet
+        } else {
+            Round::Busy
+        }
     }
 
     /// Counts a round of upkeep of a node.
@@ -331,7 +373,11 @@ impl<J: Naming, S: EntryStore> Ring<J, S> {
     }
 
     /// Does one round of upkeep of a node. Out of memory ends it early; the steps done so far stay.
-    pub fn tick(&self, rt: &impl Wait, number: u64) -> Result<(), TickFault> {
+    /// A node that is no member any more takes in the envelopes that wait for it: it declines old
+    /// handovers and passes requests on.
+    pub fn tick(&self, rt: &impl Wait, number: u64) -> Result<Round, TickFault>
+        ensures { J.name.slots ≤ number → result ≡ Err NoSuchNode }
+    {
         if !self.was_admitted(number) {
             return Err(TickFault::NoSuchNode);
         }
@@ -339,22 +385,19 @@ impl<J: Naming, S: EntryStore> Ring<J, S> {
             return Err(TickFault::Stopped);
         }
         if !self.is_live(number) {
-            return Ok(());
+            self.take_in_waiting(rt, number);
+            return Ok(Round::Quiet);
         }
         let Some(links) = self.links_of(rt, number) else {
-            return Ok(());
+            return Ok(Round::Quiet);
         };
         self.count_tick(rt, number);
         self.maintain_links(rt, &links);
         self.drop_dead_fingers(rt, &links);
         self.maintain_finger(rt, &links);
-        let done = match self.maintain_segments(rt, number) {
-            Ok(()) => match self.maintain_leaving(rt, number) {
-                Ok(()) => self.maintain_outbox(rt, number),
-                refused => refused,
-            },
-            refused => refused,
-        };
-        done.map_err(|_| TickFault::Memory)
+        match self.maintain_holdings(rt, number) {
+            Ok(round) => Ok(round.with(self.changed_since(rt, &links))),
+            Err(_) => Err(TickFault::Memory),
+        }
     }
 }

@@ -25,6 +25,26 @@ const MAX_POLLS: u64 = 200;
 /// How often a thread tries a lock, yielding in between, before it sleeps.
 const LOCK_TRIES: u64 = 64;
 
+/// How a wait for an envelope begins.
+#[derive(Clone, Copy, Debug, PartialEq, Eq)]
+pub(crate) enum Wakes {
+    /// It polls briefly: an envelope is likely to come soon.
+    AtOnce,
+    /// It sleeps: none came for a while.
+    FromSleep,
+}
+
+impl Wakes {
+    /// How the next wait begins, after one in which an envelope came or not.
+    pub fn after(came: bool) -> Wakes {
+        if came {
+            Wakes::AtOnce
+        } else {
+            Wakes::FromSleep
+        }
+    }
+}
+
 /// Takes a lock that others hold only briefly.
 pub(crate) fn lock_soon<'l, T>(rt: &impl Wait, lock: &'l Mutex<T>) -> MutexGuard<'l, T> {
     for _ in 0..LOCK_TRIES {
@@ -52,15 +72,18 @@ impl<J: Naming, S: EntryStore> Ring<J, S> {
         }
     }
 
-    /// Waits for an envelope: polls briefly, then sleeps.
+    /// Waits for an envelope: polls briefly if it is likely to come soon, then sleeps.
     pub(crate) fn receive<R: Wait + Clock>(
         &self,
         rt: &R,
         from: &Receiver<Envelope<J>, Global>,
+        wakes: Wakes,
         limit: Duration,
     ) -> Option<Envelope<J>> {
-        if let Some(envelope) = self.poll(rt, from) {
-            return Some(envelope);
+        if wakes == Wakes::AtOnce {
+            if let Some(envelope) = self.poll(rt, from) {
+                return Some(envelope);
+            }
         }
         from.recv_timeout(rt, limit).ok()
     }
@@ -69,7 +92,8 @@ impl<J: Naming, S: EntryStore> Ring<J, S> {
     pub fn hear<R: Wait + Clock>(&self, rt: &R, caller: u64, limit: Duration) -> Option<Envelope<J>>
         requires { caller < J.name.callers }
     {
-        self.receive(rt, &self.inboxes[caller as usize].envelopes, limit)
+        let envelopes = &self.inboxes[caller as usize].envelopes;
+        self.receive(rt, envelopes, Wakes::AtOnce, limit)
     }
 
     /// Polls briefly, yielding in between. If that takes too long, the next waits skip polling.

@@ -6,7 +6,7 @@ use crate::probe::{NoProbe, Probe};
 use crate::ring::Ring;
 use crate::slot::SlotState;
 use crate::target::Target;
-use crate::waiting::lock_soon;
+use crate::waiting::{Wakes, lock_soon};
 use chord_live_types::NoSuchNode;
 use chord_store::EntryStore;
 use chord_table::{Envelope, Naming};
@@ -16,8 +16,11 @@ use std::sync::Wait;
 use std::sync::atomic::Ordering;
 use std::time::{Clock, Duration};
 
-/// How many milliseconds a worker sleeps before it checks whether the ring was stopped.
-const IDLE: u64 = 50;
+/// How many milliseconds a worker sleeps before it checks whether its work is over.
+const IDLE: u64 = 250;
+
+/// How many waiting envelopes a node that is no member takes in at a tick.
+const MOST_WAITING: u64 = 1_024;
 
 /// How many nodes a request goes through at most.
 const HOPS: u64 = 256;
@@ -78,7 +81,8 @@ impl<J: Naming, S: EntryStore> Ring<J, S> {
         }
     }
 
-    /// Takes in a node's envelopes and posts what it sends, until the ring is stopped.
+    /// Takes in a node's envelopes and posts what it sends, until the ring is stopped or the node is
+    /// no member any more. From then on its ticks take in what comes.
     pub fn work<R: Wait + Clock, G: Probe>(
         &self,
         rt: &R,
@@ -91,15 +95,32 @@ impl<J: Naming, S: EntryStore> Ring<J, S> {
         let Some(slot) = self.slots.get(number as usize) else {
             return Err(NoSuchNode);
         };
+        let mut wakes = Wakes::AtOnce;
         for _ in rt.forever() {
-            if self.is_stopped() {
+            if self.is_stopped() || !self.is_live(number) {
                 return Ok(());
             }
-            if let Some(envelope) = self.receive(rt, &slot.envelopes, Duration::from_millis(IDLE)) {
+            let came = self.receive(rt, &slot.envelopes, wakes, Duration::from_millis(IDLE));
+            wakes = Wakes::after(came.is_some());
+            if let Some(envelope) = came {
                 self.take_in(rt, number, probe, envelope);
             }
         }
         unreachable!()
+    }
+
+    /// A node that is no member any more takes in the envelopes that wait for it: it declines old
+    /// handovers and passes requests on. Where it crashed they are lost.
+    pub(crate) fn take_in_waiting(&self, rt: &impl Wait, number: u64) {
+        let Some(slot) = self.slots.get(number as usize) else {
+            return;
+        };
+        for _ in 0..MOST_WAITING {
+            let Ok(envelope) = slot.envelopes.try_recv(rt) else {
+                return;
+            };
+            self.take_in(rt, number, &NoProbe, envelope);
+        }
     }
 
     /// The first live node from this one on, in the order of their numbers and then from node 0 on.

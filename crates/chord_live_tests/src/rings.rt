@@ -17,11 +17,13 @@ use std::time::Clock;
 
 mod callers;
 mod dealing;
+mod endings;
 mod growths;
 mod handing;
 mod kinds;
 mod notes;
 mod refusals;
+mod resting;
 mod settling;
 mod sights;
 mod standing;

@@ -5,9 +5,9 @@ ghost use Rattle.chord_live_types.specs.Limits.{AreWithin};
 /// How large a ring is, and how long its callers wait.
 #[derive(Clone, Copy, Debug, PartialEq, Eq)]
 pub struct Settings {
-    /// How many nodes there may be, 1 to 64.
+    /// How many nodes there may ever be, 1 to 4,096: a number is used once.
     pub slots: usize,
-    /// How many callers there may be, at most 64.
+    /// How many callers there may be, at most 4,096.
     pub callers: usize,
     /// How many successors a node's list may have, 2 to 16.
     pub successors: usize,
@@ -23,8 +23,8 @@ impl Settings {
         ensures { IsTrue result ↔ AreWithin self.now }
     {
         1 <= self.slots
-            && self.slots <= 64
-            && self.callers <= 64
+            && self.slots <= 4_096
+            && self.callers <= 4_096
             && 2 <= self.successors
             && self.successors <= 16
             && 1 <= self.tries

@@ -6,7 +6,7 @@ use super::{A, C, Known, Said, begin, inserted, only_call, said_by, settings, su
 use chord_caller::SubmitFault;
 use chord_ident::Id;
 use chord_live::{Caller, OpenCaller};
-use chord_live_ring::{NoProbe, Ring, RingParts};
+use chord_live_ring::{NoProbe, Ring, RingParts, Round};
 use chord_live_types::{
     AskFault, BeginFault, CollectFault, CreateFault, JoinFault, NewFault, RetryFault, TickFault,
     WaitFault,
@@ -65,7 +65,7 @@ fn ticked<J: Naming, S: EntryStore>(
     rt: &impl Wait,
     ring: &Ring<J, S>,
     number: u64,
-) -> Result<(), TickFault> {
+) -> Result<Round, TickFault> {
     match ring.tick(rt, number) {
         Err(TickFault::Memory) => ring.tick(rt, number),
         ticked => ticked,
@@ -85,9 +85,9 @@ fn settle<J: Naming, R: Abort + Wait>(rt: &R, alloc: Global, ring: &Ring<J, Capp
     assert!(rt; is_joined, "node 1 joins at the second try");
     for _ in 0..3u64 {
         let zero = ticked(rt, ring, 0);
-        assert!(rt; zero == Ok(()), "node 0 is ticked at the second try");
+        assert!(rt; zero.is_ok(), "node 0 is ticked at the second try");
         let one = ticked(rt, ring, 1);
-        assert!(rt; one == Ok(()), "node 1 is ticked at the second try");
+        assert!(rt; one.is_ok(), "node 1 is ticked at the second try");
     }
     assert!(rt;
         is_seen(rt, alloc, ring),

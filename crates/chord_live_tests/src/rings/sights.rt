@@ -74,9 +74,9 @@ fn alone<J: Naming, R: Abort + Wait + Clock>(rt: &R, alloc: Global, parts: RingP
     answers_two(rt, alloc, &ring);
     has_answered(rt, &sight_of(rt, alloc, &ring, 0));
     let ticked = ring.tick(rt, 0);
-    assert!(rt; ticked == Ok(()), "node 0 is ticked");
+    assert!(rt; ticked.is_ok(), "node 0 is ticked");
     let ticked = ring.tick(rt, 0);
-    assert!(rt; ticked == Ok(()), "node 0 is ticked again");
+    assert!(rt; ticked.is_ok(), "node 0 is ticked again");
     is_ticked(rt, &sight_of(rt, alloc, &ring, 0));
     let other = ring.sight(rt, alloc, 1);
     let is_seen = matches!(&other, Ok(None));
@@ -224,9 +224,9 @@ fn gives<J: Naming + Send + Sync, R: Abort + Threads + Wait + Clock + Sync>(
 /// Does a round of ticks.
 fn tick<J: Naming, S: EntryStore, R: Abort + Wait>(rt: &R, ring: &Ring<J, S>) {
     let zero = ring.tick(rt, 0);
-    assert!(rt; zero == Ok(()), "node 0 is ticked");
+    assert!(rt; zero.is_ok(), "node 0 is ticked");
     let one = ring.tick(rt, 1);
-    assert!(rt; one == Ok(()), "node 1 is ticked");
+    assert!(rt; one.is_ok(), "node 1 is ticked");
 }
 
 /// Nobody took in what node 0 gave: it is in its outbox.

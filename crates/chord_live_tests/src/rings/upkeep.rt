@@ -164,9 +164,9 @@ fn worked<J: Naming + Send + Sync, R: Abort + Threads + Wait + Clock + Sync>(
 /// Does a round of ticks.
 fn tick<J: Naming, S: EntryStore, R: Abort + Wait + Clock>(rt: &R, ring: &Ring<J, S>) {
     let zero = ring.tick(rt, 0);
-    assert!(rt; zero == Ok(()), "node 0 is ticked");
+    assert!(rt; zero.is_ok(), "node 0 is ticked");
     let one = ring.tick(rt, 1);
-    assert!(rt; one == Ok(()), "node 1 is ticked");
+    assert!(rt; one.is_ok(), "node 1 is ticked");
 }
 
 /// Does eight rounds of ticks, and what is done then.
@@ -279,7 +279,7 @@ fn crash<J: Naming, S: EntryStore, R: Abort + Wait + Clock>(
     let crashed = ring.crash(rt, 0);
     assert!(rt; crashed == Ok(()), "node 0 crashes");
     let ticked = ring.tick(rt, 1);
-    assert!(rt; ticked == Ok(()), "node 1 drops it");
+    assert!(rt; ticked.is_ok(), "node 1 drops it");
     let seen = retrieved(rt, alloc, &mut caller, 1, b"abc");
     assert!(rt; seen == Ok(Said::OnlyX), "node 1 answers for what it holds");
     drop(caller);
@@ -437,7 +437,7 @@ fn retire<J: Naming, S: EntryStore, R: Abort + Wait + Clock>(rt: &R, ring: &Ring
 /// After its next tick node 0 has no finger at node 1.
 fn forget<J: Naming, S: EntryStore, R: Abort + Wait + Clock>(rt: &R, ring: &Ring<J, S>) {
     let ticked = ring.tick(rt, 0);
-    assert!(rt; ticked == Ok(()), "node 0 is ticked");
+    assert!(rt; ticked.is_ok(), "node 0 is ticked");
     let links = ring.links_of(rt, 0).expect(rt, "the links of node 0");
     let finger = finger_at_1(&links);
     assert!(rt; finger == None, "no finger is at a node that retired");

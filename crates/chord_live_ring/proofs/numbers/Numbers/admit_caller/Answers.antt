@@ -1,5 +1,5 @@
-use Rattle.std.proofs.Common.{◌<◌, ◌+◌, ◌∙◌, length, All, subst, sym, ap}
-use Rattle.chord_live_ring.proofs.Counting.{open_may, next_above}
+use Rattle.std.proofs.Common.{◌<◌, ◌+◌, ◌∙◌, length, All, subst, sym, ap, refl}
+use Rattle.chord_live_ring.proofs.Counting.{open_may, next_above, below_next}
 use Rattle.chord_table.specs.Views.{Register}
 use Rattle.chord_live_ring.proofs.numbers.Numbers.admit_caller.Goals as goal
 
@@ -17,4 +17,6 @@ invariant_of-self g c =
       ap length nodes ∙ i.2,
       subst (All (λ no. no < c.self.inside.nodes)) (sym nodes) i.3,
       subst (All (λ no. no < c.self.inside.callers + 1)) (sym callers) (next_above c.self.inside.registrar.callers c.self.inside.callers i.4),
+      nodes ∙ i.5,
+      callers ∙ below_next c.self.inside.registrar.callers c.self.inside.callers c.self.inside.callers refl i.6,
     )

@@ -1,6 +1,6 @@
 use Rattle.std.proofs.Common.{◌<◌, ◌+◌, ◌∙◌, length, All, subst, sym, ap}
 use Rattle.chord_links.specs.declared.peer.Peer.{Peer}
-use Rattle.chord_live_ring.proofs.Counting.{counted_on}
+use Rattle.chord_live_ring.proofs.Counting.{counted_on, below_next}
 use Rattle.chord_live_ring.specs.Counts.{Counts}
 use Rattle.chord_table.specs.Views.{Register}
 use Rattle.chord_live_ring.proofs.numbers.Numbers.join.Goals as goal
@@ -17,4 +17,6 @@ invariant_of-self-2 g c =
       ap length nodes ∙ both.0,
       subst (All (λ no. no < c.self.inside.nodes + 1)) (sym nodes) both.1,
       subst (All (λ no. no < c.self.inside.callers)) (sym callers) i.4,
+      nodes ∙ below_next c.self.inside.registrar.nodes c.self.inside.nodes c.me-me.result.number next i.5,
+      callers ∙ i.6,
     )

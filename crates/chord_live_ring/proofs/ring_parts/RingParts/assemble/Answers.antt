@@ -23,4 +23,5 @@ invariant_of-result g c =
     let name = ap (λ (p : Parts). p.name) c.self.view_is ∙ c.requires in
     let slots = c.in_ok-slots.ensures ∙ sym c.self.inside.slots ∙ ap (λ (n : Name). n.slots) name in
     let inboxes = c.in_ok-inboxes.ensures ∙ sym c.self.inside.callers ∙ ap (λ (n : Name). n.callers) name in
-    (c.self.inside.within, (slots, (inboxes, tt)))
+    let sized = sym (ap (λ (n : Name). n.slots) name) ∙ c.self.inside.slots in
+    (sized, (c.self.inside.within, (slots, (inboxes, tt))))

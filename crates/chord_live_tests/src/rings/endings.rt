@@ -1,0 +1,110 @@
+//! The end of a ring: one look at all its seats.
+ghost use Rattle.std.specs.Prelude.{◌≡◌};
+
+use super::refusals::{join, peer};
+use super::{C, Said, call, founded, settings};
+use chord_live::{Caller, OpenCaller};
+use chord_live_ring::{ReturnedCaller, Ring, RingParts};
+use chord_map::Request;
+use chord_store::CappedStore;
+use chord_table::Naming;
+use std::alloc::{AllocError, Global};
+use std::marker::Brand;
+use std::process::Abort;
+use std::sync::Wait;
+use std::time::Clock;
+
+/// Which callers are given back, and in which order.
+#[derive(Clone, Copy, Debug, PartialEq, Eq)]
+enum Back {
+    Both,
+    Swapped,
+    FirstAlone,
+}
+
+#[test]
+fn a_ring_ends_whole(rt: HostRuntime) {
+    match RingParts::new(rt.alloc(), settings(3, 2, 1, 1_000)) {
+        Ok(parts) => ends::<Brand, _>(&rt, rt.alloc(), parts, Back::Both, true),
+        Err(_) => assert!(rt; false, "these settings are within their limits"),
+    }
+}
+
+#[test]
+fn a_caller_that_is_kept_is_missed(rt: HostRuntime) {
+    match RingParts::new(rt.alloc(), settings(3, 2, 1, 1_000)) {
+        Ok(parts) => ends::<Brand, _>(&rt, rt.alloc(), parts, Back::FirstAlone, false),
+        Err(_) => assert!(rt; false, "these settings are within their limits"),
+    }
+}
+
+#[test]
+fn callers_are_given_back_by_number(rt: HostRuntime) {
+    match RingParts::new(rt.alloc(), settings(3, 2, 1, 1_000)) {
+        Ok(parts) => ends::<Brand, _>(&rt, rt.alloc(), parts, Back::Swapped, false),
+        Err(_) => assert!(rt; false, "these settings are within their limits"),
+    }
+}
+
+/// What is given back of two callers.
+fn given_back<J: Naming>(
+    alloc: Global,
+    first: Caller<'_, J, CappedStore>,
+    second: Caller<'_, J, CappedStore>,
+    back: Back,
+) -> Result<Vec<ReturnedCaller<J>>, AllocError> {
+    let mut returned = Vec::with_capacity(alloc, 2)?;
+    let (first, second) = (first.into_returned(), second.into_returned());
+    match back {
+        Back::Both => {
+            returned.push(first)?;
+            returned.push(second)?;
+        }
+        Back::Swapped => {
+            returned.push(second)?;
+            returned.push(first)?;
+        }
+        Back::FirstAlone => {
+            returned.push(first)?;
+            drop(second);
+        }
+    }
+    Ok(returned)
+}
+
+/// Two callers of a ring of two nodes, the second of which crashed, are answered.
+fn asked<'a, J: Naming, R: Abort + Wait + Clock>(
+    rt: &R,
+    alloc: Global,
+    ring: &'a Ring<J, CappedStore>,
+) -> (Caller<'a, J, CappedStore>, Caller<'a, J, CappedStore>) {
+    let mut first = ring.open_caller(rt, 1).expect(rt, "a caller");
+    let mut second = ring.open_caller(rt, 1).expect(rt, "a second caller");
+    let added = call(rt, &mut first, 0, Request::insert(alloc, b"abc", b"x"));
+    assert!(rt; added == Ok(Said::Added), "the first adds a pair");
+    let present = call(rt, &mut second, 0, Request::insert(alloc, b"abc", b"x"));
+    assert!(rt; present == Ok(Said::Present), "the second finds it");
+    (first, second)
+}
+
+/// A ring with a free slot ends, whole or not.
+fn ends<J: Naming, R: Abort + Wait + Clock>(
+    rt: &R,
+    alloc: Global,
+    parts: RingParts,
+    back: Back,
+    is_whole: bool,
+)
+    requires { parts.name ≡ J.name }
+{
+    let ring = founded::<J, CappedStore, R>(rt, parts, CappedStore::new(alloc, 1));
+    let joined = join(rt, alloc, &ring, C, 0);
+    assert!(rt; joined == Ok(peer(1, C)), "a second node joins");
+    let crashed = ring.crash(rt, 1);
+    assert!(rt; crashed == Ok(()), "it crashes");
+    let (first, second) = asked(rt, alloc, &ring);
+    let callers = given_back(alloc, first, second, back).expect(rt, "memory for two");
+    let closed = ring.close_with(callers);
+    assert!(rt; closed.is_whole == is_whole, "{back:?}");
+    drop(closed);
+}
