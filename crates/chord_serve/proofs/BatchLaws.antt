@@ -1,5 +1,5 @@
 -- Requests answered one after another, and how a session ends.
-use Rattle.std.proofs.Common.{◌≡◌, ◌⊎◌, ℕ, List, [], ◌∷◌, ◌++◌, false, Option, Some, None, Ok, Err, refl, sym, ap, subst, ◌∙◌, append_assoc, inl, inr}
+use Rattle.std.proofs.Common.{◌≡◌, ◌⊎◌, ℕ, Bool, List, [], ◌∷◌, ◌++◌, false, Option, Some, None, Ok, Err, refl, sym, ap, subst, ◌∙◌, append_assoc, inl, inr}
 use Rattle.std.specs.List.{flat_map, AllByRecursion}
 use Rattle.std.proofs.lemmas.List.{append-nil}
 use Rattle.std.proofs.lemmas.List.Concat.{flat_map-cons, flat_map-append}
@@ -13,19 +13,23 @@ use Rattle.chord_serve.specs.declared.served.Served.TheVariants as served
 use Rattle.std.specs.declared.alloc.AllocError.{AllocError}
 use Rattle.chord_serve.specs.Question.{Question}
 use Rattle.chord_serve.specs.SessionState.{SessionState}
-use Rattle.chord_serve.specs.Session.{move_of}
-use Rattle.chord_serve.specs.Output.{bytes_written, state_after, questions, question_of}
-use Rattle.chord_serve.specs.Steps.{Step, MayAsk, Deals}
+use Rattle.chord_serve.specs.Output.{bytes_written, state_after, questions}
+use Rattle.chord_serve.specs.Steps.{Step, Deals}
 use Rattle.chord_serve.proofs.Serving.{Serves, Serves-append, as_function, serves}
 use Rattle.chord_wire.specs.Streams.{request_frame, Spells}
-use Rattle.chord_serve.specs.Served.{fault_frame, is_other, AreOfVersion, Dealt, IsRefused, Refuses, DealsWithAll, AsksNext, StopsAfter, IsServed, TellsFault}
+use Rattle.chord_wire.specs.SessionSpelling.{closed_frame}
+use Rattle.chord_serve.specs.declared.client_session.ClientSession.{ClientSession}
+use Rattle.chord_serve.specs.declared.parted.Parted.{Parted}
+use Rattle.chord_serve.specs.declared.parted.Parted.TheVariants as parted
+use Rattle.chord_serve.specs.Parting.{client, parted_as, KeptAs, OverAs}
+use Rattle.chord_serve.specs.Served.{fault_frame, is_other, AreOfVersion, Dealt, IsRefused, Refuses, DealsWithAll, ClosesNext, Closes, StopsAfter, IsParted, TellsFault, TellsClosed}
 
 -- nothing is decided before the first byte
 pub next_of_nothing : next_request [] ≡ Ok None
 unfolding next_request body_at
 next_of_nothing = refl
 
-AreOfVersion-append : (v w x : Option ℕ) (rs ts : List WireRequest) → AreOfVersion v rs w → AreOfVersion w ts x → AreOfVersion v (rs ++ ts) x
+pub AreOfVersion-append : (v w x : Option ℕ) (rs ts : List WireRequest) → AreOfVersion v rs w → AreOfVersion w ts x → AreOfVersion v (rs ++ ts) x
 AreOfVersion-append v w x [] ts p q = subst (λ (u : Option ℕ). AreOfVersion u ts x) p q
 AreOfVersion-append v w x (r ∷ rs) ts p q = (p.0, AreOfVersion-append (Some r.version) w x rs ts p.1 q)
 
@@ -76,93 +80,129 @@ module _ {A : Type 0} (answers : A → Question → Asked → A → Type 0) wher
       (same, refl)
       (output, [], t, b, step, (refl, refl, refl), sym (append-nil output))
 
-  pub stops_at_once : (v : Option ℕ) (s : SessionState) (a : A) (bytes : List ℕ) → StopsAfter answers v s a bytes [] a
-  stops_at_once v s a bytes = record { rest = bytes; version = v; state = s; asker = a; dealt = nothing v s a bytes; last = inl refl }
+  pub stops_at_once : (o : Bool) (v : Option ℕ) (s : SessionState) (a : A) (bytes : List ℕ) → StopsAfter answers o v s a bytes [] (parted.Kept (client v s a))
+  stops_at_once o v s a bytes = record { rest = bytes; version = v; state = s; asker = a; dealt = nothing v s a bytes; last = refl }
 
   -- an end, with the output added for it
-  abbrev pub EndsSo : Served → Option ℕ → SessionState → A → List ℕ → List ℕ → List ℕ → A → Type 0
-  EndsSo end v s a bytes old new a' = (output : List ℕ) × IsServed answers end v s a bytes output a' × (new ≡ old ++ output)
+  abbrev pub EndsSo : Served → Bool → Option ℕ → SessionState → A → List ℕ → List ℕ → List ℕ → Parted A → Type 0
+  EndsSo end o v s a bytes old new left = (output : List ℕ) × IsParted answers o end v s a bytes output left × (new ≡ old ++ output)
 
-  pub memory_ends : (v : Option ℕ) (s : SessionState) (a : A) (bytes old new : List ℕ) → new ≡ old → EndsSo served.Memory v s a bytes old new a
-  memory_ends v s a bytes old new e = ([], stops_at_once v s a bytes, e ∙ sym (append-nil old))
+  pub memory_ends : (o : Bool) (v : Option ℕ) (s : SessionState) (a : A) (bytes old new : List ℕ) → new ≡ old → EndsSo served.Memory o v s a bytes old new (parted.Kept (client v s a))
+  memory_ends o v s a bytes old new e = ([], stops_at_once o v s a bytes, e ∙ sym (append-nil old))
 
-  refuses_nothing : (v : Option ℕ) (s : SessionState) (a : A) (bytes : List ℕ) (f : WireFault) → IsRefused answers v bytes f → Refuses answers v s a bytes (fault_frame f) f a
-  refuses_nothing v s a bytes f refused = record { before = []; rest = bytes; version = v; state = s; dealt = nothing v s a bytes; refused = refused; output_is = refl }
+  refuses_nothing : (o : Bool) (v : Option ℕ) (s : SessionState) (a : A) (bytes : List ℕ) (f : WireFault) → IsRefused answers o v bytes f → Refuses answers o v s a bytes (fault_frame f) f (client v s a)
+  refuses_nothing o v s a bytes f refused = record { before = []; rest = bytes; dealt = nothing v s a bytes; refused = refused; output_is = refl }
 
-  pub refused_ends : (end : Served) (f : WireFault) (v : Option ℕ) (s : SessionState) (a : A) (bytes old new : List ℕ) → IsRefused answers v bytes f → TellsFault end f old new → EndsSo end v s a bytes old new a
-  refused_ends (served.Malformed code) f v s a bytes old new refused w = (fault_frame f, (f, w.0, refuses_nothing v s a bytes f refused), w.1)
-  refused_ends served.Memory f v s a bytes old new refused w = memory_ends v s a bytes old new w
-  refused_ends served.Write f v s a bytes old new refused w = absurd w
-  refused_ends served.Ended f v s a bytes old new refused w = absurd w
-  refused_ends served.Truncated f v s a bytes old new refused w = absurd w
-  refused_ends served.Read f v s a bytes old new refused w = absurd w
-  refused_ends served.TurnsSpent f v s a bytes old new refused w = absurd w
-  refused_ends served.Protocol f v s a bytes old new refused w = absurd w
-  refused_ends served.Quit f v s a bytes old new refused w = absurd w
+  pub refused_ends : (end : Served) (f : WireFault) (o : Bool) (v : Option ℕ) (s : SessionState) (a : A) (bytes old new : List ℕ) → IsRefused answers o v bytes f → TellsFault end f old new → EndsSo end o v s a bytes old new (parted.Kept (client v s a))
+  refused_ends (served.Malformed code) f o v s a bytes old new refused w = (fault_frame f, (f, w.0, refuses_nothing o v s a bytes f refused), w.1)
+  refused_ends served.Memory f o v s a bytes old new refused w = memory_ends o v s a bytes old new w
+  refused_ends served.Write f o v s a bytes old new refused w = absurd w
+  refused_ends served.Ended f o v s a bytes old new refused w = absurd w
+  refused_ends served.Truncated f o v s a bytes old new refused w = absurd w
+  refused_ends served.Read f o v s a bytes old new refused w = absurd w
+  refused_ends served.TurnsSpent f o v s a bytes old new refused w = absurd w
+  refused_ends served.Protocol f o v s a bytes old new refused w = absurd w
+  refused_ends served.Quit f o v s a bytes old new refused w = absurd w
 
-  may_ask : (v : Option ℕ) (s : SessionState) (a b : A) (r : WireRequest) (bytes rest : List ℕ) (question : Option Question) → question_of (move_of s r) r ≡ question → next_request bytes ≡ Ok (Some (r, rest)) → is_other v r.version ≡ false → MayAsk answers question a b → (b ≡ a) ⊎ AsksNext answers v s a bytes b
-  may_ask v s a b r bytes rest None e next same may = inl may
-  may_ask v s a b r bytes rest (Some q) e next same (inl not_asked) = inl not_asked
-  may_ask v s a b r bytes rest (Some q) e next same (inr asked) = inr (record { request = r; behind = rest; question = q; answer = asked.0; next = next; same_version = same; is_its_own = e; asks = asked.1 })
+  pub closed_ends : (end : Served) (o : Bool) (v : Option ℕ) (s : SessionState) (a : A) (bytes old new : List ℕ) → ClosesNext o bytes → TellsClosed end old new → EndsSo end o v s a bytes old new (parted.Over a)
+  closed_ends served.Quit o v s a bytes old new closed w = (closed_frame, record { before = []; rest = bytes; version = v; state = s; dealt = nothing v s a bytes; closed = closed; output_is = refl }, w)
+  closed_ends served.Memory o v s a bytes old new closed w = ([], record { rest = bytes; version = v; state = s; asker = a; dealt = nothing v s a bytes; last = inr (closed, refl) }, w ∙ sym (append-nil old))
+  closed_ends (served.Malformed code) o v s a bytes old new closed w = absurd w
+  closed_ends served.Write o v s a bytes old new closed w = absurd w
+  closed_ends served.Ended o v s a bytes old new closed w = absurd w
+  closed_ends served.Truncated o v s a bytes old new closed w = absurd w
+  closed_ends served.Read o v s a bytes old new closed w = absurd w
+  closed_ends served.TurnsSpent o v s a bytes old new closed w = absurd w
+  closed_ends served.Protocol o v s a bytes old new closed w = absurd w
 
-  pub step_ends : (refused : AllocError) (v : Option ℕ) (s t : SessionState) (a b : A) (r : WireRequest) (bytes rest old new : List ℕ) → next_request bytes ≡ Ok (Some (r, rest)) → is_other v r.version ≡ false → Deals answers (Err refused) s a r old new t b → EndsSo served.Memory v s a bytes old new b
-  step_ends refused v s t a b r bytes rest old new next same d =
-      ([], record { rest = bytes; version = v; state = s; asker = a; dealt = nothing v s a bytes; last = may_ask v s a b r bytes rest (question_of (move_of s r) r) refl next same d.1 }, d.0 ∙ sym (append-nil old))
+  pub step_ends : (refused : AllocError) (o : Bool) (v : Option ℕ) (s t : SessionState) (a b : A) (r : WireRequest) (bytes rest old new : List ℕ) → next_request bytes ≡ Ok (Some (r, rest)) → is_other v r.version ≡ false → Deals answers (Err refused) s a r old new t b
+      → EndsSo served.Memory o v s a bytes old new (parted.Over b)
+  step_ends refused o v s t a b r bytes rest old new next same d =
+      ([], record { rest = bytes; version = v; state = s; asker = a; dealt = nothing v s a bytes; last = inl (record { request = r; behind = rest; next = next; same_version = same; may_ask = d.1 }) }, d.0 ∙ sym (append-nil old))
+
+  -- such an end of a connection that is not over before
+  abbrev pub EndsNow : Served → Bool → Bool → ClientSession A → List ℕ → List ℕ → List ℕ → Parted A → Type 0
+  EndsNow end o over e bytes old new left = (output : List ℕ) × (over ≡ false → IsParted answers o end e.version e.numbers e.asker bytes output left) × (new ≡ old ++ output)
+
+  pub kept_now : (end : Served) (o over : Bool) (e : ClientSession A) (bytes old new : List ℕ) → EndsSo end o e.version e.numbers e.asker bytes old new (parted.Kept e) → EndsNow end o over e bytes old new (parted_as over e)
+  kept_now end o over e bytes old new p = (p.0, λ going. subst (λ (b : Bool). IsParted answers o end e.version e.numbers e.asker bytes p.0 (parted_as b e)) (sym going) p.1, p.2)
+
+  pub over_now : (end : Served) (o over : Bool) (e : ClientSession A) (a : A) (bytes old new : List ℕ) → EndsSo end o e.version e.numbers e.asker bytes old new (parted.Over a) → EndsNow end o over e bytes old new (parted.Over a)
+  over_now end o over e a bytes old new p = (p.0, λ going. p.1, p.2)
 
   -- ---- what comes after some requests
 
-  all_after : (v w : Option ℕ) (s t : SessionState) (a b c : A) (bytes first rest second end : List ℕ) → Dealt answers v s a bytes first rest w t b → DealsWithAll answers w t b rest second end c → DealsWithAll answers v s a bytes (first ++ second) end c
-  all_after v w s t a b c bytes first rest second end p q = record { version = q.version; state = q.state; dealt = Dealt-then v w q.version s t q.state a b c bytes first rest second end p q.dealt; undecided = q.undecided }
+  kept_map : (left : Parted A) (P Q : ClientSession A → Type 0) → ((c : ClientSession A) → P c → Q c) → KeptAs left P → KeptAs left Q
+  kept_map (parted.Kept c) P Q f p = f c p
+  kept_map (parted.Over a) P Q f p = absurd p
 
-  stops_after : (v w : Option ℕ) (s t : SessionState) (a b c : A) (bytes first rest second : List ℕ) → Dealt answers v s a bytes first rest w t b → StopsAfter answers w t b rest second c → StopsAfter answers v s a bytes (first ++ second) c
-  stops_after v w s t a b c bytes first rest second p q =
+  over_map : (left : Parted A) (P Q : A → Type 0) → ((a : A) → P a → Q a) → OverAs left P → OverAs left Q
+  over_map (parted.Kept c) P Q f p = absurd p
+  over_map (parted.Over a) P Q f p = f a p
+
+  all_after : (v w : Option ℕ) (s t : SessionState) (a b : A) (bytes first rest second end : List ℕ) → Dealt answers v s a bytes first rest w t b → (c : ClientSession A) → DealsWithAll answers w t b rest second end c → DealsWithAll answers v s a bytes (first ++ second) end c
+  all_after v w s t a b bytes first rest second end p c q = record { dealt = Dealt-then v w c.version s t c.numbers a b c.asker bytes first rest second end p q.dealt; undecided = q.undecided }
+
+  stops_after : (o : Bool) (v w : Option ℕ) (s t : SessionState) (a b : A) (left : Parted A) (bytes first rest second : List ℕ) → Dealt answers v s a bytes first rest w t b → StopsAfter answers o w t b rest second left → StopsAfter answers o v s a bytes (first ++ second) left
+  stops_after o v w s t a b left bytes first rest second p q =
       record { rest = q.rest; version = q.version; state = q.state; asker = q.asker; dealt = Dealt-then v w q.version s t q.state a b q.asker bytes first rest second q.rest p q.dealt; last = q.last }
 
-  refuses_after : (v w : Option ℕ) (s t : SessionState) (a b c : A) (bytes first rest second : List ℕ) (f : WireFault) → Dealt answers v s a bytes first rest w t b → Refuses answers w t b rest second f c → Refuses answers v s a bytes (first ++ second) f c
-  refuses_after v w s t a b c bytes first rest second f p q = record {
+  refuses_after : (o : Bool) (v w : Option ℕ) (s t : SessionState) (a b : A) (bytes first rest second : List ℕ) (f : WireFault) → Dealt answers v s a bytes first rest w t b → (c : ClientSession A) → Refuses answers o w t b rest second f c → Refuses answers o v s a bytes (first ++ second) f c
+  refuses_after o v w s t a b bytes first rest second f p c q = record {
+    before = first ++ q.before;
+    rest = q.rest;
+    dealt = Dealt-then v w c.version s t c.numbers a b c.asker bytes first rest q.before q.rest p q.dealt;
+    refused = q.refused;
+    output_is = ap (λ (ys : List ℕ). first ++ ys) q.output_is ∙ sym (append_assoc first q.before (fault_frame f));
+  }
+
+  closes_after : (o : Bool) (v w : Option ℕ) (s t : SessionState) (a b : A) (bytes first rest second : List ℕ) → Dealt answers v s a bytes first rest w t b → (c : A) → Closes answers o w t b rest second c → Closes answers o v s a bytes (first ++ second) c
+  closes_after o v w s t a b bytes first rest second p c q = record {
     before = first ++ q.before;
     rest = q.rest;
     version = q.version;
     state = q.state;
     dealt = Dealt-then v w q.version s t q.state a b c bytes first rest q.before q.rest p q.dealt;
-    refused = q.refused;
-    output_is = ap (λ (ys : List ℕ). first ++ ys) q.output_is ∙ sym (append_assoc first q.before (fault_frame f));
+    closed = q.closed;
+    output_is = ap (λ (ys : List ℕ). first ++ ys) q.output_is ∙ sym (append_assoc first q.before closed_frame);
   }
 
-  pub served_after : (end : Served) (v w : Option ℕ) (s t : SessionState) (a b c : A) (bytes first rest second : List ℕ) → Dealt answers v s a bytes first rest w t b → IsServed answers end w t b rest second c → IsServed answers end v s a bytes (first ++ second) c
-  served_after served.Ended v w s t a b c bytes first rest second p q = all_after v w s t a b c bytes first rest second [] p q
-  served_after served.Truncated v w s t a b c bytes first rest second p q = (q.0, q.1, all_after v w s t a b c bytes first rest second q.0 p q.2)
-  served_after served.Read v w s t a b c bytes first rest second p q = (q.0, all_after v w s t a b c bytes first rest second q.0 p q.1)
-  served_after served.TurnsSpent v w s t a b c bytes first rest second p q = (q.0, all_after v w s t a b c bytes first rest second q.0 p q.1)
-  served_after (served.Malformed code) v w s t a b c bytes first rest second p q = (q.0, q.1, refuses_after v w s t a b c bytes first rest second q.0 p q.2)
-  served_after served.Write v w s t a b c bytes first rest second p q =
+  pub served_after : (end : Served) (o : Bool) (v w : Option ℕ) (s t : SessionState) (a b : A) (left : Parted A) (bytes first rest second : List ℕ) → Dealt answers v s a bytes first rest w t b → IsParted answers o end w t b rest second left → IsParted answers o end v s a bytes (first ++ second) left
+  served_after served.Ended o v w s t a b left bytes first rest second p q = kept_map left _ _ (all_after v w s t a b bytes first rest second [] p) q
+  served_after served.Truncated o v w s t a b left bytes first rest second p q = (q.0, q.1, kept_map left _ _ (all_after v w s t a b bytes first rest second q.0 p) q.2)
+  served_after served.Read o v w s t a b left bytes first rest second p q = (q.0, kept_map left _ _ (all_after v w s t a b bytes first rest second q.0 p) q.1)
+  served_after served.TurnsSpent o v w s t a b left bytes first rest second p q = (q.0, kept_map left _ _ (all_after v w s t a b bytes first rest second q.0 p) q.1)
+  served_after (served.Malformed code) o v w s t a b left bytes first rest second p q = (q.0, q.1, kept_map left _ _ (refuses_after o v w s t a b bytes first rest second q.0 p) q.2)
+  served_after served.Quit o v w s t a b left bytes first rest second p q = over_map left _ _ (closes_after o v w s t a b bytes first rest second p) q
+  served_after served.Write o v w s t a b left bytes first rest second p q =
       let parts : first ++ q.0 ≡ (first ++ second) ++ q.1 = ap (λ (ys : List ℕ). first ++ ys) q.2 ∙ sym (append_assoc first second q.1) in (
         first ++ q.0,
         q.1,
         parts,
         elim q.3 [
-          | inl some ↦ inl (stops_after v w s t a b c bytes first rest q.0 p some)
-          | inr refused ↦ inr (refused.0, refuses_after v w s t a b c bytes first rest q.0 refused.0 p refused.1)
+          | inl some ↦ inl (stops_after o v w s t a b left bytes first rest q.0 p some)
+          | inr (inl refused) ↦ inr (inl (refused.0, kept_map left _ _ (refuses_after o v w s t a b bytes first rest q.0 refused.0 p) refused.1))
+          | inr (inr closed) ↦ inr (inr (over_map left _ _ (closes_after o v w s t a b bytes first rest q.0 p) closed))
         ],
       )
-  served_after served.Memory v w s t a b c bytes first rest second p q = stops_after v w s t a b c bytes first rest second p q
-  served_after served.Protocol v w s t a b c bytes first rest second p q = absurd q
-  served_after served.Quit v w s t a b c bytes first rest second p q = absurd q
+  served_after served.Memory o v w s t a b left bytes first rest second p q = stops_after o v w s t a b left bytes first rest second p q
+  served_after served.Protocol o v w s t a b left bytes first rest second p q = absurd q
 
   -- ---- the output is written
 
   -- a session that answered all requests answered some
-  all_stops : (v : Option ℕ) (s : SessionState) (a : A) (bytes output rest : List ℕ) (b : A) → DealsWithAll answers v s a bytes output rest b → StopsAfter answers v s a bytes output b
-  all_stops v s a bytes output rest b p = record { rest = rest; version = p.version; state = p.state; asker = b; dealt = p.dealt; last = inl refl }
+  all_stops : (o : Bool) (v : Option ℕ) (s : SessionState) (a : A) (left : Parted A) (bytes output rest : List ℕ) → KeptAs left (DealsWithAll answers v s a bytes output rest) → StopsAfter answers o v s a bytes output left
+  all_stops o v s a (parted.Kept c) bytes output rest p = record { rest = rest; version = c.version; state = c.numbers; asker = c.asker; dealt = p.dealt; last = refl }
+  all_stops o v s a (parted.Over b) bytes output rest p = absurd p
 
   -- only a prefix of the output was written
-  pub prefix_served : (end : Served) (v : Option ℕ) (s : SessionState) (a : A) (bytes whole prefix rest : List ℕ) (b : A) → whole ≡ prefix ++ rest → IsServed answers end v s a bytes whole b → IsServed answers served.Write v s a bytes prefix b
-  prefix_served served.Ended v s a bytes whole prefix rest b e p = (whole, rest, e, inl (all_stops v s a bytes whole [] b p))
-  prefix_served served.Truncated v s a bytes whole prefix rest b e p = (whole, rest, e, inl (all_stops v s a bytes whole p.0 b p.2))
-  prefix_served served.Read v s a bytes whole prefix rest b e p = (whole, rest, e, inl (all_stops v s a bytes whole p.0 b p.1))
-  prefix_served served.TurnsSpent v s a bytes whole prefix rest b e p = (whole, rest, e, inl (all_stops v s a bytes whole p.0 b p.1))
-  prefix_served (served.Malformed code) v s a bytes whole prefix rest b e p = (whole, rest, e, inr (p.0, p.2))
-  prefix_served served.Write v s a bytes whole prefix rest b e p = (p.0, rest ++ p.1, p.2 ∙ ap (λ (ys : List ℕ). ys ++ p.1) e ∙ append_assoc prefix rest p.1, p.3)
-  prefix_served served.Memory v s a bytes whole prefix rest b e p = (whole, rest, e, inl p)
-  prefix_served served.Protocol v s a bytes whole prefix rest b e p = absurd p
-  prefix_served served.Quit v s a bytes whole prefix rest b e p = absurd p
+  pub prefix_served : (end : Served) (o : Bool) (v : Option ℕ) (s : SessionState) (a : A) (left : Parted A) (bytes whole prefix rest : List ℕ) → whole ≡ prefix ++ rest → IsParted answers o end v s a bytes whole left → IsParted answers o served.Write v s a bytes prefix left
+  prefix_served served.Ended o v s a left bytes whole prefix rest e p = (whole, rest, e, inl (all_stops o v s a left bytes whole [] p))
+  prefix_served served.Truncated o v s a left bytes whole prefix rest e p = (whole, rest, e, inl (all_stops o v s a left bytes whole p.0 p.2))
+  prefix_served served.Read o v s a left bytes whole prefix rest e p = (whole, rest, e, inl (all_stops o v s a left bytes whole p.0 p.1))
+  prefix_served served.TurnsSpent o v s a left bytes whole prefix rest e p = (whole, rest, e, inl (all_stops o v s a left bytes whole p.0 p.1))
+  prefix_served (served.Malformed code) o v s a left bytes whole prefix rest e p = (whole, rest, e, inr (inl (p.0, p.2)))
+  prefix_served served.Quit o v s a left bytes whole prefix rest e p = (whole, rest, e, inr (inr p))
+  prefix_served served.Write o v s a left bytes whole prefix rest e p = (p.0, rest ++ p.1, p.2 ∙ ap (λ (ys : List ℕ). ys ++ p.1) e ∙ append_assoc prefix rest p.1, p.3)
+  prefix_served served.Memory o v s a left bytes whole prefix rest e p = (whole, rest, e, inl p)
+  prefix_served served.Protocol o v s a left bytes whole prefix rest e p = absurd p

@@ -8,3 +8,7 @@ pub mod Framed
 pub mod FittingReplies
 pub mod BytesRead
 pub mod Windows
+pub mod Greetings
+pub mod Rows
+pub mod AskedOnce
+pub mod Resuming

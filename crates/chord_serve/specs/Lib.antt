@@ -6,9 +6,17 @@ pub mod Writes
 pub mod Steps
 pub mod Ends
 pub mod Conversing
+pub mod Parting
 pub mod Served
+pub mod Lasting
+pub mod Keeping
+pub mod TableState
+pub mod SessionTable
+pub mod Greeting
 pub mod Calls
 pub mod BytesRead
 pub mod ClientState
 pub mod HasWindow
 pub mod InFlight
+pub mod Told
+pub mod Resuming

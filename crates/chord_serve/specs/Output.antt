@@ -78,6 +78,12 @@ unfoldable pub questions : SessionState → List WireRequest → List Asked → 
 questions s [] given = []
 questions s (r ∷ requests) given = and_then (question_of (move_of s r) r) (questions (reaction s r given).state requests (reaction s r given).unused)
 
+-- the requests that questions ask anew
+abbrev pub asked_anew : List Question → List Request
+asked_anew [] = []
+asked_anew (question.Ask request ∷ questions) = request ∷ asked_anew questions
+asked_anew (question.Retry number ∷ questions) = asked_anew questions
+
 -- The asker answered each question once, in order, with these answers. Memory is no answer.
 abbrev pub AreAnswers : {A : Type 0} → (A → Question → Asked → A → Type 0) → A → List Question → List Asked → A → Type 0
 AreAnswers {A = A} answers a [] [] a' = a' ≡ a

@@ -1,5 +1,5 @@
 -- What a session does with a request. Source: our own.
-use Rattle.std.specs.Prelude.{ℕ, zero, suc, ◌+◌, ◌-◌, max, Bool, ◌||◌, List, [], ◌∷◌, ◌++◌, length, drop, Option, Some, None, is_some, slice_get, option_and_then, nat_lt, nat_le, ◌==◌, if◌then◌else◌}
+use Rattle.std.specs.Prelude.{ℕ, zero, suc, ◌+◌, ◌-◌, ◌^◌, min, max, fold, Bool, ◌||◌, List, [], ◌∷◌, ◌++◌, length, drop, Option, Some, None, is_some, slice_get, option_and_then, nat_lt, nat_le, ◌==◌, if◌then◌else◌}
 use Rattle.chord_map.specs.declared.request.Request.{Request}
 use Rattle.chord_map.specs.Same.{same_request}
 use Rattle.chord_wire.specs.declared.request.WireRequest.{WireRequest}
@@ -76,3 +76,16 @@ bytes_of (Some bytes) = bytes
 -- the reply frame of a number, to be written again
 abbrev pub frame_again : SessionState → ℕ → List ℕ
 frame_again s number = bytes_of (frame_kept s number)
+
+-- how many bytes a reply frame has, if there is one
+abbrev pub length_of : Option (List ℕ) → ℕ
+length_of None = 0
+length_of (Some frame) = length frame
+
+-- how many bytes the request's reply frame has, if there is one
+abbrev pub frame_bytes : AskedRequest → ℕ
+frame_bytes k = length_of k.frame
+
+-- how many bytes the reply frames have together, or the greatest count
+abbrev pub bytes_held : SessionState → ℕ
+bytes_held s = fold (λ (sum : ℕ) (k : AskedRequest). min (sum + frame_bytes k) (2 ^ 64 - 1)) 0 s.kept

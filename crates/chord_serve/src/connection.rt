@@ -1,27 +1,40 @@
 //! A connection that speaks in frames.
-ghost use Rattle.std.specs.Prelude.{◌≡◌, ◌≢◌, ◌++◌, ◌==◌, [], None, Ok, length};
+ghost use Rattle.std.specs.Prelude.{◌≡◌, ◌≢◌, ◌++◌, ◌==◌, false, None, Ok, length};
 ghost use Rattle.chord_wire.specs.Reading.{next_request};
 ghost use Rattle.chord_serve.specs.Ends.{IsStop};
-ghost use Rattle.chord_serve.specs.Session.{first_state};
-ghost use Rattle.chord_serve.specs.Served.{is_other, Dealt, IsServed, TellsFault};
+ghost use Rattle.chord_serve.specs.Parting.{parted_as};
+ghost use Rattle.chord_serve.specs.Served.{is_other, Dealt, IsParted, TellsFault, TellsClosed};
 
 use crate::asker::Asker;
+use crate::client_session::ClientSession;
 use crate::dialogue::Dialogue;
 use crate::due::Due;
+use crate::parted::Parted;
 use crate::served::Served;
-use crate::session::Session;
-use crate::step::answer_one;
-use chord_wire::{FaultCode, Frames, WireFault, write_fault};
+use chord_wire::{FaultCode, SessionFrame, SessionFrames, WireFault, write_closed, write_fault};
 use std::alloc::{AllocError, Global};
 
-/// The bytes that came and are not answered yet, the version of the first request, the session,
-/// and its asker.
+// A request of another version than the first one.
+const BAD_VERSION: WireFault = WireFault {
+    code: FaultCode::BadVersion,
+    number: 0,
+};
+
+// An open behind the first frame, or a close without a session.
+const OUT_OF_PLACE: WireFault = WireFault {
+    code: FaultCode::OutOfPlace,
+    number: 0,
+};
+
+/// The bytes that came and are not answered yet, and the session.
 #[derive(Drop)]
 pub struct Connection<A> {
-    frames: Frames,
-    version: Option<u8>,
-    session: Session,
-    asker: A,
+    frames: SessionFrames,
+    client: ClientSession<A>,
+    // Whether the connection began with an open.
+    is_opened: bool,
+    // Whether the session cannot go on.
+    is_over: bool,
 }
 
 // Ends a session with a fault, whose frame is added to the output.
@@ -49,42 +62,60 @@ fn is_other(first: Option<u8>, version: u8) -> bool
     }
 }
 
+// Ends a session that its client closed; the frame that says so is added to the output.
+fn close(alloc: Global, due: &mut Due) -> Served
+    ensures due { TellsClosed result due.old due.new }
+    ensures stop { IsStop result }
+{
+    match write_closed(alloc) {
+        Err(_) => Served::Memory,
+        Ok(frame) => match due.add(&frame) {
+            Ok(()) => Served::Quit,
+            Err(_) => Served::Memory,
+        },
+    }
+}
+
 impl<A> Connection<A> {
-    pub fn new(alloc: Global, asker: A) -> Connection<A>
-        ensures frames { result.frames ≡ [] }
-        ensures version { result.version ≡ None }
-        ensures session { result.session ≡ first_state }
-        ensures asker { result.asker ≡ asker }
+    /// A session goes on with these bytes. `is_opened` says whether it began with an open.
+    pub fn new(frames: SessionFrames, client: ClientSession<A>, is_opened: bool) -> Connection<A>
+        ensures frames { result.frames ≡ frames }
+        ensures client { result.client ≡ client }
+        ensures opened { result.is_opened ≡ is_opened }
+        ensures over { result.is_over ≡ false }
     {
         Connection {
-            frames: Frames::new(alloc),
-            version: None,
-            session: Session::new(alloc),
-            asker,
+            frames,
+            client,
+            is_opened,
+            is_over: false,
         }
     }
 
-    pub fn into_asker(self) -> A
-        ensures { result ≡ self.asker }
+    /// What is left of the session.
+    pub fn into_parted(self) -> Parted<A>
+        ensures { result ≡ parted_as self.is_over self.client }
     {
         let Connection {
             frames,
-            version: _,
-            session,
-            asker,
+            client,
+            is_opened: _,
+            is_over,
         } = self;
         drop(frames);
-        drop(session);
-        asker
+        if is_over {
+            return Parted::Over(client.into_asker());
+        }
+        Parted::Kept(client)
     }
 }
 
 impl<A: Asker> Dialogue for Connection<A> {
-    ghost hears = { λ c piece d. (d.frames ≡ c.frames ++ piece) × (d.version ≡ c.version) × (d.session ≡ c.session) × (d.asker ≡ c.asker) };
+    ghost hears = { λ c piece d. (d.frames ≡ c.frames ++ piece) × (d.client ≡ c.client) × (d.is_opened ≡ c.is_opened) × (d.is_over ≡ c.is_over) };
 
-    ghost says = { λ c bytes d. Dealt A.answers c.version c.session c.asker c.frames bytes d.frames d.version d.session d.asker };
+    ghost says = { λ c bytes d. Dealt A.answers c.client.version c.client.numbers c.client.asker c.frames bytes d.frames d.client.version d.client.numbers d.client.asker × (d.is_opened ≡ c.is_opened) × (d.is_over ≡ c.is_over) };
 
-    ghost stops = { λ end c bytes d. IsServed A.answers end c.version c.session c.asker c.frames bytes d.asker };
+    ghost stops = { λ end c bytes d. c.is_over ≡ false → IsParted A.answers c.is_opened end c.client.version c.client.numbers c.client.asker c.frames bytes (parted_as d.is_over d.client) };
 
     ghost waits = { λ c. next_request c.frames ≡ Ok None };
 
@@ -113,20 +144,30 @@ impl<A: Asker> Dialogue for Connection<A> {
                 return Err(refuse(alloc, due, fault));
             }
         };
-        let Some(wire) = next else {
+        let Some(frame) = next else {
             return Ok(false);
         };
-        if is_other(self.version, wire.version) {
-            let fault = WireFault {
-                code: FaultCode::BadVersion,
-                number: 0,
-            };
-            return Err(refuse(alloc, due, fault));
-        }
-        self.version = Some(wire.version);
-        match answer_one(alloc, &mut self.session, due, &mut self.asker, wire) {
-            Ok(()) => Ok(true),
-            Err(_) => Err(Served::Memory),
+        match frame {
+            SessionFrame::Request(wire) => {
+                if is_other(self.client.version, wire.version) {
+                    return Err(refuse(alloc, due, BAD_VERSION));
+                }
+                match self.client.answer(alloc, due, wire) {
+                    Ok(()) => Ok(true),
+                    Err(_) => {
+                        self.is_over = true;
+                        Err(Served::Memory)
+                    }
+                }
+            }
+            SessionFrame::Open(_) => Err(refuse(alloc, due, OUT_OF_PLACE)),
+            SessionFrame::Close => {
+                if !self.is_opened {
+                    return Err(refuse(alloc, due, OUT_OF_PLACE));
+                }
+                self.is_over = true;
+                Err(close(alloc, due))
+            }
         }
     }
 }

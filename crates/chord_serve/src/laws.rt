@@ -1,17 +1,35 @@
 //! What holds of all sessions. These functions have no code; their contracts are the laws.
-ghost use Rattle.std.specs.Prelude.{◌≡◌, ℕ, List, [], Option, None};
+ghost use Rattle.std.specs.Prelude.{◌≡◌, ◌+◌, ◌++◌, ℕ, List, [], length, Option, None};
 ghost use Rattle.std.specs.List.{AllByRecursion};
 ghost use Rattle.chord_wire.specs.declared.request.WireRequest.{WireRequest};
 ghost use Rattle.chord_wire.specs.Spelling.{IsWireRequest};
 ghost use Rattle.chord_wire.specs.Streams.{HasNoNext};
 ghost use Rattle.chord_serve.specs.declared.asker.Asked.{Asked};
-ghost use Rattle.chord_serve.specs.Session.{first_state};
+ghost use Rattle.chord_serve.specs.Session.{first_state, last_number};
 ghost use Rattle.chord_serve.specs.SessionState.{SessionState};
+ghost use Rattle.chord_serve.specs.Question.{Question};
 ghost use Rattle.chord_serve.specs.Served.{Dealt};
-ghost use Rattle.chord_serve.specs.Output.{questions, answered_requests, AreAnswers, IsPaired};
+ghost use Rattle.chord_serve.specs.Lasting.{InARow, AreOneSession};
+ghost use Rattle.chord_serve.specs.Output.{questions, state_after, asked_anew, answered_requests, AreAnswers, IsPaired};
 
 use crate::asker::Asker;
+use crate::client_session::ClientSession;
 use chord_wire::laws::one_reading;
+
+/// Connections in a row are one session: the requests of all of them together are asked once each,
+/// in order, and answered as if they had come over one connection.
+pub fn connections_are_one_session<A: Asker>()
+    ensures { (first : ClientSession A) (inputs outputs : List (List ℕ)) (last : ClientSession A) → InARow A.answers first inputs outputs last → AreOneSession A.answers first inputs outputs last }
+{}
+
+/// Each number is asked anew once: as many requests are asked anew as there are new numbers, and
+/// the asker took in these, in order. By [`connections_are_one_session`] that holds over all
+/// connections of a session together.
+pub fn numbers_are_asked_once<A: Asker>()
+    ensures numbers { (a b : A) (s : SessionState) (requests : List WireRequest) (given : List Asked) → AreAnswers A.answers a (questions s requests given) given b
+        → last_number s + length (asked_anew (questions s requests given)) ≡ last_number (state_after s requests given) }
+    ensures asked { (a b : A) (asks : List Question) (given : List Asked) → AreAnswers A.answers a asks given b → A.asked b ≡ A.asked a ++ asked_anew asks }
+{}
 
 /// Each reply of a session is of the kind of its request, also after a retry.
 pub fn replies_are_of_their_kind<A: Asker>()

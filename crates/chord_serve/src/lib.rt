@@ -2,35 +2,51 @@
 //!
 //! [`serve`] reads the frames of one connection, asks an [`Asker`] each request once, and writes
 //! the answers: a reply, a fault, or, for a number that was answered before, the same frame again.
+//! A session may outlive its connection: [`greet`] says how a connection begins, [`serve_session`]
+//! serves it with a [`ClientSession`] and gives this back, and a [`SessionTable`] has the sessions of
+//! a server: those that connections have, and those without one, the [`KeptSessions`].
 //! [`Served`] says why the session ended. [`tell_callers_spent`] is what a client is told whose
 //! connection is not served.
 //! The other end is [`call`], which sends one request and waits,
-//! or a [`WireClient`], which has up to 16 requests in flight.
+//! or a [`WireClient`], which has up to 16 requests in flight, and whose session may go on over
+//! another connection.
 //! [`laws`] says that the output does not depend on how the input was cut.
 #![tactic(auto)]
 
 mod asked_request;
 mod asker;
-mod callers_spent;
 mod calls;
+mod client_session;
 mod connection;
 mod dialogue;
 mod due;
+mod greeting;
+mod kept_sessions;
 pub mod laws;
+mod openings;
+mod parted;
 mod served;
 mod server;
 mod session;
+mod session_table;
 mod step;
+mod told;
 mod turns;
 mod wire_client;
 mod write_bytes;
 
 pub use asker::{Asked, Asker};
-pub use callers_spent::tell_callers_spent;
 pub use calls::{CallFault, call, call_2};
+pub use client_session::ClientSession;
 pub use dialogue::Dialogue;
 pub use due::Due;
+pub use greeting::greet;
+pub use kept_sessions::{KeptSession, KeptSessions, MayBePending};
+pub use openings::{tell_callers_spent, tell_no_session, tell_opened, tell_session_known};
+pub use parted::Parted;
 pub use served::Served;
-pub use server::serve;
-pub use turns::converse;
+pub use server::{serve, serve_plain, serve_session};
+pub use session_table::{BeginRefusal, HeldSession, Resumed, SessionTable};
+pub use turns::{converse, converse_further};
+pub use wire_client::sessions::{BeginFault, CloseFault, OpenFault, ResumeFault};
 pub use wire_client::{AgainFault, ReceiveFault, SendFault, WireClient};

@@ -1,7 +1,7 @@
 //! The requests of a session and their reply frames.
 ghost use Rattle.chord_wire.specs.Spelling.{IsWireRequest};
 ghost use Rattle.std.specs.Prelude.{◌≡◌, ◌≢◌, IsSome, ◌≤◌, ◌^◌, slice_get, Some, ◌<◌, ◌-◌, ◌+◌, length, OnOk, OnErr};
-ghost use Rattle.chord_serve.specs.Session.{first_state, last_number, answered_of, is_out, raised, with_accepted, place_of, move_at, move_of, with_open_request, answered_at, frame_kept};
+ghost use Rattle.chord_serve.specs.Session.{first_state, last_number, answered_of, is_out, raised, with_accepted, place_of, move_at, move_of, with_open_request, answered_at, frame_kept, frame_bytes, bytes_held};
 ghost use Rattle.std.specs.Option.{option_map};
 
 use crate::asked_request::AskedRequest;
@@ -55,6 +55,16 @@ fn answered_of(kept: &[AskedRequest]) -> usize
     count
 }
 
+// How many bytes the reply frame has, if there is one.
+fn frame_bytes(one: &AskedRequest) -> u64
+    ensures { result ≡ frame_bytes one.now }
+{
+    match &one.frame {
+        Some(frame) => frame.as_slice().len() as u64,
+        None => 0,
+    }
+}
+
 impl Session {
     pub fn new(alloc: Global) -> Session
         ensures { result ≡ first_state }
@@ -63,6 +73,29 @@ impl Session {
             floor: 0,
             kept: Vec::new(alloc),
         }
+    }
+
+    /// The greatest floor accepted.
+    pub fn floor(&self) -> u64
+        ensures { result ≡ self.now.floor }
+    {
+        self.floor
+    }
+
+    /// The last number asked.
+    pub fn last(&self) -> u64
+        ensures { result ≡ last_number self.now }
+    {
+        self.floor + self.kept.len() as u64
+    }
+
+    /// How many bytes the kept reply frames have; `u64::MAX` stands for more.
+    pub fn bytes(&self) -> u64
+        ensures { result ≡ bytes_held self.now }
+    {
+        self.kept
+            .iter()
+            .fold(0, |sum, one| sum.saturating_add(frame_bytes(one)))
     }
 
     /// What to do with the request. Unless its number is out

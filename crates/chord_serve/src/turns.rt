@@ -115,3 +115,24 @@ pub fn converse<D: Dialogue, R: Read, W: Write>(
     }
     Served::TurnsSpent
 }
+
+/// Answers the requests that the dialogue took in before, and then goes on as [`converse`] does.
+pub fn converse_further<D: Dialogue, R: Read, W: Write>(
+    alloc: Global,
+    dialogue: &mut D,
+    reader: &mut R,
+    writer: &mut W,
+    turns: u64,
+) -> Served
+    ensures end { EndsInput result (R.remaining reader.new) }
+    ensures bytes { ReadsBetween 0 (4096 * turns) (R.remaining reader.old) (R.remaining reader.new) }
+    ensures spent { result ≡ Served.TurnsSpent → ReadsBetween turns (4096 * turns) (R.remaining reader.old) (R.remaining reader.new) }
+    ensures conversed { (input : List ℕ) × (output : List ℕ) × Consumes (R.remaining reader.old) (R.remaining reader.new) input
+        × Conversed D.hears D.says D.stops D.waits D.between result dialogue.old input output dialogue.new
+        × Appends (W.contents writer.old) (W.contents writer.new) output }
+{
+    if let Err(end) = answer_all(alloc, dialogue, writer) {
+        return end;
+    }
+    converse(alloc, dialogue, reader, writer, turns)
+}

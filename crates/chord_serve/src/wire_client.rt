@@ -17,6 +17,8 @@ use std::io::{Read, Write};
 use std::marker::Model;
 use thiserror::Error;
 
+pub mod sessions;
+
 /// Why a request was not sent, or only in part.
 #[derive(Clone, Copy, Debug, PartialEq, Eq, Error)]
 pub enum SendFault {
@@ -56,8 +58,8 @@ pub enum ReceiveFault {
     CallersSpent,
 }
 
-/// Has up to its window of requests in flight. After a fault
-/// of reading or writing the connection is of no more use.
+/// Has up to its window of requests in flight. After a fault of reading or writing the connection is
+/// of no more use; a session that an open began can be resumed over another one.
 #[derive(Debug, Drop)]
 pub struct WireClient {
     version: u8,
@@ -186,6 +188,14 @@ impl WireClient {
             refused: Vec::new(alloc),
             answers: Answers::new(alloc),
         })
+    }
+
+    /// The number of the last request that was sent, also where its frame was written in part; 0
+    /// before the first.
+    pub fn last(&self) -> u64
+        ensures { result ≡ self.now.last }
+    {
+        self.last
     }
 
     /// The number of requests that wait for answers.

@@ -1,8 +1,15 @@
 //! Worked sessions, over memory.
 
 mod askers;
+mod client_sessions;
 mod faults;
+mod going_on;
+mod greetings;
 mod growths;
 mod in_flight;
+mod kept_sessions;
+mod resumed;
+mod script;
+mod session_table;
 mod sessions;
 mod turns;

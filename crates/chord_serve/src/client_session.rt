@@ -1,0 +1,100 @@
+//! What a client's session has beyond its connections.
+ghost use Rattle.std.specs.Prelude.{◌≡◌, None, Some};
+ghost use Rattle.chord_wire.specs.Spelling.{IsWireRequest};
+ghost use Rattle.chord_serve.specs.Session.{first_state, last_number, bytes_held};
+ghost use Rattle.chord_serve.specs.Steps.{Deals};
+
+use crate::asker::Asker;
+use crate::due::Due;
+use crate::session::Session;
+use crate::step::answer_one;
+use chord_wire::WireRequest;
+use std::alloc::{AllocError, Global};
+
+/// The version of its requests, once that is known; its numbers, with the answers that are kept;
+/// and who answers new ones.
+#[derive(Drop)]
+pub struct ClientSession<A> {
+    pub(crate) version: Option<u8>,
+    pub(crate) numbers: Session,
+    pub(crate) asker: A,
+}
+
+impl<A> ClientSession<A> {
+    /// The session of a connection that begins without an open, so it ends with the connection.
+    pub fn of_connection(alloc: Global, asker: A) -> ClientSession<A>
+        ensures version { result.version ≡ None }
+        ensures numbers { result.numbers ≡ first_state }
+        ensures asker { result.asker ≡ asker }
+    {
+        ClientSession {
+            version: None,
+            numbers: Session::new(alloc),
+            asker,
+        }
+    }
+
+    /// A session that an open begins. It is of version 2.
+    pub fn new(alloc: Global, asker: A) -> ClientSession<A>
+        ensures version { result.version ≡ Some 2 }
+        ensures numbers { result.numbers ≡ first_state }
+        ensures asker { result.asker ≡ asker }
+    {
+        ClientSession {
+            version: Some(2),
+            numbers: Session::new(alloc),
+            asker,
+        }
+    }
+
+    /// The greatest floor accepted.
+    pub fn floor(&self) -> u64
+        ensures { result ≡ self.now.numbers.floor }
+    {
+        self.numbers.floor()
+    }
+
+    /// The last number of which a request was read whole.
+    pub fn last(&self) -> u64
+        ensures { result ≡ last_number self.now.numbers }
+    {
+        self.numbers.last()
+    }
+
+    /// How many bytes its kept answers have; `u64::MAX` stands for more.
+    pub fn bytes(&self) -> u64
+        ensures { result ≡ bytes_held self.now.numbers }
+    {
+        self.numbers.bytes()
+    }
+
+    /// The asker of a session that is over.
+    pub fn into_asker(self) -> A
+        ensures { result ≡ self.asker }
+    {
+        let ClientSession {
+            version: _,
+            numbers,
+            asker,
+        } = self;
+        drop(numbers);
+        asker
+    }
+}
+
+impl<A: Asker> ClientSession<A> {
+    /// Answers a request into the output.
+    pub(crate) fn answer(
+        &mut self,
+        alloc: Global,
+        due: &mut Due,
+        wire: WireRequest,
+    ) -> Result<(), AllocError>
+        requires { IsWireRequest wire }
+        ensures deals { Deals A.answers result self.old.numbers self.old.asker wire due.old due.new self.new.numbers self.new.asker }
+        ensures version { self.new.version ≡ Some wire.version }
+    {
+        self.version = Some(wire.version);
+        answer_one(alloc, &mut self.numbers, due, &mut self.asker, wire)
+    }
+}

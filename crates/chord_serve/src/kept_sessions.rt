@@ -1,0 +1,144 @@
+//! The sessions that have no connection.
+ghost use Rattle.std.specs.Prelude.{◌≡◌, ◌<◌, ◌++◌, ◌∷◌, [], length, is_some, Some, Bool, IfSome, IfErr, OnOk};
+ghost use Rattle.chord_serve.specs.Keeping.{place_of, oldest_of, bytes_kept, TakesAt};
+
+use crate::client_session::ClientSession;
+use chord_wire::Token;
+use std::alloc::Global;
+use std::marker::Model;
+
+/// An asker whose last request may not be decided yet.
+pub trait MayBePending {
+    /// Whether a request is pending.
+    ghost pending: { Self → Bool };
+
+    fn is_pending(&self) -> bool
+        ensures { result ≡ pending self.now };
+}
+
+/// A session, and the moment at which it lost its connection.
+#[derive(Drop)]
+pub struct KeptSession<A> {
+    pub token: Token,
+    pub since: u64,
+    pub client: ClientSession<A>,
+}
+
+/// Sessions without a connection, in the order in which they lost theirs.
+#[derive(Drop)]
+pub struct KeptSessions<A> {
+    kept: Vec<KeptSession<A>>,
+}
+
+impl<A> Model for KeptSessions<A> {
+    ghost use Rattle.std.specs.Prelude.{List};
+    ghost use Rattle.chord_serve.specs.declared.kept_sessions.KeptSession.{KeptSession};
+
+    ghost Value = { List (KeptSession A) };
+
+    ghost view = { λ k. k.kept.items };
+}
+
+// The index of the session of this token, which is compared whole.
+fn place_of<A>(token: Token, kept: &[KeptSession<A>]) -> Option<usize>
+    ensures place { result ≡ place_of token kept.now }
+    ensures bound { IfSome result (λ place. place < length kept.now) }
+{
+    kept.iter().position(|one| one.token == token)
+}
+
+// The index of the first session that lost its connection by then, and has no pending request.
+fn oldest_of<A: MayBePending>(until: u64, kept: &[KeptSession<A>]) -> Option<usize>
+    ensures place { result ≡ oldest_of A.pending until kept.now }
+    ensures bound { IfSome result (λ place. place < length kept.now) }
+{
+    kept.iter()
+        .position(|one| one.since <= until && !one.client.asker.is_pending())
+}
+
+impl<A> KeptSessions<A> {
+    pub fn new(alloc: Global) -> KeptSessions<A>
+        ensures { result ≡ [] }
+    {
+        KeptSessions {
+            kept: Vec::new(alloc),
+        }
+    }
+
+    /// How many sessions are kept.
+    pub fn len(&self) -> usize
+        ensures { result ≡ length self.now }
+    {
+        self.kept.len()
+    }
+
+    /// How many bytes their kept answers have; `u64::MAX` stands for more.
+    pub fn bytes(&self) -> u64
+        ensures { result ≡ bytes_kept self.now }
+    {
+        self.kept
+            .iter()
+            .fold(0, |sum, one| sum.saturating_add(one.client.bytes()))
+    }
+
+    /// Whether the session of this token is kept.
+    pub fn knows(&self, token: Token) -> bool
+        ensures { result ≡ is_some (place_of token self.now) }
+    {
+        place_of(token, &self.kept).is_some()
+    }
+
+    /// Keeps a session that lost its connection, behind the others. It is given back if there is no
+    /// memory for it.
+    pub fn keep(
+        &mut self,
+        token: Token,
+        since: u64,
+        client: ClientSession<A>,
+    ) -> Result<(), ClientSession<A>>
+        ensures ok { OnOk result (self.new ≡ self.old ++ record { token = token; since = since; client = client } ∷ []) }
+        ensures err { IfErr result (λ back. (back ≡ client) × (self.new ≡ self.old)) }
+    {
+        if self.kept.reserve(1).is_err() {
+            return Err(client);
+        }
+        self.kept.push_reserved(KeptSession {
+            token,
+            since,
+            client,
+        });
+        Ok(())
+    }
+
+    // Takes the session at this index.
+    fn take_at(&mut self, place: usize) -> ClientSession<A>
+        requires { place < length self.old }
+        ensures { TakesAt (Some place) (Some result) self.old self.new }
+    {
+        let KeptSession {
+            token: _,
+            since: _,
+            client,
+        } = self.kept.remove(place);
+        client
+    }
+
+    /// Takes the session of this token, which is to go on over another connection.
+    pub fn take(&mut self, token: Token) -> Option<ClientSession<A>>
+        ensures { TakesAt (place_of token self.old) result self.old self.new }
+    {
+        let place = place_of(token, &self.kept)?;
+        Some(self.take_at(place))
+    }
+}
+
+impl<A: MayBePending> KeptSessions<A> {
+    /// Takes the session that has been without a connection longest, if since that moment or
+    /// before, and that has no pending request; its caller is needed.
+    pub fn take_oldest(&mut self, until: u64) -> Option<ClientSession<A>>
+        ensures { TakesAt (oldest_of A.pending until self.old) result self.old self.new }
+    {
+        let place = oldest_of(until, &self.kept)?;
+        Some(self.take_at(place))
+    }
+}

@@ -1,0 +1,142 @@
+//! Sessions without a connection: found by their whole tokens, and dropped oldest first.
+
+use chord_serve::{ClientSession, KeptSessions, MayBePending};
+use chord_wire::Token;
+use std::alloc::Global;
+
+/// An asker with a number, which may have a pending request.
+#[derive(Clone, Copy, Debug, PartialEq, Eq)]
+struct Numbered {
+    number: u8,
+    is_pending: bool,
+}
+
+impl MayBePending for Numbered {
+    ghost pending = { λ a. a.is_pending };
+
+    fn is_pending(&self) -> bool {
+        self.is_pending
+    }
+}
+
+/// A token whose last byte is this one.
+fn token(last: u8) -> Token {
+    Token {
+        bytes: [7, 7, 7, 7, 7, 7, 7, 7, 7, 7, 7, 7, 7, 7, 7, last],
+    }
+}
+
+/// Keeps the session of this number; whether there was memory for it.
+fn keep(alloc: Global, kept: &mut KeptSessions<Numbered>, asker: Numbered, since: u64) -> bool {
+    let client = ClientSession::new(alloc, asker);
+    match kept.keep(token(asker.number), since, client) {
+        Ok(()) => true,
+        Err(client) => {
+            client.into_asker();
+            false
+        }
+    }
+}
+
+/// The number of the session, if there is one.
+fn number_of(client: Option<ClientSession<Numbered>>) -> Option<u8> {
+    Some(client?.into_asker().number)
+}
+
+/// The sessions 1 to 4, which lost their connections at the moments 10, 20, 30 and 40. The first
+/// has a pending request.
+fn four(alloc: Global) -> Option<KeptSessions<Numbered>> {
+    let mut kept = KeptSessions::new(alloc);
+    let mut are_kept = true;
+    for (number, since) in [(1u8, 10), (2, 20), (3, 30), (4, 40)] {
+        let asker = Numbered {
+            number,
+            is_pending: number == 1,
+        };
+        are_kept &= keep(alloc, &mut kept, asker, since);
+    }
+    are_kept.then_some(kept)
+}
+
+#[test]
+fn a_session_is_found_by_its_whole_token(rt: HostRuntime) {
+    let mut kept = four(rt.alloc()).expect(&rt, "memory for four sessions");
+    let mut other = token(2);
+    other.bytes[0] = 8;
+    let knows = (
+        kept.knows(token(2)),
+        kept.knows(token(5)),
+        kept.knows(other),
+    );
+    let none = number_of(kept.take(other));
+    let second = number_of(kept.take(token(2)));
+    let again = number_of(kept.take(token(2)));
+    let first = number_of(kept.take(token(1)));
+    let left = kept.len();
+    drop(kept);
+    assert!(rt; knows == (true, false, false), "{knows:?}");
+    assert!(rt; none == None, "one byte differs: {none:?}");
+    assert!(rt; second == Some(2), "{second:?}");
+    assert!(rt; again == None, "it is taken once: {again:?}");
+    assert!(rt;
+        first == Some(1),
+        "a pending request does not keep a client away: {first:?}"
+    );
+    assert!(rt; left == 2, "{left}");
+}
+
+#[test]
+fn the_oldest_session_is_taken_first_and_no_pending_one(rt: HostRuntime) {
+    let mut kept = four(rt.alloc()).expect(&rt, "memory for four sessions");
+    let early = number_of(kept.take_oldest(19));
+    let second = number_of(kept.take_oldest(30));
+    let third = number_of(kept.take_oldest(30));
+    let young = number_of(kept.take_oldest(39));
+    let fourth = number_of(kept.take_oldest(40));
+    let pending = number_of(kept.take_oldest(u64::MAX));
+    let left = kept.len();
+    drop(kept);
+    assert!(rt;
+        early == None,
+        "the first is pending, the others are younger: {early:?}"
+    );
+    assert!(rt;
+        (second, third) == (Some(2), Some(3)),
+        "{second:?}, {third:?}"
+    );
+    assert!(rt; young == None, "the fourth is younger: {young:?}");
+    assert!(rt; fourth == Some(4), "{fourth:?}");
+    assert!(rt; pending == None, "the first stays: {pending:?}");
+    assert!(rt; left == 1, "{left}");
+}
+
+/// The sessions 1 to 200, of which each tenth has a pending request.
+fn two_hundred(alloc: Global) -> Option<KeptSessions<Numbered>> {
+    let mut kept = KeptSessions::new(alloc);
+    let mut are_kept = true;
+    for number in 1..=200u8 {
+        let asker = Numbered {
+            number,
+            is_pending: number % 10 == 0,
+        };
+        are_kept &= keep(alloc, &mut kept, asker, u64::from(number));
+    }
+    are_kept.then_some(kept)
+}
+
+#[test]
+fn two_hundred_sessions_are_dropped_in_order(rt: HostRuntime) {
+    let mut kept = two_hundred(rt.alloc()).expect(&rt, "memory for 200 sessions");
+    for number in 1..=200u8 {
+        if number % 10 != 0 {
+            let taken = number_of(kept.take_oldest(200));
+            assert!(rt; taken == Some(number), "not {number}, but {taken:?}");
+        }
+    }
+    let none = number_of(kept.take_oldest(200));
+    let (left, gone) = (kept.len(), kept.knows(token(11)));
+    drop(kept);
+    assert!(rt; none == None, "those that are left are pending: {none:?}");
+    assert!(rt; left == 20, "{left}");
+    assert!(rt; !gone, "a dropped session is not known");
+}

@@ -1,0 +1,144 @@
+//! The sessions of a server: each token names one, and one connection at most has it.
+ghost use Rattle.std.specs.Prelude.{false};
+
+use chord_serve::{BeginRefusal, ClientSession, MayBePending, Resumed, SessionTable};
+use chord_wire::Token;
+use std::alloc::Global;
+
+/// An asker with a number, which has no pending request.
+#[derive(Clone, Copy, Debug, PartialEq, Eq)]
+struct Numbered(u8);
+
+impl MayBePending for Numbered {
+    ghost pending = { λ a. false };
+
+    fn is_pending(&self) -> bool {
+        false
+    }
+}
+
+/// What a resumed session is, with its asker's number if it goes on.
+#[derive(Clone, Copy, Debug, PartialEq, Eq)]
+enum Found {
+    Here(u8),
+    Elsewhere(u64),
+    Unknown,
+    Memory,
+}
+
+fn token(last: u8) -> Token {
+    Token {
+        bytes: [9, 9, 9, 9, 9, 9, 9, 9, 9, 9, 9, 9, 9, 9, 9, last],
+    }
+}
+
+fn resume(table: &mut SessionTable<Numbered>, last: u8, connection: u64) -> Found {
+    match table.resume(token(last), connection) {
+        Resumed::Here(client) => Found::Here(client.into_asker().0),
+        Resumed::Elsewhere(older) => Found::Elsewhere(older),
+        Resumed::Unknown => Found::Unknown,
+        Resumed::Memory => Found::Memory,
+    }
+}
+
+/// Keeps the session of this number; whether there was memory for it.
+fn part(alloc: Global, table: &mut SessionTable<Numbered>, last: u8, since: u64) -> bool {
+    let client = ClientSession::new(alloc, Numbered(last));
+    match table.part(token(last), since, client) {
+        Ok(()) => true,
+        Err(client) => {
+            client.into_asker();
+            false
+        }
+    }
+}
+
+/// Sessions 1 and 2 begin over connections 10 and 20; the second one loses its connection.
+fn two(alloc: Global) -> Option<SessionTable<Numbered>> {
+    let mut table = SessionTable::new(alloc);
+    let first = table.begin(token(1), 10);
+    let second = table.begin(token(2), 20);
+    let parted = part(alloc, &mut table, 2, 5);
+    (first.is_ok() && second.is_ok() && parted).then_some(table)
+}
+
+#[test]
+fn a_token_begins_one_session(rt: HostRuntime) {
+    let mut table = two(rt.alloc()).expect(&rt, "memory for two sessions");
+    let held = table.begin(token(1), 30);
+    let kept = table.begin(token(2), 30);
+    let connections = (
+        table.connection_of(token(1)),
+        table.connection_of(token(2)),
+        table.connection_of(token(3)),
+    );
+    let count = table.kept_count();
+    table.end(token(1));
+    let ended = table.connection_of(token(1));
+    let again = table.begin(token(1), 40);
+    let has_it = table.connection_of(token(1));
+    drop(table);
+    assert!(rt;
+        held == Err(BeginRefusal::Known),
+        "a connection has it: {held:?}"
+    );
+    assert!(rt; kept == Err(BeginRefusal::Known), "it is kept: {kept:?}");
+    assert!(rt; connections == (Some(10), None, None), "{connections:?}");
+    assert!(rt; count == 1, "{count}");
+    assert!(rt; ended == None, "{ended:?}");
+    assert!(rt;
+        (again, has_it) == (Ok(()), Some(40)),
+        "{again:?}, {has_it:?}"
+    );
+}
+
+#[test]
+fn a_session_is_resumed_over_one_connection(rt: HostRuntime) {
+    let alloc = rt.alloc();
+    let mut table = two(alloc).expect(&rt, "memory for two sessions");
+    let elsewhere = resume(&mut table, 1, 30);
+    let here = resume(&mut table, 2, 30);
+    let newer = resume(&mut table, 2, 40);
+    let unknown = resume(&mut table, 3, 50);
+    let is_parted = part(alloc, &mut table, 2, 7);
+    let left = table.connection_of(token(2));
+    let again = resume(&mut table, 2, 40);
+    let counted = table.kept_count();
+    drop(table);
+    assert!(rt; elsewhere == Found::Elsewhere(10), "{elsewhere:?}");
+    assert!(rt; here == Found::Here(2), "{here:?}");
+    assert!(rt;
+        newer == Found::Elsewhere(30),
+        "an older connection has it: {newer:?}"
+    );
+    assert!(rt; unknown == Found::Unknown, "{unknown:?}");
+    assert!(rt; is_parted && left == None, "{left:?}");
+    assert!(rt; again == Found::Here(2), "{again:?}");
+    assert!(rt; counted == 0, "{counted}");
+}
+
+#[test]
+fn the_oldest_kept_session_is_dropped(rt: HostRuntime) {
+    let alloc = rt.alloc();
+    let mut table = two(alloc).expect(&rt, "memory for two sessions");
+    let is_parted = part(alloc, &mut table, 1, 9);
+    let bytes = table.kept_bytes();
+    let young = table.drop_oldest(4);
+    let oldest = table.drop_oldest(100);
+    let gone = resume(&mut table, 2, 60);
+    let next = table.drop_oldest(9);
+    let none = table.drop_oldest(u64::MAX);
+    drop(table);
+    assert!(rt; is_parted, "there was memory");
+    assert!(rt; bytes == 0, "no request was answered: {bytes}");
+    assert!(rt;
+        young == None,
+        "both lost their connections later: {young:?}"
+    );
+    assert!(rt; oldest == Some(Numbered(2)), "{oldest:?}");
+    assert!(rt; gone == Found::Unknown, "{gone:?}");
+    assert!(rt;
+        (next, none) == (Some(Numbered(1)), None),
+        "{next:?}, {none:?}"
+    );
+}
