@@ -3,13 +3,14 @@
 use crate::faults::{fault_of, print_fault};
 use crate::number::{NumberOption, WrongNumber};
 use crate::parts::with_argument;
-use crate::shared::{port_of, port_option};
-use chord_app_ask::{ClientOptions, ask_lines, ask_one, read_words};
+use crate::shared::{no_session_option, port_of, port_option, wants_session};
+use chord_app_ask::{ClientOptions, Tokens, ask_lines, ask_one, read_words};
 use chord_app_text::{Finish, WordFault};
 use clap::{Arg, ArgMatches, Command};
 use std::alloc::{AllocError, Global};
 use std::fmt;
 use std::net::{Net, TcpStream};
+use std::time::Clock;
 
 /// What `chord ask --help` ends with.
 const EXAMPLES: &str =
@@ -33,7 +34,7 @@ const PROTOCOL: NumberOption = NumberOption {
     least: 1,
     most: 2,
     default: Some("2"),
-    help: "The version of the protocol, 1 or 2. In version 1 the window is 1",
+    help: "The version of the protocol, 1 or 2. In version 1 the window is 1, without a session",
 };
 
 const TRIES: NumberOption = NumberOption {
@@ -62,6 +63,7 @@ pub fn ask_command<'a>(alloc: Global) -> Result<Command<'a>, AllocError> {
     let ask = with_argument(ask, WINDOW.argument(alloc));
     let ask = with_argument(ask, PROTOCOL.argument(alloc));
     let ask = with_argument(ask, TRIES.argument(alloc));
+    let ask = with_argument(ask, no_session_option(alloc));
     with_argument(ask, words_argument(alloc))
 }
 
@@ -71,6 +73,7 @@ fn read<'a>(found: &ArgMatches<'a>) -> Result<ClientOptions, WrongNumber<'a>> {
         version: PROTOCOL.read(found)? as u8,
         window: WINDOW.read(found)?,
         tries: TRIES.read(found)? as u32,
+        tokens: None,
     })
 }
 
@@ -79,7 +82,8 @@ fn wrong<T: fmt::Display>(alloc: Global, message: &T) -> clap::Error {
     fault_of(alloc, ask_command(alloc), "chord ask", message)
 }
 
-/// What the command line says of the server and of how to ask it, or the fault of a wrong value.
+/// What the command line says of the server and of how to ask it, without the tokens of sessions,
+/// or the fault of a wrong value.
 pub fn client_options_of(alloc: Global, found: &ArgMatches) -> Result<ClientOptions, clap::Error> {
     match read(found) {
         Ok(options) if options.version == 1 && options.window != 1 => {
@@ -90,8 +94,24 @@ pub fn client_options_of(alloc: Global, found: &ArgMatches) -> Result<ClientOpti
     }
 }
 
+/// The options with tokens, if there are to be sessions, which are of version 2.
+fn with_tokens(
+    rt: &HostRuntime,
+    found: &ArgMatches,
+    client_options: ClientOptions,
+) -> Result<ClientOptions, Finish> {
+    if client_options.version != 2 || !wants_session(found) {
+        return Ok(client_options);
+    }
+    let tokens = Some(Tokens::new(rt)?);
+    Ok(ClientOptions {
+        tokens,
+        ..client_options
+    })
+}
+
 /// Does the command `ask`.
-pub fn start_ask<R: Net<Stream = TcpStream>>(
+pub fn start_ask<R: Net<Stream = TcpStream> + Clock>(
     rt: &HostRuntime,
     net: &R,
     found: &ArgMatches,
@@ -101,6 +121,7 @@ pub fn start_ask<R: Net<Stream = TcpStream>>(
         Ok(client_options) => client_options,
         Err(fault) => return print_fault(rt, fault),
     };
+    let client_options = with_tokens(rt, found, client_options)?;
     let mut writer = rt.stdout();
     match found.get_strs("request") {
         Some(words) if !words.is_empty() => match read_words(alloc, words) {

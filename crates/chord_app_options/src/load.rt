@@ -3,11 +3,12 @@
 use crate::faults::{fault_of, print_fault};
 use crate::number::{NumberOption, WrongNumber};
 use crate::parts::with_argument;
-use crate::shared::{port_of, port_option};
-use chord_app_ask::{Kind, Load, Until, run_load};
+use crate::shared::{no_session_option, port_of, port_option, wants_session};
+use chord_app_ask::{Drops, Kind, Load, Tokens, UNIQUE_VALUE, Until, run_load};
 use chord_app_text::Finish;
 use clap::{Arg, ArgMatches, Command};
 use std::alloc::{AllocError, Global};
+use std::fmt;
 use std::io::IsTerminal;
 use std::net::{Net, TcpListener, TcpStream};
 use std::sync::Wait;
@@ -68,6 +69,32 @@ const REQUESTS: NumberOption = NumberOption {
     help: "How many requests are sent in all, in place of seconds, 1 to 1000000000",
 };
 
+const DROP: NumberOption = NumberOption {
+    name: "drop",
+    value_name: "P",
+    least: 1,
+    most: 1_000_000,
+    default: None,
+    help: "Cuts each connection behind about P requests and resumes it, 1 to 1000000",
+};
+
+const SEED: NumberOption = NumberOption {
+    name: "seed",
+    value_name: "SEED",
+    least: 0,
+    most: u64::MAX,
+    default: Some("1"),
+    help: "With --drop: behind which requests connections are cut, 0 to 18446744073709551615",
+};
+
+/// The text printed where connections are cut that have no sessions.
+const NO_SESSION: &str =
+    "connections that are cut by --drop go on in a session: leave out --no-session";
+
+/// The text printed where values are too short for each to be another one.
+const SHORT_VALUES: &str =
+    "with --drop each inserted value is another one, so --value-size is 16 at least";
+
 fn kind_option<'a>(alloc: Global) -> Arg<'a> {
     Arg::new(alloc, "kind")
         .long("kind")
@@ -88,7 +115,10 @@ pub fn load_command<'a>(alloc: Global) -> Result<Command<'a>, AllocError> {
     let load = with_argument(load, VALUE_SIZE.argument(alloc));
     let load = with_argument(load, kind_option(alloc));
     let load = with_argument(load, SECONDS.argument(alloc));
-    with_argument(load, REQUESTS.argument(alloc))
+    let load = with_argument(load, REQUESTS.argument(alloc));
+    let load = with_argument(load, DROP.argument(alloc));
+    let load = with_argument(load, SEED.argument(alloc));
+    with_argument(load, no_session_option(alloc))
 }
 
 /// What each request does.
@@ -109,6 +139,13 @@ fn until_of<'a>(found: &ArgMatches<'a>) -> Result<Until, WrongNumber<'a>> {
     }
 }
 
+/// How often connections are cut, if they are.
+fn drops_of<'a>(found: &ArgMatches<'a>) -> Result<Option<Drops>, WrongNumber<'a>> {
+    let seed = SEED.read(found)?;
+    let every = DROP.read_if_there(found)?;
+    Ok(every.map(|every| Drops { every, seed }))
+}
+
 fn read<'a>(found: &ArgMatches<'a>) -> Result<Load, WrongNumber<'a>> {
     Ok(Load {
         port: port_of(found)?,
@@ -118,15 +155,39 @@ fn read<'a>(found: &ArgMatches<'a>) -> Result<Load, WrongNumber<'a>> {
         value_size: VALUE_SIZE.read(found)? as usize,
         kind: kind_of(found),
         until: until_of(found)?,
+        tokens: None,
+        drops: drops_of(found)?,
     })
 }
 
-/// The load that the command line asks for, or the fault of a wrong number.
+/// The fault of a wrong value.
+fn wrong<T: fmt::Display>(alloc: Global, message: &T) -> clap::Error {
+    fault_of(alloc, load_command(alloc), "chord load", message)
+}
+
+/// The load that the command line asks for, without the tokens of sessions, or the fault of a wrong
+/// value.
 pub fn load_of(alloc: Global, found: &ArgMatches) -> Result<Load, clap::Error> {
     match read(found) {
+        Ok(load) if load.drops.is_some() && !wants_session(found) => {
+            Err(wrong(alloc, &NO_SESSION))
+        }
+        Ok(load)
+            if load.drops.is_some()
+                && load.kind == Kind::Insert
+                && load.value_size < UNIQUE_VALUE => { Err(wrong(alloc, &SHORT_VALUES)) }
         Ok(load) => Ok(load),
-        Err(wrong) => Err(fault_of(alloc, load_command(alloc), "chord load", &wrong)),
+        Err(number) => Err(wrong(alloc, &number)),
     }
+}
+
+/// The load with tokens, if there are to be sessions.
+fn with_tokens(rt: &HostRuntime, found: &ArgMatches, load: Load) -> Result<Load, Finish> {
+    if !wants_session(found) {
+        return Ok(load);
+    }
+    let tokens = Some(Tokens::new(rt)?);
+    Ok(Load { tokens, ..load })
 }
 
 /// Does the command `load`. If standard error is a terminal, a line goes there each second.
@@ -137,6 +198,7 @@ pub fn start_load<
         Ok(load) => load,
         Err(fault) => return print_fault(rt, fault),
     };
+    let load = with_tokens(rt, found, load)?;
     let errors = rt.stderr();
     let lines = if errors.is_terminal() {
         Some(errors)

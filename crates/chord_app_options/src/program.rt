@@ -3,6 +3,7 @@
 use crate::ask::ask_command;
 use crate::load::load_command;
 use crate::parts::with_command;
+use crate::ring::ring_command;
 use crate::run::run_command;
 use crate::serve::serve_command;
 use crate::world::world_command;
@@ -26,5 +27,6 @@ pub fn commands<'a>(alloc: Global) -> Result<Command<'a>, AllocError> {
     let chord = with_command(chord, run_command(alloc));
     let chord = with_command(chord, serve_command(alloc));
     let chord = with_command(chord, ask_command(alloc));
-    with_command(chord, load_command(alloc))
+    let chord = with_command(chord, load_command(alloc));
+    with_command(chord, ring_command(alloc))
 }

@@ -46,6 +46,18 @@ const IDLE: NumberOption = NumberOption {
     help: "With --stay: how long a client may be idle, 1 to 86400, else 300",
 };
 
+/// For how many seconds a session without a connection is kept if the command line does not say.
+const KEEP_SECONDS: u64 = 600;
+
+const KEEP: NumberOption = NumberOption {
+    name: "keep",
+    value_name: "SECONDS",
+    least: 0,
+    most: 86_400,
+    default: None,
+    help: "With --stay: how long a session without a connection is kept, 0 to 86400, else 600",
+};
+
 const OPERATOR: NumberOption = NumberOption {
     name: "operator",
     value_name: "N",
@@ -53,6 +65,27 @@ const OPERATOR: NumberOption = NumberOption {
     most: 65_535,
     default: None,
     help: "With --stay: an operator's port on 127.0.0.1, 1 to 65535, or 0 for any that is free",
+};
+
+/// How many nodes and how many callers a server that stays may have at most.
+const MOST_OF_EACH: u64 = 4_096;
+
+const SLOTS: NumberOption = NumberOption {
+    name: "slots",
+    value_name: "N",
+    least: 1,
+    most: MOST_OF_EACH,
+    default: None,
+    help: "With --stay: how many nodes there may ever be, 1 to 4096, else the plan's",
+};
+
+const CALLERS: NumberOption = NumberOption {
+    name: "callers",
+    value_name: "N",
+    least: 1,
+    most: MOST_OF_EACH,
+    default: None,
+    help: "With --stay: how many callers there may be, 1 to 4096, else the plan's",
 };
 
 fn stay_option<'a>(alloc: Global) -> Arg<'a> {
@@ -69,20 +102,15 @@ fn notes_option<'a>(alloc: Global) -> Arg<'a> {
         .help("Notes on standard error how each connection ends, as it ends")
 }
 
-/// Only a server that stays leaves idle clients.
-fn idle_option<'a>(alloc: Global) -> Result<Arg<'a>, AllocError> {
-    IDLE.argument(alloc).conflicts_with("connections")
+/// An option that only a server that stays has.
+fn staying<'a>(alloc: Global, option: NumberOption) -> Result<Arg<'a>, AllocError> {
+    option.argument(alloc).conflicts_with("connections")
 }
 
 /// Where to listen: at least one of the two options.
 fn ports_group<'a>(alloc: Global) -> Result<ArgGroup<'a>, AllocError> {
     let ports = ArgGroup::new(alloc, "ports").arg("port")?.arg("redis")?;
     Ok(ports.required(true).multiple(true))
-}
-
-/// Only a server that stays has an operator.
-fn operator_option<'a>(alloc: Global) -> Result<Arg<'a>, AllocError> {
-    OPERATOR.argument(alloc).conflicts_with("connections")
 }
 
 /// For how long to serve: exactly one of the two options.
@@ -103,9 +131,12 @@ pub fn serve_command<'a>(alloc: Global) -> Result<Command<'a>, AllocError> {
         .arg(CONNECTIONS.argument(alloc))?
         .arg(stay_option(alloc))?
         .arg(notes_option(alloc));
-    let (serve, idle) = both(serve, idle_option(alloc))?;
-    let (serve, operator) = both(serve.arg(idle), operator_option(alloc))?;
-    let (serve, ports) = both(serve.arg(operator), ports_group(alloc))?;
+    let (serve, idle) = both(serve, staying(alloc, IDLE))?;
+    let (serve, keep) = both(serve.arg(idle), staying(alloc, KEEP))?;
+    let (serve, operator) = both(serve.arg(keep), staying(alloc, OPERATOR))?;
+    let (serve, slots) = both(serve.arg(operator), staying(alloc, SLOTS))?;
+    let (serve, callers) = both(serve.arg(slots), staying(alloc, CALLERS))?;
+    let (serve, ports) = both(serve.arg(callers), ports_group(alloc))?;
     let (serve, until) = both(serve.group(ports), until_group(alloc))?;
     serve.group(until)
 }
@@ -123,8 +154,14 @@ pub struct ServeLine<'a> {
     pub connections: Option<usize>,
     /// For how many seconds a client may be idle if the server stays.
     pub idle: u64,
+    /// For how many seconds a session without a connection is kept if the server stays.
+    pub keep: u64,
     /// The port at which operators are served, if the server stays and has one.
     pub operator: Option<u16>,
+    /// How many nodes there may ever be, where the command line says so in place of the plan.
+    pub slots: Option<usize>,
+    /// How many callers there may be, where the command line says so in place of the plan.
+    pub callers: Option<usize>,
     /// Whether each connection's end is noted on standard error.
     pub notes: bool,
 }
@@ -143,9 +180,12 @@ fn port_at<'a>(
     }
 }
 
-/// How many connections the command line names.
-fn connections_of<'a>(found: &ArgMatches<'a>) -> Result<Option<usize>, WrongNumber<'a>> {
-    match CONNECTIONS.read_if_there(found)? {
+/// The count of this option, if the command line has it.
+fn count_at<'a>(
+    option: NumberOption,
+    found: &ArgMatches<'a>,
+) -> Result<Option<usize>, WrongNumber<'a>> {
+    match option.read_if_there(found)? {
         Some(count) => Ok(Some(count as usize)),
         None => Ok(None),
     }
@@ -156,9 +196,12 @@ fn read<'a>(found: &ArgMatches<'a>) -> Result<ServeLine<'a>, WrongNumber<'a>> {
         plan: plan_path_of(found),
         port: port_at(PORT, found)?,
         redis: port_at(REDIS, found)?,
-        connections: connections_of(found)?,
+        connections: count_at(CONNECTIONS, found)?,
         idle: IDLE.read_if_there(found)?.unwrap_or(IDLE_SECONDS),
+        keep: KEEP.read_if_there(found)?.unwrap_or(KEEP_SECONDS),
         operator: port_at(OPERATOR, found)?,
+        slots: count_at(SLOTS, found)?,
+        callers: count_at(CALLERS, found)?,
         notes: found.get_flag("notes"),
     })
 }

@@ -1,7 +1,7 @@
 //! The options that several commands have.
 
 use crate::number::{NumberOption, WrongNumber, small_number};
-use clap::{Arg, ArgMatches};
+use clap::{Arg, ArgAction, ArgMatches};
 use std::alloc::Global;
 
 /// The option for the port at which a server is asked.
@@ -26,6 +26,19 @@ pub fn port_of<'a>(found: &ArgMatches<'a>) -> Result<u16, WrongNumber<'a>> {
         Some(port) => Ok(port),
         None => Err(PORT.wrong(word)),
     }
+}
+
+/// The option of a client that wants no session.
+pub fn no_session_option<'a>(alloc: Global) -> Arg<'a> {
+    Arg::new(alloc, "no-session")
+        .long("no-session")
+        .action(ArgAction::SetTrue)
+        .help("Asks without a session: a connection that is lost does not go on over another one")
+}
+
+/// Whether the command line of a client leaves it its session.
+pub fn wants_session(found: &ArgMatches) -> bool {
+    !found.get_flag("no-session")
 }
 
 /// The option for the file of a plan, which a command line has to have.

@@ -7,6 +7,7 @@ mod ask_lines;
 mod command;
 mod lines;
 mod load_lines;
+mod ring_lines;
 mod serve_lines;
 mod starts;
 
@@ -14,7 +15,7 @@ mod starts;
 #[test]
 fn a_command_is_wanted(rt: HostRuntime) {
     let wanted =
-        "error: 'chord' requires a subcommand but one was not provided\n  [subcommands: world, run, serve, ask, load, help]\n\nUsage: chord <COMMAND>\n\nFor more information, try '--help'.\n";
+        "error: 'chord' requires a subcommand but one was not provided\n  [subcommands: world, run, serve, ask, load, ring, help]\n\nUsage: chord <COMMAND>\n\nFor more information, try '--help'.\n";
     assert!(rt; prints(rt.alloc(), "chord", wanted) == Some((true, 2)));
 }
 

@@ -1,5 +1,5 @@
 -- Which plan a document is, and the limits of plans. Source: our own.
-use Rattle.std.specs.Prelude.{◌≡◌, ℕ, ℤ, pos, ◌^◌, ◌<◌, ◌≤◌, List, [], ◌∷◌, length, Option, Some, None, option_and_then, codes, IsUtf8}
+use Rattle.std.specs.Prelude.{◌≡◌, ℕ, ℤ, pos, ◌^◌, ◌<◌, ◌≤◌, List, [], ◌∷◌, length, ◌⊎◌, Option, Some, None, option_and_then, codes, IsUtf8}
 use Rattle.std.specs.List.{All}
 use Rattle.std.specs.Str.Parse.{digits_value, AllDigits}
 use Rattle.toml.specs.Data.{Data, Items, no_items, item, Members, as_array, as_integer, as_str, as_table, get_member}
@@ -14,8 +14,8 @@ use Rattle.chord_app_plan.specs.declared.plan.Plan.{Plan}
 use Rattle.chord_app_plan.specs.declared.ask.PlanAsk.{PlanAsk}
 use Rattle.chord_app_plan.specs.declared.entries.Entries.{Entries}
 use Rattle.chord_app_plan.specs.declared.node.PlanNode.{PlanNode}
-use Rattle.chord_app_plan.specs.declared.node.StoreKind.{StoreKind}
-use Rattle.chord_app_plan.specs.declared.node.StoreKind.TheVariants as store
+use Rattle.chord_app_plan.specs.declared.store_kind.StoreKind.{StoreKind}
+use Rattle.chord_app_plan.specs.declared.store_kind.StoreKind.TheVariants as store
 
 -- the members of a plan's table
 abbrev pub members_of : Entries → Members
@@ -59,12 +59,16 @@ pub record SettingsAre (members : Members) (s : Settings) : Type 0 where
   pub tries : number_at (codes "tries") members ≡ Some (pos s.tries)
   pub wait : number_at (codes "wait") members ≡ Some (pos s.wait_ms)
 
--- the kind of store that a node's table names
-abbrev pub StoreIs : Members → StoreKind → Type 0
-StoreIs members store.Tree = text_at (codes "store") members ≡ Some (codes "tree")
-StoreIs members store.List = text_at (codes "store") members ≡ Some (codes "list")
-StoreIs members store.Noted = text_at (codes "store") members ≡ Some (codes "noted")
-StoreIs members (store.Capped limit) = (text_at (codes "store") members ≡ Some (codes "capped")) × (number_at (codes "limit") members ≡ Some (pos limit)) × (limit < 2 ^ 63)
+-- the kind of store that a table names under this key; the limit of a capped one is under `limit`
+abbrev pub KindIs : List ℕ → Members → StoreKind → Type 0
+KindIs key members store.Tree = text_at key members ≡ Some (codes "tree")
+KindIs key members store.List = text_at key members ≡ Some (codes "list")
+KindIs key members store.Noted = text_at key members ≡ Some (codes "noted")
+KindIs key members (store.Capped limit) = (text_at key members ≡ Some (codes "capped")) × (number_at (codes "limit") members ≡ Some (pos limit)) × (limit < 2 ^ 63)
+
+-- the kind of the spare stores in the plan's own table: trees if it names none
+abbrev pub SpareIs : Members → StoreKind → Type 0
+SpareIs members kind = ((get_member (codes "spare") members ≡ None) × (kind ≡ store.Tree)) ⊎ KindIs (codes "spare") members kind
 
 -- the node in a table; its identifier is 32 hexadecimal digits
 pub record NodeIs (members : Members) (n : PlanNode) : Type 0 where
@@ -73,7 +77,7 @@ pub record NodeIs (members : Members) (n : PlanNode) : Type 0 where
   pub count : length digits ≡ 32
   pub all : AllDigits 16 digits
   pub value : n.id.number ≡ digits_value 16 digits
-  pub store : StoreIs members n.store
+  pub store : KindIs (codes "store") members n.store
 
 -- the request in an ask's table
 abbrev pub RequestIs : Members → Request → Type 0
@@ -95,6 +99,7 @@ pub record IsPlanOf (document : List ℕ) (p : Plan) : Type 0 where
   pub text : IsUtf8 document
   pub parsed : parse_document document ≡ Some members
   pub settings : SettingsAre members p.settings
+  pub spare : SpareIs members p.spare
   pub nodes : AreListed NodeIs (codes "node") members p.nodes.items
   pub asks : AreListed AskIs (codes "ask") members p.asks.items
 
@@ -104,9 +109,24 @@ pub record IsAskOf (callers nodes : ℕ) (a : PlanAsk) : Type 0 where
   pub via : a.via < nodes
   pub request : IsRequest a.request
 
+-- the settings of a plan are those of a ring with at most 64 nodes and 64 callers
+pub record AreOfPlan (s : Settings) : Type 0 where
+  pub within : AreWithin s
+  pub slots : s.slots ≤ 64
+  pub callers : s.callers ≤ 64
+
+-- the first number if there is one, else the second
+abbrev pub number_or : Option ℕ → ℕ → ℕ
+number_or (Some number) other = number
+number_or None other = other
+
+-- a plan's settings with other numbers of nodes and callers, where such are named
+abbrev pub settings_with : Settings → Option ℕ → Option ℕ → Settings
+settings_with s slots callers = record s { slots = number_or slots s.slots; callers = number_or callers s.callers }
+
 -- a plan keeps all its limits
 pub record IsPlan (p : Plan) : Type 0 where
-  pub settings : AreWithin p.settings
+  pub settings : AreOfPlan p.settings
   pub some_nodes : 1 ≤ length p.nodes.items
   pub nodes : length p.nodes.items ≤ p.settings.slots
   pub asks : All (IsAskOf p.settings.callers (length p.nodes.items)) p.asks.items

@@ -14,7 +14,7 @@ pub struct Entries<'a> {
 }
 
 impl<'a> Entries<'a> {
-    ghost use Rattle.std.specs.Prelude.{◌≡◌, ◌≤◌, ℕ, pos, IfOk, IfSome, IsOk, IsSome, OnErr};
+    ghost use Rattle.std.specs.Prelude.{◌≡◌, ◌≤◌, ◌↔◌, ℕ, pos, false, None, IfOk, IfSome, IsOk, IsSome, OnErr};
     ghost use Rattle.toml.specs.Data.{as_table, get_member};
     ghost use Rattle.toml.specs.View.{view, items_view, table_view};
     ghost use Rattle.chord_app_plan.specs.Plan.{members_of, number_at, text_at, list_at};
@@ -42,6 +42,19 @@ impl<'a> Entries<'a> {
             table: self.name,
             key,
             fault,
+        }
+    }
+
+    /// Whether there is an entry under the key.
+    pub fn has(&self, key: &'static str) -> bool
+        ensures { (result ≡ false) ↔ (get_member key.now (members_of self.now) ≡ None) }
+    {
+        match self.value(key) {
+            Ok(_) => true,
+            Err(fault) => {
+                drop(fault);
+                false
+            }
         }
     }
 

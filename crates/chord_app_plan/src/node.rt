@@ -1,19 +1,10 @@
 //! A node of a plan.
 
-use crate::entries::{Entries, MOST_NUMBER};
+use crate::entries::Entries;
 use crate::fault::{EntryFault, PlanFault};
+use crate::store_kind::StoreKind;
 use chord_ident::Id;
 use std::alloc::Global;
-
-/// What holds a node's pairs.
-#[derive(Clone, Copy, Debug, PartialEq, Eq)]
-pub enum StoreKind {
-    Tree,
-    List,
-    Noted,
-    /// For at most this many pairs.
-    Capped(u64),
-}
 
 #[derive(Clone, Copy, Debug, PartialEq, Eq)]
 pub struct PlanNode {
@@ -34,13 +25,7 @@ impl PlanNode {
         let Ok(id) = Id::of_hex(table.text("id")?) else {
             return Err(table.fault("id", EntryFault::NoId));
         };
-        let store = match table.text("store")? {
-            "tree" => StoreKind::Tree,
-            "list" => StoreKind::List,
-            "noted" => StoreKind::Noted,
-            "capped" => StoreKind::Capped(table.number("limit", 0, MOST_NUMBER)?),
-            kind => return Err(table.fault("store", EntryFault::unknown_kind(alloc, kind)?)),
-        };
+        let store = StoreKind::read(alloc, table, "store")?;
         Ok(PlanNode { id, store })
     }
 }

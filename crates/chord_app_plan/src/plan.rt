@@ -5,13 +5,14 @@ ghost use Rattle.toml.specs.Errors.{IsMemory};
 ghost use Rattle.chord_app_plan.specs.declared.plan.Plan.{Plan};
 ghost use Rattle.chord_app_plan.specs.declared.ask.PlanAsk.{PlanAsk};
 ghost use Rattle.chord_app_plan.specs.declared.node.PlanNode.{PlanNode};
-ghost use Rattle.chord_app_plan.specs.Plan.{AskIs, AreListed, IsAskOf, IsPlan, IsPlanOf, NodeIs, members_of};
+ghost use Rattle.chord_app_plan.specs.Plan.{AskIs, AreListed, IsAskOf, IsPlan, IsPlanOf, NodeIs, members_of, settings_with};
 
 use crate::ask::PlanAsk;
 use crate::entries::Entries;
 use crate::fault::{EntryFault, PlanFault, TableName};
 use crate::node::PlanNode;
 use crate::settings::read_settings;
+use crate::store_kind::StoreKind;
 use chord_live_types::Settings;
 use std::alloc::Global;
 
@@ -21,6 +22,8 @@ pub const PLAN_BYTES: usize = 1_048_576;
 #[derive(Debug, Drop)]
 pub struct Plan {
     pub settings: Settings,
+    /// The kind of the spare stores, for nodes that join while a server runs.
+    pub spare: StoreKind,
     /// In the order in which they join. The first creates the ring.
     pub nodes: Vec<PlanNode>,
     /// In the order of the file.
@@ -112,12 +115,26 @@ impl Plan {
         };
         let top = Entries::new(&table, TableName::Top);
         let settings = read_settings(&top)?;
+        let spare = StoreKind::read_spare(alloc, &top)?;
         let nodes = read_nodes(alloc, &top, settings.slots)?;
         let asks = read_asks(alloc, &top, settings.callers, nodes.len())?;
         Ok(Plan {
             settings,
+            spare,
             nodes,
             asks,
         })
+    }
+
+    /// The settings of a server's ring: the plan's, with other numbers of nodes and callers where
+    /// such are named.
+    pub fn settings_with(&self, slots: Option<usize>, callers: Option<usize>) -> Settings
+        ensures { result ≡ settings_with self.now.settings slots callers }
+    {
+        Settings {
+            slots: slots.unwrap_or(self.settings.slots),
+            callers: callers.unwrap_or(self.settings.callers),
+            ..self.settings
+        }
     }
 }

@@ -355,6 +355,80 @@ fn faults_of_tables(rt: HostRuntime) {
     }
 }
 
+/// The kind of the spare stores of the two-node plan with this line in front.
+fn spare_of(alloc: Global, line: &str) -> Option<StoreKind> {
+    let front = format!(in alloc; "{line}slots = 2").ok()?;
+    let document = changed(alloc, "slots = 2", front.as_str()).ok()?;
+    let plan = Plan::parse(alloc, document.as_bytes()).ok()?;
+    let spare = plan.spare;
+    drop(plan);
+    Some(spare)
+}
+
+/// Spare stores are trees, or of the kind that the plan names.
+#[test]
+fn spare_stores_have_a_kind(rt: HostRuntime) {
+    for (line, kind) in [
+        ("", StoreKind::Tree),
+        ("spare = \"tree\"\n", StoreKind::Tree),
+        ("spare = \"list\"\n", StoreKind::List),
+        ("spare = \"noted\"\n", StoreKind::Noted),
+        ("spare = \"capped\"\nlimit = 7\n", StoreKind::Capped(7)),
+    ] {
+        assert!(rt; spare_of(rt.alloc(), line) == Some(kind), "{line}");
+    }
+}
+
+const FAULTS_OF_SPARES: &[(&str, &str)] = &[
+    ("spare = 3\nslots = 2", "spare: no text"),
+    ("spare = \"tre\"\nslots = 2", "spare: unknown kind \"tre\""),
+    ("spare = \"capped\"\nslots = 2", "limit: missing"),
+];
+
+#[test]
+fn faults_of_spares(rt: HostRuntime) {
+    for (new, text) in FAULTS_OF_SPARES {
+        let refused = is_refused(rt.alloc(), "slots = 2", new, text);
+        assert!(rt; refused == Some(true), "{new}: {text}");
+    }
+}
+
+/// The numbers of nodes and callers of the two-node plan, where others may be named.
+fn sizes_with(
+    alloc: Global,
+    slots: Option<usize>,
+    callers: Option<usize>,
+) -> Option<(usize, usize)> {
+    let document = changed(alloc, "slots = 2", "slots = 2").ok()?;
+    let plan = Plan::parse(alloc, document.as_bytes()).ok()?;
+    let settings = plan.settings_with(slots, callers);
+    let is_else_the_same = settings.successors == 3
+        && settings.tries == 100
+        && settings.wait_ms == 100;
+    drop(plan);
+    if is_else_the_same {
+        Some((settings.slots, settings.callers))
+    } else {
+        None
+    }
+}
+
+/// A server's ring has the plan's numbers, or those that are named in their place.
+#[test]
+fn settings_of_a_server(rt: HostRuntime) {
+    let alloc = rt.alloc();
+    assert!(rt; sizes_with(alloc, None, None) == Some((2, 1)), "the plan's");
+    assert!(rt;
+        sizes_with(alloc, Some(4_096), None) == Some((4_096, 1)),
+        "more nodes"
+    );
+    assert!(rt;
+        sizes_with(alloc, None, Some(9)) == Some((2, 9)),
+        "more callers"
+    );
+    assert!(rt; sizes_with(alloc, Some(5), Some(6)) == Some((5, 6)), "both");
+}
+
 const KEY: &str = "key = \"abc\"";
 
 const FAULTS_OF_ASKS: &[(&str, &str, &str)] = &[

@@ -6,24 +6,29 @@ use Rattle.chord_app_sockets.specs.declared.until.Until.TheVariants as until
 -- how many connections the server takes at most
 abbrev pub most_of : Until → ℕ
 most_of (until.Connections connections) = connections
-most_of (until.Stopped stop idle) = 18446744073709551615
+most_of (until.Stopped stop seconds) = 18446744073709551615
 
 -- how many reads a connection makes at most
 abbrev pub turns_of : Until → ℕ
 turns_of (until.Connections connections) = 65536
-turns_of (until.Stopped stop idle) = 18446744073709551615
+turns_of (until.Stopped stop seconds) = 18446744073709551615
 
 -- how many of a ring's callers are kept for further connections
 abbrev pub kept_of : ℕ → Until → ℕ
 kept_of callers (until.Connections connections) = 0
-kept_of callers (until.Stopped stop idle) = callers
+kept_of callers (until.Stopped stop seconds) = callers
 
 -- for how many seconds a client may be idle, if there is a limit
 abbrev pub idle_of : Until → Option ℕ
 idle_of (until.Connections connections) = None
-idle_of (until.Stopped stop idle) = Some idle
+idle_of (until.Stopped stop seconds) = Some seconds.idle
+
+-- for how many seconds a session without a connection is kept
+abbrev pub session_seconds : Until → ℕ
+session_seconds (until.Connections connections) = 600
+session_seconds (until.Stopped stop seconds) = seconds.keep
 
 -- whether the server is one that can be stopped
 abbrev pub can_be_stopped : Until → Bool
 can_be_stopped (until.Connections connections) = false
-can_be_stopped (until.Stopped stop idle) = true
+can_be_stopped (until.Stopped stop seconds) = true

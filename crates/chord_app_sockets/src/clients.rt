@@ -45,6 +45,14 @@ impl Clients {
         self.removed.notify_all();
     }
 
+    /// Shuts down a connection, so that nothing more is read or written, and its server ends it.
+    pub fn end_one(&self, rt: &impl Wait, number: u64) {
+        let open = self.open.lock(rt);
+        for (_, stream) in open.iter().filter(|client| client.0 == number) {
+            let _ = stream.shutdown(Shutdown::Both).is_ok();
+        }
+    }
+
     /// How many connections are open.
     pub fn count(&self, rt: &impl Wait) -> u64 {
         self.open.lock(rt).len() as u64

@@ -25,4 +25,4 @@ pub use lines::Lines;
 pub use patience::{PatientReader, PatientWriter, prepare};
 pub use setup::{OperatorPort, ServerSetup, listen};
 pub use stop::Stop;
-pub use until::Until;
+pub use until::{ClientSeconds, Until};

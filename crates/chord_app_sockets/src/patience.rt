@@ -24,16 +24,14 @@ fn ticks_of(idle: Option<u64>) -> u64
 }
 
 /// Has small frames sent at once, and, if a client may be idle for this many seconds, has reads and
-/// writes give up: a read after a tick, a write after those seconds.
+/// writes give up: a read after a tick, a write after those seconds. Else they wait for ever.
 pub fn prepare(stream: &TcpStream, idle: Option<u64>) {
+    let tick = idle.map(|_| Duration::from_millis(TICK_MILLISECONDS));
     let _ = stream.set_nodelay(true).is_ok();
-    if let Some(seconds) = idle {
-        let tick = Duration::from_millis(TICK_MILLISECONDS);
-        let _ = stream.set_read_timeout(Some(tick)).is_ok();
-        let _ = stream
-            .set_write_timeout(Some(Duration::from_secs(seconds)))
-            .is_ok();
-    }
+    let _ = stream.set_read_timeout(tick).is_ok();
+    let _ = stream
+        .set_write_timeout(idle.map(Duration::from_secs))
+        .is_ok();
 }
 
 /// Reads what a client sends. The input is at its end once all connections are told to end. A read

@@ -5,6 +5,7 @@ ghost use Rattle.std.specs.declared.io.ErrorKind.{ErrorKind};
 use crate::doors::Doors;
 use chord_app_plan::Plan;
 use chord_app_text::{Fault, Finish};
+use chord_live_types::Settings;
 use std::alloc::Global;
 use std::hash::RandomState;
 use std::net::{Ipv4Addr, Net, TcpListener};
@@ -17,11 +18,13 @@ pub struct OperatorPort<'a> {
     pub keys: RandomState,
 }
 
-/// A plan, where clients and operators connect, and where to log how connections end.
+/// A plan, the settings of the ring, where clients and operators connect, and where to log how connections end.
 #[derive_where(Clone, Copy)]
 pub struct ServerSetup<'a, L> {
     pub alloc: Global,
     pub plan: &'a Plan,
+    /// The plan's, but for a server that stays and was given other numbers of nodes and callers.
+    pub settings: Settings,
     pub doors: Doors<'a>,
     /// None if there is no operator. Only a server that stays has one.
     pub operator: Option<OperatorPort<'a>>,

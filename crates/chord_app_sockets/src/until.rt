@@ -1,6 +1,6 @@
 //! When a server ends.
 ghost use Rattle.std.specs.Prelude.{◌≡◌, true};
-ghost use Rattle.chord_app_sockets.specs.Until.{most_of, turns_of, kept_of, idle_of, can_be_stopped};
+ghost use Rattle.chord_app_sockets.specs.Until.{most_of, turns_of, kept_of, idle_of, session_seconds, can_be_stopped};
 
 use crate::stop::Stop;
 use std::net::Net;
@@ -9,14 +9,30 @@ use std::time::Clock;
 /// How many reads a connection makes at most, if the server ends after some connections.
 const TURNS: u64 = 65_536;
 
+/// For how many seconds a session without a connection is kept, if the server ends after some
+/// connections.
+const SESSION_SECONDS: u64 = 600;
+
+/// For how many seconds a server that stays waits for clients.
+#[derive(Clone, Copy, Debug, PartialEq, Eq)]
+pub struct ClientSeconds {
+    /// How long one may be idle.
+    pub idle: u64,
+    /// How long its session is kept that has no connection, though its caller is needed. For 0 none
+    /// is kept.
+    pub keep: u64,
+}
+
 /// When a server takes no more connections.
 #[derive(Clone, Copy)]
 pub enum Until<'a> {
     /// After this many. Each has a caller of its own.
     Connections(usize),
-    /// Once `stop` is stopped. Callers serve one connection after another, and a client that is
-    /// idle for `idle` seconds is left.
-    Stopped { stop: &'a Stop, idle: u64 },
+    /// Once `stop` is stopped. Callers serve one connection after another.
+    Stopped {
+        stop: &'a Stop,
+        seconds: ClientSeconds,
+    },
 }
 
 impl<'a> Until<'a> {
@@ -53,7 +69,18 @@ impl<'a> Until<'a> {
     {
         match self {
             Until::Connections(_) => None,
-            Until::Stopped { idle, .. } => Some(idle),
+            Until::Stopped { seconds, .. } => Some(seconds.idle),
+        }
+    }
+
+    /// For how many seconds a session without a connection is kept, and longer while nobody needs
+    /// its caller. For 0 none is kept.
+    pub fn session_seconds(self) -> u64
+        ensures { result ≡ session_seconds self.entry }
+    {
+        match self {
+            Until::Connections(_) => SESSION_SECONDS,
+            Until::Stopped { seconds, .. } => seconds.keep,
         }
     }
 

@@ -1,6 +1,6 @@
 //! When a server ends, how connections end, and the lines that are written of them.
 
-use chord_app_sockets::{Doors, Ended, Lines, Stop, Until};
+use chord_app_sockets::{ClientSeconds, Doors, Ended, Lines, Stop, Until};
 use chord_app_text::{Fault, Finish};
 use chord_serve::Served;
 use chord_wire::FaultCode;
@@ -17,6 +17,7 @@ struct Shown {
     turns: u64,
     kept: usize,
     idle: Option<u64>,
+    session: u64,
     is_stopped: bool,
 }
 
@@ -26,6 +27,7 @@ fn show(until: Until<'_>) -> Shown {
         turns: until.turns(),
         kept: until.kept_callers(3),
         idle: until.idle(),
+        session: until.session_seconds(),
         is_stopped: until.is_stopped(),
     }
 }
@@ -36,6 +38,7 @@ const SEVEN: Shown = Shown {
     turns: 65_536,
     kept: 0,
     idle: None,
+    session: 600,
     is_stopped: false,
 };
 
@@ -45,6 +48,7 @@ const STAYING: Shown = Shown {
     turns: u64::MAX,
     kept: 3,
     idle: Some(300),
+    session: 60,
     is_stopped: false,
 };
 
@@ -64,7 +68,10 @@ fn stop_at_the_end<R: Net<Listener = TcpListener, Stream = TcpStream> + Clock>(
     let stop = Stop::new(listener.local_addr()?);
     let until = Until::Stopped {
         stop: &stop,
-        idle: 300,
+        seconds: ClientSeconds {
+            idle: 300,
+            keep: 60,
+        },
     };
     let before = show(until);
     let mut input = b"abc".as_slice();

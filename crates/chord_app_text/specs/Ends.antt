@@ -8,5 +8,6 @@ abbrev pub status_of : Finish → ℕ
 status_of finish.Done = 0
 status_of (finish.Fault fault) = 1
 status_of finish.BadPlan = 1
+status_of finish.Refused = 1
 status_of finish.BadCommandLine = 2
 status_of finish.OutOfMemory = 3

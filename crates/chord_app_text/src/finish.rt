@@ -22,10 +22,18 @@ pub enum Fault {
     SameId { number: usize, first: usize },
     /// No server is found at the port.
     Connect { port: u16, reason: ErrorKind },
+    /// The server at the port begins no session.
+    NoSession { port: u16 },
+    /// This many inserts of values that nobody else inserts found them there.
+    Doubled(u64),
     /// This many requests got no reply.
     Unanswered(u64),
     /// The time cannot be read.
     Clock,
+    /// The connection to a server ended before its answer was whole.
+    Lost,
+    /// The answer of a server is not understood.
+    Answer,
 }
 
 impl fmt::Display for Fault {
@@ -48,8 +56,23 @@ impl fmt::Display for Fault {
             Fault::Connect { port, reason } => {
                 write!(f, "fault connect\nport {port} of 127.0.0.1: {reason}")
             }
+            Fault::NoSession { port } => {
+                write!(
+                    f,
+                    "fault session\nport {port} of 127.0.0.1: no session begins there; "
+                )?;
+                f.write_str("a server that keeps none is asked with --no-session")
+            }
+            Fault::Doubled(count) => write!(f, "fault doubled {count}"),
             Fault::Unanswered(count) => write!(f, "fault unanswered {count}"),
             Fault::Clock => write!(f, "fault clock"),
+            Fault::Lost => {
+                write!(
+                    f,
+                    "fault lost\nthe connection ended before the server's answer was whole"
+                )
+            }
+            Fault::Answer => write!(f, "fault answer\nthe server's answer is not understood"),
         }
     }
 }
@@ -63,6 +86,8 @@ pub enum Finish {
     BadCommandLine,
     /// The plan breaks a rule. Which one was printed.
     BadPlan,
+    /// The server refuses what is asked for. Why was printed.
+    Refused,
     OutOfMemory,
 }
 
@@ -70,14 +95,14 @@ impl Finish {
     ghost use Rattle.std.specs.Prelude.{◌≡◌};
     ghost use Rattle.chord_app_text.specs.Ends.{status_of};
 
-    /// The exit status: 0 done, 1 a fault of input, output or the plan, 2 a fault of the command
-    /// line, 3 out of memory.
+    /// The exit status: 0 done, 1 a fault of input, output or the plan, or a refusal, 2 a fault of
+    /// the command line, 3 out of memory.
     pub fn status(self) -> u8
         ensures { result ≡ status_of self }
     {
         match self {
             Finish::Done => 0,
-            Finish::Fault(_) | Finish::BadPlan => 1,
+            Finish::Fault(_) | Finish::BadPlan | Finish::Refused => 1,
             Finish::BadCommandLine => 2,
             Finish::OutOfMemory => 3,
         }

@@ -1,7 +1,7 @@
 //! The command line of `ask`.
 
 use crate::tests::lines::{prints, refused, words};
-use chord_app_options::{client_options_of, commands};
+use chord_app_options::{client_options_of, commands, wants_session};
 use clap::ArgMatches;
 use std::alloc::Global;
 
@@ -47,6 +47,33 @@ fn options_of_ask(rt: HostRuntime) {
         "chord ask --port 7001 -- insert a -b",
     ] {
         assert!(rt; options(rt.alloc(), line) == wanted, "{line}");
+    }
+}
+
+/// Whether a client of these words begins a session.
+fn session_of_words<'a>(alloc: Global, words: &'a [&'static str]) -> Option<bool> {
+    let matches = commands(alloc).ok()?.try_get_matches_from(words).ok()?;
+    let wanted = matches.subcommand().map(|(_, found)| wants_session(found));
+    drop(matches);
+    wanted
+}
+
+fn session(alloc: Global, line: &'static str) -> Option<bool> {
+    let words = words(alloc, line).ok()?;
+    let wanted = session_of_words(alloc, words.as_slice());
+    drop(words);
+    wanted
+}
+
+#[test]
+fn sessions_of_clients(rt: HostRuntime) {
+    for (line, wanted) in [
+        ("chord ask --port 7001", true),
+        ("chord ask --port 7001 --no-session", false),
+        ("chord load --port 7001", true),
+        ("chord load --no-session --port 7001", false),
+    ] {
+        assert!(rt; session(rt.alloc(), line) == Some(wanted), "{line}");
     }
 }
 

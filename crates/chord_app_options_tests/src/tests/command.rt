@@ -10,6 +10,7 @@ const STATUSES: &[(Finish, u8)] = &[
     (Finish::Done, 0),
     (Finish::Fault(Fault::Read), 1),
     (Finish::BadPlan, 1),
+    (Finish::Refused, 1),
     (Finish::BadCommandLine, 2),
     (Finish::OutOfMemory, 3),
 ];
@@ -62,6 +63,14 @@ const TEXTS: &[(Fault, &str)] = &[
     ),
     (Fault::Unanswered(3), "fault unanswered 3"),
     (Fault::Clock, "fault clock"),
+    (
+        Fault::Lost,
+        "fault lost\nthe connection ended before the server's answer was whole",
+    ),
+    (
+        Fault::Answer,
+        "fault answer\nthe server's answer is not understood",
+    ),
 ];
 
 #[test]

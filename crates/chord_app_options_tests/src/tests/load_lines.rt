@@ -1,7 +1,7 @@
 //! The command line of `load`.
 
 use crate::tests::lines::{prints, refused, words};
-use chord_app_ask::{Kind, Load, Until};
+use chord_app_ask::{Drops, Kind, Load, Until};
 use chord_app_options::{commands, load_of};
 use clap::ArgMatches;
 use std::alloc::Global;
@@ -54,6 +54,32 @@ fn a_load_of_its_own(rt: HostRuntime) {
     assert!(rt; options(rt.alloc(), "chord load --port 1") == Some(wanted));
 }
 
+/// How often the load that a line asks for cuts its connections, if it does.
+fn drops(alloc: Global, line: &'static str) -> Option<Option<Drops>> {
+    Some(load_from(alloc, line)?.drops)
+}
+
+#[test]
+fn cuts_of_load(rt: HostRuntime) {
+    for (line, wanted) in [
+        ("chord load --port 1", None),
+        ("chord load --port 1 --seed 7", None),
+        (
+            "chord load --port 1 --drop 50",
+            Some(Drops { every: 50, seed: 1 }),
+        ),
+        (
+            "chord load --port 1 --drop 1 --seed 18446744073709551615",
+            Some(Drops {
+                every: 1,
+                seed: u64::MAX,
+            }),
+        ),
+    ] {
+        assert!(rt; drops(rt.alloc(), line) == Some(wanted), "{line}");
+    }
+}
+
 #[test]
 fn refused_options_of_load(rt: HostRuntime) {
     for line in [
@@ -64,6 +90,11 @@ fn refused_options_of_load(rt: HostRuntime) {
         "chord load --port 1 --kind remove",
         "chord load --port 1 --seconds 3601",
         "chord load --port 1 --requests 0",
+        "chord load --port 1 --drop 0",
+        "chord load --port 1 --drop 1000001",
+        "chord load --port 1 --drop 5 --seed -1",
+        "chord load --port 1 --drop 5 --no-session",
+        "chord load --port 1 --drop 5 --kind insert --value-size 15",
     ] {
         assert!(rt; refused(rt.alloc(), line) == Some(2), "{line}");
     }

@@ -39,8 +39,20 @@ fn faults_of_serve(rt: HostRuntime) {
             "error: the argument '--connections <K>' cannot be used with '--idle <SECONDS>'",
         ),
         (
+            "chord serve --plan p --port 7 --connections 1 --keep 2",
+            "error: the argument '--connections <K>' cannot be used with '--keep <SECONDS>'",
+        ),
+        (
             "chord serve --plan p --port 7 --connections 1 --operator 2",
             "error: the argument '--connections <K>' cannot be used with '--operator <N>'",
+        ),
+        (
+            "chord serve --plan p --port 7 --connections 1 --slots 2",
+            "error: the argument '--connections <K>' cannot be used with '--slots <N>'",
+        ),
+        (
+            "chord serve --plan p --port 7 --connections 1 --callers 2",
+            "error: the argument '--connections <K>' cannot be used with '--callers <N>'",
         ),
     ] {
         assert!(rt; prints_usage(rt.alloc(), line, text) == Some((true, 2)));
@@ -137,12 +149,14 @@ fn a_port_that_is_no_number(rt: HostRuntime) {
     assert!(rt; printed == Some((true, 2)));
 }
 
-/// The ports of a command line, and for how many seconds a client may be idle.
+/// The ports of a command line, for how many seconds a client may be idle, and for how many a session
+/// without a connection is kept.
 #[derive(Clone, Copy, Debug, PartialEq, Eq)]
 struct Waits {
     port: Option<u16>,
     redis: Option<u16>,
     idle: u64,
+    keep: u64,
 }
 
 /// What this command line says of them.
@@ -160,6 +174,7 @@ fn waits_in(alloc: Global, matches: &ArgMatches) -> Option<Waits> {
         port: line.port,
         redis: line.redis,
         idle: line.idle,
+        keep: line.keep,
     })
 }
 
@@ -171,6 +186,7 @@ fn the_port_and_idle_clients_of_serve(rt: HostRuntime) {
         port: Some(0),
         redis: None,
         idle: 300,
+        keep: 600,
     };
     assert!(rt; waits_of(rt.alloc(), &stays) == Some(default));
     let idle = [
@@ -180,8 +196,39 @@ fn the_port_and_idle_clients_of_serve(rt: HostRuntime) {
         port: Some(7),
         redis: None,
         idle: 86_400,
+        keep: 600,
     };
     assert!(rt; waits_of(rt.alloc(), &idle) == Some(long));
+}
+
+/// Sessions without a connection are kept for 600 seconds unless the line says another number; for 0
+/// none is kept.
+#[test]
+fn the_kept_sessions_of_serve(rt: HostRuntime) {
+    let words = [
+        "chord", "serve", "--plan", "p", "--port", "7", "--stay", "--keep", "0",
+    ];
+    let none = Waits {
+        port: Some(7),
+        redis: None,
+        idle: 300,
+        keep: 0,
+    };
+    assert!(rt; waits_of(rt.alloc(), &words) == Some(none));
+    let most = [
+        "chord", "serve", "--plan", "p", "--port", "7", "--stay", "--keep", "86400",
+    ];
+    assert!(rt;
+        waits_of(rt.alloc(), &most)
+            == Some(Waits {
+                keep: 86_400,
+                ..none
+            })
+    );
+    let more = [
+        "chord", "serve", "--plan", "p", "--port", "7", "--stay", "--keep", "86401",
+    ];
+    assert!(rt; waits_of(rt.alloc(), &more) == None);
 }
 
 /// Redis's clients have a port of their own, beside the other one or alone.
@@ -194,6 +241,7 @@ fn the_port_of_redis_clients(rt: HostRuntime) {
         port: Some(7),
         redis: Some(6379),
         idle: 300,
+        keep: 600,
     };
     assert!(rt; waits_of(rt.alloc(), &both) == Some(two));
     let alone = ["chord", "serve", "--plan", "p", "--redis", "0", "--stay"];
@@ -201,6 +249,7 @@ fn the_port_of_redis_clients(rt: HostRuntime) {
         port: None,
         redis: Some(0),
         idle: 300,
+        keep: 600,
     };
     assert!(rt; waits_of(rt.alloc(), &alone) == Some(one));
 }
@@ -250,6 +299,50 @@ fn the_operator_of_serve(rt: HostRuntime) {
     assert!(rt; operator_port(rt.alloc(), &wrong) == None);
 }
 
+/// How many nodes and callers a command line names, with `--stay`.
+fn sizes_of(alloc: Global, rest: &str) -> Option<(Option<usize>, Option<usize>)> {
+    let line = format!(in alloc; "chord serve --plan p --port 7 --stay{rest}").ok()?;
+    let words = Vec::from_iter(alloc, line.split(' ')).ok()?;
+    let matches = commands(alloc)
+        .ok()?
+        .try_get_matches_from(words.as_slice())
+        .ok()?;
+    let found = sizes_in(alloc, &matches);
+    drop(matches);
+    found
+}
+
+fn sizes_in(alloc: Global, matches: &ArgMatches) -> Option<(Option<usize>, Option<usize>)> {
+    let (_, found) = matches.subcommand()?;
+    let line = serve_line_of(alloc, found).ok()?;
+    Some((line.slots, line.callers))
+}
+
+/// A server that stays has the plan's numbers of nodes and callers, or those of its line, each from 1
+/// to 4,096.
+#[test]
+fn the_size_of_serve(rt: HostRuntime) {
+    let alloc = rt.alloc();
+    assert!(rt; sizes_of(alloc, "") == Some((None, None)), "the plan's");
+    let most = sizes_of(alloc, " --slots 4096 --callers 4096");
+    assert!(rt;
+        most == Some((Some(4_096), Some(4_096))),
+        "the most of each"
+    );
+    let least = sizes_of(alloc, " --callers 1 --slots 1");
+    assert!(rt; least == Some((Some(1), Some(1))), "the least of each");
+    let nodes = sizes_of(alloc, " --slots 9");
+    assert!(rt; nodes == Some((Some(9), None)), "nodes alone");
+    for wrong in [
+        " --slots 0",
+        " --slots 4097",
+        " --callers 0",
+        " --callers 4097",
+    ] {
+        assert!(rt; sizes_of(alloc, wrong) == None, "{wrong}");
+    }
+}
+
 const SERVE_HELP: &str = concat!(
     "Serves clients over loopback, and writes how each connection ended\n",
     "\n",
@@ -263,7 +356,10 @@ const SERVE_HELP: &str = concat!(
     "      --stay             Serves until standard input ends\n",
     "      --notes            Notes on standard error how each connection ends, as it ends\n",
     "      --idle <SECONDS>   With --stay: how long a client may be idle, 1 to 86400, else 300\n",
+    "      --keep <SECONDS>   With --stay: how long a session without a connection is kept, 0 to 86400, else 600\n",
     "      --operator <N>     With --stay: an operator's port on 127.0.0.1, 1 to 65535, or 0 for any that is free\n",
+    "      --slots <N>        With --stay: how many nodes there may ever be, 1 to 4096, else the plan's\n",
+    "      --callers <N>      With --stay: how many callers there may be, 1 to 4096, else the plan's\n",
     "  -h, --help             Print help\n",
 );
 

@@ -1,7 +1,7 @@
-//! The commands `ask` and `load` from their words on, over loopback. Their lines go to the output of
+//! The commands `ask`, `load` and `ring` from their words on, over loopback. Their lines go to the output of
 //! the test itself; `chord_app_ask_tests` compares lines.
 
-use chord_app_options::{commands, start_ask, start_load};
+use chord_app_options::{commands, start_ask, start_load, start_ring};
 use chord_app_text::{Fault, Finish};
 use clap::ArgMatches;
 use std::alloc::Global;
@@ -26,6 +26,7 @@ fn start_found<T: Host>(rt: &HostRuntime, host: &T, matches: &ArgMatches) -> Opt
     match matches.subcommand()? {
         ("ask", found) => Some(start_ask(rt, host, found)),
         ("load", found) => Some(start_load(rt, host, found)),
+        ("ring", found) => Some(start_ring(rt, host, found)),
         _ => None,
     }
 }
@@ -46,7 +47,12 @@ fn start<T: Threads + Wait + Clock + Net<Listener = TcpListener, Stream = TcpStr
     words: &str,
 ) -> Option<Ended> {
     let alloc = rt.alloc();
-    let line = format!(in alloc; "chord {command} --port {port} {words}").ok()?;
+    let option = if command == "ring" {
+        "operator"
+    } else {
+        "port"
+    };
+    let line = format!(in alloc; "chord {command} --{option} {port} {words}").ok()?;
     let words: Vec<&str> = line.as_str().split_whitespace().collect(alloc).ok()?;
     let ended = start_words(rt, host, words.as_slice());
     drop(words);
@@ -113,14 +119,34 @@ const RETRIEVE: Talk = Talk {
     answer: b"\x00\x00\x00\x0e\x01\x82\x00\x00\x00\x00\x00\x00\x00\x01\x00\x00\x00\x00",
 };
 
+/// An open of a session that begins, up to its token. It is refused, as by a server that keeps none.
+const OPEN: Talk = Talk {
+    asked: b"\x00\x00\x00\x23\x02\x04\x00\x00\x00\x00\x00\x00\x00\x00\x00\x00\x00\x00\x00\x00\x00\x00",
+    answer: b"\x00\x00\x00\x0b\x01\xff\x00\x00\x00\x00\x00\x00\x00\x00\x10",
+};
+
+#[test]
+fn commands_begin_a_session(rt: HostRuntime) {
+    for (command, words) in [("ask", "insert a x"), ("load", "--requests 1")] {
+        let ended = started(&rt, &rt, (command, words), OPEN);
+        assert!(rt;
+            matches!(
+                ended,
+                Some((Err(Finish::Fault(Fault::NoSession { .. })), true))
+            ),
+            "{command}"
+        );
+    }
+}
+
 #[test]
 fn commands_at_a_server(rt: HostRuntime) {
     let done = Some((Ok(Finish::Done), true));
-    let asked = started(&rt, &rt, ("ask", "insert a x"), INSERT);
+    let asked = started(&rt, &rt, ("ask", "--no-session insert a x"), INSERT);
     assert!(rt; asked == done, "ask sends its request in version 2");
     let asked = started(&rt, &rt, ("ask", "--protocol 1 insert a x"), INSERT_1);
     assert!(rt; asked == done, "or in version 1, if the words say so");
-    let loaded = started(&rt, &rt, ("load", "--requests 1"), RETRIEVE);
+    let loaded = started(&rt, &rt, ("load", "--no-session --requests 1"), RETRIEVE);
     assert!(rt; loaded == done, "load sends as many as the words say");
 }
 
@@ -149,6 +175,7 @@ const REFUSED: &[(&str, &str)] = &[
     ("ask", "insert a"),
     ("ask", "add a x"),
     ("load", "--keys 0"),
+    ("load", "--drop 5 --no-session"),
 ];
 
 /// The fault of the words is told, and nobody is asked.
@@ -159,4 +186,27 @@ fn commands_of_wrong_words(rt: HostRuntime) {
         let ended = start(&rt, &rt, command, port, words);
         assert!(rt; ended == Some(Ok(Finish::BadCommandLine)), "{words}");
     }
+}
+
+/// How the command `ring` ends at a port at which nobody listens, and that port.
+fn rings_nobody<T: Threads + Wait + Clock + Net<Listener = TcpListener, Stream = TcpStream> + Sync>(
+    rt: &HostRuntime,
+    host: &T,
+    words: &str,
+) -> Option<(Ended, u16)> {
+    let (listener, port) = bound(host)?;
+    drop(listener);
+    Some((start(rt, host, "ring", port, words)?, port))
+}
+
+#[test]
+fn a_ring_that_nobody_serves(rt: HostRuntime) {
+    for words in ["", "--watch", "leave 3", "stop"] {
+        let (ended, port) = rings_nobody(&rt, &rt, words).unwrap_or((Ok(Finish::Done), 0));
+        let reason = io::ErrorKind::ConnectionRefused;
+        let wanted = Err(Finish::Fault(Fault::Connect { port, reason }));
+        assert!(rt; ended == wanted, "{words}");
+    }
+    let refused = start(&rt, &rt, "ring", 9, "leave x");
+    assert!(rt; refused == Some(Ok(Finish::BadCommandLine)));
 }

@@ -12,7 +12,7 @@ pub type Row = (&'static str, &'static str);
 /// Three stores with room for any number of pairs.
 pub const THREE: &[u64] = &[u64::MAX, u64::MAX, u64::MAX];
 
-/// Runs the lines over a store for each limit, which has room for so many pairs.
+/// Runs the lines over capped stores, one with each of these limits.
 pub fn over(alloc: Global, limits: &[u64], script: &str, wanted: &str) -> Result<Ran, AllocError> {
     let mut stores = Vec::new(alloc);
     for limit in limits {

@@ -2,7 +2,7 @@ use Rattle.std.proofs.Common.{◌≡◌, ℕ, length, codes, Some, sym, ap, subs
 use Rattle.std.specs.List.{All}
 use Rattle.std.proofs.lemmas.Result.{err_from_is_err_and}
 use Rattle.toml.specs.Data.{Members}
-use Rattle.chord_app_plan.specs.Plan.{AreListed, AskIs, IsAskOf, NodeIs, SettingsAre, members_of}
+use Rattle.chord_app_plan.specs.Plan.{AreListed, AskIs, IsAskOf, NodeIs, SettingsAre, SpareIs, members_of}
 use Rattle.chord_app_plan.proofs.Counts.{same_count}
 use Rattle.chord_app_plan.proofs.Tables.{listed_same, same_members}
 use Rattle.chord_app_plan.proofs.plan.Plan.parse.Goals as goal
@@ -21,3 +21,11 @@ returns-in_err-asks-clause-accepts c = λ plan is keeps short.
     subst (λ (n : ℕ). All (IsAskOf c.in_ok-settings.settings.callers n) plan.asks.items) nodes (subst (λ (n : ℕ). All (IsAskOf n (length plan.nodes.items)) plan.asks.items) callers keeps.asks) in
     let p = err_from_is_err_and c.from_residual-in_err-asks.result c.from_residual-in_err-asks.ensures.1 in
     rw (p.1, p.2) (c.in_err-asks.ensures.accepts plan.asks.items asks limits)
+
+pub returns-in_err-spare-clause-accepts : goal.returns-in_err-spare-clause-accepts
+returns-in_err-spare-clause-accepts c = λ plan is keeps short.
+    let top = members_of c.new-top.result in
+    let same : is.members ≡ top = same_members is.members top (sym is.parsed ∙ c.in-Ok.ensures.ok.1 ∙ ap (λ (m : Members). Some m) (sym c.new-top.ensures)) in
+    let spare : SpareIs top plan.spare = subst (λ (m : Members). SpareIs m plan.spare) same is.spare in
+    let p = err_from_is_err_and c.from_residual-in_err-spare.result c.from_residual-in_err-spare.ensures.1 in
+    rw (p.1, p.2) (c.in_err-spare.ensures.accepts plan.spare spare)

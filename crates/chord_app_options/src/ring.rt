@@ -1,0 +1,248 @@
+//! The command line of `ring`.
+
+use crate::faults::{fault_of, print_fault};
+use crate::number::{NumberOption, WrongNumber, number_from, small_number};
+use crate::parts::{with_argument, with_command};
+use chord_app_operator::{CrashRequest, JoinRequest, StoreKind};
+use chord_app_ring::{RingCommand, RingLine, run_ring};
+use chord_app_text::Finish;
+use chord_ident::Id;
+use clap::{Arg, ArgAction, ArgMatches, Command};
+use std::alloc::{AllocError, Global};
+use std::fmt;
+use std::net::{Net, TcpStream};
+use std::sync::Wait;
+use std::time::Clock;
+
+const OPERATOR: NumberOption = NumberOption {
+    name: "operator",
+    value_name: "PORT",
+    least: 1,
+    most: 65_535,
+    default: None,
+    help: "The operator's port of the server on 127.0.0.1, 1 to 65535",
+};
+
+const TIMES: NumberOption = NumberOption {
+    name: "times",
+    value_name: "N",
+    least: 1,
+    most: 1_000_000_000,
+    default: None,
+    help: "How often the ring is shown, a second apart, 1 to 1000000000",
+};
+
+const LIMIT: NumberOption = NumberOption {
+    name: "limit",
+    value_name: "N",
+    least: 0,
+    most: u64::MAX,
+    default: None,
+    help: "How many pairs a capped store may hold",
+};
+
+const VIA: NumberOption = NumberOption {
+    name: "via",
+    value_name: "NODE",
+    least: 0,
+    most: u64::MAX,
+    default: None,
+    help: "The node to join by. Without it the server picks it",
+};
+
+/// What is wrong with a value of `ring`.
+#[derive(Clone, Copy, Debug)]
+enum RingWrong<'a> {
+    Number(WrongNumber<'a>),
+    /// The word is no identifier.
+    Id(&'a str),
+    /// The word is no number of a node.
+    Node(&'a str),
+    /// A limit stands beside a store that has none.
+    Limit,
+    /// What is done once is to be done often.
+    Often,
+}
+
+impl fmt::Display for RingWrong<'_> {
+    fn fmt<W: fmt::Write>(&self, f: &mut fmt::Formatter<W>) -> fmt::Result {
+        match self {
+            RingWrong::Number(number) => write!(f, "{number}"),
+            RingWrong::Id(word) => {
+                write!(
+                    f,
+                    "invalid value '{word}' for '[ID]': 32 hexadecimal digits"
+                )
+            }
+            RingWrong::Node(word) => {
+                write!(
+                    f,
+                    "invalid value '{word}' for '<NODE>': the number of a node"
+                )
+            }
+            RingWrong::Limit => f.write_str("'--limit <N>' is only for '--store capped'"),
+            RingWrong::Often => f.write_str("'--watch' and '--times <N>' are only for the table"),
+        }
+    }
+}
+
+impl<'a> From<WrongNumber<'a>> for RingWrong<'a> {
+    fn from(number: WrongNumber<'a>) -> RingWrong<'a> {
+        RingWrong::Number(number)
+    }
+}
+
+fn node_argument<'a>(alloc: Global) -> Arg<'a> {
+    Arg::new(alloc, "node")
+        .value_name("NODE")
+        .required(true)
+        .help("The number of the node")
+}
+
+fn store_option<'a>(alloc: Global) -> Arg<'a> {
+    Arg::new(alloc, "store")
+        .long("store")
+        .value_name("KIND")
+        .default_value("tree")
+        .value_parser(["tree", "list", "capped"].as_slice())
+        .help("How the node keeps its pairs")
+}
+
+fn join_command<'a>(alloc: Global) -> Result<Command<'a>, AllocError> {
+    let id = Arg::new(alloc, "id").value_name("ID").help(
+        "Its identifier, 32 hexadecimal digits. Without it the server picks it",
+    );
+    let join = Command::new(alloc, "join").about("A node joins").arg(id);
+    let join = with_argument(join, store_option(alloc));
+    let join = with_argument(join, LIMIT.argument(alloc));
+    with_argument(join, VIA.argument(alloc))
+}
+
+fn leave_command<'a>(alloc: Global) -> Result<Command<'a>, AllocError> {
+    Command::new(alloc, "leave")
+        .about("A node begins to leave: it gives away what it holds")
+        .arg(node_argument(alloc))
+}
+
+fn crash_command<'a>(alloc: Global) -> Result<Command<'a>, AllocError> {
+    let force = Arg::new(alloc, "force")
+        .long("force")
+        .action(ArgAction::SetTrue)
+        .help("Also where the ring would not stand without it");
+    let crash = Command::new(alloc, "crash")
+        .about("A node crashes, with what it holds")
+        .arg(node_argument(alloc));
+    with_argument(crash, force)
+}
+
+/// The command `ring`, its arguments, and the commands below it.
+pub fn ring_command<'a>(alloc: Global) -> Result<Command<'a>, AllocError> {
+    let watch = Arg::new(alloc, "watch")
+        .long("watch")
+        .action(ArgAction::SetTrue)
+        .help("Shows the ring each second until the server is gone");
+    let ring = Command::new(alloc, "ring")
+        .about("Shows the ring of a server to its operator, or changes it")
+        .arg(OPERATOR.argument(alloc).required(true));
+    let ring = with_argument(ring, watch);
+    let ring = with_argument(ring, TIMES.argument(alloc));
+    let ring = with_command(ring, join_command(alloc));
+    let ring = with_command(ring, leave_command(alloc));
+    let ring = with_command(ring, crash_command(alloc));
+    let stop = Command::new(alloc, "stop").about("The server ends");
+    with_command(ring, Ok(stop))
+}
+
+fn id_of<'a>(found: &ArgMatches<'a>) -> Result<Option<Id>, RingWrong<'a>> {
+    let Some(word) = found.get_str("id") else {
+        return Ok(None);
+    };
+    match Id::of_hex(word) {
+        Ok(id) => Ok(Some(id)),
+        Err(_) => Err(RingWrong::Id(word)),
+    }
+}
+
+fn join_of<'a>(found: &ArgMatches<'a>) -> Result<JoinRequest, RingWrong<'a>> {
+    let word = found.get_str("store").unwrap_or("tree");
+    let store = StoreKind::of_word(word).unwrap_or(StoreKind::Tree);
+    let limit = LIMIT.read_if_there(found)?;
+    if limit.is_some() && store != StoreKind::Capped {
+        return Err(RingWrong::Limit);
+    }
+    Ok(JoinRequest {
+        id: id_of(found)?,
+        store,
+        limit,
+        via: VIA.read_if_there(found)?,
+    })
+}
+
+/// The largest number that the path of a request may have.
+const MOST_NODE: u64 = 9_999_999_999_999_999_999;
+
+fn node_of<'a>(found: &ArgMatches<'a>) -> Result<u64, RingWrong<'a>> {
+    let word = found.get_str("node").unwrap_or("");
+    match number_from(word, 0, MOST_NODE) {
+        Some(node) => Ok(node),
+        None => Err(RingWrong::Node(word)),
+    }
+}
+
+/// What is asked for. `clap` refuses other names.
+fn command_of<'a>(found: &ArgMatches<'a>) -> Result<RingCommand, RingWrong<'a>> {
+    match found.subcommand() {
+        Some(("join", below)) => Ok(RingCommand::Join(join_of(below)?)),
+        Some(("leave", below)) => Ok(RingCommand::Leave(node_of(below)?)),
+        Some(("crash", below)) => Ok(RingCommand::Crash(CrashRequest {
+            node: node_of(below)?,
+            is_forced: below.get_flag("force"),
+        })),
+        Some(("stop", _)) => Ok(RingCommand::Stop),
+        _ => Ok(RingCommand::Show),
+    }
+}
+
+/// How often it is asked for. Only a look is asked for more than once.
+fn times_of<'a>(found: &ArgMatches<'a>, command: &RingCommand) -> Result<u64, RingWrong<'a>> {
+    let times = TIMES.read_if_there(found)?;
+    let is_watched = found.get_flag("watch");
+    if *command != RingCommand::Show && (is_watched || times.is_some()) {
+        return Err(RingWrong::Often);
+    }
+    Ok(times.unwrap_or(if is_watched { u64::MAX } else { 1 }))
+}
+
+fn read<'a>(found: &ArgMatches<'a>) -> Result<RingLine, RingWrong<'a>> {
+    let word = OPERATOR.word(found).unwrap_or("");
+    let Some(port) = small_number(word) else {
+        return Err(RingWrong::Number(OPERATOR.wrong(word)));
+    };
+    let command = command_of(found)?;
+    Ok(RingLine {
+        port,
+        times: times_of(found, &command)?,
+        command,
+    })
+}
+
+/// What the command line asks for, or the fault of a wrong value.
+pub fn ring_line_of(alloc: Global, found: &ArgMatches) -> Result<RingLine, clap::Error> {
+    match read(found) {
+        Ok(line) => Ok(line),
+        Err(wrong) => Err(fault_of(alloc, ring_command(alloc), "chord ring", &wrong)),
+    }
+}
+
+/// Does the command `ring`.
+pub fn start_ring<R: Net<Stream = TcpStream> + Clock + Wait>(
+    rt: &HostRuntime,
+    net: &R,
+    found: &ArgMatches,
+) -> Result<Finish, Finish> {
+    let line = match ring_line_of(rt.alloc(), found) {
+        Ok(line) => line,
+        Err(fault) => return print_fault(rt, fault),
+    };
+    run_ring(net, rt.alloc(), &line, &mut rt.stdout(), &mut rt.stderr())
+}

@@ -1,0 +1,155 @@
+//! The command line of `ring`.
+
+use crate::tests::lines::{prints, refused, words};
+use chord_app_operator::{CrashRequest, JoinRequest, StoreKind};
+use chord_app_options::{commands, ring_line_of};
+use chord_app_ring::{RingCommand, RingLine};
+use chord_ident::Id;
+use clap::ArgMatches;
+use std::alloc::Global;
+
+fn line_in(alloc: Global, matches: &ArgMatches) -> Option<RingLine> {
+    let (_, found) = matches.subcommand()?;
+    ring_line_of(alloc, found).ok()
+}
+
+/// What these words ask for.
+fn line_of_words<'a>(alloc: Global, words: &'a [&'static str]) -> Option<RingLine> {
+    let matches = commands(alloc).ok()?.try_get_matches_from(words).ok()?;
+    let line = line_in(alloc, &matches);
+    drop(matches);
+    line
+}
+
+/// What a command line asks for.
+fn line_from(alloc: Global, line: &'static str) -> Option<RingLine> {
+    let words = words(alloc, line).ok()?;
+    let read = line_of_words(alloc, words.as_slice());
+    drop(words);
+    read
+}
+
+/// The join of a tree that says nothing else.
+const PLAIN_JOIN: JoinRequest = JoinRequest {
+    id: None,
+    store: StoreKind::Tree,
+    limit: None,
+    via: None,
+};
+
+/// The join that says all that it may.
+const WHOLE_JOIN: JoinRequest = JoinRequest {
+    id: Some(Id { number: 0xab }),
+    store: StoreKind::Capped,
+    limit: Some(10),
+    via: Some(2),
+};
+
+const CRASH: CrashRequest = CrashRequest {
+    node: 7,
+    is_forced: false,
+};
+
+const FORCED_CRASH: CrashRequest = CrashRequest {
+    node: 7,
+    is_forced: true,
+};
+
+/// Command lines, what they ask for, and how often.
+const LINES: [(&str, RingCommand, u64); 10] = [
+    ("chord ring --operator 9", RingCommand::Show, 1),
+    (
+        "chord ring --operator 9 --watch",
+        RingCommand::Show,
+        u64::MAX,
+    ),
+    ("chord ring --operator 9 --times 3", RingCommand::Show, 3),
+    (
+        "chord ring --watch --times 3 --operator 9",
+        RingCommand::Show,
+        3,
+    ),
+    (
+        "chord ring --operator 9 join",
+        RingCommand::Join(PLAIN_JOIN),
+        1,
+    ),
+    (
+        "chord ring --operator 9 join 000000000000000000000000000000aB --store capped --limit 10 --via 2",
+        RingCommand::Join(WHOLE_JOIN),
+        1,
+    ),
+    (
+        "chord ring --operator 9 leave 12",
+        RingCommand::Leave(12),
+        1,
+    ),
+    (
+        "chord ring --operator 9 crash 7",
+        RingCommand::Crash(CRASH),
+        1,
+    ),
+    (
+        "chord ring --operator 9 crash 7 --force",
+        RingCommand::Crash(FORCED_CRASH),
+        1,
+    ),
+    ("chord ring --operator 9 stop", RingCommand::Stop, 1),
+];
+
+#[test]
+fn lines_of_ring(rt: HostRuntime) {
+    for (line, command, times) in LINES {
+        let wanted = RingLine {
+            port: 9,
+            command,
+            times,
+        };
+        assert!(rt; line_from(rt.alloc(), line) == Some(wanted), "{line}");
+    }
+}
+
+#[test]
+fn refused_lines_of_ring(rt: HostRuntime) {
+    for line in [
+        "chord ring",
+        "chord ring --operator 0",
+        "chord ring --operator 65536",
+        "chord ring --operator 9 --times 0",
+        "chord ring --operator 9 --watch stop",
+        "chord ring --operator 9 --times 1 leave 2",
+        "chord ring --operator 9 join 00ab",
+        "chord ring --operator 9 join --store noted",
+        "chord ring --operator 9 join --limit 3",
+        "chord ring --operator 9 join --store capped --limit -1",
+        "chord ring --operator 9 join --via x",
+        "chord ring --operator 9 leave",
+        "chord ring --operator 9 leave x",
+        "chord ring --operator 9 leave 10000000000000000000",
+        "chord ring --operator 9 leave 2 --force",
+        "chord ring --operator 9 crash",
+        "chord ring --operator 9 dump",
+    ] {
+        assert!(rt; refused(rt.alloc(), line) == Some(2), "{line}");
+    }
+}
+
+#[test]
+fn texts_of_refused_lines(rt: HostRuntime) {
+    for (line, text) in [
+        (
+            "chord ring --operator 9 leave x",
+            "error: invalid value 'x' for '<NODE>': the number of a node\n\nUsage: chord ring [OPTIONS] --operator <PORT> [COMMAND]\n\nFor more information, try '--help'.\n",
+        ),
+        (
+            "chord ring --operator 9 join 00ab",
+            "error: invalid value '00ab' for '[ID]': 32 hexadecimal digits\n\nUsage: chord ring [OPTIONS] --operator <PORT> [COMMAND]\n\nFor more information, try '--help'.\n",
+        ),
+        (
+            "chord ring --operator 9 join --limit 3",
+            "error: '--limit <N>' is only for '--store capped'\n\nUsage: chord ring [OPTIONS] --operator <PORT> [COMMAND]\n\nFor more information, try '--help'.\n",
+        ),
+    ] {
+        assert!(rt; prints(rt.alloc(), line, text) == Some((true, 2)), "{line}");
+    }
+}
