@@ -11,7 +11,9 @@ use Rattle.serde_json.specs.View.{items_of}
 use Rattle.serde_json.specs.Written.{has_float, items_have_float, members_have_float}
 use Rattle.chord_app_operator.specs.declared.sight.node.NodeSight.{NodeSight}
 use Rattle.chord_app_operator.specs.declared.sight.ring.RingSight.{RingSight}
-use Rattle.chord_app_operator.specs.Json.{with_members, record_of, optional_data, list_data, count_data, segment_members, segment_data, outbox_members, outbox_data, asks_members, handovers_members, callers_members, name_members, link_members, held_members, done_members, node_data, ring_members, ring_data}
+use Rattle.chord_app_operator.specs.declared.sight.traffic.EndCounts.{EndCounts}
+use Rattle.chord_app_operator.specs.declared.sight.traffic.SessionCounts.{SessionCounts}
+use Rattle.chord_app_operator.specs.Json.{with_members, record_of, optional_data, list_data, count_data, segment_members, segment_data, outbox_members, outbox_data, asks_members, handovers_members, callers_members, ends_members, ends_data, sessions_members, sessions_data, name_members, link_members, held_members, done_members, node_data, ring_members, ring_data}
 
 abbrev NoFloat : List ℕ × Data → Type 0
 NoFloat m = has_float m.1 ≡ false
@@ -55,5 +57,21 @@ node_no_float n =
     members_no_float (done_members n) (with_members (with_members (with_members no_members (name_members n)) (link_members n)) (held_members n))
     (record_no_float (asks_members n.asks) (refl, (refl, (refl, (refl, tt)))), (record_no_float (handovers_members n.handovers) (refl, (refl, (refl, tt))), (refl, tt))) held
 
+ends_no_float : (c : EndCounts) → has_float (ends_data c) ≡ false
+ends_no_float c = record_no_float (ends_members c) (refl, (refl, (refl, (refl, (refl, (refl, (refl, (refl, (refl, (refl, tt))))))))))
+
+sessions_no_float : (c : SessionCounts) → has_float (sessions_data c) ≡ false
+sessions_no_float c = record_no_float (sessions_members c) (refl, (refl, (refl, (refl, tt))))
+
 pub ring_no_float : (r : RingSight) → has_float (ring_data r) ≡ false
-ring_no_float r = record_no_float (ring_members r) (refl, (refl, (record_no_float (callers_members r.callers) (refl, (refl, tt)), (refl, (refl, (list_no_float node_data node_no_float r.nodes.items, tt))))))
+ring_no_float r =
+    record_no_float (ring_members r) (
+      refl,
+      (
+        refl,
+        (
+          record_no_float (callers_members r.callers) (refl, (refl, tt)),
+          (refl, (ends_no_float r.ends, (sessions_no_float r.sessions, (refl, (list_no_float node_data node_no_float r.nodes.items, tt))))),
+        ),
+      ),
+    )

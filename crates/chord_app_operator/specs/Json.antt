@@ -14,6 +14,8 @@ use Rattle.chord_app_operator.specs.declared.sight.counts.HandoverCounts.{Handov
 use Rattle.chord_app_operator.specs.declared.sight.counts.CallerCounts.{CallerCounts}
 use Rattle.chord_app_operator.specs.declared.sight.node.NodeSight.{NodeSight}
 use Rattle.chord_app_operator.specs.declared.sight.ring.RingSight.{RingSight}
+use Rattle.chord_app_operator.specs.declared.sight.traffic.EndCounts.{EndCounts}
+use Rattle.chord_app_operator.specs.declared.sight.traffic.SessionCounts.{SessionCounts}
 use Rattle.chord_app_operator.specs.declared.operator.holder.Holder.{Holder}
 use Rattle.chord_app_operator.specs.declared.operator.holder.Holder.TheVariants.{Node, Handover, Moved}
 use Rattle.chord_app_operator.specs.declared.operator.pairs.Pair.{Pair}
@@ -73,6 +75,32 @@ asks_members a =
 abbrev pub asks_data : AskCounts → Data
 asks_data a = record_of (asks_members a)
 
+abbrev pub ends_members : EndCounts → List (List ℕ × Data)
+ends_members c =
+    (codes "ended", count_data c.ended)
+    ∷ (codes "truncated", count_data c.truncated)
+    ∷ (codes "malformed", count_data c.malformed)
+    ∷ (codes "protocol", count_data c.protocol)
+    ∷ (codes "read", count_data c.read)
+    ∷ (codes "write", count_data c.write)
+    ∷ (codes "turnsspent", count_data c.turns_spent)
+    ∷ (codes "memory", count_data c.memory)
+    ∷ (codes "callersspent", count_data c.callers_spent)
+    ∷ (codes "idle", count_data c.idle) ∷ []
+
+abbrev pub ends_data : EndCounts → Data
+ends_data c = record_of (ends_members c)
+
+abbrev pub sessions_members : SessionCounts → List (List ℕ × Data)
+sessions_members c =
+    (codes "kept", count_data c.kept)
+    ∷ (codes "resumed", count_data c.resumed)
+    ∷ (codes "dropped", count_data c.dropped)
+    ∷ (codes "refused", count_data c.refused) ∷ []
+
+abbrev pub sessions_data : SessionCounts → Data
+sessions_data c = record_of (sessions_members c)
+
 abbrev pub handovers_members : HandoverCounts → List (List ℕ × Data)
 handovers_members h = (codes "given", count_data h.given) ∷ (codes "taken", count_data h.taken) ∷ (codes "declined", count_data h.declined) ∷ []
 
@@ -113,7 +141,8 @@ node_data n =
 abbrev pub ring_members : RingSight → List (List ℕ × Data)
 ring_members r =
     (codes "successors", count_data r.successors) ∷ (codes "slots", count_data r.slots) ∷ (codes "callers", callers_data r.callers)
-    ∷ (codes "connections", count_data r.connections) ∷ (codes "uptime_ms", count_data r.uptime_ms)
+    ∷ (codes "connections", count_data r.connections) ∷ (codes "ends", ends_data r.ends) ∷ (codes "sessions", sessions_data r.sessions)
+    ∷ (codes "uptime_ms", count_data r.uptime_ms)
     ∷ (codes "nodes", list_data node_data r.nodes.items) ∷ []
 
 abbrev pub ring_data : RingSight → Data

@@ -7,7 +7,9 @@ use Rattle.chord_app_operator.specs.declared.sight.node.NodeSight.{NodeSight}
 use Rattle.chord_app_operator.specs.declared.sight.ring.RingSight.{RingSight}
 use Rattle.chord_app_operator.specs.declared.show.measure.Measure.{Measure}
 use Rattle.chord_app_operator.specs.declared.show.measure.Measure.TheVariants.{Pairs, Segments, OutboxItems, Told, Forwarded, Dropped, Full, Given, Taken, Declined, Ticks}
-use Rattle.chord_app_operator.specs.declared.show.metrics_heads.TheConstants.{NODES_HEAD, PAIRS_HEAD, SEGMENTS_HEAD, OUTBOX_HEAD, ASKS_HEAD, HANDOVERS_HEAD, TICKS_HEAD, CONNECTIONS_HEAD, CALLERS_HEAD}
+use Rattle.chord_app_operator.specs.declared.show.total.Total.{Total}
+use Rattle.chord_app_operator.specs.declared.show.total.Total.TheVariants as totals
+use Rattle.chord_app_operator.specs.declared.show.metrics_heads.TheConstants.{NODES_HEAD, PAIRS_HEAD, SEGMENTS_HEAD, OUTBOX_HEAD, ASKS_HEAD, HANDOVERS_HEAD, TICKS_HEAD, CONNECTIONS_HEAD, ENDS_HEAD, KEPT_HEAD, SESSIONS_HEAD, CALLERS_HEAD}
 use Rattle.chord_app_operator.specs.Sights.{phase_word}
 
 -- what is measured of a node
@@ -102,10 +104,71 @@ ticks_metrics nodes = TICKS_HEAD.now ++ node_lines Ticks nodes
 abbrev pub node_metrics : List NodeSight → List ℕ
 node_metrics nodes = held_metrics nodes ++ (asks_metrics nodes ++ (handovers_metrics nodes ++ ticks_metrics nodes))
 
+-- what is counted of a server
+abbrev pub counted : Total → RingSight → ℕ
+counted totals.Ended r = r.ends.ended
+counted totals.Truncated r = r.ends.truncated
+counted totals.Malformed r = r.ends.malformed
+counted totals.Protocol r = r.ends.protocol
+counted totals.Read r = r.ends.read
+counted totals.Write r = r.ends.write
+counted totals.TurnsSpent r = r.ends.turns_spent
+counted totals.Memory r = r.ends.memory
+counted totals.CallersSpent r = r.ends.callers_spent
+counted totals.Idle r = r.ends.idle
+counted totals.Kept r = r.sessions.kept
+counted totals.Resumed r = r.sessions.resumed
+counted totals.Dropped r = r.sessions.dropped
+counted totals.Refused r = r.sessions.refused
+
+-- the line of a count up to its number
+abbrev pub before_count : Total → List ℕ
+before_count totals.Ended = codes "chord_connections_total{result=\"ended\"} "
+before_count totals.Truncated = codes "chord_connections_total{result=\"truncated\"} "
+before_count totals.Malformed = codes "chord_connections_total{result=\"malformed\"} "
+before_count totals.Protocol = codes "chord_connections_total{result=\"protocol\"} "
+before_count totals.Read = codes "chord_connections_total{result=\"read\"} "
+before_count totals.Write = codes "chord_connections_total{result=\"write\"} "
+before_count totals.TurnsSpent = codes "chord_connections_total{result=\"turnsspent\"} "
+before_count totals.Memory = codes "chord_connections_total{result=\"memory\"} "
+before_count totals.CallersSpent = codes "chord_connections_total{result=\"callersspent\"} "
+before_count totals.Idle = codes "chord_connections_total{result=\"idle\"} "
+before_count totals.Kept = codes "chord_sessions_kept "
+before_count totals.Resumed = codes "chord_sessions_total{kind=\"resumed\"} "
+before_count totals.Dropped = codes "chord_sessions_total{kind=\"dropped\"} "
+before_count totals.Refused = codes "chord_sessions_total{kind=\"refused\"} "
+
+-- the line of a count
+abbrev pub total_line : Total → RingSight → List ℕ
+total_line total r = before_count total ++ value_line (counted total r)
+
+-- how many connections ended, by how: with what the client sent, at a device, or by the server
+abbrev pub ends_by_client : RingSight → List ℕ
+ends_by_client r = total_line totals.Ended r ++ (total_line totals.Truncated r ++ (total_line totals.Malformed r ++ (total_line totals.Protocol r)))
+
+abbrev pub ends_by_device : RingSight → List ℕ
+ends_by_device r = total_line totals.Read r ++ (total_line totals.Write r ++ (total_line totals.TurnsSpent r))
+
+abbrev pub ends_by_server : RingSight → List ℕ
+ends_by_server r = total_line totals.Memory r ++ (total_line totals.CallersSpent r ++ (total_line totals.Idle r))
+
+abbrev pub end_metrics : RingSight → List ℕ
+end_metrics r = ENDS_HEAD.now ++ (ends_by_client r ++ (ends_by_device r ++ ends_by_server r))
+
+-- how many sessions are kept, and went on, were dropped or were refused
+abbrev pub session_metrics : RingSight → List ℕ
+session_metrics r =
+    KEPT_HEAD.now ++ (total_line totals.Kept r ++ (SESSIONS_HEAD.now
+    ++ (total_line totals.Resumed r ++ (total_line totals.Dropped r ++ total_line totals.Refused r))))
+
+-- how many connections and callers are open
+abbrev pub open_metrics : RingSight → List ℕ
+open_metrics r =
+    CONNECTIONS_HEAD.now ++ (codes "chord_connections " ++ (value_line r.connections ++ (CALLERS_HEAD.now ++ (codes "chord_callers_open " ++ value_line r.callers.open))))
+
 -- those of the ring
 abbrev pub ring_metrics : RingSight → List ℕ
-ring_metrics r =
-    CONNECTIONS_HEAD.now ++ (codes "chord_connections " ++ (value_line r.connections ++ (CALLERS_HEAD.now ++ (codes "chord_callers_open " ++ value_line r.callers.open))))
+ring_metrics r = open_metrics r ++ (end_metrics r ++ session_metrics r)
 
 -- all metrics
 abbrev pub metrics_text : RingSight → List ℕ

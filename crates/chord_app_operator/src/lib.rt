@@ -18,8 +18,10 @@ pub use request::{
 };
 pub use service::OperatorService;
 pub use show::{
-    Measure, ToJson, array, holder_value, id_text, metrics_text, optional, pair_lines, ring_text,
+    Measure, ToJson, Total, array, holder_value, id_text, metrics_text, optional, pair_lines,
+    ring_text,
 };
 pub use sight::{
-    AskCounts, CallerCounts, HandoverCounts, NodeSight, OutboxSight, Phase, RingSight, SegmentSight,
+    AskCounts, CallerCounts, EndCounts, HandoverCounts, NodeSight, OutboxSight, Phase, RingSight,
+    SegmentSight, SessionCounts,
 };

@@ -9,6 +9,7 @@ mod metrics_heads;
 mod pairs_json;
 pub(crate) mod replies;
 mod sight_json;
+mod total;
 
 pub use holder_json::holder_value;
 pub use json::{ToJson, array, id_text, optional};
@@ -16,3 +17,4 @@ pub use measure::Measure;
 pub use metrics::metrics_text;
 pub use pairs_json::pair_lines;
 pub use sight_json::ring_text;
+pub use total::Total;

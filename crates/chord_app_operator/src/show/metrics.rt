@@ -1,13 +1,14 @@
 //! A ring in Prometheus's text format.
 ghost use Rattle.std.specs.Prelude.{◌≡◌, ◌++◌, codes, string_bytes, IfOk, OnOk};
 ghost use Rattle.std.specs.List.{count_by};
-ghost use Rattle.chord_app_operator.specs.Metrics.{value_line, node_line, node_lines, is_in, phase_line, phase_lines, phase_metrics, held_metrics, asks_metrics, handovers_metrics, ticks_metrics, node_metrics, ring_metrics, metrics_text};
+ghost use Rattle.chord_app_operator.specs.Metrics.{value_line, node_line, node_lines, is_in, phase_line, phase_lines, phase_metrics, held_metrics, asks_metrics, handovers_metrics, ticks_metrics, node_metrics, total_line, ends_by_client, ends_by_device, ends_by_server, end_metrics, session_metrics, open_metrics, ring_metrics, metrics_text};
 
 use super::measure::Measure;
 use super::metrics_heads::{
-    ASKS_HEAD, CALLERS_HEAD, CONNECTIONS_HEAD, HANDOVERS_HEAD, NODES_HEAD, OUTBOX_HEAD, PAIRS_HEAD,
-    SEGMENTS_HEAD, TICKS_HEAD,
+    ASKS_HEAD, CALLERS_HEAD, CONNECTIONS_HEAD, ENDS_HEAD, HANDOVERS_HEAD, KEPT_HEAD, NODES_HEAD,
+    OUTBOX_HEAD, PAIRS_HEAD, SEGMENTS_HEAD, SESSIONS_HEAD, TICKS_HEAD,
 };
+use super::total::Total;
 use crate::sight::{NodeSight, Phase, RingSight};
 use itoa::Buffer;
 use std::alloc::{AllocError, Global};
@@ -128,8 +129,63 @@ fn add_nodes(text: &mut String, nodes: &[NodeSight]) -> Result<(), AllocError>
     add_ticks(text, nodes)
 }
 
-fn add_ring(text: &mut String, sight: &RingSight) -> Result<(), AllocError>
-    ensures { OnOk result (string_bytes text.new ≡ string_bytes text.old ++ ring_metrics sight.now) }
+fn add_total(text: &mut String, total: Total, sight: &RingSight) -> Result<(), AllocError>
+    ensures { OnOk result (string_bytes text.new ≡ string_bytes text.old ++ total_line total sight.now) }
+{
+    text.push_str(total.before_count())?;
+    add_value(text, total.of(sight))
+}
+
+// Connections that ended with what the client sent.
+fn add_ends_by_client(text: &mut String, sight: &RingSight) -> Result<(), AllocError>
+    ensures { OnOk result (string_bytes text.new ≡ string_bytes text.old ++ ends_by_client sight.now) }
+{
+    add_total(text, Total::Ended, sight)?;
+    add_total(text, Total::Truncated, sight)?;
+    add_total(text, Total::Malformed, sight)?;
+    add_total(text, Total::Protocol, sight)
+}
+
+// Connections that ended as reading or writing failed, or were read too often.
+fn add_ends_by_device(text: &mut String, sight: &RingSight) -> Result<(), AllocError>
+    ensures { OnOk result (string_bytes text.new ≡ string_bytes text.old ++ ends_by_device sight.now) }
+{
+    add_total(text, Total::Read, sight)?;
+    add_total(text, Total::Write, sight)?;
+    add_total(text, Total::TurnsSpent, sight)
+}
+
+// Connections that the server ended.
+fn add_ends_by_server(text: &mut String, sight: &RingSight) -> Result<(), AllocError>
+    ensures { OnOk result (string_bytes text.new ≡ string_bytes text.old ++ ends_by_server sight.now) }
+{
+    add_total(text, Total::Memory, sight)?;
+    add_total(text, Total::CallersSpent, sight)?;
+    add_total(text, Total::Idle, sight)
+}
+
+fn add_ends(text: &mut String, sight: &RingSight) -> Result<(), AllocError>
+    ensures { OnOk result (string_bytes text.new ≡ string_bytes text.old ++ end_metrics sight.now) }
+{
+    text.push_str(ENDS_HEAD)?;
+    add_ends_by_client(text, sight)?;
+    add_ends_by_device(text, sight)?;
+    add_ends_by_server(text, sight)
+}
+
+fn add_sessions(text: &mut String, sight: &RingSight) -> Result<(), AllocError>
+    ensures { OnOk result (string_bytes text.new ≡ string_bytes text.old ++ session_metrics sight.now) }
+{
+    text.push_str(KEPT_HEAD)?;
+    add_total(text, Total::Kept, sight)?;
+    text.push_str(SESSIONS_HEAD)?;
+    add_total(text, Total::Resumed, sight)?;
+    add_total(text, Total::Dropped, sight)?;
+    add_total(text, Total::Refused, sight)
+}
+
+fn add_open(text: &mut String, sight: &RingSight) -> Result<(), AllocError>
+    ensures { OnOk result (string_bytes text.new ≡ string_bytes text.old ++ open_metrics sight.now) }
 {
     text.push_str(CONNECTIONS_HEAD)?;
     text.push_str("chord_connections ")?;
@@ -137,6 +193,14 @@ fn add_ring(text: &mut String, sight: &RingSight) -> Result<(), AllocError>
     text.push_str(CALLERS_HEAD)?;
     text.push_str("chord_callers_open ")?;
     add_value(text, sight.callers.open)
+}
+
+fn add_ring(text: &mut String, sight: &RingSight) -> Result<(), AllocError>
+    ensures { OnOk result (string_bytes text.new ≡ string_bytes text.old ++ ring_metrics sight.now) }
+{
+    add_open(text, sight)?;
+    add_ends(text, sight)?;
+    add_sessions(text, sight)
 }
 
 /// A ring as the text of `GET /metrics`.

@@ -23,5 +23,14 @@ pub const TICKS_HEAD: &str =
 pub const CONNECTIONS_HEAD: &str =
     "# HELP chord_connections Clients that are connected.\n# TYPE chord_connections gauge\n";
 
+pub const ENDS_HEAD: &str =
+    "# HELP chord_connections_total Connections that ended, by how.\n# TYPE chord_connections_total counter\n";
+
+pub const KEPT_HEAD: &str =
+    "# HELP chord_sessions_kept Sessions without a connection.\n# TYPE chord_sessions_kept gauge\n";
+
+pub const SESSIONS_HEAD: &str =
+    "# HELP chord_sessions_total Sessions that were resumed, dropped or refused.\n# TYPE chord_sessions_total counter\n";
+
 pub const CALLERS_HEAD: &str =
     "# HELP chord_callers_open Callers that are open.\n# TYPE chord_callers_open gauge\n";

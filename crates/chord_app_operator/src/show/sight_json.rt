@@ -2,11 +2,12 @@
 ghost use Rattle.std.specs.Prelude.{◌≡◌, string_bytes, IfOk, OnOk};
 ghost use Rattle.serde_json.specs.Written.{compact_text};
 ghost use Rattle.serde_json.specs.View.{view, members_view};
-ghost use Rattle.chord_app_operator.specs.Json.{with_members, name_members, link_members, held_members, done_members, segment_data, outbox_data, asks_data, handovers_data, callers_data, node_data, ring_data};
+ghost use Rattle.chord_app_operator.specs.Json.{with_members, name_members, link_members, held_members, done_members, segment_data, outbox_data, asks_data, handovers_data, callers_data, ends_data, sessions_data, node_data, ring_data};
 
 use super::json::{ToJson, array, id_text, optional};
 use crate::sight::{
-    AskCounts, CallerCounts, HandoverCounts, NodeSight, OutboxSight, RingSight, SegmentSight,
+    AskCounts, CallerCounts, EndCounts, HandoverCounts, NodeSight, OutboxSight, RingSight,
+    SegmentSight, SessionCounts,
 };
 use serde_json::{Map, Value, json, put};
 use std::alloc::{AllocError, Global};
@@ -46,6 +47,38 @@ impl ToJson for AskCounts {
             "forwarded": self.forwarded,
             "dropped": self.dropped,
             "full": self.full
+        })
+    }
+}
+
+impl ToJson for EndCounts {
+    ghost data_of = { ends_data };
+
+    fn to_json(&self, alloc: Global) -> Result<Value, AllocError> {
+        json!(in alloc; {
+            "ended": self.ended,
+            "truncated": self.truncated,
+            "malformed": self.malformed,
+            "protocol": self.protocol,
+            "read": self.read,
+            "write": self.write,
+            "turnsspent": self.turns_spent,
+            "memory": self.memory,
+            "callersspent": self.callers_spent,
+            "idle": self.idle
+        })
+    }
+}
+
+impl ToJson for SessionCounts {
+    ghost data_of = { sessions_data };
+
+    fn to_json(&self, alloc: Global) -> Result<Value, AllocError> {
+        json!(in alloc; {
+            "kept": self.kept,
+            "resumed": self.resumed,
+            "dropped": self.dropped,
+            "refused": self.refused
         })
     }
 }
@@ -148,12 +181,16 @@ impl ToJson for RingSight {
 
     fn to_json(&self, alloc: Global) -> Result<Value, AllocError> {
         let callers = self.callers.to_json(alloc)?;
+        let ends = self.ends.to_json(alloc)?;
+        let sessions = self.sessions.to_json(alloc)?;
         let nodes = array(alloc, &self.nodes)?;
         json!(in alloc; {
             "successors": self.successors,
             "slots": self.slots,
             "callers": callers,
             "connections": self.connections,
+            "ends": ends,
+            "sessions": sessions,
             "uptime_ms": self.uptime_ms,
             "nodes": nodes
         })

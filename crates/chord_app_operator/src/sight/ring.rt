@@ -2,6 +2,7 @@
 
 use super::counts::CallerCounts;
 use super::node::NodeSight;
+use super::traffic::{EndCounts, SessionCounts};
 
 /// A look at a ring: one at each node, one after another.
 #[derive(Debug, Drop)]
@@ -13,6 +14,8 @@ pub struct RingSight {
     pub callers: CallerCounts,
     /// How many clients are connected now.
     pub connections: u64,
+    pub ends: EndCounts,
+    pub sessions: SessionCounts,
     /// How long the server has run, in milliseconds.
     pub uptime_ms: u64,
     pub nodes: Vec<NodeSight>,

@@ -1,0 +1,5 @@
+pub mod Asked
+pub mod Faults
+pub mod Reading
+pub mod Shares
+pub mod Telling

@@ -1,0 +1,51 @@
+//! What the command asks for.
+ghost use Rattle.std.specs.Prelude.{◌≡◌};
+ghost use Rattle.chord_app_ring.specs.Asked.{method_of, good_status};
+
+use chord_app_operator::{CrashRequest, JoinRequest};
+
+/// What an operator asks a server for.
+#[derive(Clone, Copy, Debug, PartialEq, Eq)]
+pub enum RingCommand {
+    /// A look at the ring.
+    Show,
+    Join(JoinRequest),
+    /// The node with this number is to leave.
+    Leave(u64),
+    Crash(CrashRequest),
+    /// The server is to end.
+    Stop,
+}
+
+impl RingCommand {
+    /// The method of its request.
+    pub fn method(&self) -> &'static str
+        ensures { result.now ≡ method_of self.now }
+    {
+        match self {
+            RingCommand::Show => "GET",
+            _ => "POST",
+        }
+    }
+
+    /// The status of an answer that does what is asked.
+    pub fn good_status(&self) -> u16
+        ensures { result ≡ good_status self.now }
+    {
+        match self {
+            RingCommand::Show | RingCommand::Crash(_) => 200,
+            RingCommand::Join(_) => 201,
+            RingCommand::Leave(_) | RingCommand::Stop => 202,
+        }
+    }
+}
+
+/// What the command line says.
+#[derive(Clone, Copy, Debug, PartialEq, Eq)]
+pub struct RingLine {
+    /// The operator's port of the server, on 127.0.0.1.
+    pub port: u16,
+    pub command: RingCommand,
+    /// How many times the ring is shown, a second apart.
+    pub times: u64,
+}

@@ -1,0 +1,116 @@
+//! An answer as its bytes come.
+
+use crate::fault::RingFault;
+use http1::{Client, Event, ReadError};
+use httparse::spans::EMPTY_HEADER_SPAN;
+use std::alloc::Global;
+
+/// The most fields of an answer.
+const FIELDS: usize = 64;
+
+/// The most bytes of an answer's body. A ring of 4,096 nodes has a few million.
+const BODY_BYTES: usize = 67_108_864;
+
+/// An answer of the server.
+#[derive(Debug, Drop)]
+pub struct Answer {
+    /// Its status.
+    pub status: u16,
+    pub body: Vec<u8>,
+}
+
+/// What is to be done next.
+#[derive(Clone, Copy, Debug, PartialEq, Eq)]
+pub enum Turn {
+    /// What came has more in it.
+    Again,
+    /// More is to be read.
+    Read,
+    /// The answer is whole.
+    Done,
+}
+
+/// The bytes that came and the answer as far as they spell it.
+#[derive(Drop)]
+pub struct Inbox {
+    client: Client,
+    unread: Vec<u8>,
+    answer: Answer,
+}
+
+fn fault_of(error: ReadError) -> RingFault {
+    match error {
+        ReadError::UnexpectedEof => RingFault::Lost,
+        _ => RingFault::NotUnderstood,
+    }
+}
+
+impl Inbox {
+    /// For the answer to the request that this client wrote.
+    pub fn new(alloc: Global, client: Client) -> Inbox {
+        Inbox {
+            client,
+            unread: Vec::new(alloc),
+            answer: Answer {
+                status: 0,
+                body: Vec::new(alloc),
+            },
+        }
+    }
+
+    /// Takes in what came.
+    pub fn put(&mut self, bytes: &[u8]) -> Result<(), RingFault> {
+        Ok(self.unread.extend_from_slice(bytes)?)
+    }
+
+    /// Takes one step of what came.
+    pub fn turn(&mut self) -> Result<Turn, RingFault> {
+        let mut headers = [EMPTY_HEADER_SPAN; FIELDS];
+        let read = match self.client.read(&self.unread, &mut headers) {
+            Ok(read) => read,
+            Err(error) => return Err(fault_of(error)),
+        };
+        let turn = match read.event {
+            Event::NeedMore => Turn::Read,
+            Event::Head(head) => {
+                self.answer.status = head.code;
+                Turn::Again
+            }
+            Event::Informational(_) => Turn::Again,
+            Event::Data(span) => {
+                if self.answer.body.len() > BODY_BYTES {
+                    return Err(RingFault::NotUnderstood);
+                }
+                self.answer.body.extend_from_slice(span.of(&self.unread))?;
+                Turn::Again
+            }
+            Event::End(_) => Turn::Done,
+            Event::Paused | Event::Upgraded | Event::Closed => {
+                return Err(RingFault::NotUnderstood);
+            }
+        };
+        drop(self.unread.drain(..read.consumed));
+        Ok(turn)
+    }
+
+    /// Nothing more comes. Without a stated length that is the end of the answer.
+    pub fn end(&mut self) -> Result<Turn, RingFault> {
+        match self.client.read_eof() {
+            Ok(Event::End(_)) => Ok(Turn::Done),
+            Ok(_) => Err(RingFault::Lost),
+            Err(error) => Err(fault_of(error)),
+        }
+    }
+
+    /// The answer.
+    pub fn into_answer(self) -> Answer {
+        let Inbox {
+            client,
+            unread,
+            answer,
+        } = self;
+        drop(client);
+        drop(unread);
+        answer
+    }
+}

@@ -1,0 +1,133 @@
+//! What is sent to the server.
+ghost use Rattle.std.specs.Prelude.{◌≡◌, false, IfOk, OnOk, option_map, string_bytes};
+ghost use Rattle.serde_json.specs.View.{view, members_view};
+ghost use Rattle.serde_json.specs.Written.{compact_text, has_float};
+ghost use Rattle.chord_app_operator.specs.Json.{id_data};
+ghost use Rattle.chord_app_ring.specs.Asked.{path_of, put_if, join_data, body_of, size_of, limits, request_of};
+ghost use Rattle.http1.specs.Client.{new_client};
+
+use crate::command::RingCommand;
+use chord_app_operator::{JoinRequest, ToJson};
+use http1::{BodySize, Client, Header, Limits};
+use serde_json::{Map, Value, json, put};
+use std::alloc::{AllocError, Global};
+
+/// The path of a request.
+pub fn request_path(alloc: Global, command: &RingCommand) -> Result<String, AllocError>
+    ensures { IfOk result (λ path. string_bytes path ≡ path_of command.now) }
+{
+    match command {
+        RingCommand::Show => String::from_str(alloc, "/ring"),
+        RingCommand::Join(_) => String::from_str(alloc, "/nodes"),
+        RingCommand::Leave(node) => format!(in alloc; "/nodes/{node}/leave"),
+        RingCommand::Crash(request) => {
+            let node = request.node;
+            format!(in alloc; "/nodes/{node}/crash")
+        }
+        RingCommand::Stop => String::from_str(alloc, "/stop"),
+    }
+}
+
+// The identifier, if it is stated.
+fn id_value(alloc: Global, request: &JoinRequest) -> Result<Option<Value>, AllocError>
+    ensures { IfOk result (λ value. option_map view value ≡ option_map id_data request.now.id) }
+{
+    match request.id {
+        Some(id) => Ok(Some(id.to_json(alloc)?)),
+        None => Ok(None),
+    }
+}
+
+// A member, if it is there.
+fn put_if(
+    members: &mut Map<String, Value>,
+    alloc: Global,
+    name: &str,
+    value: Option<Value>,
+) -> Result<(), AllocError>
+    ensures { OnOk result (members_view members.new.entries ≡ put_if name.now (option_map view value) (members_view members.old.entries)) }
+{
+    match value {
+        Some(value) => put(members, alloc, name, value),
+        None => Ok(()),
+    }
+}
+
+// The body of a join.
+fn join_value(alloc: Global, request: &JoinRequest) -> Result<Value, AllocError>
+    ensures { IfOk result (λ value. view value ≡ join_data request.now) }
+{
+    let mut members = Map::new(alloc);
+    put_if(&mut members, alloc, "id", id_value(alloc, request)?)?;
+    let store = Value::try_from_str(alloc, request.store.word())?;
+    put(&mut members, alloc, "store", store)?;
+    put_if(&mut members, alloc, "limit", request.limit.map(Value::from))?;
+    put_if(&mut members, alloc, "via", request.via.map(Value::from))?;
+    Ok(Value::Object(members))
+}
+
+fn value_text(alloc: Global, value: Value) -> Result<String, AllocError>
+    requires { has_float (view value) ≡ false }
+    ensures { IfOk result (λ text. string_bytes text ≡ compact_text (view value)) }
+{
+    let text = value.to_string(alloc);
+    drop(value);
+    text
+}
+
+/// The body of a request.
+pub fn request_body(alloc: Global, command: &RingCommand) -> Result<String, AllocError>
+    ensures { IfOk result (λ body. string_bytes body ≡ body_of command.now) }
+{
+    match command {
+        RingCommand::Join(request) => value_text(alloc, join_value(alloc, request)?),
+        RingCommand::Crash(request) if request.is_forced => value_text(
+            alloc,
+            json!(in alloc; {"force": true})?,
+        ),
+        _ => Ok(String::new(alloc)),
+    }
+}
+
+fn body_size(command: &RingCommand, body: &str) -> BodySize
+    requires { body.now ≡ body_of command.now }
+    ensures { result ≡ size_of command.now }
+{
+    match command {
+        RingCommand::Show => BodySize::Empty,
+        _ => BodySize::Known(body.len() as u64),
+    }
+}
+
+/// The request for a command, to the server with this port. Out of memory stands also for a head
+/// that HTTP/1.1 has not, which no command makes.
+pub fn request_bytes(
+    alloc: Global,
+    client: &mut Client,
+    port: u16,
+    command: &RingCommand,
+) -> Result<Vec<u8>, AllocError>
+    requires { client.old ≡ new_client limits }
+    ensures { IfOk result (λ request. request.items ≡ request_of port command.now) }
+{
+    let path = request_path(alloc, command)?;
+    let body = request_body(alloc, command)?;
+    let host = format!(in alloc; "127.0.0.1:{port}")?;
+    let headers = [Header {
+        name: b"host",
+        value: host.as_bytes(),
+    }];
+    let mut request = Vec::new(alloc);
+    let written = client.write_request(
+        &mut request,
+        command.method().as_bytes(),
+        path.as_bytes(),
+        &headers,
+        body_size(command, &body),
+    );
+    if written.is_err() {
+        return Err(AllocError);
+    }
+    request.extend_from_slice(body.as_bytes())?;
+    Ok(request)
+}

@@ -1,0 +1,76 @@
+//! An operator that is a plain value.
+
+use super::sights::ring;
+use chord_app_operator::{
+    CrashRefusal, CrashRequest, Holder, JoinRefusal, JoinRequest, LeaveRefusal, Operator,
+    PairsPage, PairsRequest, RingSight,
+};
+use chord_ident::Id;
+use std::alloc::{AllocError, Global};
+
+/// It does what it is asked for, and notes it. Only node 2 may not crash unforced, and node 3 not
+/// leave.
+#[derive(Drop)]
+pub struct NotingOperator {
+    pub join: Option<JoinRequest>,
+    pub left: Option<u64>,
+    pub crash: Option<CrashRequest>,
+    pub is_stopped: bool,
+}
+
+impl NotingOperator {
+    /// One that was asked for nothing.
+    pub fn new() -> NotingOperator {
+        NotingOperator {
+            join: None,
+            left: None,
+            crash: None,
+            is_stopped: false,
+        }
+    }
+}
+
+impl Operator for NotingOperator {
+    ghost answers = { λ _ _ _ _. Unit {0} };
+
+    fn sight(&mut self, alloc: Global) -> Result<RingSight, AllocError> {
+        ring(alloc)
+    }
+
+    fn is_healthy(&mut self) -> bool {
+        true
+    }
+
+    fn join(&mut self, request: JoinRequest) -> Result<u64, JoinRefusal> {
+        self.join = Some(request);
+        Ok(4)
+    }
+
+    fn leave(&mut self, node: u64) -> Result<(), LeaveRefusal> {
+        self.left = Some(node);
+        if node == 3 {
+            return Err(LeaveRefusal::NotStaying);
+        }
+        Ok(())
+    }
+
+    fn crash(&mut self, request: CrashRequest) -> Result<(), CrashRefusal> {
+        self.crash = Some(request);
+        if request.node == 2 && !request.is_forced {
+            return Err(CrashRefusal::Unsafe);
+        }
+        Ok(())
+    }
+
+    fn holder(&mut self, _id: Id) -> Holder {
+        Holder::Moved
+    }
+
+    fn pairs(&mut self, _alloc: Global, _request: PairsRequest) -> Result<PairsPage, AllocError> {
+        Err(AllocError)
+    }
+
+    fn stop(&mut self) {
+        self.is_stopped = true;
+    }
+}

@@ -1,0 +1,112 @@
+//! What is sent for each command.
+
+use super::streams::MadeStream;
+use chord_app_operator::{CrashRequest, JoinRequest, StoreKind};
+use chord_app_ring::{RingCommand, RingFault, exchange, request_body, request_bytes, request_path};
+use chord_ident::Id;
+use http1::{Client, Limits};
+use std::alloc::{AllocError, Global};
+use std::test::Fail;
+
+/// The join of a tree that says nothing else.
+pub const PLAIN_JOIN: JoinRequest = JoinRequest {
+    id: None,
+    store: StoreKind::Tree,
+    limit: None,
+    via: None,
+};
+
+/// The join that says all that it may.
+pub const WHOLE_JOIN: JoinRequest = JoinRequest {
+    id: Some(Id {
+        number: 0xc000_0000_0000_0000_0000_0000_0000_00ab,
+    }),
+    store: StoreKind::Capped,
+    limit: Some(10),
+    via: Some(2),
+};
+
+/// The crash of node 7.
+pub const CRASH: CrashRequest = CrashRequest {
+    node: 7,
+    is_forced: false,
+};
+
+/// The same, forced.
+pub const FORCED_CRASH: CrashRequest = CrashRequest {
+    node: 7,
+    is_forced: true,
+};
+
+/// Each kind of command with what is sent to port 7001.
+const SENT: [(RingCommand, &str); 7] = [
+    (
+        RingCommand::Show,
+        "GET /ring HTTP/1.1\r\nhost: 127.0.0.1:7001\r\n\r\n",
+    ),
+    (
+        RingCommand::Join(PLAIN_JOIN),
+        "POST /nodes HTTP/1.1\r\nhost: 127.0.0.1:7001\r\ncontent-length: 16\r\n\r\n{\"store\":\"tree\"}",
+    ),
+    (
+        RingCommand::Join(WHOLE_JOIN),
+        "POST /nodes HTTP/1.1\r\nhost: 127.0.0.1:7001\r\ncontent-length: 77\r\n\r\n{\"id\":\"c00000000000000000000000000000ab\",\"limit\":10,\"store\":\"capped\",\"via\":2}",
+    ),
+    (
+        RingCommand::Leave(12),
+        "POST /nodes/12/leave HTTP/1.1\r\nhost: 127.0.0.1:7001\r\ncontent-length: 0\r\n\r\n",
+    ),
+    (
+        RingCommand::Crash(CRASH),
+        "POST /nodes/7/crash HTTP/1.1\r\nhost: 127.0.0.1:7001\r\ncontent-length: 0\r\n\r\n",
+    ),
+    (
+        RingCommand::Crash(FORCED_CRASH),
+        "POST /nodes/7/crash HTTP/1.1\r\nhost: 127.0.0.1:7001\r\ncontent-length: 14\r\n\r\n{\"force\":true}",
+    ),
+    (
+        RingCommand::Stop,
+        "POST /stop HTTP/1.1\r\nhost: 127.0.0.1:7001\r\ncontent-length: 0\r\n\r\n",
+    ),
+];
+
+/// What is sent for a command.
+fn bytes_of(alloc: Global, command: &RingCommand) -> Result<Vec<u8>, AllocError> {
+    let mut client = Client::new(Limits::default());
+    request_bytes(alloc, &mut client, 7001, command)
+}
+
+#[test]
+fn each_command_sends_its_request(rt: HostRuntime) -> Result<(), Fail> {
+    for (command, text) in SENT {
+        let sent = bytes_of(rt.alloc(), &command)?;
+        assert!(rt; sent.as_slice() == text.as_bytes(), "{text}");
+        drop(sent);
+    }
+    Ok(())
+}
+
+#[test]
+fn paths_and_bodies(rt: HostRuntime) -> Result<(), Fail> {
+    let command = RingCommand::Crash(FORCED_CRASH);
+    let path = request_path(rt.alloc(), &command)?;
+    let body = request_body(rt.alloc(), &command)?;
+    assert!(rt; path.as_str() == "/nodes/7/crash" && body.as_str() == "{\"force\":true}");
+    assert!(rt; command.method() == "POST" && command.good_status() == 200);
+    Ok(())
+}
+
+/// The request goes out whole before the answer is read; a stream that takes nothing is lost.
+#[test]
+fn a_request_goes_over_the_stream(rt: HostRuntime) -> Result<(), Fail> {
+    let mut stream = MadeStream::new(rt.alloc(), b"", 100);
+    let answer = exchange(rt.alloc(), &mut stream, 7001, &RingCommand::Leave(12));
+    assert!(rt; matches!(&answer, Err(RingFault::Lost)));
+    drop(answer);
+    assert!(rt; stream.sent.as_slice() == SENT[3].1.as_bytes());
+    let mut deaf = MadeStream::deaf(rt.alloc());
+    let answer = exchange(rt.alloc(), &mut deaf, 7001, &RingCommand::Show);
+    assert!(rt; matches!(&answer, Err(RingFault::Lost)));
+    drop(answer);
+    Ok(())
+}

@@ -1,0 +1,61 @@
+//! A ring as a table, and shares of the circle.
+
+use super::sights::{QUARTER, ring, span};
+use chord_app_operator::SegmentSight;
+use chord_app_ring::{RingTable, Stretch, hundredths};
+use std::test::Fail;
+
+#[test]
+fn the_table_of_a_ring(rt: HostRuntime) -> Result<(), Fail> {
+    let sight = ring(rt.alloc())?;
+    let text = RingTable(&sight).to_string(rt.alloc())?;
+    let wanted = [
+        "up 12 s, 4 of 16 slots used, 4 successors, 5 connections, 3 of 64 callers open\n",
+        "node  identifier                        phase      share      pairs  segments  outbox\n",
+        "   0  40000000000000000000000000000000  staying   75.00%       1234         1  64 to 1, 64 to 2\n",
+        "   1  80000000000000000000000000000000  leaving   24.99%          0         2  -\n",
+        "   2  ffffffffffffffffffffffffffffffff  crashed    0.00%          0         0  -\n",
+        "   3  00000000000000000000000000000000  gone       0.00%          0         0  -\n",
+    ];
+    let mut rest = text.as_str();
+    for line in wanted {
+        let Some(behind) = rest.strip_prefix(line) else {
+            return Err(Fail::from("a line differs"));
+        };
+        rest = behind;
+    }
+    assert!(rt; rest.is_empty());
+    Ok(())
+}
+
+/// Spans, and the hundredths of a percent that they have together.
+#[test]
+fn shares_of_the_circle(rt: HostRuntime) -> Result<(), Fail> {
+    let whole = SegmentSight {
+        span: span(5, 5),
+        kept: 0,
+    };
+    let quarter = SegmentSight {
+        span: span(3 * QUARTER + 7, 7),
+        kept: 1,
+    };
+    let one = SegmentSight {
+        span: span(u128::MAX, 0),
+        kept: 2,
+    };
+    let without_one = SegmentSight {
+        span: span(0, u128::MAX),
+        kept: 3,
+    };
+    let none: [SegmentSight; 0] = [];
+    assert!(rt; hundredths(&none) == 0);
+    assert!(rt; hundredths(&[whole]) == 10_000);
+    assert!(rt; hundredths(&[quarter]) == 2_500);
+    assert!(rt; hundredths(&[one]) == 0);
+    assert!(rt; hundredths(&[without_one]) == 9_999);
+    assert!(rt; hundredths(&[without_one, one]) == 10_000);
+    assert!(rt; hundredths(&[whole, quarter, whole]) == 22_500);
+    let stretch = Stretch::NONE.with(span(1, 3)).with(span(3, 4));
+    assert!(rt; stretch == Stretch { turns: 0, rest: 3 } && stretch.hundredths() == 0);
+    Ok(())
+}
