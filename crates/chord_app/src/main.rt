@@ -2,16 +2,18 @@
 //!
 //! `world` is the console, which does one step of a world a line ([`world`]); `run` starts a ring
 //! that does what a plan says ([`run`]); `serve` starts a ring that answers clients ([`serve`],
-//! [`stay`]); `ask` and `load` are such clients ([`start_ask`], [`start_load`]).
+//! [`stay`]); `ask` and `load` are such clients ([`start_ask`], [`start_load`]), and `ring` is its
+//! operator ([`start_ring`]).
 //! `chord_app_options` says what a command line has, and [`Finish`] how the program ends.
 #![tactic(auto)]
 
 use chord_app_options::{
-    commands, plan_path_of, print_fault, serve_line_of, start_ask, start_load, stores_of,
+    commands, plan_path_of, print_fault, serve_line_of, start_ask, start_load, start_ring,
+    stores_of,
 };
-use chord_app_plan::{Plan, PlanFault, StoreKind, read_plan};
-use chord_app_serve::{run, serve, stay};
-use chord_app_sockets::{Doors, Host, OperatorPort, ServerSetup, listen};
+use chord_app_plan::{Plan, PlanFault, Settings, StoreKind, read_plan};
+use chord_app_serve::{ServerStores, run, serve, stay};
+use chord_app_sockets::{ClientSeconds, Doors, Host, OperatorPort, ServerSetup, listen};
 use chord_app_text::Finish;
 use chord_app_world::{empty_ones, world};
 use chord_store::{CappedStore, EntryStore, ListStore, NotedStore, TreeStore};
@@ -69,8 +71,8 @@ struct ServeOptions<'a> {
     redis: Option<TcpListener>,
     /// How many connections it serves; with none it serves until standard input ends.
     connections: Option<usize>,
-    /// For how many seconds a client may be idle if the server stays.
-    idle: u64,
+    /// For how many seconds it waits for clients if the server stays.
+    seconds: ClientSeconds,
     /// Where it serves operators, if it does.
     operator: Option<OperatorDoor>,
     notes: Option<&'a HostRuntime>,
@@ -134,18 +136,31 @@ fn port_of(door: &Option<OperatorDoor>) -> Option<OperatorPort<'_>> {
     }
 }
 
-/// Does the command `run`, or `serve` if there is a listener, with a store for each node of the
-/// plan.
-fn start_ring<T: Host>(
+/// How many stores a command wants: one for each node of the plan, and, where an operator may make
+/// nodes join, a spare one for each slot that is left.
+fn store_count(plan: &Plan, settings: Settings, options: &Option<ServeOptions<'_>>) -> usize {
+    let nodes = plan.nodes.len();
+    match options {
+        Some(options) if options.operator.is_some() => settings.slots.max(nodes),
+        _ => nodes,
+    }
+}
+
+/// Does the command `run`, or `serve` if there are options for it. All stores are made here, so that
+/// what is proved of them does not rest on a function that hands them out.
+fn start_with_stores<T: Host>(
     rt: &HostRuntime,
     threads: &T,
     plan: &Plan,
+    settings: Settings,
     options: Option<ServeOptions<'_>>,
 ) -> Result<Finish, Finish> {
     let alloc = rt.alloc();
-    let mut stores: Vec<Box<dyn EntryStore + Send>> = Vec::new(alloc);
-    for node in plan.nodes.iter() {
-        let store: Box<dyn EntryStore + Send> = match node.store {
+    let mut nodes: Vec<Box<dyn EntryStore + Send>> = Vec::new(alloc);
+    let mut spares: Vec<Box<dyn EntryStore + Send>> = Vec::new(alloc);
+    for number in 0..store_count(plan, settings, &options) {
+        let node = plan.nodes.get(number);
+        let store: Box<dyn EntryStore + Send> = match node.map_or(plan.spare, |node| node.store) {
             StoreKind::Tree => Box::new(alloc, TreeStore::new(alloc))?,
             StoreKind::List => Box::new(alloc, ListStore::new(alloc))?,
             StoreKind::Noted => {
@@ -154,41 +169,56 @@ fn start_ring<T: Host>(
             }
             StoreKind::Capped(limit) => Box::new(alloc, CappedStore::new(alloc, limit))?,
         };
-        stores.push(store)?;
+        if node.is_some() {
+            nodes.push(store)?;
+        } else {
+            spares.push(store)?;
+        }
     }
     match options {
-        Some(options) => serve_over(rt, threads, plan, &options, stores),
-        None => Ok(run(threads, alloc, plan, stores, rt.stdout())),
+        Some(options) => {
+            let stores = ServerStores { nodes, spares };
+            serve_over(rt, threads, plan, settings, &options, stores)
+        }
+        None => {
+            drop(spares);
+            Ok(run(threads, alloc, plan, nodes, rt.stdout()))
+        }
     }
 }
 
-/// Serves clients over these stores, one for each node of the plan.
+/// Serves clients over these stores.
 fn serve_over<'a, T: Host>(
     rt: &HostRuntime,
     threads: &T,
     plan: &'a Plan,
+    settings: Settings,
     options: &'a ServeOptions<'_>,
-    stores: Vec<Box<dyn EntryStore + Send>>,
+    stores: ServerStores<Box<dyn EntryStore + Send>>,
 ) -> Result<Finish, Finish> {
     let Some(doors) = options.doors() else {
         drop(stores);
         return Err(Finish::BadCommandLine);
     };
-    let operator = port_of(&options.operator);
     let setup = ServerSetup {
         alloc: rt.alloc(),
         plan,
+        settings,
         doors,
-        operator,
+        operator: port_of(&options.operator),
         notes: &options.notes,
     };
     match options.connections {
-        Some(count) => serve(threads, &setup, stores, count, rt.stdout())?,
+        Some(count) => {
+            let ServerStores { nodes, spares } = stores;
+            drop(spares);
+            serve(threads, &setup, nodes, count, rt.stdout())?
+        }
         None => stay(
             threads,
             &setup,
             stores,
-            options.idle,
+            options.seconds,
             rt.stdin(),
             rt.stdout(),
         )?,
@@ -214,17 +244,21 @@ fn start_serve<T: Host>(
         frames,
         redis,
         connections: line.connections,
-        idle: line.idle,
+        seconds: ClientSeconds {
+            idle: line.idle,
+            keep: line.keep,
+        },
         operator,
         notes: if line.notes { Some(rt) } else { None },
     };
-    start_ring(rt, threads, &plan, Some(options))
+    let settings = plan.settings_with(line.slots, line.callers);
+    start_with_stores(rt, threads, &plan, settings, Some(options))
 }
 
 /// Does the command `run`.
 fn start_run<T: Host>(rt: &HostRuntime, threads: &T, found: &ArgMatches) -> Result<Finish, Finish> {
     let plan = plan_of(rt, plan_path_of(found))?;
-    start_ring(rt, threads, &plan, None)
+    start_with_stores(rt, threads, &plan, plan.settings, None)
 }
 
 /// How a command ended, done or with a fault.
@@ -267,6 +301,7 @@ fn do_command<T: Host>(
         Some((name, found)) if name == "serve" => start_serve(rt, threads, found),
         Some((name, found)) if name == "ask" => start_ask(rt, threads, found),
         Some((name, found)) if name == "load" => start_load(rt, threads, found),
+        Some((name, found)) if name == "ring" => start_ring(rt, threads, found),
         Some((_, found)) => start_world(rt, found),
         None => Err(Finish::BadCommandLine),
     }

@@ -15,17 +15,17 @@ may_change (Insert key value) = true
 may_change (Retrieve key) = false
 may_change (Remove key value) = true
 
--- An insert or a remove with no outcome was never sent, or has its number on the connection that is
+-- An insert or a remove with no outcome was never sent, or has its number in the session that is
 -- open now.
 abbrev pub IsSentOnce : Request → Option ℕ → ℕ → Option AskOutcome → Type 0
 IsSentOnce request number times outcome = may_change request ≡ true → outcome ≡ None → number ≡ None → times ≡ 0
 
--- Once its connection ended, a request with no answer is given up if it has no tries left, or if it
--- was sent and may have changed something.
+-- Once its session ended, a request with no answer is given up if it has no tries left, or if it was
+-- sent and may have changed something.
 abbrev pub is_lost : Request → ℕ → ℕ → Bool
 is_lost request times tries = nat_le tries times || (not (times == 0) && may_change request)
 
--- the outcome once the connection ended
+-- the outcome once the session ended
 abbrev pub outcome_after_loss : Request → ℕ → ℕ → Option AskOutcome → Option AskOutcome
 outcome_after_loss request times tries None = if is_lost request times tries then Some Lost else None
 outcome_after_loss request times tries (Some outcome) = Some outcome
@@ -43,7 +43,7 @@ may_pass (answer.Fault number code.Full) = true
 may_pass (answer.Fault number code.NoAnswer) = true
 may_pass answer = false
 
--- the outcome once the server had no caller for the connection
+-- the outcome once the server had no caller for it
 abbrev pub outcome_refused : Option AskOutcome → Option AskOutcome
 outcome_refused None = Some outcome.CallersSpent
 outcome_refused (Some outcome) = Some outcome

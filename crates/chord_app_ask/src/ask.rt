@@ -4,5 +4,7 @@ pub mod group;
 pub mod input;
 pub mod line;
 pub mod link;
+pub mod links;
 pub mod outcome;
 pub mod question;
+pub mod tokens;

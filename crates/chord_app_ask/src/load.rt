@@ -1,6 +1,7 @@
 //! The command `load`: many requests over several connections, and how long they took.
 
 pub mod bounds;
+pub mod cutting;
 pub mod histogram;
 pub mod report;
 pub mod running;

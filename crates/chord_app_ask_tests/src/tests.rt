@@ -3,3 +3,5 @@
 
 mod asks;
 mod loads;
+mod sessions;
+mod small_server;

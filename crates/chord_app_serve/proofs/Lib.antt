@@ -1,3 +1,5 @@
 pub mod Asked
-pub mod Together
+pub mod Gaps
 pub mod Idle
+pub mod Pending
+pub mod Together

@@ -1,12 +1,12 @@
 -- The replies that the callers of a plan's run were answered are those that they took.
-use Rattle.std.proofs.Common.{◌≡◌, ◌≢◌, ℕ, zero, suc, ◌+◌, ◌<◌, Bool, true, false, eqb, List, Some, Ok, Err, Result, [], ◌∷◌, ◌++◌, map, take, get_or, length, append-nil, refl, sym, ap, ap₂, ◌∙◌, subst, arith}
+use Rattle.std.proofs.Common.{◌≡◌, ◌≢◌, ℕ, zero, suc, ◌+◌, ◌<◌, Bool, true, false, eqb, List, Some, Ok, Err, [], ◌∷◌, ◌++◌, map, take, get_or, length, append-nil, refl, sym, ap, ap₂, ◌∙◌, subst, arith}
 use Rattle.std.proofs.lemmas.Bool.{cond-true, cond-false, ne_eqb}
 use Rattle.std.proofs.lemmas.Grind.{flat_map-append}
 use Rattle.std.proofs.lemmas.List.{map-append}
 use Rattle.std.proofs.lemmas.Option.{same_Some}
 use Rattle.chord_app_plan.specs.declared.ask.PlanAsk.{PlanAsk}
 use Rattle.chord_app_serve.proofs.Asked.{fresh_kind}
-use Rattle.chord_app_serve.specs.Together.{taken_requests, taken_replies, AskedIs, NextIs, replies_of, AreAnswers, requests_of, replies_taken, all_of, AreOf, StandTogether}
+use Rattle.chord_app_serve.specs.Together.{taken_requests, taken_replies, AskedIs, NextIs, replies_of, AreAnswers, requests_of, replies_taken, AreOf, AreGroups}
 use Rattle.chord_app_serve.specs.declared.plan_run.asking.AskResult.{AskResult}
 use Rattle.chord_app_serve.specs.declared.plan_run.asking.AskResult.TheVariants as ended
 use Rattle.chord_caller.proofs.Places.{got_last}
@@ -20,7 +20,6 @@ use Rattle.chord_map.proofs.Lists.{by_test}
 use Rattle.chord_map.specs.declared.done.Done.{Done}
 use Rattle.chord_map.specs.declared.reply.Reply.{Reply}
 use Rattle.chord_map.specs.declared.request.Request.{Request}
-use Rattle.chord_table.specs.Shown.{WitnessShown}
 use Rattle.chord_table.specs.Views.{CallerSight}
 
 -- ---- one ask
@@ -150,10 +149,6 @@ requests_next number (suc i) (ask ∷ asks) d within =
 pub of_one : (caller : Caller) (results : List AskResult) → AreAnswers caller results → AreOf (caller ∷ []) results
 of_one caller results answers = answers ∙ sym (append-nil (taken_replies caller))
 
--- the groups whose callers are these, with the results of each
-abbrev pub AreGroups : List Caller → List (List AskResult) → Type 0
-AreGroups callers all = (groups : List (List Caller)) × (all_of groups ≡ callers) × (map replies_of all ≡ map replies_taken groups)
-
 -- one group more
 pub groups_next : (callers more : List Caller) (all : List (List AskResult)) (results : List AskResult) → AreGroups callers all → AreOf more results → AreGroups (callers ++ more) (all ++ results ∷ [])
 groups_next callers more all results (groups, joined, answers) of = (
@@ -161,7 +156,3 @@ groups_next callers more all results (groups, joined, answers) of = (
   flat_map-append (λ (group : List Caller). group) groups (more ∷ []) ∙ ap₂ (λ (xs ys : List Caller). xs ++ ys) joined (append-nil more),
   map-append replies_of all (results ∷ []) ∙ ap₂ (λ (xs ys : List (List Reply)). xs ++ ys) answers (ap (λ replies. replies ∷ []) of) ∙ sym (map-append replies_taken groups (more ∷ [])),
 )
-
--- what one look of all callers tells
-pub stand_together : (callers : List Caller) (all : List (List AskResult)) → AreGroups callers all → WitnessShown callers → StandTogether all
-stand_together callers all (groups, joined, answers) shown = record { groups = groups; answers = answers; shown = subst WitnessShown (sym joined) shown }

@@ -1,3 +1,5 @@
 pub mod Asked
+pub mod Gaps
+pub mod Pace
 pub mod Shown
 pub mod Together

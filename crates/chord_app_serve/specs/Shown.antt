@@ -1,7 +1,6 @@
 -- How a node of a ring is shown to its operator, and what the operator is told. Source: our own.
-use Rattle.std.specs.Prelude.{◌≡◌, ℕ, Bool, true, false, map, Option, Some, None, All, Ok, Err}
+use Rattle.std.specs.Prelude.{◌≡◌, ℕ, ◌≤◌, ◌<◌, ◌==◌, Bool, true, false, map, Option, Some, None, All, Ok, Err}
 use Rattle.chord_app_operator.specs.Questions.{Question, Sight, Crash, Join, Answer, Seen, Joined, HasCrashed}
-use Rattle.chord_app_operator.specs.declared.operator.refusals.JoinRefusal.TheVariants as join
 use Rattle.chord_app_operator.specs.declared.operator.refusals.CrashRefusal.{CrashRefusal}
 use Rattle.chord_app_operator.specs.declared.operator.refusals.CrashRefusal.TheVariants as crash
 use Rattle.chord_app_operator.specs.declared.request.store_kind.StoreKind.{StoreKind}
@@ -13,8 +12,8 @@ use Rattle.chord_app_operator.specs.declared.sight.phase.Phase.{Phase}
 use Rattle.chord_app_operator.specs.declared.sight.phase.Phase.TheVariants as shown
 use Rattle.chord_app_operator.specs.declared.sight.counts.AskCounts.{AskCounts}
 use Rattle.chord_app_operator.specs.declared.sight.counts.HandoverCounts.{HandoverCounts}
-use Rattle.chord_app_plan.specs.declared.node.StoreKind.{StoreKind as PlanStore}
-use Rattle.chord_app_plan.specs.declared.node.StoreKind.TheVariants as plan
+use Rattle.chord_app_plan.specs.declared.store_kind.StoreKind.{StoreKind as PlanStore}
+use Rattle.chord_app_plan.specs.declared.store_kind.StoreKind.TheVariants as plan
 use Rattle.chord_live_ring.specs.declared.node_counts.AskCounts.{AskCounts as RingAsks}
 use Rattle.chord_live_ring.specs.declared.node_counts.HandoverCounts.{HandoverCounts as RingHandovers}
 use Rattle.chord_live_ring.specs.declared.sight.NodeSight.{NodeSight as RingNode}
@@ -31,6 +30,15 @@ store_shown plan.Tree = kind.Tree
 store_shown plan.List = kind.List
 store_shown plan.Noted = kind.List
 store_shown (plan.Capped limit) = kind.Capped
+
+-- a spare store of this kind is one of the kind, and of the limit if there is one, that is asked for
+abbrev pub fits_spare : StoreKind → Option ℕ → PlanStore → Bool
+fits_spare kind.Tree limit plan.Tree = true
+fits_spare kind.List limit plan.List = true
+fits_spare kind.List limit plan.Noted = true
+fits_spare kind.Capped None (plan.Capped most) = true
+fits_spare kind.Capped (Some wanted) (plan.Capped most) = wanted == most
+fits_spare kind limit other = false
 
 -- the phase of a node that crashed or not
 abbrev pub phase_shown : Bool → RingPhase → Phase
@@ -82,10 +90,10 @@ crash_refusal true true false = None
 crash_refusal true false false = Some crash.Unsafe
 
 -- What the operator of a ring with these settings may be told. The ring is shown with nodes of
--- reachable worlds. No node joins: there is no spare store. Unsafe is not told where a crash is
--- forced.
+-- reachable worlds. A node that joins has a number of the ring that is not 0. Unsafe is not told
+-- where a crash is forced.
 abbrev pub Tells : Settings → Question → Answer → Type 0
 Tells settings Sight (Seen (Ok sight)) = (sight.successors ≡ settings.successors) × (sight.slots ≡ settings.slots) × (sight.callers.all ≡ settings.callers) × All IsShownNode sight.nodes.items
-Tells settings (Join request) (Joined result) = result ≡ Err join.NoStore
+Tells settings (Join request) (Joined (Ok number)) = (1 ≤ number) × (number < settings.slots)
 Tells settings (Crash request) (HasCrashed (Err crash.Unsafe)) = request.is_forced ≡ false
 Tells settings question answer = Unit {0}

@@ -1,5 +1,5 @@
 -- What the callers of a plan's run are answered.
-use Rattle.std.specs.Prelude.{◌≡◌, ℕ, ◌==◌, Bool, true, false, if◌then◌else◌, List, [], ◌∷◌, ◌++◌, map, flat_map}
+use Rattle.std.specs.Prelude.{◌≡◌, ℕ, ◌==◌, Bool, true, false, if◌then◌else◌, List, [], ◌∷◌, ◌++◌, map, flat_map, Option, Some, None}
 use Rattle.chord_app_plan.specs.declared.ask.PlanAsk.{PlanAsk}
 use Rattle.chord_app_serve.specs.declared.plan_run.asking.AskResult.{AskResult}
 use Rattle.chord_app_serve.specs.declared.plan_run.asking.AskResult.TheVariants as ended
@@ -7,7 +7,8 @@ use Rattle.chord_caller.specs.Caller.{Caller}
 use Rattle.chord_map.specs.declared.done.Done.{Done}
 use Rattle.chord_map.specs.declared.reply.Reply.{Reply}
 use Rattle.chord_map.specs.declared.request.Request.{Request}
-use Rattle.chord_table.specs.Shown.{WitnessShown}
+use Rattle.chord_table.specs.Shown.{WholeShown}
+use Rattle.chord_table.specs.Views.{Assembled, CallerSight, callers_among}
 
 -- the requests of the calls that a caller took, in order, and their replies
 abbrev pub taken_requests : Caller → List Request
@@ -59,9 +60,23 @@ all_of groups = flat_map (λ (group : List Caller). group) groups
 abbrev pub AreOf : List Caller → List AskResult → Type 0
 AreOf callers results = replies_of results ≡ replies_taken callers
 
--- One world has the callers whose answers these are. Each list of results has its callers: one, or
--- none if none could be opened.
+-- the caller that a seat shows
+abbrev pub caller_in : CallerSight → Caller
+caller_in sight = sight.caller
+
+-- the caller that this is, if there is one
+abbrev pub callers_in : Option CallerSight → List Caller
+callers_in None = []
+callers_in (Some sight) = sight.caller ∷ []
+
+-- The callers in groups, one for each list of results: one caller, or none if none could be opened.
+-- The replies among the results are those that the callers of the group took.
+abbrev pub AreGroups : List Caller → List (List AskResult) → Type 0
+AreGroups callers all = (groups : List (List Caller)) × (all_of groups ≡ callers) × (map replies_of all ≡ map replies_taken groups)
+
+-- The nodes of the run and the callers whose answers these are, and no others, are a reachable
+-- world.
 pub record StandTogether (all : List (List AskResult)) : Type 0 where
-  pub groups : List (List Caller)
-  pub answers : map replies_of all ≡ map replies_taken groups
-  pub shown : WitnessShown (all_of groups)
+  pub assembled : Assembled
+  pub answered : AreGroups (callers_among assembled.taken) all
+  pub shown : WholeShown assembled

@@ -2,12 +2,16 @@
 //! command `serve`, whose clients ask over loopback.
 //!
 //! [`run`] and [`serve`] end by themselves; [`stay`] serves until its input ends. Each takes a
-//! store for each node.
+//! store for each node of the plan, and `stay` spare ones for nodes that join while it serves.
 #![tactic(auto)]
 
+mod gap;
 mod nodes;
+mod pace;
 mod plan_run;
 mod serving;
 
+pub use gap::{Gap, free_id};
+pub use pace::Pace;
 pub use plan_run::run;
-pub use serving::commands::{serve, stay};
+pub use serving::commands::{ServerStores, serve, stay};

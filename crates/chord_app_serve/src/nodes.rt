@@ -1,15 +1,15 @@
 //! The nodes of a plan in a running ring.
 
+use crate::pace::Pace;
 use chord_app_plan::PlanNode;
 use chord_app_text::{Fault, Finish};
-use chord_live_ring::{CreateFault, JoinFault, NoProbe, Ring, TickFault};
+use chord_live_ring::{CreateFault, JoinFault, NoProbe, Ring, Round, TickFault};
 use chord_model::Phase;
 use chord_store::EntryStore;
 use chord_table::Naming;
 use std::sync::Wait;
-use std::thread;
 use std::thread::{Scope, Threads};
-use std::time::{Clock, Duration};
+use std::time::Clock;
 
 /// How many rounds of upkeep follow each node that joins.
 const ROUNDS: u64 = 8;
@@ -40,37 +40,88 @@ fn enter<J: Naming, S: EntryStore>(
     }
 }
 
-/// Retires a node that is leaving and holds nothing any more, if the ring stands without it.
-fn retire_if_empty<J: Naming, S: EntryStore>(rt: &impl Wait, ring: &Ring<J, S>, number: u64) {
-    if ring.phase_of(rt, number) == Some(Phase::Leaving) {
-        let _ = ring.retire(rt, number).is_ok();
-    }
-}
-
-/// One round of upkeep of nodes 0 to `nodes` - 1. Out of memory leaves the rest for a later round.
-/// Says whether the ring still runs.
-fn tick_round<J: Naming, S: EntryStore>(rt: &impl Wait, ring: &Ring<J, S>, nodes: u64) -> bool {
-    for number in 0..nodes {
-        if ring.tick(rt, number) == Err(TickFault::Stopped) {
-            return false;
-        }
-        retire_if_empty(rt, ring, number);
-    }
-    true
-}
-
-/// Ticks all nodes in rounds, with a pause of a millisecond after each, until the ring is stopped.
-pub fn tick_in_turn<J: Naming, S: EntryStore, R: Wait + Clock>(
-    rt: &R,
+/// Retires a node that is leaving and holds nothing any more, if the ring stands without it. The
+/// round is busy if it retired.
+fn retire_if_empty<J: Naming, S: EntryStore>(
+    rt: &impl Wait,
     ring: &Ring<J, S>,
-    nodes: u64,
-) {
-    for _ in rt.forever() {
-        if !tick_round(rt, ring, nodes) {
-            return;
-        }
-        thread::sleep(rt, Duration::from_millis(1));
+    number: u64,
+) -> Round {
+    if ring.phase_of(rt, number) == Some(Phase::Leaving) && ring.retire(rt, number).is_ok() {
+        Round::Busy
+    } else {
+        Round::Quiet
     }
+}
+
+/// One round of upkeep of all nodes that there are. Out of memory leaves the rest of a node's round
+/// for the next one. None if the ring was stopped.
+fn tick_round<J: Naming, S: EntryStore>(rt: &impl Wait, ring: &Ring<J, S>) -> Option<Round> {
+    let mut all = Round::Quiet;
+    for number in 0..ring.node_count() {
+        let round = match ring.tick(rt, number) {
+            Ok(round) => round,
+            Err(TickFault::Stopped) => return None,
+            Err(_) => Round::Busy,
+        };
+        all = all.with(round).with(retire_if_empty(rt, ring, number));
+    }
+    Some(all)
+}
+
+/// Starts the workers of the nodes `first` to `nodes` - 1. A node leaves if there is no memory for
+/// its worker.
+fn start_workers<
+    's,
+    E: 's,
+    J: Naming + Send + Sync + 's,
+    S: EntryStore + Send + 's,
+    R: Threads + Wait + Clock + Sync + 's,
+>(rt: &'s R, ring: &'s Ring<J, S>, workers: &'s Scope<'s, E>, first: u64, nodes: u64) {
+    for number in first..nodes {
+        if !start_worker(rt, ring, workers, number) {
+            let _ = ring.leave(rt, number).is_ok();
+        }
+    }
+}
+
+/// Ticks all nodes in rounds until the ring is stopped, and starts a worker for each that joins the
+/// first ones. It rests between rounds, the longer the quieter they are, until a node comes, leaves
+/// or crashes.
+pub fn tick_in_turn<
+    's,
+    E: 's,
+    J: Naming + Send + Sync + 's,
+    S: EntryStore + Send + 's,
+    R: Threads + Wait + Clock + Sync + 's,
+>(rt: &'s R, ring: &'s Ring<J, S>, workers: &'s Scope<'s, E>, first_nodes: u64) {
+    let mut pace = Pace::new();
+    let mut working = first_nodes;
+    for _ in rt.forever() {
+        let nodes = ring.node_count();
+        start_workers(rt, ring, workers, working, nodes);
+        working = nodes;
+        let Some(round) = tick_round(rt, ring) else {
+            return;
+        };
+        pace = pace.after(round);
+        if ring.rest(rt, pace.rest()) {
+            pace = Pace::new();
+        }
+    }
+}
+
+/// Starts the worker of a node. Says false if there was no memory for that.
+pub fn start_worker<
+    's,
+    E: 's,
+    J: Naming + Send + Sync + 's,
+    S: EntryStore + Send + 's,
+    R: Threads + Wait + Clock + Sync + 's,
+>(rt: &'s R, ring: &'s Ring<J, S>, workers: &'s Scope<'s, E>, number: u64) -> bool {
+    workers
+        .spawn(move || ring.work(rt, number, &NoProbe).is_ok())
+        .is_ok()
 }
 
 /// Adds a node, starts its worker, and does eight rounds of upkeep.
@@ -89,15 +140,11 @@ fn start_node<
     store: S,
 ) -> Result<(), Finish> {
     enter(rt, ring, number, node, store)?;
-    let number = number as u64;
-    if workers
-        .spawn(move || ring.work(rt, number, &NoProbe).is_ok())
-        .is_err()
-    {
+    if !start_worker(rt, ring, workers, number as u64) {
         return Err(Finish::OutOfMemory);
     }
     for _ in 0..ROUNDS {
-        tick_round(rt, ring, number.saturating_add(1));
+        tick_round(rt, ring);
     }
     Ok(())
 }

@@ -1,16 +1,19 @@
 //! The command `run`: a ring of a plan's nodes, and what its callers ask.
-ghost use Rattle.std.specs.Prelude.{◌≡◌, IfOk};
-ghost use Rattle.chord_app_serve.specs.Together.{StandTogether};
+ghost use Rattle.std.specs.Prelude.{◌≡◌, ◌++◌, map, IfOk, OnOk};
+ghost use Rattle.chord_app_serve.specs.Together.{AreGroups, StandTogether, caller_in, callers_in};
 
 mod asking;
 
 use crate::nodes::{start_nodes, tick_in_turn};
-use crate::plan_run::asking::{Answers, AskResult, AskResults, CallerAnswers, ask_in_turn};
+use crate::plan_run::asking::{
+    Answers, AskResult, AskResults, CallerAnswers, FreshClient, ask_in_turn,
+};
 use chord_app_plan::Plan;
 use chord_app_text::{Finish, ReplyText};
-use chord_live_ring::{NewFault, Ring, RingParts};
+use chord_live_ring::{NewFault, ReturnedCaller, Ring, RingParts};
+use chord_live_types::Settings;
 use chord_store::EntryStore;
-use chord_table::{Naming, Witness};
+use chord_table::Naming;
 use std::alloc::Global;
 use std::io::{self, BufWriter, Write};
 use std::marker::Brand;
@@ -19,7 +22,7 @@ use std::thread;
 use std::thread::{JoinHandle, Scope, Threads};
 use std::time::Clock;
 
-/// Each caller asks on a thread of its own.
+/// Each caller asks on a thread of its own. They are opened in the order of their numbers.
 fn start_callers<
     's,
     E: 's,
@@ -36,7 +39,8 @@ fn start_callers<
     let asks = plan.asks.as_slice();
     let mut callers = Vec::new(alloc);
     for number in 0..plan.settings.callers {
-        match scope.spawn(move || ask_in_turn(rt, alloc, ring, number, asks)) {
+        let client = FreshClient::open(rt, ring)?;
+        match scope.spawn(move || ask_in_turn(rt, alloc, client, number, asks)) {
             Ok(caller) => callers.push(caller)?,
             Err(_) => return Err(Finish::OutOfMemory),
         }
@@ -44,25 +48,55 @@ fn start_callers<
     Ok(callers)
 }
 
-/// How the asks of all callers ended, once they are done. All that they were answered stands in one
-/// history.
-fn join_callers<J: Naming, S: EntryStore>(
+/// How the asks of all callers ended, and these callers.
+#[derive(Drop)]
+struct RunAnswers<J: Naming> {
+    all: Vec<AskResults>,
+    callers: Vec<ReturnedCaller<J>>,
+}
+
+impl<J: Naming> RunAnswers<J> {
+    /// Adds a caller, if it is one.
+    fn add_caller(&mut self, caller: Option<ReturnedCaller<J>>) -> Result<(), Finish>
+        ensures callers { OnOk result (map caller_in self.new.callers.items ≡ map caller_in self.old.callers.items ++ callers_in caller) }
+        ensures all { self.new.all.items ≡ self.old.all.items }
+    {
+        match caller {
+            Some(caller) => {
+                self.callers.push(caller)?;
+                Ok(())
+            }
+            None => Ok(()),
+        }
+    }
+
+    /// Adds what one more caller was answered.
+    fn add(&mut self, answers: CallerAnswers<J>) -> Result<(), Finish>
+        ensures { OnOk result (AreGroups (map caller_in self.old.callers.items) self.old.all.items → AreGroups (map caller_in self.new.callers.items) self.new.all.items) }
+    {
+        let CallerAnswers { results, caller } = answers;
+        self.add_caller(caller)?;
+        self.all.push(results)?;
+        Ok(())
+    }
+}
+
+/// How the asks of all callers ended, once they are done.
+fn join_callers<J: Naming>(
     rt: &(impl Threads + Wait),
     alloc: Global,
-    ring: &Ring<J, S>,
-    callers: Vec<JoinHandle<Answers<J>>>,
-) -> Result<Vec<AskResults>, Finish>
-    ensures { IfOk result (λ all. StandTogether all.items) }
+    threads: Vec<JoinHandle<Answers<J>>>,
+) -> Result<RunAnswers<J>, Finish>
+    ensures { IfOk result (λ run. AreGroups (map caller_in run.callers.items) run.all.items) }
 {
-    let mut all = Vec::new(alloc);
-    let mut together = Witness::open(ring.table());
-    for caller in callers {
-        let CallerAnswers { results, witness } = caller.join(rt)?;
-        together.join(ring.table(), witness);
-        all.push(results)?;
+    let mut run = RunAnswers {
+        all: Vec::new(alloc),
+        callers: Vec::new(alloc),
+    };
+    for thread in threads {
+        run.add(thread.join(rt)?)?;
     }
-    together.look(ring.table());
-    Ok(all)
+    Ok(run)
 }
 
 /// All callers ask at once, while another thread ticks the nodes.
@@ -78,15 +112,18 @@ fn ask_at_once<
     ring: &'s Ring<J, S>,
     scope: &'s Scope<'s, E>,
     plan: &'s Plan,
-) -> Result<Vec<AskResults>, Finish>
-    ensures { IfOk result (λ all. StandTogether all.items) }
+) -> Result<RunAnswers<J>, Finish>
+    ensures { IfOk result (λ run. AreGroups (map caller_in run.callers.items) run.all.items) }
 {
     let nodes = plan.nodes.len() as u64;
-    if scope.spawn(move || tick_in_turn(rt, ring, nodes)).is_err() {
+    if scope
+        .spawn(move || tick_in_turn(rt, ring, scope, nodes))
+        .is_err()
+    {
         return Err(Finish::OutOfMemory);
     }
     let callers = start_callers(rt, alloc, ring, scope, plan)?;
-    join_callers(rt, alloc, ring, callers)
+    join_callers(rt, alloc, callers)
 }
 
 /// Writes how an ask ended.
@@ -125,8 +162,8 @@ fn run_ring<'x, J: Naming + Send + Sync, S: EntryStore + Send, R: Threads + Wait
     ring: &'x Ring<J, S>,
     plan: &'x Plan,
     stores: Vec<S>,
-) -> Result<Vec<AskResults>, Finish>
-    ensures { IfOk result (λ all. StandTogether all.items) }
+) -> Result<RunAnswers<J>, Finish>
+    ensures { IfOk result (λ run. AreGroups (map caller_in run.callers.items) run.all.items) }
 {
     thread::scope(thread::scope_env(), starter, |scope| {
         let all = match start_nodes(rt, ring, scope, plan.nodes.as_slice(), stores) {
@@ -136,6 +173,24 @@ fn run_ring<'x, J: Naming + Send + Sync, S: EntryStore + Send, R: Threads + Wait
         ring.stop();
         all
     })
+}
+
+/// Ends the ring. One look at all its nodes and at the callers proves that what they were answered
+/// stands in the one history of the whole. Only memory that ran out can keep a seat back.
+fn conclude<J: Naming, S: EntryStore>(
+    ring: Ring<J, S>,
+    run: RunAnswers<J>,
+) -> Result<Vec<AskResults>, Finish>
+    requires { AreGroups (map caller_in run.callers.items) run.all.items }
+    ensures { IfOk result (λ all. StandTogether all.items) }
+{
+    let RunAnswers { all, callers } = run;
+    let closed = ring.close_with(callers);
+    if closed.is_whole {
+        Ok(all)
+    } else {
+        Err(Finish::OutOfMemory)
+    }
 }
 
 /// Gives the ring its name, and runs it.
@@ -156,16 +211,20 @@ fn run_named<J: Naming + Send + Sync, S: EntryStore + Send, R: Threads + Wait + 
             return Err(Finish::OutOfMemory);
         }
     };
-    let all = run_ring(rt, rt, alloc, &ring, plan, stores);
-    ring.close();
-    all
+    match run_ring(rt, rt, alloc, &ring, plan, stores) {
+        Ok(run) => conclude(ring, run),
+        Err(finish) => {
+            ring.close();
+            Err(finish)
+        }
+    }
 }
 
-/// A ring of the plan's size that has no name yet.
-pub fn ring_parts_of(alloc: Global, plan: &Plan) -> Result<RingParts, Finish>
-    ensures { IfOk result (λ parts. parts.settings ≡ plan.now.settings) }
+/// A ring of this size that has no name yet.
+pub fn ring_parts_of(alloc: Global, settings: Settings) -> Result<RingParts, Finish>
+    ensures { IfOk result (λ parts. parts.settings ≡ settings) }
 {
-    match RingParts::new(alloc, plan.settings) {
+    match RingParts::new(alloc, settings) {
         Ok(parts) => Ok(parts),
         Err(NewFault::BadSettings) => Err(Finish::BadPlan),
         Err(NewFault::Memory) => Err(Finish::OutOfMemory),
@@ -192,7 +251,7 @@ fn run_and_write<S: EntryStore + Send, R: Threads + Wait + Clock + Sync, W: Writ
     stores: Vec<S>,
     writer: W,
 ) -> Result<(), Finish> {
-    let parts = ring_parts_of(alloc, plan)?;
+    let parts = ring_parts_of(alloc, plan.settings)?;
     let all = run_named::<Brand, S, R>(rt, alloc, plan, stores, parts)?;
     let written = write_buffered(alloc, all.as_slice(), writer);
     drop(all);

@@ -2,9 +2,15 @@
 #![tactic(auto)]
 
 #[cfg(test)]
+mod joins;
+#[cfg(test)]
+mod lasting;
+#[cfg(test)]
 mod operators;
 #[cfg(test)]
 mod redis;
+#[cfg(test)]
+mod redis_hostile;
 #[cfg(test)]
 mod stay_growths;
 #[cfg(test)]

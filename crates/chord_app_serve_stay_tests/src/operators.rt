@@ -1,7 +1,8 @@
 //! The operator of `serve --stay` over loopback.
 
+use crate::stays::WAITS;
 use chord_app_plan::Plan;
-use chord_app_serve::stay;
+use chord_app_serve::{ServerStores, stay};
 use chord_app_serve_testkit::{Act, Acts, Answer, Ask, bound, do_acts, plan_with, two_stores};
 use chord_app_sockets::{Doors, Host, OperatorPort, ServerSetup};
 use chord_app_text::Finish;
@@ -18,17 +19,17 @@ use std::time::{Clock, Duration};
 
 /// What an operator asks for, and how it is answered.
 #[derive(Clone, Copy)]
-struct Call {
-    line: &'static str,
-    fields: &'static str,
-    body: &'static str,
-    status: &'static str,
+pub struct Call {
+    pub line: &'static str,
+    pub fields: &'static str,
+    pub body: &'static str,
+    pub status: &'static str,
     /// What the answer has somewhere.
-    has: &'static str,
+    pub has: &'static str,
 }
 
 /// A call without a body and with no more fields than any has.
-const PLAIN: Call = Call {
+pub const PLAIN: Call = Call {
     line: "",
     fields: "",
     body: "",
@@ -96,7 +97,7 @@ fn is_answered_soon<R: Net + Clock>(
 }
 
 /// The first of these calls that is not answered as is wanted, even after some time.
-fn unanswered<R: Net + Clock>(
+pub fn unanswered<R: Net + Clock>(
     rt: &R,
     alloc: Global,
     address: SocketAddr,
@@ -157,7 +158,7 @@ const BEFORE: &[Call] = &[
     Call {
         line: "POST /nodes",
         status: "409 Conflict",
-        has: "{\"refused\":\"NoStore\"}",
+        has: "{\"refused\":\"NoSlot\"}",
         ..PLAIN
     },
     Call {
@@ -324,9 +325,9 @@ fn play_and_end<R: Net + Clock>(
 
 /// Where a server listens.
 #[derive(Drop)]
-struct Listeners {
-    clients: TcpListener,
-    operator: TcpListener,
+pub struct Listeners {
+    pub clients: TcpListener,
+    pub operator: TcpListener,
 }
 
 /// Serves until it is stopped, and gives what was written.
@@ -339,10 +340,11 @@ fn stayed<R: Host>(
     input: PipeReader,
 ) -> Result<Vec<u8>, Finish> {
     let mut written: Vec<u8> = Vec::new(alloc);
-    let stores = two_stores(alloc, 4)?;
+    let stores = ServerStores::without_spares(alloc, two_stores(alloc, 4)?);
     let setup = ServerSetup {
         alloc,
         plan,
+        settings: plan.settings,
         doors: Doors::Frames(&listeners.clients),
         operator: Some(OperatorPort {
             listener: &listeners.operator,
@@ -350,7 +352,7 @@ fn stayed<R: Host>(
         }),
         notes: &Discard,
     };
-    stay(rt, &setup, stores, 300, input, &mut written)?;
+    stay(rt, &setup, stores, WAITS, input, &mut written)?;
     Ok(written)
 }
 

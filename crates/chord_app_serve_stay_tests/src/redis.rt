@@ -1,7 +1,8 @@
 //! Redis's clients over loopback, alone and beside clients that speak in frames.
 
+use crate::stays::WAITS;
 use chord_app_plan::Plan;
-use chord_app_serve::{serve, stay};
+use chord_app_serve::{ServerStores, serve, stay};
 use chord_app_serve_testkit::{bound, expect, expect_end, leave, plan_with, two_stores};
 use chord_app_sockets::{Doors, Host, ServerSetup};
 use chord_app_text::Finish;
@@ -108,10 +109,11 @@ fn stayed<'a, R: Host>(
     input: PipeReader,
 ) -> Result<Vec<u8>, Finish> {
     let mut written: Vec<u8> = Vec::new(alloc);
-    let stores = two_stores(alloc, 4)?;
+    let stores = ServerStores::without_spares(alloc, two_stores(alloc, 4)?);
     let setup = ServerSetup {
         alloc,
         plan,
+        settings: plan.settings,
         doors: Doors::Both {
             frames: &listeners.frames,
             redis: &listeners.redis,
@@ -119,7 +121,7 @@ fn stayed<'a, R: Host>(
         operator: None,
         notes: &Discard,
     };
-    stay(rt, &setup, stores, 300, input, &mut written)?;
+    stay(rt, &setup, stores, WAITS, input, &mut written)?;
     Ok(written)
 }
 
@@ -193,6 +195,7 @@ fn served<'a, R: Host>(
     let setup = ServerSetup {
         alloc,
         plan,
+        settings: plan.settings,
         doors: Doors::Both {
             frames: &listeners.frames,
             redis: &listeners.redis,
@@ -279,6 +282,7 @@ fn served_alone<'a, R: Host>(
     let setup = ServerSetup {
         alloc,
         plan,
+        settings: plan.settings,
         doors: Doors::Redis(redis),
         operator: None,
         notes: &Discard,

@@ -1,11 +1,11 @@
 //! The command `serve --stay` over loopback.
 
 use chord_app_plan::Plan;
-use chord_app_serve::stay;
+use chord_app_serve::{ServerStores, stay};
 use chord_app_serve_testkit::{
     Act, Acts, Answer, Ask, bound, do_acts, is_served, leave, plan_with, two_stores,
 };
-use chord_app_sockets::{Doors, Host, ServerSetup};
+use chord_app_sockets::{ClientSeconds, Doors, Host, ServerSetup};
 use chord_app_text::{Fault, Finish};
 use chord_wire::FaultCode;
 use log::Log;
@@ -19,8 +19,11 @@ use std::thread;
 use std::thread::Threads;
 use std::time::Clock;
 
-/// For how many seconds a client may be idle that no test leaves idle.
-pub const IDLE: u64 = 300;
+/// For how many seconds a server waits for clients: no test leaves them idle for as long.
+pub const WAITS: ClientSeconds = ClientSeconds {
+    idle: 300,
+    keep: 600,
+};
 
 /// How large a server is.
 #[derive(Clone, Copy)]
@@ -28,8 +31,8 @@ struct Size {
     callers: u64,
     /// How many pairs each store has room for.
     limit: u64,
-    /// For how many seconds a client may be idle.
-    idle: u64,
+    /// For how many seconds it waits for clients.
+    seconds: ClientSeconds,
 }
 
 /// Serves until the input ends, over two stores with room for `limit` pairs.
@@ -39,20 +42,21 @@ pub fn stay_over<'a, R: Host, L: Log + Sync, W: Write + Send + Drop>(
     plan: &'a Plan,
     doors: Doors<'a>,
     limit: u64,
-    idle: u64,
+    seconds: ClientSeconds,
     input: PipeReader,
     notes: &'a L,
     writer: W,
 ) -> Result<(), Finish> {
-    let stores = two_stores(alloc, limit)?;
+    let stores = ServerStores::without_spares(alloc, two_stores(alloc, limit)?);
     let setup = ServerSetup {
         alloc,
         plan,
+        settings: plan.settings,
         doors,
         operator: None,
         notes,
     };
-    stay(rt, &setup, stores, idle, input, writer)
+    stay(rt, &setup, stores, seconds, input, writer)
 }
 
 /// Serves until the input ends, and gives what was written.
@@ -66,14 +70,14 @@ fn stayed_and_noted<R: Host, L: Log + Sync>(
     notes: &L,
 ) -> Result<Vec<u8>, Finish> {
     let mut written: Vec<u8> = Vec::new(alloc);
-    let Size { limit, idle, .. } = size;
+    let Size { limit, seconds, .. } = size;
     stay_over(
         rt,
         alloc,
         plan,
         Doors::Frames(listener),
         limit,
-        idle,
+        seconds,
         input,
         notes,
         &mut written,
@@ -92,7 +96,7 @@ fn stayed_in_32_bytes<R: Host>(
     let mut room = [0u8; 32];
     let written = room.as_mut_slice();
     let doors = Doors::Frames(listener);
-    stay_over(rt, alloc, plan, doors, 4, IDLE, input, &Discard, written)
+    stay_over(rt, alloc, plan, doors, 4, WAITS, input, &Discard, written)
 }
 
 /// What the clients do before the server's input ends, and afterwards.
@@ -153,7 +157,7 @@ fn writes<
 const ONE_CALLER: Size = Size {
     callers: 1,
     limit: 4,
-    idle: IDLE,
+    seconds: WAITS,
 };
 
 /// Four clients, one after another, each with numbers from 1 on. The first adds a value twice, the
@@ -272,7 +276,7 @@ fn a_pending_request(rt: HostRuntime) -> Result<(), Fail> {
     let size = Size {
         callers: 2,
         limit: 1,
-        idle: IDLE,
+        ..ONE_CALLER
     };
     let is_written = writes(&rt, rt.alloc(), size, pipe, &Discard, script, wanted);
     assert!(rt; is_written == Some(true));
@@ -298,7 +302,7 @@ fn an_idle_client_is_left(rt: HostRuntime) -> Result<(), Fail> {
     let wanted = "connection 0 idle\nconnection 1 ended\n";
     let pipe = io::pipe(&rt)?;
     let size = Size {
-        idle: 1,
+        seconds: ClientSeconds { idle: 1, ..WAITS },
         ..ONE_CALLER
     };
     let is_written = writes(&rt, rt.alloc(), size, pipe, &Discard, ONE_IS_IDLE, wanted);

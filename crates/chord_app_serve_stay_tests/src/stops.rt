@@ -1,6 +1,6 @@
 //! A server that stays is stopped while a client asks for much and does not read.
 
-use crate::stays::{IDLE, stay_over};
+use crate::stays::{WAITS, stay_over};
 use chord_app_plan::Plan;
 use chord_app_serve_testkit::{
     ask_insert, bound, expect, is_served, plan_with, request_frame, retrieve,
@@ -34,7 +34,7 @@ fn stayed<R: Host>(
         plan,
         Doors::Frames(listener),
         1_000,
-        IDLE,
+        WAITS,
         input,
         &Discard,
         &mut written,

@@ -2,10 +2,10 @@
 
 use crate::clients::{
     expect, expect_end, fault_frame, insert, leave, remove, reply_frame, request_frame, retrieve,
-    values_of,
+    session_request_frame, values_of,
 };
 use chord_map::{Reply, Request};
-use chord_wire::FaultCode;
+use chord_wire::{FaultCode, Opening, Token, write_close, write_closed, write_open, write_opened};
 use std::alloc::{AllocError, Global};
 use std::io::{self, Read, Write};
 use std::net::{Net, OpenStream, Shutdown, SocketAddr, TcpStream};
@@ -72,6 +72,17 @@ pub enum Act {
     Hear(u64, Answer),
     /// It sends a request under this number, and expects this answer.
     Call(u64, Ask, Answer),
+    /// It begins a session, or resumes one, whose token has this last byte.
+    Open(u8, bool),
+    /// It expects to be told that its session has this floor and this last number.
+    Opened(u64, u64),
+    /// It sends a request of its session under this number, with this floor, and expects this
+    /// answer.
+    CallIn(u64, u64, Ask, Answer),
+    /// It closes its session.
+    Close,
+    /// It expects to be told that its session is closed.
+    Closed,
     /// It closes its sending side.
     Hush,
     /// It expects the server to close the connection.
@@ -92,11 +103,31 @@ impl Act {
                 send(alloc, stream, number, ask)?;
                 hear(alloc, stream, number, answer)
             }
+            Act::Open(last, resumes) => stream.write_all(&open_frame(alloc, last, resumes)?),
+            Act::Opened(floor, last) => expect(alloc, stream, &write_opened(alloc, floor, last)?),
+            Act::CallIn(number, floor, ask, answer) => {
+                let request = ask.request(alloc)?;
+                stream.write_all(&session_request_frame(alloc, number, floor, &request)?)?;
+                hear(alloc, stream, number, answer)
+            }
+            Act::Close => stream.write_all(&write_close(alloc)?),
+            Act::Closed => expect(alloc, stream, &write_closed(alloc)?),
             Act::Hush => stream.shutdown(Shutdown::Write),
             Act::End => expect_end(stream),
             Act::Leave => leave(stream),
         }
     }
+}
+
+/// The frame that begins or resumes the session whose token has this last byte.
+fn open_frame(alloc: Global, last: u8, resumes: bool) -> Result<Vec<u8>, AllocError> {
+    let opening = Opening {
+        token: Token {
+            bytes: [1, 2, 3, 4, 5, 6, 7, 8, 9, 10, 11, 12, 13, 14, 15, last],
+        },
+        resumes,
+    };
+    write_open(alloc, opening)
 }
 
 fn send<S: Write>(alloc: Global, stream: &mut S, number: u64, ask: Ask) -> io::Result<()> {
@@ -119,7 +150,7 @@ pub fn do_acts<R: Net>(
     alloc: Global,
     address: SocketAddr,
     streams: &mut Vec<R::Stream>,
-    acts: Acts,
+    acts: &[(usize, Act)],
 ) -> io::Result<()> {
     for (place, act) in acts {
         if let Act::Connect = act {

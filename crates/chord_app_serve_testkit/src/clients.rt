@@ -4,7 +4,9 @@ use crate::plans::changed;
 use chord_app_plan::Plan;
 use chord_app_text::Finish;
 use chord_map::{Bytes, Reply, Request, Values};
-use chord_wire::{FaultCode, is_writable, write_fault, write_reply, write_request};
+use chord_wire::{
+    FaultCode, is_writable, write_fault, write_reply, write_request, write_request_2,
+};
 use std::alloc::{AllocError, Global};
 use std::io::{self, Read, Write};
 use std::net::{Net, OpenStream, Shutdown, SocketAddr, TcpListener, TcpStream};
@@ -48,6 +50,21 @@ pub fn request_frame(alloc: Global, number: u64, request: &Request) -> io::Resul
     match request.check() {
         Ok(()) => Ok(write_request(alloc, number, request)?),
         Err(_) => Err(io::Error::from(io::ErrorKind::InvalidInput)),
+    }
+}
+
+/// The frame of a request of a session.
+pub fn session_request_frame(
+    alloc: Global,
+    number: u64,
+    floor: u64,
+    request: &Request,
+) -> io::Result<Vec<u8>> {
+    match request.check() {
+        Ok(()) if floor < number && number - floor <= 16 => {
+            Ok(write_request_2(alloc, number, floor, request)?)
+        }
+        _ => Err(io::Error::from(io::ErrorKind::InvalidInput)),
     }
 }
 

@@ -1,13 +1,14 @@
 //! The commands `ask` and `load` over loopback, with a ring of two nodes behind the server.
 
 use crate::servers::serve_over;
-use chord_app_ask::{ClientOptions, Kind, Load, Until, ask_lines, run_load};
+use chord_app_ask::{ClientOptions, Kind, Load, Tokens, Until, ask_lines, run_load};
 use chord_app_serve_testkit::{bound, plan_with, two_stores};
 use chord_app_text::{Fault, Finish, WordFault};
 use log::sink::Discard;
 use std::alloc::Global;
 use std::net::{Net, TcpListener, TcpStream};
 use std::sync::Wait;
+use std::test::Fail;
 use std::thread;
 use std::thread::Threads;
 use std::time::Clock;
@@ -36,6 +37,7 @@ fn asks_a_ring<
     room: u64,
     connections: usize,
     (version, window, tries): (u8, u64, u32),
+    tokens: Option<Tokens>,
     (input, wanted): (&str, &str),
 ) -> Option<(Result<Finish, Finish>, bool)> {
     let (listener, address) = bound(rt)?;
@@ -46,6 +48,7 @@ fn asks_a_ring<
         version,
         window,
         tries,
+        tokens,
     };
     let mut ends: Vec<u8> = Vec::new(alloc);
     let mut reader = input.as_bytes();
@@ -73,20 +76,29 @@ fn asks_a_ring<
     Some((asked, is_written))
 }
 
-/// Each version and window gives the same lines.
+/// Each version and window gives the same lines, with a session and without one.
 #[test]
-fn each_kind_of_request(rt: HostRuntime) {
-    for how in [(1, 1, 3), (2, 1, 3), (2, 4, 1), (2, 16, 3)] {
-        let asked = asks_a_ring(&rt, rt.alloc(), 4, 1, how, (REQUESTS, REPLIES));
+fn each_kind_of_request(rt: HostRuntime) -> Result<(), Fail> {
+    let tokens = Some(Tokens::new(&rt)?);
+    for (how, tokens) in [
+        ((1, 1, 3), None),
+        ((2, 1, 3), None),
+        ((2, 4, 1), None),
+        ((2, 16, 3), None),
+        ((2, 1, 3), tokens),
+        ((2, 16, 3), tokens),
+    ] {
+        let asked = asks_a_ring(&rt, rt.alloc(), 4, 1, how, tokens, (REQUESTS, REPLIES));
         assert!(rt; asked == Some((Ok(Finish::Done), true)));
     }
+    Ok(())
 }
 
 /// The requests before a line outside the grammar are asked.
 #[test]
 fn a_line_outside_the_grammar(rt: HostRuntime) {
     let lines = ("insert abc x\nretrieve\nretrieve abc\n", "added\n");
-    let asked = asks_a_ring(&rt, rt.alloc(), 4, 1, (2, 16, 3), lines);
+    let asked = asks_a_ring(&rt, rt.alloc(), 4, 1, (2, 16, 3), None, lines);
     let fault = Err(Finish::Fault(Fault::Request {
         line: 2,
         why: WordFault::NoKey,
@@ -100,7 +112,7 @@ fn a_full_store(rt: HostRuntime) {
     let lines = ("insert abc x\nretrieve abc\n", "full\nvalues 0\n");
     let unanswered = Finish::Fault(Fault::Unanswered(1));
     for (connections, how) in [(2, (1, 1, 2)), (2, (2, 1, 2)), (1, (2, 16, 2))] {
-        let asked = asks_a_ring(&rt, rt.alloc(), 0, connections, how, lines);
+        let asked = asks_a_ring(&rt, rt.alloc(), 0, connections, how, None, lines);
         assert!(rt; asked == Some((Ok(unanswered), true)));
     }
 }
@@ -151,6 +163,8 @@ fn loaded<
         value_size: 5,
         kind,
         until: Until::Requests(21),
+        tokens: None,
+        drops: None,
     };
     let mut ends: Vec<u8> = Vec::new(alloc);
     let mut table: Vec<u8> = Vec::new(alloc);

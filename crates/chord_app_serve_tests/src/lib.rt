@@ -8,3 +8,7 @@ mod commands;
 mod plan_runs;
 #[cfg(test)]
 mod servers;
+#[cfg(test)]
+mod sessions;
+#[cfg(test)]
+mod upkeep;

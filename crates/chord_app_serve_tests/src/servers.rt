@@ -45,7 +45,7 @@ const FOUR: Acts = &[
 
 /// What the clients of a server do.
 #[derive(Clone, Copy)]
-enum Clients {
+pub enum Clients {
     Acting(Acts),
     SixtyFour,
     NeverReads,
@@ -75,6 +75,7 @@ pub fn serve_over<'a, R: Host, S: EntryStore + Send, L: Log + Sync>(
     let setup = ServerSetup {
         alloc,
         plan,
+        settings: plan.settings,
         doors: Doors::Frames(listener),
         operator: None,
         notes,
@@ -108,7 +109,7 @@ fn served<R: Host, L: Log + Sync>(
 
 /// Checks that the clients are answered, and these lines written, by a server with this many
 /// callers and connections.
-fn writes<
+pub fn writes<
     R: Threads
         + Wait
         + Clock

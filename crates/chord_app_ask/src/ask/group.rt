@@ -1,13 +1,14 @@
 //! Requests that are sent together.
 
-use crate::ask::link::{ClientOptions, Link, LinkState, READS};
+use crate::ask::link::{Link, LinkState, READS};
+use crate::ask::links::Links;
 use crate::ask::outcome::AskOutcome;
 use crate::ask::question::Question;
 use chord_app_text::Finish;
 use chord_serve::{AgainFault, CallFault, ReceiveFault};
 use chord_wire::Answer;
-use std::alloc::Global;
 use std::net::{Net, TcpStream};
+use std::time::Clock;
 
 /// Sends the open requests.
 fn send_open(link: &mut Link, questions: &mut [Question]) -> Result<LinkState, Finish> {
@@ -49,6 +50,7 @@ fn receive_one(
     let mut reader = &link.stream;
     match link.client.receive(&mut reader, READS) {
         Ok((number, answer)) => {
+            link.note_answer();
             if hand_out(questions, number, answer, tries) {
                 send_again(link, number)
             } else {
@@ -83,6 +85,9 @@ fn receive_all(
 /// Sends the open requests, and receives all their answers; where sending failed, those that came
 /// before.
 fn ask_over(link: &mut Link, questions: &mut [Question], tries: u32) -> Result<LinkState, Finish> {
+    if link.is_spent() {
+        return Ok(LinkState::CallersSpent);
+    }
     let sent = send_open(link, questions)?;
     match receive_all(link, questions, tries)? {
         LinkState::Open => Ok(sent),
@@ -90,7 +95,26 @@ fn ask_over(link: &mut Link, questions: &mut [Question], tries: u32) -> Result<L
     }
 }
 
-/// The connection of these questions ended so.
+/// Asks the open requests. Where the connection is lost, its session goes on over another one: at
+/// most three tries in a row that bring no answer, and there are no more answers than requests that
+/// are sent.
+fn ask_in_session<R: Net<Stream = TcpStream> + Clock>(
+    rt: &R,
+    link: &mut Link,
+    questions: &mut [Question],
+    tries: u32,
+) -> Result<LinkState, Finish> {
+    let answers = (questions.len() as u64).saturating_mul(tries as u64);
+    for _ in 0..answers.saturating_add(1).saturating_mul(4) {
+        let state = ask_over(link, questions, tries)?;
+        if state != LinkState::Broken || !link.resume(rt)? {
+            return Ok(state);
+        }
+    }
+    Ok(LinkState::Broken)
+}
+
+/// The session of these questions ended so.
 fn end_questions(ended: LinkState, questions: &mut [Question], tries: u32) {
     for question in questions.iter_mut() {
         match ended {
@@ -100,25 +124,21 @@ fn end_questions(ended: LinkState, questions: &mut [Question], tries: u32) {
     }
 }
 
-/// Asks the open requests once over one connection, which stays open for later unless it broke.
-fn ask_round<R: Net<Stream = TcpStream>>(
+/// Asks the open requests in one session, which stays open for later unless it ended.
+fn ask_round<R: Net<Stream = TcpStream> + Clock>(
     rt: &R,
-    alloc: Global,
-    client_options: ClientOptions,
-    kept: &mut Option<Link>,
+    links: &mut Links,
     questions: &mut [Question],
+    tries: u32,
 ) -> Result<(), Finish> {
-    let mut link = match kept.take() {
-        Some(link) => link,
-        None => Link::open(rt, alloc, client_options)?,
-    };
-    let asked = ask_over(&mut link, questions, client_options.tries);
+    let mut link = links.take(rt)?;
+    let asked = ask_in_session(rt, &mut link, questions, tries);
     if asked == Ok(LinkState::Open) {
-        drop(kept.replace(link));
+        links.keep(link);
         return Ok(());
     }
-    drop(link);
-    end_questions(asked?, questions, client_options.tries);
+    link.close();
+    end_questions(asked?, questions, tries);
     Ok(())
 }
 
@@ -127,24 +147,23 @@ fn are_replied(questions: &[Question]) -> bool {
     questions.iter().all(|question| question.outcome().is_some_and(AskOutcome::is_reply))
 }
 
-/// Asks until each request has an outcome, over a new connection after one that broke. Closes the
-/// connection if a request on it has no reply, since later answers would wait behind that one.
-pub fn ask_group<R: Net<Stream = TcpStream>>(
+/// Asks until each request has an outcome, in a new session after one that ended. Closes the
+/// session if a request in it has no reply, since later answers would wait behind that one.
+pub fn ask_group<R: Net<Stream = TcpStream> + Clock>(
     rt: &R,
-    alloc: Global,
-    client_options: ClientOptions,
-    kept: &mut Option<Link>,
+    links: &mut Links,
     questions: &mut [Question],
+    tries: u32,
 ) -> Result<(), Finish> {
-    let rounds = (questions.len() as u64).saturating_mul(client_options.tries as u64);
+    let rounds = (questions.len() as u64).saturating_mul(tries as u64);
     for _ in 0..rounds {
         if !questions.iter().any(Question::is_open) {
             break;
         }
-        ask_round(rt, alloc, client_options, kept, questions)?;
+        ask_round(rt, links, questions, tries)?;
     }
     if !are_replied(questions) {
-        *kept = None;
+        links.close();
     }
     Ok(())
 }

@@ -3,13 +3,15 @@ ghost use Rattle.chord_map.specs.Checked.{IsRequest};
 
 use crate::ask::group::ask_group;
 use crate::ask::line::read_line;
-use crate::ask::link::{ClientOptions, Link};
+use crate::ask::link::ClientOptions;
+use crate::ask::links::Links;
 use crate::ask::question::Question;
 use chord_app_text::{Fault, Finish, WordFault};
 use chord_map::Request;
 use std::alloc::Global;
 use std::io::{self, Read, Write};
 use std::net::{Net, TcpStream};
+use std::time::Clock;
 
 /// How many reads are made of the input at most.
 const READS: u32 = 1_048_576;
@@ -17,12 +19,12 @@ const READS: u32 = 1_048_576;
 /// The most bytes of a line. The longest request has a few less.
 const LINE_BYTES: usize = 16_384;
 
-/// A connection, the requests that wait to be sent, and the line that is not whole yet.
+/// Connections, the requests that wait to be sent, and the line that is not whole yet.
 #[derive(Drop)]
 struct AskSession {
     alloc: Global,
     client_options: ClientOptions,
-    link: Option<Link>,
+    links: Links,
     questions: Vec<Question>,
     line: Vec<u8>,
     /// How many lines were whole.
@@ -48,16 +50,16 @@ fn write_outcomes<W: Write>(questions: &[Question], writer: &mut W) -> io::Resul
 
 impl AskSession {
     /// Opens a connection to the server.
-    fn open<R: Net<Stream = TcpStream>>(
+    fn open<R: Net<Stream = TcpStream> + Clock>(
         rt: &R,
         alloc: Global,
         client_options: ClientOptions,
     ) -> Result<AskSession, Finish> {
-        let link = Link::open(rt, alloc, client_options)?;
+        let links = Links::open(rt, alloc, client_options)?;
         Ok(AskSession {
             alloc,
             client_options,
-            link: Some(link),
+            links,
             questions: Vec::new(alloc),
             line: Vec::new(alloc),
             lines: 0,
@@ -66,7 +68,7 @@ impl AskSession {
     }
 
     /// Asks one request alone.
-    fn ask<R: Net<Stream = TcpStream>, W: Write>(
+    fn ask<R: Net<Stream = TcpStream> + Clock, W: Write>(
         &mut self,
         rt: &R,
         request: Request,
@@ -80,18 +82,13 @@ impl AskSession {
     }
 
     /// Asks the waiting requests, and writes their outcomes. If no server is found, they are lost.
-    fn settle<R: Net<Stream = TcpStream>, W: Write>(
+    fn settle<R: Net<Stream = TcpStream> + Clock, W: Write>(
         &mut self,
         rt: &R,
         writer: &mut W,
     ) -> Result<(), Finish> {
-        let asked = ask_group(
-            rt,
-            self.alloc,
-            self.client_options,
-            &mut self.link,
-            &mut self.questions,
-        );
+        let tries = self.client_options.tries;
+        let asked = ask_group(rt, &mut self.links, &mut self.questions, tries);
         if asked.is_err() {
             for question in self.questions.iter_mut() {
                 question.give_up();
@@ -104,7 +101,7 @@ impl AskSession {
     }
 
     /// Asks the requests before a line that is none, and then answers that line's fault.
-    fn refuse<R: Net<Stream = TcpStream>, W: Write>(
+    fn refuse<R: Net<Stream = TcpStream> + Clock, W: Write>(
         &mut self,
         rt: &R,
         why: WordFault,
@@ -116,7 +113,7 @@ impl AskSession {
     }
 
     /// Takes in a whole line, and asks once as many requests wait as may be in flight.
-    fn finish_line<R: Net<Stream = TcpStream>, W: Write>(
+    fn finish_line<R: Net<Stream = TcpStream> + Clock, W: Write>(
         &mut self,
         rt: &R,
         writer: &mut W,
@@ -135,7 +132,7 @@ impl AskSession {
     }
 
     /// Takes in bytes of the input, and asks each request whose line is whole.
-    fn take_in<R: Net<Stream = TcpStream>, W: Write>(
+    fn take_in<R: Net<Stream = TcpStream> + Clock, W: Write>(
         &mut self,
         rt: &R,
         bytes: &[u8],
@@ -155,7 +152,7 @@ impl AskSession {
     }
 
     /// Asks all requests on the input.
-    fn ask_all<R: Net<Stream = TcpStream>, I: Read, W: Write>(
+    fn ask_all<R: Net<Stream = TcpStream> + Clock, I: Read, W: Write>(
         &mut self,
         rt: &R,
         reader: &mut I,
@@ -166,7 +163,7 @@ impl AskSession {
     }
 
     /// Reads the input to its end, at most 4,096 bytes at a time.
-    fn run<R: Net<Stream = TcpStream>, I: Read, W: Write>(
+    fn run<R: Net<Stream = TcpStream> + Clock, I: Read, W: Write>(
         &mut self,
         rt: &R,
         reader: &mut I,
@@ -199,7 +196,7 @@ impl AskSession {
 }
 
 /// Asks the requests on the input, one a line, and writes a line for each.
-pub fn ask_lines<R: Net<Stream = TcpStream>, I: Read, W: Write>(
+pub fn ask_lines<R: Net<Stream = TcpStream> + Clock, I: Read, W: Write>(
     rt: &R,
     alloc: Global,
     client_options: ClientOptions,
@@ -208,12 +205,13 @@ pub fn ask_lines<R: Net<Stream = TcpStream>, I: Read, W: Write>(
 ) -> Result<Finish, Finish> {
     let mut session = AskSession::open(rt, alloc, client_options)?;
     let asked = session.ask_all(rt, reader, writer);
+    session.links.close();
     drop(session);
     asked
 }
 
 /// Asks one request, and writes its line.
-pub fn ask_one<R: Net<Stream = TcpStream>, W: Write>(
+pub fn ask_one<R: Net<Stream = TcpStream> + Clock, W: Write>(
     rt: &R,
     alloc: Global,
     client_options: ClientOptions,
@@ -225,6 +223,7 @@ pub fn ask_one<R: Net<Stream = TcpStream>, W: Write>(
     match AskSession::open(rt, alloc, client_options) {
         Ok(mut session) => {
             let asked = session.ask(rt, request, writer);
+            session.links.close();
             drop(session);
             asked
         }

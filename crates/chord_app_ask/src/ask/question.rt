@@ -11,12 +11,12 @@ use chord_map::Request;
 use chord_serve::SendFault;
 use chord_wire::{Answer, FaultCode};
 
-/// An insert or a remove that is still open was either never sent, or was sent over the connection
-/// that is open now.
+/// An insert or a remove that is still open was either never sent, or was sent in the session that
+/// is open now. A connection without a session counts as one that ends with it.
 #[derive(Drop)]
 pub struct Question {
     request: Request,
-    /// Its number on the open connection, if it was sent there.
+    /// Its number in the open session, if it was sent there.
     number: Option<u64>,
     /// How many times it was sent.
     times: u32,
@@ -35,7 +35,7 @@ fn may_change(request: &Request) -> bool
     }
 }
 
-/// Whether a request with no answer, sent this many times, is given up once its connection ended.
+/// Whether a request with no answer, sent this many times, is given up once its session ended.
 fn is_lost(request: &Request, times: u32, tries: u32) -> bool
     ensures { result ≡ is_lost request.now times tries }
 {
@@ -76,7 +76,7 @@ impl Question {
         self.number == Some(number)
     }
 
-    /// Sends it, if it is open and was not sent over this connection.
+    /// Sends it, if it is open and was not sent in this session.
     pub fn send(&mut self, link: &mut Link) -> Result<LinkState, Finish>
         ensures sent { self.old.number ≢ None → self.new ≡ self.old }
         ensures done { self.old.outcome ≢ None → self.new ≡ self.old }
@@ -90,7 +90,7 @@ impl Question {
         let mut writer = &link.stream;
         let (number, state) = match link.client.send(&mut writer, request) {
             Ok(number) => (number, LinkState::Open),
-            Err(SendFault::Write) => (0, LinkState::Broken),
+            Err(SendFault::Write) => (link.client.last(), LinkState::Broken),
             Err(SendFault::WindowFull) | Err(SendFault::NumbersSpent) => {
                 return Ok(LinkState::Broken);
             }
@@ -130,8 +130,8 @@ impl Question {
         false
     }
 
-    /// Its connection ended, maybe without an outcome. An insert or remove that was sent becomes
-    /// Lost then, and so does a request with no tries left. Others go over a new connection.
+    /// Its session ended, maybe without an outcome. An insert or remove that was sent becomes
+    /// Lost then, and so does a request with no tries left. Others go into a new session.
     pub fn lose(&mut self, tries: u32)
         ensures outcome { self.new.outcome ≡ outcome_after_loss self.old.request self.old.times tries self.old.outcome }
         ensures number { self.new.number ≡ None }

@@ -1,5 +1,10 @@
 //! The size and kind of a load.
 
+use crate::ask::tokens::Tokens;
+
+/// The fewest bytes of a value that nobody else inserts.
+pub const UNIQUE_VALUE: usize = 16;
+
 /// What each request does.
 #[derive(Clone, Copy, Debug, PartialEq, Eq)]
 pub enum Kind {
@@ -15,6 +20,15 @@ pub enum Until {
     Requests(u64),
 }
 
+/// How often connections are cut.
+#[derive(Clone, Copy, Debug, PartialEq, Eq)]
+pub struct Drops {
+    /// About how many requests each has.
+    pub every: u64,
+    /// Loads with the same seed cut theirs behind the same requests.
+    pub seed: u64,
+}
+
 #[derive(Clone, Copy, Debug)]
 pub struct Load {
     /// The server's port on 127.0.0.1.
@@ -28,9 +42,22 @@ pub struct Load {
     pub value_size: usize,
     pub kind: Kind,
     pub until: Until,
+    /// The tokens of the sessions, one for each connection; without them there are none.
+    pub tokens: Option<Tokens>,
+    /// Cuts connections, whose sessions go on over others. Each value that is inserted is another
+    /// one then, if it has at least [`UNIQUE_VALUE`] bytes.
+    pub drops: Option<Drops>,
 }
 
 impl Load {
+    /// Whether nobody else inserts its values: an insert that finds its value there acted twice.
+    pub fn has_unique_values(&self) -> bool {
+        self.kind == Kind::Insert
+            && self.drops.is_some()
+            && self.tokens.is_some()
+            && self.value_size >= UNIQUE_VALUE
+    }
+
     /// How many requests the connection of this number, from 0, sends at most.
     pub fn share(&self, connection: u64) -> u64 {
         match self.until {

@@ -17,6 +17,19 @@ pub struct Report {
     pub faults: u64,
     /// How long after the load began the last reply came.
     pub milliseconds: u64,
+    /// How many connections went on with the session of one before, if there were sessions.
+    pub resumed: Option<u64>,
+    /// How many inserts found a value that nobody else inserts, if there were such values.
+    pub doubled: Option<u64>,
+}
+
+/// The sum of two counts; one that is not kept counts nothing.
+fn sum(one: Option<u64>, other: Option<u64>) -> Option<u64> {
+    match (one, other) {
+        (Some(one), Some(other)) => Some(one.saturating_add(other)),
+        (Some(count), None) | (None, Some(count)) => Some(count),
+        (None, None) => None,
+    }
 }
 
 impl Report {
@@ -25,6 +38,8 @@ impl Report {
             times: Histogram::new(alloc)?,
             faults: 0,
             milliseconds: 0,
+            resumed: None,
+            doubled: None,
         })
     }
 
@@ -38,6 +53,18 @@ impl Report {
         }
         self.faults = self.faults.saturating_add(other.faults);
         self.milliseconds = milliseconds;
+        self.resumed = sum(self.resumed, other.resumed);
+        self.doubled = sum(self.doubled, other.doubled);
+    }
+
+    /// Counts one more connection that went on.
+    pub fn note_resumed(&mut self) {
+        self.resumed = sum(self.resumed, Some(1));
+    }
+
+    /// Counts one more insert that acted twice.
+    pub fn note_doubled(&mut self) {
+        self.doubled = sum(self.doubled, Some(1));
     }
 
     /// How many requests were answered each second.
@@ -59,7 +86,21 @@ impl fmt::Display for Report {
         for (name, thousandths) in PERCENTILES {
             write_percentile(f, name, self.times.percentile(thousandths))?;
         }
-        write!(f, "faults       {faults:>12}")
+        write!(f, "faults       {faults:>12}")?;
+        write_count(f, "resumed", self.resumed)?;
+        write_count(f, "doubled", self.doubled)
+    }
+}
+
+/// A further line of the table, if there is such a count.
+fn write_count<W: fmt::Write>(
+    f: &mut fmt::Formatter<W>,
+    name: &str,
+    found: Option<u64>,
+) -> fmt::Result {
+    match found {
+        Some(count) => write!(f, "\n{name:<12} {count:>12}"),
+        None => Ok(()),
     }
 }
 

@@ -108,10 +108,10 @@ fn run_all<
 fn write_report<W: Write>(report: &Report, writer: &mut W) -> Result<Finish, Finish> {
     writeln!(writer, "{report}")?;
     writer.flush()?;
-    if report.faults == 0 {
-        Ok(Finish::Done)
-    } else {
-        Ok(Finish::Fault(Fault::Unanswered(report.faults)))
+    match (report.doubled, report.faults) {
+        (Some(doubled), _) if doubled != 0 => Ok(Finish::Fault(Fault::Doubled(doubled))),
+        (_, 0) => Ok(Finish::Done),
+        (_, faults) => Ok(Finish::Fault(Fault::Unanswered(faults))),
     }
 }
 

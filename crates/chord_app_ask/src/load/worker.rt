@@ -3,14 +3,15 @@ ghost use Rattle.chord_map.specs.Checked.{IsRequest};
 
 use crate::ask::link::{ClientOptions, Link, LinkState, READS};
 use crate::load::bounds::{Kind, Load, Until};
+use crate::load::cutting::{Cut, CutWriter, Cutter};
 use crate::load::report::Report;
 use chord_app_text::{Fault, Finish};
-use chord_map::{Bytes, Request};
+use chord_map::{Bytes, Reply, Request};
 use chord_serve::{AgainFault, CallFault, ReceiveFault, SendFault};
 use chord_wire::{Answer, FaultCode};
 use std::alloc::{AllocError, Global};
 use std::collections::VecDeque;
-use std::net::{Net, TcpStream};
+use std::net::{Net, Shutdown, TcpStream};
 use std::sync::atomic::{AtomicU64, Ordering};
 use std::time::{Clock, Instant};
 
@@ -29,6 +30,29 @@ struct Worker<'a, R: Clock> {
     /// When those in flight were sent, in the order of their answers.
     sent: VecDeque<Instant>,
     report: Report,
+    /// Where its connections are cut, if they are.
+    cutter: Option<Cutter>,
+}
+
+/// How a worker stands behind a step.
+#[derive(Clone, Copy, Debug, PartialEq, Eq)]
+enum Progress {
+    GoesOn,
+    /// No more is due, and nothing is in flight.
+    Done,
+    /// The connection was lost.
+    Lost,
+    /// The server refused a request for good, or had no caller.
+    Refused,
+}
+
+/// What a worker hears of a request.
+#[derive(Clone, Copy, Debug, PartialEq, Eq)]
+enum Heard {
+    Reply,
+    /// The value that was to be inserted was there.
+    Present,
+    Fault(FaultCode),
 }
 
 /// The time now.
@@ -45,17 +69,21 @@ fn key_of(alloc: Global, number: u64) -> Result<Bytes, AllocError> {
     Bytes::from_slice(alloc, text.as_bytes())
 }
 
-/// The code of the answer, if that is a fault.
-fn code_of(answer: Answer) -> Option<FaultCode> {
-    let code = match &answer {
-        Answer::Reply { .. } => None,
-        Answer::Fault { code, .. } => Some(*code),
+/// What the answer says.
+fn heard_of(answer: Answer) -> Heard {
+    let heard = match &answer {
+        Answer::Reply {
+            reply: Reply::Present,
+            ..
+        } => Heard::Present,
+        Answer::Reply { .. } => Heard::Reply,
+        Answer::Fault { code, .. } => Heard::Fault(*code),
     };
     drop(answer);
-    code
+    heard
 }
 
-impl<'a, R: Clock> Worker<'a, R> {
+impl<'a, R: Net<Stream = TcpStream> + Clock> Worker<'a, R> {
     /// Whether to send one more request.
     fn is_due(&self) -> Result<bool, Finish> {
         match self.load.until {
@@ -64,6 +92,20 @@ impl<'a, R: Clock> Worker<'a, R> {
                 Ok(now(self.rt)?.duration_since(self.start).as_secs() < seconds)
             }
         }
+    }
+
+    /// The next value to be inserted: where nobody else is to insert it, 8 bytes of this run's own
+    /// and the number of the request, and then always the same.
+    fn next_value(&self) -> Result<Vec<u8>, AllocError> {
+        let mut value = vec![in self.alloc; b'v'; self.load.value_size]?;
+        if let Some(tokens) = self.load.tokens {
+            if self.load.has_unique_values() && value.len() >= 16 {
+                let number = self.connection << 48 | self.made;
+                value[..8].copy_from_slice(&tokens.word(u64::MAX, 0).to_be_bytes());
+                value[8..16].copy_from_slice(&number.to_be_bytes());
+            }
+        }
+        Ok(value)
     }
 
     /// The next request. Connection c of n uses keys c, c + n, c + 2n and so on, modulo the number
@@ -77,7 +119,7 @@ impl<'a, R: Clock> Worker<'a, R> {
         match self.load.kind {
             Kind::Retrieve => Ok(Request::Retrieve { key }),
             Kind::Insert => {
-                let value = vec![in self.alloc; b'v'; self.load.value_size]?;
+                let value = self.next_value()?;
                 Ok(Request::Insert {
                     key,
                     value: Bytes::from_vec(value),
@@ -115,8 +157,18 @@ impl<'a, R: Clock> Worker<'a, R> {
             drop(request);
             return Err(finish);
         }
-        let mut writer = &self.link.stream;
-        match self.link.client.send(&mut writer, request) {
+        let cut = self.cutter.as_mut().and_then(Cutter::cut);
+        let most = match cut {
+            Some(Cut::Within(bytes)) => bytes,
+            _ => usize::MAX,
+        };
+        let mut writer = CutWriter::new(&self.link.stream, most);
+        let sent = self.link.client.send(&mut writer, request);
+        match sent {
+            Ok(_) if cut.is_some() => {
+                let _ = self.link.stream.shutdown(Shutdown::Both).is_ok();
+                Ok(LinkState::Broken)
+            }
             Ok(_) => Ok(LinkState::Open),
             Err(SendFault::Memory) => Err(Finish::OutOfMemory),
             Err(_) => Ok(LinkState::Broken),
@@ -161,49 +213,79 @@ impl<'a, R: Clock> Worker<'a, R> {
     }
 
     /// Receives an answer. If it is a fault, its request is sent again in place of a new one.
-    fn receive(&mut self) -> Result<LinkState, Finish> {
+    fn receive(&mut self) -> Result<Progress, Finish> {
         let mut reader = &self.link.stream;
-        let (number, code) = match self.link.client.receive(&mut reader, READS) {
-            Ok((number, answer)) => (number, code_of(answer)),
+        let (number, heard) = match self.link.client.receive(&mut reader, READS) {
+            Ok((number, answer)) => (number, heard_of(answer)),
             Err(ReceiveFault::Call(CallFault::Memory)) => return Err(Finish::OutOfMemory),
-            Err(_) => return Ok(LinkState::Broken),
+            Err(ReceiveFault::CallersSpent) => return Ok(Progress::Refused),
+            Err(_) => return Ok(Progress::Lost),
         };
-        match code {
-            Some(code) => self.retry(number, code),
-            None => {
-                self.keep_time()?;
-                Ok(LinkState::Open)
-            }
+        self.link.note_answer();
+        if let Heard::Fault(code) = heard {
+            return self.retry(number, code);
         }
+        if heard == Heard::Present && self.load.has_unique_values() {
+            self.report.note_doubled();
+        }
+        self.keep_time()?;
+        Ok(Progress::GoesOn)
     }
 
     /// Counts a fault, and sends its request again if that may succeed and a request is due.
-    fn retry(&mut self, number: u64, code: FaultCode) -> Result<LinkState, Finish> {
+    fn retry(&mut self, number: u64, code: FaultCode) -> Result<Progress, Finish> {
         self.report.faults = self.report.faults.saturating_add(1);
         self.sent.pop_front();
         if !matches!(code, FaultCode::Full | FaultCode::NoAnswer) {
-            return Ok(LinkState::Broken);
+            return Ok(Progress::Refused);
         }
-        if self.is_due()? {
-            self.again(number)
-        } else {
-            Ok(LinkState::Open)
+        if self.is_due()? && self.again(number)? == LinkState::Broken {
+            return Ok(Progress::Lost);
         }
+        Ok(Progress::GoesOn)
     }
 
-    /// Sends and receives until no more is due and nothing is in flight, or the connection breaks.
+    /// Sends new requests, and receives an answer, if one is awaited.
+    fn step(&mut self, answered: &AtomicU64) -> Result<Progress, Finish> {
+        if self.link.is_spent() {
+            return Ok(Progress::Refused);
+        }
+        if self.fill()? == LinkState::Broken {
+            return Ok(Progress::Lost);
+        }
+        if self.link.client.in_flight() == 0 {
+            return Ok(Progress::Done);
+        }
+        let progress = self.receive()?;
+        if progress == Progress::GoesOn {
+            answered.fetch_add(1, Ordering::SeqCst);
+        }
+        Ok(progress)
+    }
+
+    /// Goes on over another connection, if its session can.
+    fn resume(&mut self) -> Result<bool, Finish> {
+        let is_resumed = self.link.resume(self.rt)?;
+        if is_resumed {
+            self.report.note_resumed();
+        }
+        Ok(is_resumed)
+    }
+
+    /// Sends and receives until no more is due and nothing is in flight, or the connection was lost
+    /// for good.
     fn run(&mut self, answered: &AtomicU64) -> Result<(), Finish> {
         for _ in 0..u64::MAX {
-            if self.fill()? == LinkState::Broken {
-                break;
+            match self.step(answered)? {
+                Progress::GoesOn => {}
+                Progress::Done => return Ok(()),
+                Progress::Lost => {
+                    if !self.resume()? {
+                        break;
+                    }
+                }
+                Progress::Refused => break,
             }
-            if self.link.client.in_flight() == 0 {
-                return Ok(());
-            }
-            if self.receive()? == LinkState::Broken {
-                break;
-            }
-            answered.fetch_add(1, Ordering::SeqCst);
         }
         let lost = self.sent.len() as u64;
         self.report.faults = self.report.faults.saturating_add(lost);
@@ -212,8 +294,9 @@ impl<'a, R: Clock> Worker<'a, R> {
 
     /// The report, with the connection closed.
     fn into_report(self) -> Report {
-        drop(self.link);
+        self.link.close();
         drop(self.sent);
+        drop(self.cutter);
         self.report
     }
 }
@@ -233,18 +316,23 @@ pub fn work<R: Net<Stream = TcpStream> + Clock>(
         version: 2,
         window: load.in_flight,
         tries: 1,
+        tokens: load.tokens,
     };
-    let report = Report::new(alloc)?;
+    let mut report = Report::new(alloc)?;
+    report.resumed = load.tokens.map(|_| 0);
+    report.doubled = load.has_unique_values().then_some(0);
+    let token = load.tokens.map(|tokens| tokens.token(connection));
     let mut worker = Worker {
         rt,
         alloc,
         load,
         connection,
-        link: Link::open(rt, alloc, client_options)?,
+        link: Link::open(rt, alloc, client_options, token)?,
         start,
         made: 0,
         sent: VecDeque::new(alloc),
         report,
+        cutter: load.drops.map(|drops| Cutter::new(drops, connection)),
     };
     let ran = worker.run(answered);
     ended(ran, worker.into_report())

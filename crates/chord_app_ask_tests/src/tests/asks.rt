@@ -9,6 +9,7 @@ use std::io::{self, Read, Write};
 use std::net::{Net, TcpListener, TcpStream};
 use std::thread;
 use std::thread::Threads;
+use std::time::Clock;
 
 fn client_options(port: u16, version: u8, window: u64, tries: u32) -> ClientOptions {
     ClientOptions {
@@ -16,13 +17,14 @@ fn client_options(port: u16, version: u8, window: u64, tries: u32) -> ClientOpti
         version,
         window,
         tries,
+        tokens: None,
     }
 }
 
 /// How asking ended, and whether it wrote the right lines.
 type Asked = (Result<Finish, Finish>, bool);
 
-fn asks<R: Net<Stream = TcpStream>>(
+fn asks<R: Net<Stream = TcpStream> + Clock>(
     rt: &R,
     alloc: Global,
     client_options: ClientOptions,
@@ -38,7 +40,7 @@ fn asks<R: Net<Stream = TcpStream>>(
 }
 
 /// Asks the request in these words.
-fn asks_one<R: Net<Stream = TcpStream>>(
+fn asks_one<R: Net<Stream = TcpStream> + Clock>(
     rt: &R,
     alloc: Global,
     client_options: ClientOptions,
@@ -70,7 +72,7 @@ fn free_port<R: Net<Listener = TcpListener, Stream = TcpStream>>(rt: &R) -> io::
 }
 
 /// Asks at a port at which nobody listens. Checks that it is told so, and nothing else.
-fn asks_nobody<R: Net<Listener = TcpListener, Stream = TcpStream>>(
+fn asks_nobody<R: Net<Listener = TcpListener, Stream = TcpStream> + Clock>(
     rt: &R,
     alloc: Global,
 ) -> Option<bool> {
@@ -81,7 +83,7 @@ fn asks_nobody<R: Net<Listener = TcpListener, Stream = TcpStream>>(
 }
 
 /// The same for the request in these words.
-fn asks_nobody_one<R: Net<Listener = TcpListener, Stream = TcpStream>>(
+fn asks_nobody_one<R: Net<Listener = TcpListener, Stream = TcpStream> + Clock>(
     rt: &R,
     alloc: Global,
     words: &[&str],
@@ -131,7 +133,7 @@ fn bound<R: Net<Listener = TcpListener, Stream = TcpStream>>(rt: &R) -> Option<(
 }
 
 /// Asks the request in these words of a server that answers Added.
-fn asks_one_of_one<R: Threads + Net<Listener = TcpListener, Stream = TcpStream> + Sync>(
+fn asks_one_of_one<R: Threads + Clock + Net<Listener = TcpListener, Stream = TcpStream> + Sync>(
     rt: &R,
     alloc: Global,
     words: &[&str],
@@ -156,7 +158,7 @@ fn one_request(rt: HostRuntime) {
 
 /// Asks, with `tries` tries, a server that ends each of `ended` connections, the last one after
 /// this answer.
-fn asks_one_that_ends<R: Threads + Net<Listener = TcpListener, Stream = TcpStream> + Sync>(
+fn asks_one_that_ends<R: Threads + Clock + Net<Listener = TcpListener, Stream = TcpStream> + Sync>(
     rt: &R,
     alloc: Global,
     tries: u32,

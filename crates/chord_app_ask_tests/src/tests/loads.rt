@@ -18,6 +18,8 @@ fn load(port: u16, kind: Kind, requests: u64) -> Load {
         value_size: 5,
         kind,
         until: Until::Requests(requests),
+        tokens: None,
+        drops: None,
     }
 }
 
@@ -88,6 +90,8 @@ fn report_of_thousand(alloc: Global) -> Option<Report> {
         times,
         faults: 0,
         milliseconds: 500,
+        resumed: None,
+        doubled: Some(0),
     })
 }
 
@@ -96,6 +100,9 @@ fn report_of_one(alloc: Global) -> Option<Report> {
     let mut report = Report::new(alloc).ok()?;
     report.faults = 3;
     report.milliseconds = 400;
+    report.note_resumed();
+    report.note_resumed();
+    report.note_doubled();
     if report.times.record(70, 1000) {
         Some(report)
     } else {
@@ -124,7 +131,7 @@ fn joined(alloc: Global) -> Option<Report> {
 #[test]
 fn tables(rt: HostRuntime) {
     let wanted =
-        "requests             2000\nmilliseconds          500\na second             4000\np50                    71 us\np90                   799 us\np99                   991 us\np99.9                1023 us\nfaults                  3";
+        "requests             2000\nmilliseconds          500\na second             4000\np50                    71 us\np90                   799 us\np99                   991 us\np99.9                1023 us\nfaults                  3\nresumed                 2\ndoubled                 1";
     let alloc = rt.alloc();
     assert!(rt; is_shown(alloc, joined(alloc), wanted) == Some(true));
 }

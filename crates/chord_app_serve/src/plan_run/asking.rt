@@ -1,16 +1,16 @@
 //! What the callers of a plan's run ask, and what they are answered.
 ghost use Rattle.std.specs.Prelude.{◌≡◌, ◌++◌, [], ◌∷◌, IfOk, OnOk};
-ghost use Rattle.chord_app_serve.specs.Together.{AreAnswers, AreOf, AskedIs, NextIs, TookFirst, requests_of};
+ghost use Rattle.chord_app_serve.specs.Together.{AreAnswers, AreOf, AskedIs, NextIs, TookFirst, callers_in, requests_of};
 
 use chord_app_plan::PlanAsk;
 use chord_app_text::Finish;
 use chord_caller::SubmitFault;
 use chord_live::{OpenCaller, RingClient};
-use chord_live_ring::{OpenClientFault, Ring};
+use chord_live_ring::{OpenClientFault, ReturnedCaller, Ring};
 use chord_live_types::{AskFault, BeginFault, WaitFault};
 use chord_map::Reply;
 use chord_store::EntryStore;
-use chord_table::{Naming, Witness};
+use chord_table::Naming;
 use std::alloc::Global;
 use std::marker::Model;
 use std::sync::Wait;
@@ -65,13 +65,30 @@ impl AskResults {
     }
 }
 
-/// How the asks of one caller ended, and a witness of that caller. There is no caller if none could
-/// be opened.
+/// How the asks of one caller ended, and that caller. There is none if none could be opened.
 #[derive(Drop)]
 pub struct CallerAnswers<J: Naming> {
     pub results: AskResults,
-    pub witness: Witness<J>,
-    ghost are: { AreOf witness results },
+    pub caller: Option<ReturnedCaller<J>>,
+    ghost are: { AreOf (callers_in caller) results },
+}
+
+/// A client that has asked nothing yet.
+#[derive(Drop)]
+pub struct FreshClient<'a, J: Naming, S: EntryStore> {
+    client: RingClient<'a, J, S>,
+    ghost fresh: { client.caller.mine ≡ [] },
+}
+
+impl<'a, J: Naming, S: EntryStore> FreshClient<'a, J, S> {
+    /// The next client of the ring; none if it has no number left for one.
+    pub fn open(rt: &impl Wait, ring: &'a Ring<J, S>) -> Result<Option<Self>, Finish> {
+        match ring.open_client(rt, 1) {
+            Ok(client) => Ok(Some(FreshClient { client })),
+            Err(OpenClientFault::Memory) => Err(Finish::OutOfMemory),
+            Err(_) => Ok(None),
+        }
+    }
 }
 
 /// What the thread of one caller gives back.
@@ -138,24 +155,24 @@ fn ask_each<J: Naming, S: EntryStore, R: Wait + Clock>(
     Ok(())
 }
 
-/// Asks the plan's requests of one caller, and gives how they ended.
+/// Asks the plan's requests of one caller, by this client, and gives how they ended.
 pub fn ask_in_turn<J: Naming, S: EntryStore, R: Wait + Clock>(
     rt: &R,
     alloc: Global,
-    ring: &Ring<J, S>,
+    opened: Option<FreshClient<'_, J, S>>,
     number: usize,
     asks: &[PlanAsk],
 ) -> Answers<J> {
     let mut results = AskResults::new(alloc);
-    let mut client = match ring.open_client(rt, 1) {
-        Ok(client) => client,
-        Err(OpenClientFault::Memory) => return Err(Finish::OutOfMemory),
-        Err(_) => {
-            let witness = Witness::open(ring.table());
-            return Ok(CallerAnswers { results, witness });
-        }
+    let Some(FreshClient { mut client }) = opened else {
+        return Ok(CallerAnswers {
+            results,
+            caller: None,
+        });
     };
     ask_each(rt, &mut client, number, asks, &mut results)?;
-    let witness = client.witness();
-    Ok(CallerAnswers { results, witness })
+    Ok(CallerAnswers {
+        results,
+        caller: Some(client.into_returned()),
+    })
 }

@@ -1,6 +1,6 @@
 //! A caller of a ring, as the asker of a session.
 ghost use Rattle.std.specs.Prelude.{◌≡◌, ◌⊎◌, ◌≤◌, [], length};
-ghost use Rattle.chord_app_serve.specs.Asked.{asked_since};
+ghost use Rattle.chord_app_serve.specs.Asked.{asked_since, has_pending};
 ghost use Rattle.chord_serve.specs.Question.{IsAnswer, IsHeard};
 ghost use Rattle.chord_serve.specs.declared.asker.Asked.TheVariants as Asked;
 
@@ -8,7 +8,7 @@ use crate::serving::idle::IdleCaller;
 use chord_live::RingClient;
 use chord_live_types::{AskFault, RetryFault, WaitFault};
 use chord_map::{Reply, Request};
-use chord_serve::{Asked, Asker};
+use chord_serve::{Asked, Asker, MayBePending};
 use chord_store::EntryStore;
 use chord_table::Naming;
 use chord_wire::is_writable;
@@ -18,7 +18,7 @@ use std::time::Clock;
 /// Asks at one node, by a caller that keeps no replies. The caller's number of a request is the
 /// session's plus `before`. What was asked is data of the proof alone.
 #[derive(Drop)]
-pub struct RingAsker<'a, J: Naming, S: EntryStore, R: Wait + Clock> {
+pub struct RingAsker<'a, J: Naming, S: EntryStore, R> {
     rt: &'a R,
     caller: RingClient<'a, J, S>,
     via: u64,
@@ -98,4 +98,12 @@ impl<'a, J: Naming, S: EntryStore, R: Wait + Clock> Asker for RingAsker<'a, J, S
     ghost notes = { λ a b question answer heard. heard.notes };
 
     ghost kind = { λ a b question answer heard. heard.kind };
+}
+
+impl<'a, J: Naming, S: EntryStore, R: Wait + Clock> MayBePending for RingAsker<'a, J, S, R> {
+    ghost pending = { λ a. has_pending a.caller.caller };
+
+    fn is_pending(&self) -> bool {
+        self.caller.pending().is_some()
+    }
 }

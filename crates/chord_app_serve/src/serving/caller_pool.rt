@@ -96,7 +96,7 @@ impl<'r, J: Naming, S: EntryStore> CallerPool<'r, J, S> {
         match IdleCaller::settle(rt, caller, via) {
             Ok(idle) => Ok(idle),
             Err(caller) => {
-                self.keep(rt, caller);
+                self.add(rt, caller);
                 Err(none)
             }
         }
@@ -104,12 +104,22 @@ impl<'r, J: Naming, S: EntryStore> CallerPool<'r, J, S> {
 
     /// Takes a caller back from a connection, for later ones.
     pub fn give_back<R: Wait>(&self, rt: &R, caller: RingClient<'r, J, S>) {
-        self.serving.fetch_sub(1, Ordering::SeqCst);
-        self.keep(rt, caller);
+        self.pause();
+        self.add(rt, caller);
     }
 
-    /// Keeps a caller for later connections. Drops it if there is room for none.
-    fn keep<R: Wait>(&self, rt: &R, caller: RingClient<'r, J, S>) {
+    /// Counts a caller out whose session lost its connection.
+    pub fn pause(&self) {
+        self.serving.fetch_sub(1, Ordering::SeqCst);
+    }
+
+    /// Counts a caller in whose session has a connection again.
+    pub fn go_on(&self) {
+        self.serving.fetch_add(1, Ordering::SeqCst);
+    }
+
+    /// Adds a caller for later connections. Drops it if there is room for none.
+    pub fn add<R: Wait>(&self, rt: &R, caller: RingClient<'r, J, S>) {
         if self.keeps_callers {
             self.resting.lock(rt).add(caller);
         } else {

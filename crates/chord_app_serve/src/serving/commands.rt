@@ -1,22 +1,46 @@
 //! The two forms of the command `serve`.
+ghost use Rattle.std.specs.Prelude.{◌≡◌, vec_len};
 
 use crate::plan_run::ring_parts_of;
 use crate::serving::server::serve_named;
-use chord_app_sockets::{Host, Lines, ServerSetup, Stop, Until};
+use chord_app_sockets::{ClientSeconds, Host, Lines, ServerSetup, Stop, Until};
 use chord_app_text::Finish;
 use chord_live_ring::RingParts;
 use chord_store::EntryStore;
 use log::Log;
+use std::alloc::Global;
 use std::io::{Read, Write};
 use std::marker::Brand;
 use std::sync::Arc;
 use std::thread;
 
+/// The stores of a server.
+#[derive(Drop)]
+pub struct ServerStores<S: EntryStore> {
+    /// One for each node of the plan.
+    pub nodes: Vec<S>,
+    /// For nodes that join later, all of the plan's kind of spare stores.
+    pub spares: Vec<S>,
+}
+
+impl<S: EntryStore> ServerStores<S> {
+    /// Stores for the nodes of the plan alone.
+    pub fn without_spares(alloc: Global, nodes: Vec<S>) -> ServerStores<S>
+        ensures nodes { result.nodes ≡ nodes }
+        ensures none { vec_len result.spares ≡ 0 }
+    {
+        ServerStores {
+            nodes,
+            spares: Vec::new(alloc),
+        }
+    }
+}
+
 /// Serves until then, and writes the lines that are left.
 fn serve_until<S: EntryStore + Send, R: Host, L: Log + Sync, W: Write + Send + Drop>(
     rt: &R,
     setup: &ServerSetup<'_, L>,
-    stores: Vec<S>,
+    stores: ServerStores<S>,
     until: Until<'_>,
     lines: Lines<W>,
     parts: RingParts,
@@ -39,9 +63,10 @@ pub fn serve<S: EntryStore + Send, R: Host, L: Log + Sync, W: Write + Send + Dro
     connections: usize,
     writer: W,
 ) -> Result<(), Finish> {
-    let parts = ring_parts_of(setup.alloc, setup.plan)?;
+    let parts = ring_parts_of(setup.alloc, setup.settings)?;
     let lines = Lines::by_number(setup.alloc, writer, connections);
     let until = Until::Connections(connections);
+    let stores = ServerStores::without_spares(setup.alloc, stores);
     serve_until(rt, setup, stores, until, lines, parts)
 }
 
@@ -71,8 +96,8 @@ fn stop_at_end<R: Host, L, I: Read + Send + Drop + 'static>(
     Ok(stop)
 }
 
-/// The command `serve --stay`: a ring of the plan's nodes over these stores, one for each, serves
-/// until the input ends. A client that is idle for `idle` seconds is left.
+/// The command `serve --stay`: a ring of the plan's nodes over these stores serves until the input
+/// ends.
 pub fn stay<
     S: EntryStore + Send,
     R: Host,
@@ -82,12 +107,12 @@ pub fn stay<
 >(
     rt: &R,
     setup: &ServerSetup<'_, L>,
-    stores: Vec<S>,
-    idle: u64,
+    stores: ServerStores<S>,
+    seconds: ClientSeconds,
     input: I,
     writer: W,
 ) -> Result<(), Finish> {
-    let parts = ring_parts_of(setup.alloc, setup.plan)?;
+    let parts = ring_parts_of(setup.alloc, setup.settings)?;
     let stop = match stop_at_end(rt, setup, input) {
         Ok(stop) => stop,
         Err(finish) => {
@@ -98,7 +123,10 @@ pub fn stay<
         }
     };
     let lines = Lines::as_they_end(setup.alloc, writer);
-    let until = Until::Stopped { stop: &stop, idle };
+    let until = Until::Stopped {
+        stop: &stop,
+        seconds,
+    };
     let stayed = serve_until(rt, setup, stores, until, lines, parts);
     drop(stop);
     stayed

@@ -1,14 +1,17 @@
 //! What the operators of a server share.
 
 use crate::serving::shown::store_shown;
+use crate::serving::spares::Spares;
 use chord_app_operator::StoreKind;
 use chord_app_plan::Plan;
 use chord_app_sockets::{Clients, OperatorPort, ServerSetup, Stop};
+use chord_store::EntryStore;
 use std::alloc::Global;
 use std::hash::RandomState;
 use std::io;
 use std::net::TcpListener;
 use std::sync::Mutex;
+use std::sync::atomic::AtomicU64;
 use std::time::{Clock, Instant};
 
 /// Where operators come in.
@@ -35,28 +38,38 @@ impl<'s> OperatorDoor<'s> {
     }
 }
 
-/// The plan of a server, since when it runs, and where its operators come in, if there is a port
-/// for them.
+/// The plan of a server, the spare stores, since when it runs, and where its operators come in, if
+/// there is a port for them.
 #[derive(Drop)]
-pub struct Desk<'s> {
+pub struct Desk<'s, S: EntryStore> {
     pub plan: &'s Plan,
+    pub spares: Spares<S>,
     /// None if the clock could not be read.
     began: Option<Instant>,
     /// Held from the look that says that a node may crash until it has crashed.
     pub crashing: Mutex<()>,
+    /// How many identifiers were drawn for nodes that joined without one.
+    pub draws: AtomicU64,
     pub door: Option<OperatorDoor<'s>>,
 }
 
-impl<'s> Desk<'s> {
-    pub fn new<R: Clock, L>(rt: &R, setup: &ServerSetup<'s, L>) -> io::Result<Desk<'s>> {
+impl<'s, S: EntryStore> Desk<'s, S> {
+    pub fn new<R: Clock, L>(
+        rt: &R,
+        setup: &ServerSetup<'s, L>,
+        spares: Vec<S>,
+    ) -> io::Result<Desk<'s, S>> {
+        let spares = Spares::new(setup.alloc, setup.plan.spare, spares)?;
         let door = match setup.operator {
             Some(port) => Some(OperatorDoor::new(setup.alloc, port)?),
             None => None,
         };
         Ok(Desk {
             plan: setup.plan,
+            spares,
             began: Instant::now(rt).ok(),
             crashing: Mutex::new(()),
+            draws: AtomicU64::new(0),
             door,
         })
     }
@@ -76,7 +89,7 @@ impl<'s> Desk<'s> {
     pub fn store_of(&self, node: u64) -> StoreKind {
         match self.plan.nodes.get(node as usize) {
             Some(node) => store_shown(node.store),
-            None => StoreKind::Tree,
+            None => store_shown(self.spares.kind),
         }
     }
 }

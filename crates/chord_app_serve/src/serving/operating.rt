@@ -29,9 +29,12 @@ impl<'s, 'r, J: Naming, S: EntryStore, R: Host, L: Log, W: Write> Server<'s, 'r,
     fn operator<'t>(&'t self) -> RingOperator<'t, 's, 'r, J, S, R> {
         RingOperator {
             rt: self.service.rt,
+            alloc: self.service.alloc,
             ring: self.service.ring,
             pool: &self.pool,
             clients: &self.clients,
+            sessions: &self.sessions,
+            tally: &self.tally,
             until: self.until,
             desk: &self.desk,
         }

@@ -5,7 +5,9 @@ ghost use Rattle.chord_app_serve.specs.Shown.{crash_refusal, IsShownNode, Tells}
 
 use crate::serving::caller_pool::CallerPool;
 use crate::serving::desk::Desk;
+use crate::serving::sessions::Sessions;
 use crate::serving::shown::node_shown;
+use crate::serving::tally::Tally;
 use chord_app_operator::{
     CallerCounts, CrashRefusal, CrashRequest, Holder, JoinRefusal, JoinRequest, LeaveRefusal,
     NodeSight, Operator, PairsPage, PairsRequest, RingSight,
@@ -25,17 +27,23 @@ use std::time::Clock;
 #[derive(Drop)]
 pub struct RingOperator<'t, 's, 'r, J: Naming, S: EntryStore, R> {
     pub rt: &'r R,
+    pub alloc: Global,
     pub ring: &'r Ring<J, S>,
     pub pool: &'t CallerPool<'r, J, S>,
     pub clients: &'t Clients,
+    pub sessions: &'t Sessions<'r, J, S, R>,
+    pub tally: &'t Tally,
     pub until: Until<'s>,
-    pub desk: &'t Desk<'s>,
+    pub desk: &'t Desk<'s, S>,
 }
 
 impl<'t, 's, 'r, J: Naming, S: EntryStore, R: Wait + Clock> RingOperator<'t, 's, 'r, J, S, R> {
-    /// How many nodes there may be.
-    fn slots(&self) -> u64 {
-        self.desk.plan.settings.slots as u64
+    /// How many nodes there may ever be.
+    pub fn slots(&self) -> u64
+        ensures value { result ≡ self.now.ring.now.slots }
+        ensures named { J.name.slots ≡ self.now.ring.now.slots }
+    {
+        self.ring.settings().slots as u64
     }
 
     /// A node as it looks now, if it was admitted.
@@ -54,7 +62,7 @@ impl<'t, 's, 'r, J: Naming, S: EntryStore, R: Wait + Clock> RingOperator<'t, 's,
         ensures { IfOk result (λ nodes. All IsShownNode nodes.items) }
     {
         let mut nodes = Vec::new(alloc);
-        for number in 0..self.slots() {
+        for number in 0..self.ring.node_count() {
             let Some(node) = self.node_at(alloc, number)? else {
                 return Ok(nodes);
             };
@@ -93,11 +101,11 @@ fn crash_refusal(is_member: bool, stands_without: bool, is_forced: bool) -> Opti
 }
 
 impl<'t, 's, 'r, J: Naming, S: EntryStore, R: Host> Operator for RingOperator<'t, 's, 'r, J, S, R> {
-    ghost answers = { λ old question answer new. (new ≡ old) × Tells old.desk.now.plan.now.settings question answer };
+    ghost answers = { λ old question answer new. (new ≡ old) × Tells old.ring.now question answer };
 
     fn sight(&mut self, alloc: Global) -> Result<RingSight, AllocError> {
         let nodes = self.nodes(alloc)?;
-        let settings = self.desk.plan.settings;
+        let settings = self.ring.settings();
         Ok(RingSight {
             successors: settings.successors as u64,
             slots: settings.slots as u64,
@@ -106,13 +114,15 @@ impl<'t, 's, 'r, J: Naming, S: EntryStore, R: Host> Operator for RingOperator<'t
                 all: settings.callers as u64,
             },
             connections: self.clients.count(self.rt),
+            ends: self.tally.ends(self.rt),
+            sessions: self.tally.sessions(self.rt, self.sessions.kept(self.rt)),
             uptime_ms: self.desk.uptime_ms(self.rt),
             nodes,
         })
     }
 
     fn is_healthy(&mut self) -> bool {
-        for number in 0..self.slots() {
+        for number in 0..self.ring.node_count() {
             if self.ring.phase_of(self.rt, number) == Some(Phase::Staying) {
                 return true;
             }
@@ -120,9 +130,8 @@ impl<'t, 's, 'r, J: Naming, S: EntryStore, R: Host> Operator for RingOperator<'t
         false
     }
 
-    /// No node joins while the server runs.
-    fn join(&mut self, _request: JoinRequest) -> Result<u64, JoinRefusal> {
-        Err(JoinRefusal::NoStore)
+    fn join(&mut self, request: JoinRequest) -> Result<u64, JoinRefusal> {
+        self.join_one(request)
     }
 
     fn leave(&mut self, node: u64) -> Result<(), LeaveRefusal> {
@@ -147,7 +156,7 @@ impl<'t, 's, 'r, J: Naming, S: EntryStore, R: Host> Operator for RingOperator<'t
     /// before a handover of it.
     fn holder(&mut self, id: Id) -> Holder {
         let mut found = Holder::Moved;
-        for number in 0..self.slots() {
+        for number in 0..self.ring.node_count() {
             match self.ring.holding(self.rt, number, id) {
                 Some(chord_model::Holder::Node(node)) => return Holder::Node(node),
                 Some(chord_model::Holder::UnderWay { from, to, number }) => {

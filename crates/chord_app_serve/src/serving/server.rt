@@ -2,8 +2,12 @@
 ghost use Rattle.std.specs.Prelude.{◌≡◌};
 
 use crate::serving::caller_pool::CallerPool;
+use crate::serving::commands::ServerStores;
 use crate::serving::desk::Desk;
-use crate::serving::service::{Service, Visit, node_of};
+use crate::serving::idle::IdleCaller;
+use crate::serving::service::{Service, node_of};
+use crate::serving::sessions::Sessions;
+use crate::serving::tally::Tally;
 use chord_app_sockets::{
     Clients, Door, Doors, Ended, Host, Lines, PatientReader, PatientWriter, Protocol, ServerSetup,
     Until, close_slowly, prepare,
@@ -25,17 +29,29 @@ use std::thread;
 use std::thread::Scope;
 use std::time::Duration;
 
+/// The connection of a client.
+#[derive(Clone, Copy)]
+pub struct Guest<'a> {
+    pub number: u64,
+    /// The node at which it asks.
+    pub via: u64,
+    pub protocol: Protocol,
+    pub stream: &'a TcpStream,
+}
+
 /// What all connections of a server share.
 #[derive(Drop)]
 pub struct Server<'s, 'r, J: Naming, S: EntryStore, R, L, W> {
     pub service: &'s Service<'r, J, S, R, L>,
     pub pool: CallerPool<'r, J, S>,
+    pub sessions: Sessions<'r, J, S, R>,
+    pub tally: Tally,
     pub clients: Clients,
     pub lines: &'s Lines<W>,
     pub until: Until<'s>,
     /// How many connections of clients got a number, at all doors.
     numbers: AtomicU64,
-    pub desk: Desk<'s>,
+    pub desk: Desk<'s, S>,
 }
 
 /// Tells a client that no caller is left for its connection, in the words of its protocol.
@@ -54,38 +70,75 @@ impl<'s, 'r, J: Naming, S: EntryStore, R: Host, L: Log, W: Write> Server<'s, 'r,
     /// Notes and logs how a connection ended. If writing fails, the server stops.
     fn tell(&self, number: u64, ended: &Ended) {
         self.service.log_end(number, ended);
+        self.tally.end(self.service.rt, ended);
         if !self.lines.tell(self.service.rt, number, ended) {
             self.until.stop(self.service.rt);
         }
     }
 
-    /// Serves a client by a caller of the pool, or tells it that none is left.
-    fn serve_client(&self, number: u64, protocol: Protocol, stream: &TcpStream) -> Ended {
+    /// Tells a client that no caller is left, if that is why its connection ends so.
+    pub fn refuse(&self, guest: Guest<'_>, none: Ended) -> Ended {
+        if none == Ended::CallersSpent {
+            let mut writer = PatientWriter::new(guest.stream);
+            let _ = tell_spent(self.service.alloc, guest.protocol, &mut writer).is_ok();
+        }
+        none
+    }
+
+    /// A caller of the pool, or else that of a session without a connection, which is dropped.
+    pub fn caller_for(&self, guest: Guest<'_>) -> Result<IdleCaller<'r, J, S>, Ended> {
+        let rt = self.service.rt;
+        let none = match self.pool.take(rt, guest.via) {
+            Ok(idle) => return Ok(idle),
+            Err(none) => none,
+        };
+        let now = self.desk.uptime_ms(rt);
+        let Some(asker) = self.sessions.drop_oldest(rt, now) else {
+            return Err(none);
+        };
+        self.tally.drop_session(rt);
+        self.pool.add(rt, asker.into_caller());
+        self.pool.take(rt, guest.via)
+    }
+
+    /// Serves a client that speaks Redis's protocol.
+    fn serve_redis(&self, guest: Guest<'_>) -> Ended {
         let service = self.service;
-        let via = node_of(number, service.nodes);
-        let mut writer = PatientWriter::new(stream);
-        let idle = match self.pool.take(service.rt, via) {
+        let idle = match self.caller_for(guest) {
             Ok(idle) => idle,
-            Err(none) => {
-                if none == Ended::CallersSpent {
-                    let _ = tell_spent(service.alloc, protocol, &mut writer).is_ok();
-                }
-                return none;
-            }
+            Err(none) => return self.refuse(guest, none),
         };
-        let mut reader = PatientReader::new(stream, &self.clients, self.until.idle());
+        let mut reader = PatientReader::new(guest.stream, &self.clients, self.until.idle());
+        let mut writer = PatientWriter::new(guest.stream);
         let turns = self.until.turns();
-        let visit = Visit {
-            protocol,
-            via,
-            server: ServerInfo {
-                number,
-                source: self,
-            },
+        let server = ServerInfo {
+            number: guest.number,
+            source: self,
         };
-        let (served, caller) = service.serve_by(idle, visit, &mut reader, &mut writer, turns);
+        let (served, caller) = service.serve_redis(
+            idle,
+            guest.via,
+            server,
+            &mut reader,
+            &mut writer,
+            turns,
+        );
         self.pool.give_back(service.rt, caller);
         Ended::by(served, reader.is_idle() || writer.is_idle())
+    }
+
+    /// Serves a client, or tells it that no caller is left.
+    fn serve_client(&self, number: u64, protocol: Protocol, stream: &TcpStream) -> Ended {
+        let guest = Guest {
+            number,
+            via: node_of(number, self.service.ring.node_count()),
+            protocol,
+            stream,
+        };
+        match protocol {
+            Protocol::Frames => self.serve_frames(guest),
+            Protocol::Redis => self.serve_redis(guest),
+        }
     }
 
     /// Serves a connection to its end. Notes how it ended before closing it.
@@ -265,7 +318,7 @@ fn serve_ring<
     })
 }
 
-/// Serves with this ring.
+/// Serves with this ring, over these stores.
 fn serve_with<
     J: Naming + Send + Sync,
     S: EntryStore + Send,
@@ -275,25 +328,28 @@ fn serve_with<
 >(
     rt: &R,
     setup: &ServerSetup<'_, L>,
-    stores: Vec<S>,
+    stores: ServerStores<S>,
     until: Until<'_>,
     lines: &Lines<W>,
     ring: &Ring<J, S>,
 ) -> Result<(), Finish> {
     let service = Service::new(rt, ring, setup);
-    let kept = until.kept_callers(setup.plan.settings.callers);
+    let kept = until.kept_callers(setup.settings.callers);
     let pool = CallerPool::new(setup.alloc, ring, kept)?;
-    let desk = Desk::new(rt, setup)?;
+    let ServerStores { nodes, spares } = stores;
+    let desk = Desk::new(rt, setup, spares)?;
     let server = Server {
         service: &service,
         pool,
+        sessions: Sessions::new(setup.alloc, until.session_seconds()),
+        tally: Tally::new(),
         clients: Clients::new(setup.alloc),
         lines,
         until,
         numbers: AtomicU64::new(0),
         desk,
     };
-    let served = serve_ring(rt, &server, setup, stores);
+    let served = serve_ring(rt, &server, setup, nodes);
     drop(server);
     served
 }
@@ -308,7 +364,7 @@ pub fn serve_named<
 >(
     rt: &R,
     setup: &ServerSetup<'_, L>,
-    stores: Vec<S>,
+    stores: ServerStores<S>,
     until: Until<'_>,
     lines: &Lines<W>,
     parts: RingParts,

@@ -5,14 +5,15 @@ use crate::nodes::{start_nodes, tick_in_turn};
 use crate::serving::asker::RingAsker;
 use crate::serving::idle::IdleCaller;
 use chord_app_plan::PlanNode;
-use chord_app_sockets::{Ended, Protocol, ServerSetup};
+use chord_app_sockets::{Ended, ServerSetup};
 use chord_app_text::Finish;
 use chord_live::RingClient;
 use chord_live_ring::Ring;
 use chord_resp_serve::{Informs, ServerInfo, serve_commands};
-use chord_serve::{Served, serve};
+use chord_serve::{Served, serve_plain};
 use chord_store::EntryStore;
 use chord_table::Naming;
+use chord_wire::SessionFrames;
 use log::{Log, info};
 use std::alloc::Global;
 use std::io::{Read, Write};
@@ -20,25 +21,16 @@ use std::sync::Wait;
 use std::thread::{Scope, Threads};
 use std::time::Clock;
 
-/// A ring, how many nodes it has, and where to log how connections end.
+/// A ring, and where to log how connections end.
 #[derive(Drop)]
 pub struct Service<'r, J: Naming, S: EntryStore, R, L> {
     pub rt: &'r R,
     pub alloc: Global,
     pub ring: &'r Ring<J, S>,
-    pub nodes: u64,
     pub notes: &'r L,
 }
 
-/// What a client speaks, the node at which it asks, and what it is told of the server.
-#[derive_where(Clone, Copy)]
-pub struct Visit<'a, N> {
-    pub protocol: Protocol,
-    pub via: u64,
-    pub server: ServerInfo<'a, N>,
-}
-
-/// The node at which a connection asks: its number modulo the number of nodes.
+/// The node at which a connection asks: its number modulo the number of nodes that were admitted.
 pub fn node_of(number: u64, nodes: u64) -> u64
     ensures { result ≡ number % nodes }
 {
@@ -56,7 +48,6 @@ impl<'r, J: Naming, S: EntryStore, R: Wait + Clock, L: Log> Service<'r, J, S, R,
             rt,
             alloc: setup.alloc,
             ring,
-            nodes: setup.plan.nodes.len() as u64,
             notes: setup.notes,
         }
     }
@@ -73,31 +64,44 @@ impl<'r, J: Naming, S: EntryStore, R: Wait + Clock, L: Log> Service<'r, J, S, R,
         S: Send + 's,
         R: Threads + Sync + 's,
     {
-        let (rt, ring, count) = (self.rt, self.ring, self.nodes);
+        let (rt, ring) = (self.rt, self.ring);
         start_nodes(rt, ring, scope, nodes, stores)?;
-        match scope.spawn(move || tick_in_turn(rt, ring, count)) {
+        let first_nodes = nodes.len() as u64;
+        match scope.spawn(move || tick_in_turn(rt, ring, scope, first_nodes)) {
             Ok(_) => Ok(()),
             Err(_) => Err(Finish::OutOfMemory),
         }
     }
 
-    /// Serves a client that speaks this protocol, by this caller, with at most `turns` reads. Gives
-    /// the caller back.
-    pub fn serve_by<I: Read, O: Write, N: Informs>(
+    /// Serves a client that speaks in frames without a session, by this caller at the node `via`:
+    /// first what was read of it, and then at most `turns` reads. Gives the caller back.
+    pub fn serve_frames<I: Read, O: Write>(
         &self,
         idle: IdleCaller<'r, J, S>,
-        visit: Visit<'_, N>,
+        via: u64,
+        frames: SessionFrames,
         reader: &mut I,
         writer: &mut O,
         turns: u64,
     ) -> (Served, RingClient<'r, J, S>) {
-        let asker = RingAsker::new(self.rt, idle, visit.via);
-        let (served, asker) = match visit.protocol {
-            Protocol::Frames => serve(self.alloc, reader, writer, asker, turns),
-            Protocol::Redis => {
-                serve_commands(self.alloc, reader, writer, asker, visit.server, turns)
-            }
-        };
+        let asker = RingAsker::new(self.rt, idle, via);
+        let (served, asker) = serve_plain(self.alloc, reader, writer, frames, asker, turns);
+        (served, asker.into_caller())
+    }
+
+    /// Serves a client that speaks Redis's protocol, by this caller at the node `via`, with at most
+    /// `turns` reads. Gives the caller back.
+    pub fn serve_redis<I: Read, O: Write, N: Informs>(
+        &self,
+        idle: IdleCaller<'r, J, S>,
+        via: u64,
+        server: ServerInfo<'_, N>,
+        reader: &mut I,
+        writer: &mut O,
+        turns: u64,
+    ) -> (Served, RingClient<'r, J, S>) {
+        let asker = RingAsker::new(self.rt, idle, via);
+        let (served, asker) = serve_commands(self.alloc, reader, writer, asker, server, turns);
         (served, asker.into_caller())
     }
 

@@ -1,4 +1,4 @@
-use Rattle.std.proofs.Common.{rules, ◌≡◌, ◌++◌, [], ◌∷◌, sym, ap, ◌∙◌, subst, map, take, get_or}
+use Rattle.std.proofs.Common.{◌≡◌, ◌++◌, [], ◌∷◌, sym, ap, ◌∙◌, subst, map, take, get_or}
 use Rattle.chord_app_plan.specs.declared.ask.PlanAsk.{PlanAsk}
 use Rattle.chord_app_serve.proofs.Together.{first_requests, requests_next}
 use Rattle.chord_app_serve.specs.Together.{NextIs, replies_of, requests_of, taken_requests}

@@ -1,5 +1,5 @@
-use Rattle.std.proofs.Common.{rules, ◌≡◌, sym, subst}
-use Rattle.chord_app_serve.proofs.Together.{answers_next, is_reply, next_is, not_next}
+use Rattle.std.proofs.Common.{sym, subst}
+use Rattle.chord_app_serve.proofs.Together.{answers_next}
 use Rattle.chord_app_serve.specs.Together.{AreAnswers}
 use Rattle.chord_app_serve.specs.declared.plan_run.asking.AskResult.{AskResult}
 use Rattle.std.specs.Prelude.{List}

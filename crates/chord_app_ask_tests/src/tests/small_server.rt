@@ -1,0 +1,189 @@
+//! A server of sessions over loopback, one connection after another.
+ghost use Rattle.std.specs.Prelude.{◌≡◌, ◌++◌, ◌∷◌, [], true};
+ghost use Rattle.chord_serve.specs.Question.{IsHeard};
+
+use chord_map::{PlainMap, Request};
+use chord_serve::{
+    Asked, Asker, ClientSession, KeptSessions, Parted, greet, serve_session, tell_no_session,
+    tell_opened, tell_session_known,
+};
+use chord_serve_testkit::Cut;
+use chord_wire::{Opening, SessionFrames, Token, is_writable};
+use std::alloc::Global;
+use std::io::{self, Read, Write};
+use std::net::{TcpListener, TcpStream};
+
+/// Answers from one plain map, and lists the requests asked.
+#[derive(Drop)]
+pub struct MapAsker {
+    map: PlainMap,
+    requests: Vec<Request>,
+}
+
+fn note(requests: &mut Vec<Request>, request: &Request) -> bool
+    ensures { result ≡ true → requests.new.items ≡ requests.old.items ++ request.now ∷ [] }
+{
+    match request.try_copy() {
+        Ok(copy) => {
+            let pushed = requests.push(copy);
+            let is_noted = pushed.is_ok();
+            drop(pushed);
+            is_noted
+        }
+        Err(_) => false,
+    }
+}
+
+impl Asker for MapAsker {
+    ghost answers = { λ a question answer b. IsHeard question answer a.requests.items b.requests.items };
+
+    ghost asked = { λ a. a.requests.items };
+
+    fn ask(&mut self, request: &Request) -> Asked {
+        if !note(&mut self.requests, request) {
+            return Asked::Memory;
+        }
+        if request.check().is_err() {
+            return Asked::NoAnswer;
+        }
+        match self.map.apply(request) {
+            Err(_) => Asked::Memory,
+            Ok(reply) => {
+                if reply.fits(request) && is_writable(&reply) {
+                    return Asked::Reply(reply);
+                }
+                drop(reply);
+                Asked::NoAnswer
+            }
+        }
+    }
+
+    fn retry(&mut self, _number: u64) -> Asked {
+        Asked::NoAnswer
+    }
+
+    ghost notes = { λ a b question answer heard. heard.notes };
+
+    ghost kind = { λ a b question answer heard. heard.kind };
+}
+
+/// What the server does with a connection.
+#[derive(Clone, Copy)]
+pub enum Visit<'a> {
+    /// Serves it until it has written this number of bytes.
+    Serve(usize),
+    /// Drops the sessions that it keeps, and then serves it.
+    Forget,
+    /// Reads once, and answers with these bytes.
+    Answer(&'a [u8]),
+}
+
+#[derive(Drop)]
+pub struct SmallServer {
+    alloc: Global,
+    kept: KeptSessions<MapAsker>,
+    /// How many sessions were closed.
+    pub closed: usize,
+    /// How many requests the askers of closed sessions were asked.
+    pub asked: usize,
+}
+
+impl SmallServer {
+    pub fn new(alloc: Global) -> SmallServer {
+        SmallServer {
+            alloc,
+            kept: KeptSessions::new(alloc),
+            closed: 0,
+            asked: 0,
+        }
+    }
+
+    pub fn kept(&self) -> usize {
+        self.kept.len()
+    }
+
+    /// The session that is opened. The client is told why there is none.
+    fn open<W: Write>(
+        &mut self,
+        writer: &mut W,
+        opening: Opening,
+    ) -> Option<ClientSession<MapAsker>> {
+        if opening.resumes {
+            let client = self.kept.take(opening.token);
+            if client.is_none() {
+                drop(tell_no_session(self.alloc, writer));
+            }
+            return client;
+        }
+        if self.kept.knows(opening.token) {
+            drop(tell_session_known(self.alloc, writer));
+            return None;
+        }
+        let asker = MapAsker {
+            map: PlainMap::new(self.alloc),
+            requests: Vec::new(self.alloc),
+        };
+        Some(ClientSession::new(self.alloc, asker))
+    }
+
+    /// Keeps what a connection left of its session.
+    fn part(&mut self, token: Token, left: Parted<MapAsker>) {
+        match left {
+            Parted::Kept(client) => drop(self.kept.keep(token, 0, client)),
+            Parted::Over(asker) => {
+                self.closed = self.closed.saturating_add(1);
+                self.asked = self.asked.saturating_add(asker.requests.len());
+                drop(asker);
+            }
+        }
+    }
+
+    fn serve<R: Read, W: Write>(&mut self, reader: &mut R, writer: &mut W) {
+        let mut frames = SessionFrames::new(self.alloc);
+        let Ok(Some(opening)) = greet(reader, &mut frames, 1000) else {
+            drop(frames);
+            return;
+        };
+        let Some(client) = self.open(writer, opening) else {
+            drop(frames);
+            return;
+        };
+        if tell_opened(self.alloc, writer, &client).is_err() {
+            drop(frames);
+            self.part(opening.token, Parted::Kept(client));
+            return;
+        }
+        let (_, left) = serve_session(self.alloc, reader, writer, frames, client, 1_000_000);
+        self.part(opening.token, left);
+    }
+
+    fn visit(&mut self, stream: &TcpStream, visit: Visit<'_>) {
+        let mut reader = stream;
+        let mut writer = stream;
+        match visit {
+            Visit::Serve(most) => self.serve(&mut reader, &mut Cut::new(writer, most)),
+            Visit::Forget => {
+                self.kept = KeptSessions::new(self.alloc);
+                self.serve(&mut reader, &mut writer);
+            }
+            Visit::Answer(bytes) => {
+                let mut piece = [0u8; 64];
+                let _ = reader.read(&mut piece).is_ok();
+                let _ = writer.write_all(bytes).is_ok();
+            }
+        }
+    }
+
+    /// Accepts as many connections as there are visits, unless a session is closed before.
+    pub fn run(&mut self, listener: &TcpListener, visits: &[Visit<'_>]) -> io::Result<()> {
+        for (visit, accepted) in visits.iter().zip(listener.incoming()) {
+            let stream = accepted?;
+            self.visit(&stream, *visit);
+            drop(stream);
+            if self.closed != 0 {
+                break;
+            }
+        }
+        Ok(())
+    }
+}

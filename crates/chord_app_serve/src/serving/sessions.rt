@@ -1,0 +1,108 @@
+//! The sessions of a server's clients.
+
+use crate::serving::asker::RingAsker;
+use chord_serve::{BeginRefusal, ClientSession, Resumed, SessionTable};
+use chord_store::EntryStore;
+use chord_table::Naming;
+use chord_wire::Token;
+use std::alloc::Global;
+use std::sync::{Condvar, CondvarTimeouts, Mutex, Wait};
+use std::time::{Clock, Duration};
+
+/// How many bytes the kept answers of all sessions without a connection may have.
+const MOST_KEPT_BYTES: u64 = 64 << 20;
+
+/// For how many milliseconds a connection waits at a time for an older one to end.
+const TICK_MILLISECONDS: u64 = 100;
+
+/// The sessions of a server's clients, with connections and without.
+#[derive(Drop)]
+pub struct Sessions<'r, J: Naming, S: EntryStore, R> {
+    table: Mutex<SessionTable<RingAsker<'r, J, S, R>>>,
+    /// Is notified when a connection loses its session.
+    lost: Condvar,
+    /// For how many seconds a session without a connection is kept though its caller is needed.
+    seconds: u64,
+}
+
+impl<'r, J: Naming, S: EntryStore, R: Wait + Clock> Sessions<'r, J, S, R> {
+    /// No sessions. For 0 seconds none is kept.
+    pub fn new(alloc: Global, seconds: u64) -> Sessions<'r, J, S, R> {
+        Sessions {
+            table: Mutex::new(SessionTable::new(alloc)),
+            lost: Condvar::new(),
+            seconds,
+        }
+    }
+
+    /// How many sessions are kept without a connection.
+    pub fn kept(&self, rt: &R) -> u64 {
+        self.table.lock(rt).kept_count() as u64
+    }
+
+    /// Notes that a session of this token begins over this connection.
+    pub fn begin(&self, rt: &R, token: Token, connection: u64) -> Result<(), BeginRefusal> {
+        self.table.lock(rt).begin(token, connection)
+    }
+
+    /// Gives the session of this token to this connection, unless another one has it still.
+    pub fn resume(&self, rt: &R, token: Token, connection: u64) -> Resumed<RingAsker<'r, J, S, R>> {
+        self.table.lock(rt).resume(token, connection)
+    }
+
+    /// Waits until that connection lost the session of this token, for a tick at most.
+    pub fn wait_for(&self, rt: &R, token: Token, connection: u64) {
+        let table = self.table.lock(rt);
+        let tick = Duration::from_millis(TICK_MILLISECONDS);
+        let (_table, _) = self.lost.wait_timeout_while(rt, table, tick, |table| {
+            table.connection_of(token) == Some(connection)
+        });
+    }
+
+    /// Keeps a session that lost its connection at this moment. Gives its asker if it is not kept.
+    pub fn part(
+        &self,
+        rt: &R,
+        token: Token,
+        now: u64,
+        client: ClientSession<RingAsker<'r, J, S, R>>,
+    ) -> Option<RingAsker<'r, J, S, R>> {
+        if self.seconds == 0 {
+            self.end(rt, token);
+            return Some(client.into_asker());
+        }
+        let parted = self.table.lock(rt).part(token, now, client);
+        match parted {
+            Ok(()) => {
+                self.lost.notify_all();
+                None
+            }
+            Err(client) => {
+                self.end(rt, token);
+                Some(client.into_asker())
+            }
+        }
+    }
+
+    /// Forgets the session of this token that a connection has.
+    pub fn end(&self, rt: &R, token: Token) {
+        self.table.lock(rt).end(token);
+        self.lost.notify_all();
+    }
+
+    /// Drops the session that was kept longest, if for as long as one is kept at least. Its caller
+    /// is needed.
+    pub fn drop_oldest(&self, rt: &R, now: u64) -> Option<RingAsker<'r, J, S, R>> {
+        let until = now.checked_sub(self.seconds.saturating_mul(1_000))?;
+        self.table.lock(rt).drop_oldest(until)
+    }
+
+    /// Drops the session that was kept longest, if the kept answers take too much memory.
+    pub fn drop_surplus(&self, rt: &R) -> Option<RingAsker<'r, J, S, R>> {
+        let mut table = self.table.lock(rt);
+        if table.kept_bytes() <= MOST_KEPT_BYTES {
+            return None;
+        }
+        table.drop_oldest(u64::MAX)
+    }
+}

@@ -1,0 +1,381 @@
+//! Nodes that an operator makes join, leave and crash while clients ask.
+
+use crate::operators::{Call, Listeners, PLAIN, unanswered};
+use crate::stays::WAITS;
+use chord_app_plan::Plan;
+use chord_app_serve::{ServerStores, stay};
+use chord_app_serve_testkit::{Act, Answer, Ask, bound, do_acts, plan_with, two_stores};
+use chord_app_sockets::{Doors, Host, OperatorPort, ServerSetup};
+use chord_app_text::Finish;
+use chord_store::CappedStore;
+use log::sink::Discard;
+use std::alloc::{AllocError, Global};
+use std::hash::RandomState;
+use std::io::{self, PipeReader, PipeWriter};
+use std::net::{Net, SocketAddr, TcpListener, TcpStream};
+use std::sync::Wait;
+use std::sync::atomic::{AtomicBool, Ordering};
+use std::test::Fail;
+use std::thread;
+use std::thread::Threads;
+use std::time::Clock;
+
+/// Nodes that do not join. The ring has three slots more than nodes, and spare trees.
+const REFUSED: &[Call] = &[
+    Call {
+        line: "POST /nodes",
+        body: "{\"store\":\"list\"}",
+        status: "409 Conflict",
+        has: "{\"refused\":\"NoStore\"}",
+        ..PLAIN
+    },
+    Call {
+        line: "POST /nodes",
+        body: "{\"id\":\"c0000000000000000000000000000000\"}",
+        status: "409 Conflict",
+        has: "{\"refused\":\"IdTaken\"}",
+        ..PLAIN
+    },
+    Call {
+        line: "POST /nodes",
+        body: "{\"via\":2}",
+        status: "409 Conflict",
+        has: "{\"refused\":\"NoSuchNode\"}",
+        ..PLAIN
+    },
+];
+
+/// Node 2 joins, and the key `abc` comes to it. Its identifier begins with a9.
+const JOINS: &[Call] = &[
+    Call {
+        line: "GET /holder/abc",
+        status: "200 OK",
+        has: "\"node\":1}",
+        ..PLAIN
+    },
+    Call {
+        line: "POST /nodes",
+        body: "{\"id\":\"b0000000000000000000000000000000\",\"via\":1}",
+        status: "201 Created",
+        has: "{\"node\":2}",
+        ..PLAIN
+    },
+    Call {
+        line: "GET /holder/abc",
+        status: "200 OK",
+        has: "\"node\":2}",
+        ..PLAIN
+    },
+    Call {
+        line: "GET /ring",
+        status: "200 OK",
+        has: "\"slots\":5,",
+        ..PLAIN
+    },
+    Call {
+        line: "GET /metrics",
+        status: "200 OK",
+        has: "chord_nodes{phase=\"staying\"} 3\n",
+        ..PLAIN
+    },
+];
+
+/// Node 2 leaves, and the key goes on to node 1.
+const LEAVES: &[Call] = &[
+    Call {
+        line: "POST /nodes/2/leave",
+        status: "202 Accepted",
+        has: "{\"node\":2}",
+        ..PLAIN
+    },
+    Call {
+        line: "GET /metrics",
+        status: "200 OK",
+        has: "chord_nodes{phase=\"gone\"} 1\n",
+        ..PLAIN
+    },
+    Call {
+        line: "GET /holder/abc",
+        status: "200 OK",
+        has: "\"node\":1}",
+        ..PLAIN
+    },
+];
+
+/// Two nodes join that name no identifier. Then all slots are taken.
+const FILLS: &[Call] = &[
+    Call {
+        line: "POST /nodes",
+        status: "201 Created",
+        has: "{\"node\":3}",
+        ..PLAIN
+    },
+    Call {
+        line: "GET /metrics",
+        status: "200 OK",
+        has: "chord_segments{node=\"3\"} 1\n",
+        ..PLAIN
+    },
+    Call {
+        line: "POST /nodes",
+        status: "201 Created",
+        has: "{\"node\":4}",
+        ..PLAIN
+    },
+    Call {
+        line: "POST /nodes",
+        status: "409 Conflict",
+        has: "{\"refused\":\"NoSlot\"}",
+        ..PLAIN
+    },
+    Call {
+        line: "GET /metrics",
+        status: "200 OK",
+        has: "chord_segments{node=\"4\"} 1\n",
+        ..PLAIN
+    },
+];
+
+/// Node 0, which holds nothing of `abc`, crashes once the ring stands without it.
+const CRASHES: &[Call] = &[
+    Call {
+        line: "POST /nodes/0/crash",
+        status: "200 OK",
+        has: "{\"node\":0}",
+        ..PLAIN
+    },
+    Call {
+        line: "GET /metrics",
+        status: "200 OK",
+        has: "chord_nodes{phase=\"crashed\"} 1\n",
+        ..PLAIN
+    },
+];
+
+const STOPS: &[Call] = &[Call {
+    line: "POST /stop",
+    status: "202 Accepted",
+    ..PLAIN
+}];
+
+/// What a client asks again and again. Nobody else asks for its value.
+const ROUND_OF_X: &[(Ask, Answer)] = &[
+    (Ask::Insert(b"x"), Answer::Added),
+    (Ask::Insert(b"x"), Answer::Present),
+    (Ask::Remove(b"x"), Answer::Removed),
+    (Ask::Remove(b"x"), Answer::Absent),
+];
+
+const ROUND_OF_Y: &[(Ask, Answer)] = &[
+    (Ask::Insert(b"y"), Answer::Added),
+    (Ask::Insert(b"y"), Answer::Present),
+    (Ask::Remove(b"y"), Answer::Removed),
+    (Ask::Remove(b"y"), Answer::Absent),
+];
+
+/// Asks a round, whose first request has this number.
+fn ask_round<R: Net>(
+    rt: &R,
+    alloc: Global,
+    address: SocketAddr,
+    streams: &mut Vec<R::Stream>,
+    round: &[(Ask, Answer)],
+    first: u64,
+) -> io::Result<()> {
+    for (place, (ask, answer)) in round.iter().enumerate() {
+        let number = first.saturating_add(place as u64);
+        do_acts(
+            rt,
+            alloc,
+            address,
+            streams,
+            &[(0, Act::Call(number, *ask, *answer))],
+        )?;
+    }
+    Ok(())
+}
+
+/// A client asks rounds until it is told to end. Gives how many; an error if one answer was another.
+fn ask_rounds<R: Net>(
+    rt: &R,
+    alloc: Global,
+    address: SocketAddr,
+    round: &[(Ask, Answer)],
+    is_over: &AtomicBool,
+) -> io::Result<u64> {
+    let mut streams = Vec::new(alloc);
+    do_acts(rt, alloc, address, &mut streams, &[(0, Act::Connect)])?;
+    for count in 0..1_000_000u64 {
+        if is_over.load(Ordering::SeqCst) {
+            do_acts(rt, alloc, address, &mut streams, &[(0, Act::Leave)])?;
+            return Ok(count);
+        }
+        let first = count.saturating_mul(4).saturating_add(1);
+        ask_round(rt, alloc, address, &mut streams, round, first)?;
+    }
+    Ok(0)
+}
+
+/// What the operator does while clients ask. Gives the script that was not answered as is wanted.
+fn operate<R: Net + Clock>(
+    rt: &R,
+    alloc: Global,
+    operator: SocketAddr,
+) -> io::Result<Option<(usize, usize)>> {
+    for (number, script) in [REFUSED, JOINS, LEAVES, FILLS, CRASHES].iter().enumerate() {
+        if let Some(place) = unanswered(rt, alloc, operator, script)? {
+            return Ok(Some((number, place)));
+        }
+    }
+    Ok(None)
+}
+
+/// Operates, tells the clients to end, and stops the server.
+fn operate_to_the_end<R: Net + Clock>(
+    rt: &R,
+    alloc: Global,
+    operator: SocketAddr,
+    is_over: &AtomicBool,
+) -> io::Result<Option<(usize, usize)>> {
+    let operated = operate(rt, alloc, operator);
+    is_over.store(true, Ordering::SeqCst);
+    operated
+}
+
+/// How a server was operated while two clients asked.
+#[derive(Debug, Drop)]
+struct Played {
+    /// How many rounds each client asked.
+    x: io::Result<u64>,
+    y: io::Result<u64>,
+    /// The script and the place in it of the operator's first call that was not answered as is
+    /// wanted.
+    operated: io::Result<Option<(usize, usize)>>,
+}
+
+/// Two clients ask while the operator does its scripts.
+fn play<
+    R: Threads
+        + Wait
+        + Clock
+        + Net<Listener = TcpListener, Stream = TcpStream>
+        + Copy
+        + Send
+        + Sync
+        + 'static,
+>(rt: &R, alloc: Global, address: SocketAddr, operator: SocketAddr) -> Played {
+    let is_over = AtomicBool::new(false);
+    let is_over = &is_over;
+    let (x, (y, operated)) = thread::join(
+        rt,
+        move || ask_rounds(rt, alloc, address, ROUND_OF_X, is_over),
+        move || {
+            thread::join(
+                rt,
+                move || ask_rounds(rt, alloc, address, ROUND_OF_Y, is_over),
+                move || operate_to_the_end(rt, alloc, operator, is_over),
+            )
+        },
+    );
+    Played { x, y, operated }
+}
+
+/// Plays, and stops the server, by the end of its input if nothing else does.
+fn play_and_stop<
+    R: Threads
+        + Wait
+        + Clock
+        + Net<Listener = TcpListener, Stream = TcpStream>
+        + Copy
+        + Send
+        + Sync
+        + 'static,
+>(rt: &R, alloc: Global, address: SocketAddr, operator: SocketAddr, end: PipeWriter) -> Played {
+    let played = play(rt, alloc, address, operator);
+    let _ = unanswered(rt, alloc, operator, STOPS).is_ok();
+    drop(end);
+    played
+}
+
+/// Three spare stores with room for `limit` pairs.
+fn three_spares(alloc: Global, limit: u64) -> Result<Vec<CappedStore>, AllocError> {
+    let mut spares = two_stores(alloc, limit)?;
+    spares.push(CappedStore::new(alloc, limit))?;
+    Ok(spares)
+}
+
+/// Serves until it is stopped. The ring has room for three more nodes.
+fn stayed<R: Host>(
+    rt: &R,
+    alloc: Global,
+    plan: &Plan,
+    listeners: &Listeners,
+    keys: RandomState,
+    input: PipeReader,
+) -> Result<Vec<u8>, Finish> {
+    let mut written: Vec<u8> = Vec::new(alloc);
+    let nodes = two_stores(alloc, 4)?;
+    let spares = three_spares(alloc, 4)?;
+    let setup = ServerSetup {
+        alloc,
+        plan,
+        settings: plan.settings_with(Some(5), None),
+        doors: Doors::Frames(&listeners.clients),
+        operator: Some(OperatorPort {
+            listener: &listeners.operator,
+            keys,
+        }),
+        notes: &Discard,
+    };
+    let stores = ServerStores { nodes, spares };
+    stay(rt, &setup, stores, WAITS, input, &mut written)?;
+    Ok(written)
+}
+
+/// A ring of two nodes is operated while two clients ask. Says whether the server ended well.
+fn operated<
+    R: Threads
+        + Wait
+        + Clock
+        + Net<Listener = TcpListener, Stream = TcpStream>
+        + Copy
+        + Send
+        + Sync
+        + 'static,
+>(
+    rt: &R,
+    alloc: Global,
+    keys: RandomState,
+    (input, end): (PipeReader, PipeWriter),
+) -> Option<(bool, Played)> {
+    let plan = plan_with(alloc, 2)?;
+    let (clients, address) = bound(rt)?;
+    let (operator, operator_address) = bound(rt)?;
+    let listeners = Listeners { clients, operator };
+    let (written, played) = thread::join(
+        rt,
+        || stayed(rt, alloc, &plan, &listeners, keys, input),
+        || play_and_stop(rt, alloc, address, operator_address, end),
+    );
+    let is_well = written.is_ok();
+    drop(written);
+    Some((is_well, played))
+}
+
+/// A node joins and gets the key that is asked for, leaves and is gone, two more join, and one
+/// crashes that holds another key: each request is answered as if nothing had happened.
+#[test]
+fn nodes_come_and_go_while_clients_ask(rt: HostRuntime) -> Result<(), Fail> {
+    let keys = RandomState::new(&rt)?;
+    let operated = operated(&rt, rt.alloc(), keys, io::pipe(&rt)?);
+    let (is_well, played) = operated.expect(&rt, "memory and ports for a server");
+    let Played { x, y, operated } = played;
+    assert!(rt;
+        operated.unwrap_or(Some((99, 99))) == None,
+        "each call of the operator"
+    );
+    assert!(rt; x.unwrap_or(0) > 0, "each answer about x");
+    assert!(rt; y.unwrap_or(0) > 0, "each answer about y");
+    assert!(rt; is_well, "the server ends well");
+    Ok(())
+}

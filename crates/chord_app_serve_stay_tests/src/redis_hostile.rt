@@ -1,0 +1,382 @@
+//! Bytes of Redis's clients that are cut off, that pass a limit, or whose answers nobody reads.
+
+use crate::stays::{WAITS, stay_over};
+use chord_app_plan::Plan;
+use chord_app_serve::serve;
+use chord_app_serve_testkit::{bound, expect, expect_end, leave, plan_with, two_stores};
+use chord_app_sockets::{Doors, Host, ServerSetup};
+use chord_app_text::Finish;
+use log::sink::Discard;
+use std::alloc::{AllocError, Global};
+use std::io::{self, PipeReader, PipeWriter, Read, Write};
+use std::net::{Net, OpenStream, SocketAddr, TcpListener, TcpStream};
+use std::sync::Wait;
+use std::test::Fail;
+use std::thread;
+use std::thread::Threads;
+use std::time::Clock;
+
+/// Some of what a client sends.
+#[derive(Clone, Copy)]
+enum Sent {
+    Once(&'static [u8]),
+    /// These bytes, repeated this often.
+    Often(&'static [u8], usize),
+}
+
+impl Sent {
+    fn send<S: Write>(self, alloc: Global, stream: &mut S) -> io::Result<()> {
+        match self {
+            Sent::Once(bytes) => stream.write_all(bytes),
+            Sent::Often(bytes, times) => {
+                let mut all = Vec::new(alloc);
+                for _ in 0..times {
+                    all.extend_from_slice(bytes)?;
+                }
+                stream.write_all(&all)
+            }
+        }
+    }
+}
+
+/// How a connection ends.
+#[derive(Clone, Copy)]
+enum End {
+    /// The client leaves behind a whole command.
+    Whole,
+    /// The client leaves within a command.
+    Cut,
+    /// The server ends it.
+    Protocol,
+}
+
+impl End {
+    fn word(self) -> &'static str {
+        match self {
+            End::Whole => "ended",
+            End::Cut => "truncated",
+            End::Protocol => "protocol",
+        }
+    }
+
+    fn expect<S: Read + OpenStream>(self, stream: &mut S) -> io::Result<()> {
+        match self {
+            End::Whole | End::Cut => leave(stream),
+            End::Protocol => expect_end(stream),
+        }
+    }
+}
+
+/// What a client sends, all that it hears, and how its connection ends.
+#[derive(Clone, Copy)]
+struct Client {
+    sent: &'static [Sent],
+    heard: &'static [u8],
+    end: End,
+}
+
+impl Client {
+    fn act<R: Net>(&self, rt: &R, alloc: Global, redis: SocketAddr) -> io::Result<()> {
+        let mut stream = TcpStream::connect(rt, redis)?;
+        for part in self.sent {
+            part.send(alloc, &mut stream)?;
+        }
+        expect(alloc, &mut stream, self.heard)?;
+        self.end.expect(&mut stream)
+    }
+}
+
+/// Where SADD of two words and an inline PING are cut: behind each of their fields, and within each.
+const CUTS: &[&[u8]] = &[
+    b"*",
+    b"*3",
+    b"*3\r",
+    b"*3\r\n",
+    b"*3\r\n$",
+    b"*3\r\n$4",
+    b"*3\r\n$4\r",
+    b"*3\r\n$4\r\n",
+    b"*3\r\n$4\r\nSA",
+    b"*3\r\n$4\r\nSADD",
+    b"*3\r\n$4\r\nSADD\r",
+    b"*3\r\n$4\r\nSADD\r\n",
+    b"*3\r\n$4\r\nSADD\r\n$1\r\na\r\n$1\r\nx\r",
+    b"PI",
+    b"PING\r",
+];
+
+/// Clients that pass a limit, and some that just keep it.
+const LIMITS: &[Client] = &[
+    Client {
+        sent: &[Sent::Once(b"*1025\r\n")],
+        heard: b"-ERR Protocol error: invalid multibulk length\r\n",
+        end: End::Protocol,
+    },
+    Client {
+        sent: &[Sent::Once(b"*"), Sent::Often(b"0", 33)],
+        heard: b"-ERR Protocol error: too big inline request\r\n",
+        end: End::Protocol,
+    },
+    Client {
+        sent: &[Sent::Once(b"*1\r\nPING\r\n")],
+        heard: b"-ERR Protocol error: expected '$', got 'P'\r\n",
+        end: End::Protocol,
+    },
+    Client {
+        sent: &[Sent::Once(b"*1\r\n$1048577\r\n")],
+        heard: b"-ERR Protocol error: invalid bulk length\r\n",
+        end: End::Protocol,
+    },
+    Client {
+        sent: &[Sent::Once(b"*1\r\n$"), Sent::Often(b"0", 33)],
+        heard: b"-ERR Protocol error: too big inline request\r\n",
+        end: End::Protocol,
+    },
+    Client {
+        sent: &[Sent::Once(b"*1\r\n$4\r\nPINGS\r\n")],
+        heard: b"-ERR Protocol error: invalid bulk length\r\n",
+        end: End::Protocol,
+    },
+    // A member of 1 MiB is read to its end and refused, and so is one of 4,097 bytes.
+    Client {
+        sent: &[
+            Sent::Once(b"*3\r\n$4\r\nSADD\r\n$1\r\na\r\n$1048576\r\n"),
+            Sent::Often(b"0123456789abcdef", 65_536),
+            Sent::Once(b"\r\nSADD a "),
+            Sent::Often(b"x", 4_097),
+            Sent::Once(b"\r\nSCARD a\r\n"),
+        ],
+        heard: b"-ERR member is longer than 4096 bytes\r\n-ERR member is longer than 4096 bytes\r\n:0\r\n",
+        end: End::Whole,
+    },
+    // 1,024 words and one more.
+    Client {
+        sent: &[
+            Sent::Once(b"*1024\r\n$6\r\nEXISTS\r\n"),
+            Sent::Often(b"$1\r\na\r\n", 1_023),
+            Sent::Once(b"EXISTS"),
+            Sent::Often(b" a", 1_024),
+            Sent::Once(b"\r\n"),
+        ],
+        heard: b":0\r\n-ERR Protocol error: too big inline request\r\n",
+        end: End::Protocol,
+    },
+    // A line that never ends: it is refused at its 65,537th byte, and what follows is dropped.
+    Client {
+        sent: &[Sent::Once(b"PING\r\nPING "), Sent::Often(b"x", 200_000)],
+        heard: b"+PONG\r\n-ERR Protocol error: too big inline request\r\n",
+        end: End::Protocol,
+    },
+    // None of the clients before did anything that another can see.
+    Client {
+        sent: &[Sent::Once(b"SMEMBERS a\r\n")],
+        heard: b"*0\r\n",
+        end: End::Whole,
+    },
+];
+
+/// All of these clients, one after another.
+fn each_in_turn<R: Net>(rt: &R, alloc: Global, redis: SocketAddr) -> io::Result<()> {
+    for bytes in CUTS {
+        let mut stream = TcpStream::connect(rt, redis)?;
+        stream.write_all(bytes)?;
+        End::Cut.expect(&mut stream)?;
+    }
+    for client in LIMITS {
+        client.act(rt, alloc, redis)?;
+    }
+    Ok(())
+}
+
+/// The lines of a server of these clients, in their order.
+fn lines(alloc: Global, redis: SocketAddr) -> Result<String, AllocError> {
+    let mut text = format!(in alloc; "redis on {redis}\n")?;
+    let cuts = CUTS.iter().map(|_| End::Cut);
+    let limits = LIMITS.iter().map(|client| client.end);
+    for (number, end) in cuts.chain(limits).enumerate() {
+        let word = end.word();
+        let line = format!(in alloc; "connection {number} {word}\n")?;
+        text.push_str(line.as_str())?;
+    }
+    Ok(text)
+}
+
+/// Serves this many connections of Redis's clients, and gives what was written.
+fn served<'a, R: Host>(
+    rt: &R,
+    alloc: Global,
+    plan: &'a Plan,
+    redis: &'a TcpListener,
+    connections: usize,
+) -> Result<Vec<u8>, Finish> {
+    let mut written: Vec<u8> = Vec::new(alloc);
+    let stores = two_stores(alloc, 4)?;
+    let setup = ServerSetup {
+        alloc,
+        plan,
+        settings: plan.settings,
+        doors: Doors::Redis(redis),
+        operator: None,
+        notes: &Discard,
+    };
+    serve(rt, &setup, stores, connections, &mut written)?;
+    Ok(written)
+}
+
+/// What a test found: whether each client was answered, and whether the server's lines are right.
+#[derive(Clone, Copy, Debug, PartialEq, Eq)]
+struct Found {
+    is_answered: bool,
+    is_written: bool,
+}
+
+/// All is as it should be.
+const GOOD: Found = Found {
+    is_answered: true,
+    is_written: true,
+};
+
+/// Whether the server wrote this.
+fn is_written(written: Result<Vec<u8>, Finish>, wanted: Result<String, AllocError>) -> bool {
+    let is_so = match (&written, &wanted) {
+        (Ok(written), Ok(wanted)) => written.as_slice() == wanted.as_bytes(),
+        _ => false,
+    };
+    drop(written);
+    drop(wanted);
+    is_so
+}
+
+/// A server of all these clients, each with a caller of its own.
+fn hostile<
+    R: Threads
+        + Wait
+        + Clock
+        + Net<Listener = TcpListener, Stream = TcpStream>
+        + Copy
+        + Send
+        + Sync
+        + 'static,
+>(rt: &R, alloc: Global) -> Option<Found> {
+    let plan = plan_with(alloc, 64)?;
+    let (redis, address) = bound(rt)?;
+    let connections = CUTS.len() + LIMITS.len();
+    let (written, answered) = thread::join(
+        rt,
+        || served(rt, alloc, &plan, &redis, connections),
+        || each_in_turn(rt, alloc, address),
+    );
+    drop(redis);
+    drop(plan);
+    Some(Found {
+        is_answered: answered.is_ok(),
+        is_written: is_written(written, lines(alloc, address)),
+    })
+}
+
+/// Each field cut, and each limit passed.
+#[test]
+fn hostile_bytes_of_redis_clients(rt: HostRuntime) {
+    let found = hostile(&rt, rt.alloc());
+    assert!(rt; found == Some(GOOD));
+}
+
+/// Adds 32 members of 4,096 bytes to the set k.
+fn fill<S: Read + Write>(alloc: Global, stream: &mut S) -> io::Result<()> {
+    stream.write_all(b"*34\r\n$4\r\nSADD\r\n$1\r\nk\r\n")?;
+    for number in 0..32u8 {
+        let member = vec![in alloc; number; 4_096]?;
+        stream.write_all(b"$4096\r\n")?;
+        stream.write_all(&member)?;
+        stream.write_all(b"\r\n")?;
+    }
+    expect(alloc, stream, b":32\r\n")
+}
+
+/// Asks 224 times for all of them in one write, which the server reads at once, and reads only the
+/// beginning of the first answer. The answers have 28 MiB together, which is more than a connection
+/// can hold.
+const MUCH: Sent = Sent::Often(b"SMEMBERS k\r\n", 224);
+
+/// One client asks for much and does not read; another is served meanwhile, and leaves. Then the
+/// input ends. Gives the open connection.
+fn reads_no_more<R: Net>(
+    rt: &R,
+    alloc: Global,
+    redis: SocketAddr,
+    input: PipeWriter,
+) -> io::Result<R::Stream> {
+    let mut silent = TcpStream::connect(rt, redis)?;
+    fill(alloc, &mut silent)?;
+    MUCH.send(alloc, &mut silent)?;
+    expect(alloc, &mut silent, b"*32\r\n$4096\r\n")?;
+    let other = Client {
+        sent: &[Sent::Once(b"SADD a x\r\nSCARD k\r\n")],
+        heard: b":1\r\n:32\r\n",
+        end: End::Whole,
+    };
+    other.act(rt, alloc, redis)?;
+    drop(input);
+    Ok(silent)
+}
+
+/// Stays until the input ends, and gives what was written.
+fn stayed<R: Host>(
+    rt: &R,
+    alloc: Global,
+    plan: &Plan,
+    redis: &TcpListener,
+    input: PipeReader,
+) -> Result<Vec<u8>, Finish> {
+    let mut written: Vec<u8> = Vec::new(alloc);
+    let doors = Doors::Redis(redis);
+    stay_over(
+        rt,
+        alloc,
+        plan,
+        doors,
+        1_000,
+        WAITS,
+        input,
+        &Discard,
+        &mut written,
+    )?;
+    Ok(written)
+}
+
+/// A server of a client that does not read.
+fn unread<
+    R: Threads
+        + Wait
+        + Clock
+        + Net<Listener = TcpListener, Stream = TcpStream>
+        + Copy
+        + Send
+        + Sync
+        + 'static,
+>(rt: &R, alloc: Global, (reader, writer): (PipeReader, PipeWriter)) -> Option<Found> {
+    let plan = plan_with(alloc, 2)?;
+    let (redis, address) = bound(rt)?;
+    let (written, silent) = thread::join(
+        rt,
+        || stayed(rt, alloc, &plan, &redis, reader),
+        || reads_no_more(rt, alloc, address, writer),
+    );
+    drop(redis);
+    drop(plan);
+    let is_answered = silent.is_ok();
+    drop(silent);
+    let wanted = format!(in alloc; "redis on {address}\nconnection 1 ended\nconnection 0 write\n");
+    Some(Found {
+        is_answered,
+        is_written: is_written(written, wanted),
+    })
+}
+
+/// A client that does not read holds up no other, and the server ends while it is open.
+#[test]
+fn a_redis_client_that_does_not_read_is_left(rt: HostRuntime) -> Result<(), Fail> {
+    let found = unread(&rt, rt.alloc(), io::pipe(&rt)?);
+    assert!(rt; found == Some(GOOD));
+    Ok(())
+}
