@@ -81,8 +81,12 @@ echo "redis-cli by command: $([ $wrong = 0 ] && echo as wanted || echo NOT as wa
 seq 100000 | sed 's/.*/SADD key:& value:&/' | redis-cli -p $port --pipe > "$room/pipe"
 grep -q 'errors: 0, replies: 100000' "$room/pipe" || { cat "$room/pipe" && wrong=1; }
 echo "redis-cli --pipe: $(tail -1 "$room/pipe")"
-if python3 -c 'import redis' 2> /dev/null; then
-    python3 - $port << 'PYTHON' || wrong=1
+python=''
+for word in python3 /usr/bin/python3; do
+    [ -n "$python" ] || ! $word -c 'import redis' 2> /dev/null || python=$word
+done
+if [ -n "$python" ]; then
+    $python - $port << 'PYTHON' || wrong=1
 import sys, threading, redis
 
 pool = redis.ConnectionPool(host="127.0.0.1", port=int(sys.argv[1]), max_connections=32)
@@ -114,7 +118,7 @@ print("python3-redis, a pool of 32:", faults[:3] or "as wanted")
 sys.exit(1 if faults else 0)
 PYTHON
 else
-    echo "python3-redis: skipped, python3 has no module redis"
+    echo "python3-redis: skipped, no python3 has the module redis"
 fi
 stop
 

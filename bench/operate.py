@@ -1,0 +1,305 @@
+#!/usr/bin/env python3
+"""Operates a ring while clients ask, and looks for one history of all that they were answered:
+
+    bench/run operate [SECONDS [SEED]]
+
+It starts `chord serve --stay --operator` over 8 nodes. 16 clients ask over the wire, each at most
+once at a time, while an operator makes nodes join, leave and crash at random. Then, for each key,
+it searches for an order of the requests that one set allows and that keeps to the times at which
+they were written and their replies read (the search of Wing and Gong). A request without a reply
+may stand anywhere behind its writing, or nowhere; it is a fault unless its key's holder crashed.
+With --plant it changes one reply before the search, which must then fail. It ends with a status
+other than 0 where something is wrong.
+"""
+import json
+import os
+import random
+import socket
+import struct
+import subprocess
+import sys
+import tempfile
+import threading
+import time
+import urllib.error
+import urllib.request
+
+CLIENTS = 16
+KEYS = 256
+VALUES = 6
+MOST_LIVE, LEAST_LIVE, MOST_CRASHES = 24, 5, 4
+INSERT, RETRIEVE, REMOVE = 1, 2, 3
+PROGRAM = "crates/chord_app/out/chord_app"
+
+
+class NoReply(Exception):
+    """Fault 11, or the end of the connection: the request may have been done, or may be later."""
+
+
+def exactly(stream, count):
+    """So many bytes of the stream."""
+    got = b""
+    while len(got) < count:
+        piece = stream.recv(count - len(got))
+        if not piece:
+            raise NoReply("the connection ended")
+        got += piece
+    return got
+
+
+class Connection:
+    """A client in version 1 of the protocol."""
+
+    def __init__(self, port):
+        self.stream = socket.create_connection(("127.0.0.1", port), timeout=60)
+        self.number = 0
+
+    def ask(self, operation, key, value):
+        """Asks a request, at most three times, and gives its reply."""
+        self.number += 1
+        body = struct.pack(">BBQ", 1, operation, self.number) + bytes([len(key)]) + key
+        if operation != RETRIEVE:
+            body += struct.pack(">H", len(value)) + value
+        for _ in range(3):
+            self.stream.sendall(struct.pack(">I", len(body)) + body)
+            answer = exactly(self.stream, struct.unpack(">I", exactly(self.stream, 4))[0])
+            kind, number = answer[1], struct.unpack(">Q", answer[2:10])[0]
+            if number != self.number:
+                raise AssertionError(f"an answer to request {number} in place of {self.number}")
+            if kind == 0x80 + operation:
+                return reply_in(operation, answer[10:])
+            if kind != 255 or answer[10] != 11:
+                raise AssertionError(f"answer {kind} {answer[10:]}")
+        raise NoReply("fault 11")
+
+
+def reply_in(operation, rest):
+    """A reply: the set of a key, or one byte."""
+    if operation != RETRIEVE:
+        return rest[0]
+    values, at = [], 4
+    for _ in range(struct.unpack(">I", rest[:4])[0]):
+        size = struct.unpack(">H", rest[at : at + 2])[0]
+        values.append(rest[at + 2 : at + 2 + size])
+        at += 2 + size
+    return frozenset(values)
+
+
+class Request:
+    """A request, when it was written, its reply, and when that was read (never, if None)."""
+
+    def __init__(self, operation, key, value):
+        self.operation, self.key, self.value = operation, key, value
+        self.written, self.read, self.reply = time.monotonic(), None, None
+
+    def on(self, state):
+        """The reply of one set, and the set behind the request."""
+        if self.operation == RETRIEVE:
+            return state, state
+        if self.operation == INSERT:
+            return int(self.value not in state), state | {self.value}
+        return int(self.value in state), state - {self.value}
+
+
+class Client(threading.Thread):
+    """Asks for random keys until it is told to end."""
+
+    def __init__(self, port, seed, over):
+        super().__init__()
+        self.port, self.draw, self.over = port, random.Random(seed), over
+        self.requests, self.lost, self.fault = [], set(), None
+
+    def run(self):
+        try:
+            connection = Connection(self.port)
+            while not self.over.is_set():
+                connection = self.ask(connection)
+        except Exception as fault:
+            self.fault = repr(fault)
+
+    def ask(self, connection):
+        """Asks one request. Behind one without a reply a new connection takes over."""
+        key = b"key:%d" % self.draw.randrange(KEYS)
+        if key in self.lost:
+            return connection
+        value = b"value:%d" % self.draw.randrange(VALUES)
+        operation = self.draw.choice((INSERT, INSERT, RETRIEVE, RETRIEVE, RETRIEVE, REMOVE))
+        request = Request(operation, key, value)
+        self.requests.append(request)
+        try:
+            request.reply = connection.ask(operation, key, value)
+            request.read = time.monotonic()
+            return connection
+        except NoReply:
+            self.lost.add(key)
+            connection.stream.close()
+            return Connection(self.port)
+
+
+class Operator:
+    """Makes nodes join, leave and crash."""
+
+    def __init__(self, port, seed):
+        self.port, self.draw = port, random.Random(seed)
+        self.counts = {}
+
+    def call(self, method, path, body=None):
+        """The status of a call, and the JSON of its answer."""
+        data = None if body is None else json.dumps(body).encode()
+        request = urllib.request.Request(
+            f"http://127.0.0.1:{self.port}{path}", data=data, method=method
+        )
+        try:
+            with urllib.request.urlopen(request, timeout=60) as answer:
+                return answer.status, json.loads(answer.read() or b"null")
+        except urllib.error.HTTPError as refused:
+            return refused.code, json.loads(refused.read() or b"null")
+
+    def ring(self):
+        return self.call("GET", "/ring")[1]
+
+    def count(self, what, status, answer):
+        name = what if status < 300 else f"{what}: {answer['refused']}"
+        self.counts[name] = self.counts.get(name, 0) + 1
+        if status >= 500:
+            raise AssertionError(f"{what}: {status} {answer}")
+
+    def step(self):
+        """Does one thing, as the ring is now."""
+        nodes = self.ring()["nodes"]
+        live = [n["node"] for n in nodes if n["phase"] == "staying"]
+        crashed = sum(n["phase"] == "crashed" for n in nodes)
+        what = self.draw.random()
+        if len(live) <= LEAST_LIVE or (len(live) < MOST_LIVE and what < 0.5):
+            self.count("join", *self.call("POST", "/nodes", {}))
+        elif what < 0.97 or crashed >= MOST_CRASHES:
+            self.count("leave", *self.call("POST", f"/nodes/{self.draw.choice(live)}/leave"))
+        else:
+            self.count("crash", *self.call("POST", f"/nodes/{self.draw.choice(live)}/crash", {}))
+
+    def has_crashed_with(self, key):
+        """Whether a node that crashed has the key."""
+        _, holder = self.call("GET", "/holder/" + urllib.request.quote(key))
+        crashed = {n["node"] for n in self.ring()["nodes"] if n["phase"] == "crashed"}
+        return holder is not None and bool(
+            crashed & {holder.get("node"), holder.get("from"), holder.get("to")}
+        )
+
+
+def has_history(requests):
+    """Whether an order of these requests of one key is one of a set, and keeps to their times. A
+    request that was read before another was written comes before it."""
+    requests = sorted(requests, key=lambda r: r.written)
+    never = float("inf")
+    ends = [never if r.read is None else r.read for r in requests]
+    wanted = sum(end != never for end in ends)
+    # A place in the search: how many of the first requests are all done, which later ones are, and
+    # the set behind them.
+    seen, places = set(), [(0, frozenset(), frozenset(), 0)]
+    while places:
+        first, later, state, done = places.pop()
+        if done == wanted:
+            return True
+        limit = never
+        for at in range(first, len(requests)):
+            if at in later:
+                continue
+            if requests[at].written > limit:
+                break
+            limit = min(limit, ends[at])
+            reply, behind = requests[at].on(state)
+            if ends[at] != never and reply != requests[at].reply:
+                continue
+            next_first, next_later = first, set(later) | {at}
+            while next_first in next_later:
+                next_later.discard(next_first)
+                next_first += 1
+            place = (next_first, frozenset(next_later), behind)
+            if place not in seen:
+                seen.add(place)
+                places.append((*place, done + (ends[at] != never)))
+    return False
+
+
+def start(room):
+    """Starts the server, and gives it with the ports of its clients and its operator."""
+    plan = os.path.join(room, "plan.toml")
+    with open(plan, "w") as it:
+        it.write("slots = 16\ncallers = 64\nsuccessors = 4\ntries = 5\nwait = 200\n")
+        for place in range(8):
+            it.write(f'[[node]]\nid = "{place * 2:x}{"0" * 31}"\nstore = "tree"\n')
+    words = "serve --port 0 --operator 0 --stay --slots 4096 --callers 4096 --plan".split()
+    server = subprocess.Popen(
+        [PROGRAM, *words, plan], stdin=subprocess.PIPE, stdout=subprocess.PIPE, text=True
+    )
+    lines = [server.stdout.readline() for _ in range(2)]
+    threading.Thread(target=server.stdout.read, daemon=True).start()
+    return server, *(int(line.rsplit(":", 1)[1]) for line in lines)
+
+
+def resident(server):
+    """How many MiB of memory the server has."""
+    with open(f"/proc/{server.pid}/statm") as it:
+        return int(it.read().split()[1]) * os.sysconf("SC_PAGE_SIZE") / 2**20
+
+
+def load_of(server, seconds):
+    """How much of a processor the server takes in this time."""
+    def spent():
+        with open(f"/proc/{server.pid}/stat") as it:
+            fields = it.read().rsplit(")", 1)[1].split()
+        return (int(fields[11]) + int(fields[12])) / os.sysconf("SC_CLK_TCK")
+
+    before = spent()
+    time.sleep(seconds)
+    return (spent() - before) / seconds
+
+
+def main():
+    numbers = [int(word) for word in sys.argv[1:] if word != "--plant"]
+    seconds = numbers[0] if numbers else 30
+    seed = numbers[1] if len(numbers) > 1 else 1
+    with tempfile.TemporaryDirectory() as room:
+        server, port, operator_port = start(room)
+        try:
+            return operate(server, port, operator_port, seconds, seed, "--plant" in sys.argv)
+        finally:
+            server.kill()
+
+
+def operate(server, port, operator_port, seconds, seed, plants):
+    over, operator = threading.Event(), Operator(operator_port, seed)
+    clients = [Client(port, (seed << 8) + number, over) for number in range(CLIENTS)]
+    for client in clients:
+        client.start()
+    end = time.monotonic() + seconds
+    while time.monotonic() < end:
+        operator.step()
+        time.sleep(operator.draw.uniform(0, 0.1))
+    over.set()
+    for client in clients:
+        client.join()
+    faults = [client.fault for client in clients if client.fault]
+    requests = [request for client in clients for request in client.requests]
+    missing = {request.key for request in requests if request.read is None}
+    faults += [f"{key} has no reply" for key in missing if not operator.has_crashed_with(key)]
+    if plants:
+        told = [r for r in requests if r.read is not None and r.operation == RETRIEVE and r.reply]
+        told[len(told) // 2].reply = frozenset()
+    by_key = {}
+    for request in requests:
+        by_key.setdefault(request.key, []).append(request)
+    faults += [f"{key} has no history" for key in by_key if not has_history(by_key[key])]
+    nodes = operator.ring()["nodes"]
+    phases = [node["phase"] for node in nodes]
+    print(f"seed {seed}: {len(requests)} requests of {CLIENTS} clients over {len(by_key)} keys")
+    print("operator:", ", ".join(f"{n} {what}" for what, n in sorted(operator.counts.items())))
+    print("nodes:", ", ".join(f"{phases.count(p)} {p}" for p in sorted(set(phases))))
+    print(f"keys without a reply, whose holder crashed: {len(missing)}")
+    time.sleep(4)
+    print(f"memory: {resident(server):.0f} MiB; idle: {100 * load_of(server, 5):.2f}% of a processor")
+    print("one history for each key" if not faults else "WRONG: " + "; ".join(faults[:5]))
+    return 1 if faults else 0
+
+
+sys.exit(main())

@@ -1,0 +1,128 @@
+#!/usr/bin/python3
+"""The operator's page in a real browser:
+    bench/screens.py [FOLDER [PROGRAM]]     into FOLDER (docs), by PROGRAM (the one that is built)
+takes three pictures of a ring of 16 nodes into which four connections inserted: ring-still.png,
+ring-join.png while a node that joined is given its pairs, and ring-crash.png after a node left and
+another crashed, all by the page's own buttons. It takes some two minutes.
+Needs Debian's chromium, chromium-driver and python3-selenium, and the toolchain if no PROGRAM is
+named; it installs nothing. It ends with a status other than 0 where the page does not show what it
+should.
+"""
+import pathlib
+import random
+import subprocess
+import sys
+import tempfile
+import time
+
+try:
+    from selenium import webdriver
+    from selenium.webdriver.chrome.service import Service
+    from selenium.webdriver.common.by import By
+    from selenium.webdriver.support.ui import WebDriverWait
+except ImportError:
+    sys.exit("bench/screens.py needs python3-selenium")
+
+TOP = pathlib.Path(__file__).resolve().parent.parent
+PROGRAM = TOP / "crates/chord_app/out/chord_app"
+
+
+def plan(folder):
+    """A plan of 16 nodes at random places, with the same seed each time."""
+    rolls = random.Random(11)
+    text = "slots = 24\ncallers = 64\nsuccessors = 4\ntries = 3\nwait = 100\n"
+    for _ in range(16):
+        text += f'[[node]]\nid = "{rolls.getrandbits(128):032x}"\nstore = "tree"\n'
+    path = pathlib.Path(folder) / "plan.toml"
+    path.write_text(text)
+    return path
+
+
+def browser():
+    options = webdriver.ChromeOptions()
+    options.binary_location = "/usr/bin/chromium"
+    for word in ("--headless=new", "--no-sandbox", "--disable-gpu", "--hide-scrollbars"):
+        options.add_argument(word)
+    page = webdriver.Chrome(service=Service("/usr/bin/chromedriver"), options=options)
+    page.execute_cdp_cmd(
+        "Emulation.setDeviceMetricsOverride",
+        {"width": 1280, "height": 800, "deviceScaleFactor": 1, "mobile": False},
+    )
+    return page
+
+
+def phase(page, node):
+    row = page.find_element(By.CSS_SELECTOR, f"#nodes tr:nth-child({node + 1})")
+    return row.find_elements(By.TAG_NAME, "td")[2].text
+
+
+def press(page, label):
+    names = f"//button[@aria-label='{label}' or normalize-space()='{label}']"
+    page.find_element(By.XPATH, names).click()
+
+
+def cells(page):
+    return page.find_elements(By.CSS_SELECTOR, "#nodes tr")
+
+
+def shoot_join(page, folder):
+    """Nodes join until a picture has an arrow, which a handover under way has."""
+    for number in range(16, 24):
+        press(page, "Join a node")
+        ends = time.monotonic() + 6
+        while time.monotonic() < ends:
+            if page.find_elements(By.CSS_SELECTOR, "#circle path[marker-end]"):
+                page.save_screenshot(str(folder / "ring-join.png"))
+                if page.find_elements(By.CSS_SELECTOR, "#circle path[marker-end]"):
+                    return number
+    sys.exit("no handover was seen")
+
+
+def shoot(page, folder):
+    wait = WebDriverWait(page, 30)
+    wait.until(lambda page: len(cells(page)) == 16)
+    time.sleep(62)
+    page.save_screenshot(str(folder / "ring-still.png"))
+    shoot_join(page, folder)
+    press(page, "Leave: node 5")
+    wait.until(lambda page: phase(page, 5) == "gone")
+    press(page, "Crash: node 9")
+    page.switch_to.alert.accept()
+    wait.until(lambda page: phase(page, 9) == "crashed")
+    time.sleep(5)
+    page.save_screenshot(str(folder / "ring-crash.png"))
+
+
+def main():
+    folder = pathlib.Path(sys.argv[1] if len(sys.argv) > 1 else TOP / "docs")
+    program = pathlib.Path(sys.argv[2]).resolve() if len(sys.argv) > 2 else PROGRAM
+    if len(sys.argv) < 3:
+        subprocess.run(
+            ["rt", "run", "--", "--version"], cwd=TOP / "crates/chord_app", check=True,
+            stdout=subprocess.DEVNULL,
+        )
+    with tempfile.TemporaryDirectory() as room:
+        server = subprocess.Popen(
+            [program, "serve", "--plan", plan(room), "--port", "0", "--operator", "0", "--stay"],
+            stdin=subprocess.PIPE, stdout=subprocess.PIPE, text=True,
+        )
+        ports = [server.stdout.readline().rsplit(":", 1)[1].strip() for _ in range(2)]
+        load = subprocess.Popen(
+            [program, "load", "--port", ports[0], "--connections", "4", "--kind", "insert",
+             "--keys", "20000", "--seconds", "180"], stdout=subprocess.DEVNULL,
+        )
+        page = browser()
+        try:
+            page.get(f"http://127.0.0.1:{ports[1]}/")
+            shoot(page, folder)
+        finally:
+            page.quit()
+            load.kill()
+            load.wait()
+            server.stdin.close()
+            ended = server.wait(20)
+    print(f"{folder}/ring-still.png, ring-join.png, ring-crash.png; the server ended with {ended}")
+    sys.exit(1 if ended else 0)
+
+
+main()
