@@ -12,6 +12,8 @@ mod redis;
 #[cfg(test)]
 mod redis_hostile;
 #[cfg(test)]
+mod resumes;
+#[cfg(test)]
 mod stay_growths;
 #[cfg(test)]
 mod stays;
