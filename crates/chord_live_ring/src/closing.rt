@@ -1,5 +1,6 @@
 //! The end of a ring: all its seats at one moment.
 ghost use Rattle.std.specs.Prelude.{◌≡◌, ◌+◌, ◌++◌, [], ◌∷◌, map, true};
+ghost use Rattle.std.specs.List.Sorted.{IsPermutation};
 ghost use Rattle.chord_live_ring.specs.Counts.{numbers_below};
 ghost use Rattle.chord_live_ring.specs.Closings.{AreInOrder};
 ghost use Rattle.chord_table.specs.Shown.{AssemblyShown, WholeShown};
@@ -158,5 +159,16 @@ impl<J: Naming, S: EntryStore> Ring<J, S> {
         all.take_slots(&table, slots);
         all.take_callers(&table, callers);
         all.finish(&table, nodes, places)
+    }
+
+    /// Ends the ring, as `close_with` does, with callers in any order.
+    pub fn close_all(self, callers: Vec<ReturnedCaller<J>>) -> Closed<J>
+        ensures callers { IsPermutation (map (λ (c : CallerSight). c.caller) callers.items) (callers_among result.seats.taken) }
+        ensures shown { AssemblyShown result.seats }
+        ensures whole { result.is_whole ≡ true → WholeShown result.seats }
+    {
+        let mut callers = callers;
+        callers.sort_unstable_by_key(|caller| caller.number);
+        self.close_with(callers)
     }
 }

@@ -1,6 +1,6 @@
 //! The sessions that have no connection.
 ghost use Rattle.std.specs.Prelude.{◌≡◌, ◌<◌, ◌++◌, ◌∷◌, [], length, is_some, Some, Bool, IfSome, IfErr, OnOk};
-ghost use Rattle.chord_serve.specs.Keeping.{place_of, oldest_of, bytes_kept, TakesAt};
+ghost use Rattle.chord_serve.specs.Keeping.{place_of, oldest_of, first_of, bytes_kept, TakesAt};
 
 use crate::client_session::ClientSession;
 use chord_wire::Token;
@@ -129,6 +129,17 @@ impl<A> KeptSessions<A> {
     {
         let place = place_of(token, &self.kept)?;
         Some(self.take_at(place))
+    }
+
+    /// Takes the session that has been without a connection longest, also if it has a pending
+    /// request: no session goes on any more.
+    pub fn take_first(&mut self) -> Option<ClientSession<A>>
+        ensures { TakesAt (first_of self.old) result self.old self.new }
+    {
+        if self.kept.is_empty() {
+            return None;
+        }
+        Some(self.take_at(0))
     }
 }
 

@@ -1,6 +1,6 @@
 //! The sessions of a server.
 ghost use Rattle.std.specs.Prelude.{◌≡◌, ◌<◌, ◌+◌, [], IfSome, length};
-ghost use Rattle.chord_serve.specs.Keeping.{oldest_of, bytes_kept};
+ghost use Rattle.chord_serve.specs.Keeping.{oldest_of, first_of, bytes_kept};
 ghost use Rattle.chord_serve.specs.SessionTable.{held_at, connection_of, BeginsAs, ResumesAs, PartsAs, EndsAs, DropsAs};
 
 use crate::client_session::ClientSession;
@@ -147,6 +147,15 @@ impl<A> SessionTable<A> {
         if let Some(place) = held_at(token, &self.held) {
             self.held.remove(place);
         }
+    }
+
+    /// Drops the session that has been without a connection longest, also if it has a pending
+    /// request: no session goes on any more. Gives its asker.
+    pub fn drop_first(&mut self) -> Option<A>
+        ensures { DropsAs (first_of self.old.kept) result self.old self.new }
+    {
+        let client = self.kept.take_first()?;
+        Some(client.into_asker())
     }
 }
 

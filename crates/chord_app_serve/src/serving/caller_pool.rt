@@ -3,7 +3,7 @@
 use crate::serving::idle::IdleCaller;
 use chord_app_sockets::Ended;
 use chord_live::RingClient;
-use chord_live_ring::Ring;
+use chord_live_ring::{ReturnedCaller, Ring};
 use chord_store::EntryStore;
 use chord_table::Naming;
 use std::alloc::{AllocError, Global};
@@ -18,6 +18,8 @@ struct Resting<'r, J: Naming, S: EntryStore> {
     idle: Vec<IdleCaller<'r, J, S>>,
     /// Those with a pending request; the one that waited longest comes first.
     pending: VecDeque<RingClient<'r, J, S>>,
+    /// Those that serve no further connection.
+    spent: Vec<ReturnedCaller<J>>,
 }
 
 impl<'r, J: Naming, S: EntryStore> Resting<'r, J, S> {
@@ -28,9 +30,33 @@ impl<'r, J: Naming, S: EntryStore> Resting<'r, J, S> {
             Err(caller) => drop(self.pending.push_back(caller)),
         }
     }
+
+    /// Adds a caller that serves no further connection. All callers of the ring have room.
+    fn spend(&mut self, caller: RingClient<'r, J, S>) {
+        drop(self.spent.push(caller.into_returned()));
+    }
+
+    /// Adds the idle callers to the spent ones.
+    fn spend_idle(&mut self) {
+        for _ in 0..self.idle.len() {
+            if let Some(idle) = self.idle.pop() {
+                self.spend(idle.into_caller());
+            }
+        }
+    }
+
+    /// Adds the callers with a pending request to the spent ones.
+    fn spend_pending(&mut self) {
+        for _ in 0..self.pending.len() {
+            if let Some(caller) = self.pending.pop_front() {
+                self.spend(caller);
+            }
+        }
+    }
 }
 
-/// Gives each connection a caller, and keeps it afterwards if there is room for any.
+/// Gives each connection a caller, and takes it back afterwards, for later connections if it keeps
+/// callers.
 #[derive(Drop)]
 pub struct CallerPool<'r, J: Naming, S: EntryStore> {
     ring: &'r Ring<J, S>,
@@ -41,7 +67,8 @@ pub struct CallerPool<'r, J: Naming, S: EntryStore> {
 }
 
 impl<'r, J: Naming, S: EntryStore> CallerPool<'r, J, S> {
-    /// A pool of no callers. It has room for `callers`: as many as the ring may have, or none.
+    /// A pool of no callers, which keeps `callers` for later connections: as many as the ring may
+    /// have, or none.
     pub fn new(
         alloc: Global,
         ring: &'r Ring<J, S>,
@@ -49,7 +76,12 @@ impl<'r, J: Naming, S: EntryStore> CallerPool<'r, J, S> {
     ) -> Result<CallerPool<'r, J, S>, AllocError> {
         let idle = Vec::with_capacity(alloc, callers)?;
         let pending = VecDeque::with_capacity(alloc, callers)?;
-        let resting = Mutex::new(Resting { idle, pending });
+        let spent = Vec::with_capacity(alloc, ring.settings().callers)?;
+        let resting = Mutex::new(Resting {
+            idle,
+            pending,
+            spent,
+        });
         Ok(CallerPool {
             ring,
             keeps_callers: callers > 0,
@@ -118,12 +150,21 @@ impl<'r, J: Naming, S: EntryStore> CallerPool<'r, J, S> {
         self.serving.fetch_add(1, Ordering::SeqCst);
     }
 
-    /// Adds a caller for later connections. Drops it if there is room for none.
+    /// Adds a caller for later connections, or for the end if it serves none of these.
     pub fn add<R: Wait>(&self, rt: &R, caller: RingClient<'r, J, S>) {
+        let mut resting = self.resting.lock(rt);
         if self.keeps_callers {
-            self.resting.lock(rt).add(caller);
+            resting.add(caller);
         } else {
-            drop(caller);
+            resting.spend(caller);
         }
+    }
+
+    /// All callers that were taken back, once they serve no connection any more.
+    pub fn into_callers(self) -> Vec<ReturnedCaller<J>> {
+        let mut resting = self.resting.into_inner();
+        resting.spend_idle();
+        resting.spend_pending();
+        resting.spent
     }
 }

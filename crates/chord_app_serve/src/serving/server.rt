@@ -1,5 +1,6 @@
 //! The server of both forms of `serve`.
-ghost use Rattle.std.specs.Prelude.{◌≡◌};
+ghost use Rattle.std.specs.Prelude.{◌≡◌, IfOk};
+ghost use Rattle.chord_table.specs.Shown.{WholeShown};
 
 use crate::serving::caller_pool::CallerPool;
 use crate::serving::commands::ServerStores;
@@ -13,12 +14,12 @@ use chord_app_sockets::{
     Until, close_slowly, prepare,
 };
 use chord_app_text::Finish;
-use chord_live_ring::{Ring, RingParts};
+use chord_live_ring::{ReturnedCaller, Ring, RingParts};
 use chord_resp::put_error;
 use chord_resp_serve::ServerInfo;
 use chord_serve::{Due, Served, tell_callers_spent};
 use chord_store::EntryStore;
-use chord_table::Naming;
+use chord_table::{Assembly, Naming};
 use log::Log;
 use std::alloc::Global;
 use std::io::{self, Write};
@@ -318,7 +319,7 @@ fn serve_ring<
     })
 }
 
-/// Serves with this ring, over these stores.
+/// Serves with this ring, over these stores, and gives the callers that served.
 fn serve_with<
     J: Naming + Send + Sync,
     S: EntryStore + Send,
@@ -332,7 +333,7 @@ fn serve_with<
     until: Until<'_>,
     lines: &Lines<W>,
     ring: &Ring<J, S>,
-) -> Result<(), Finish> {
+) -> Result<Vec<ReturnedCaller<J>>, Finish> {
     let service = Service::new(rt, ring, setup);
     let kept = until.kept_callers(setup.settings.callers);
     let pool = CallerPool::new(setup.alloc, ring, kept)?;
@@ -350,11 +351,29 @@ fn serve_with<
         desk,
     };
     let served = serve_ring(rt, &server, setup, nodes);
-    drop(server);
-    served
+    server.drop_sessions();
+    let callers = server.pool.into_callers();
+    served?;
+    Ok(callers)
 }
 
-/// Gives the ring its name, and serves.
+/// Ends the ring. One look at all its nodes and callers proves that they are a reachable world,
+/// each as the threads held it. Only memory that ran out can keep a seat back.
+fn conclude<J: Naming, S: EntryStore>(
+    ring: Ring<J, S>,
+    callers: Vec<ReturnedCaller<J>>,
+) -> Result<Assembly<J>, Finish>
+    ensures { IfOk result (λ seats. WholeShown seats) }
+{
+    let closed = ring.close_all(callers);
+    if closed.is_whole {
+        Ok(closed.seats)
+    } else {
+        Err(Finish::OutOfMemory)
+    }
+}
+
+/// Gives the ring its name, and serves. Then the ring ends by a look at the whole of it.
 pub fn serve_named<
     J: Naming + Send + Sync,
     S: EntryStore + Send,
@@ -378,7 +397,14 @@ pub fn serve_named<
             return Err(Finish::OutOfMemory);
         }
     };
-    let served = serve_with(rt, setup, stores, until, lines, &ring);
-    ring.close();
-    served
+    match serve_with(rt, setup, stores, until, lines, &ring) {
+        Ok(callers) => {
+            drop(conclude(ring, callers)?);
+            Ok(())
+        }
+        Err(finish) => {
+            ring.close();
+            Err(finish)
+        }
+    }
 }

@@ -105,4 +105,9 @@ impl<'r, J: Naming, S: EntryStore, R: Wait + Clock> Sessions<'r, J, S, R> {
         }
         table.drop_oldest(u64::MAX)
     }
+
+    /// Drops a session that is kept, whether a request is pending or not: the server ends.
+    pub fn drop_first(&self, rt: &R) -> Option<RingAsker<'r, J, S, R>> {
+        self.table.lock(rt).drop_first()
+    }
 }

@@ -239,6 +239,17 @@ impl<'s, 'r, J: Naming, S: EntryStore, R: Host, L: Log, W: Write> Server<'s, 'r,
         }
     }
 
+    /// Drops all sessions without a connection, and takes their callers back.
+    pub fn drop_sessions(&self) {
+        let rt = self.service.rt;
+        for _ in 0..u64::MAX {
+            let Some(asker) = self.sessions.drop_first(rt) else {
+                return;
+            };
+            self.pool.add(rt, asker.into_caller());
+        }
+    }
+
     /// Tells a client why its connection has no session.
     fn refuse_session(&self, guest: Guest<'_>, code: FaultCode) -> Ended {
         let alloc = self.service.alloc;

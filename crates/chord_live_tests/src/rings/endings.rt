@@ -46,6 +46,22 @@ fn callers_are_given_back_by_number(rt: HostRuntime) {
     }
 }
 
+#[test]
+fn callers_are_given_back_in_any_order(rt: HostRuntime) {
+    match RingParts::new(rt.alloc(), settings(3, 2, 1, 1_000)) {
+        Ok(parts) => ends_in_any_order::<Brand, _>(&rt, rt.alloc(), parts, Back::Swapped, true),
+        Err(_) => assert!(rt; false, "these settings are within their limits"),
+    }
+}
+
+#[test]
+fn one_caller_less_is_not_all(rt: HostRuntime) {
+    match RingParts::new(rt.alloc(), settings(3, 2, 1, 1_000)) {
+        Ok(parts) => ends_in_any_order::<Brand, _>(&rt, rt.alloc(), parts, Back::FirstAlone, false),
+        Err(_) => assert!(rt; false, "these settings are within their limits"),
+    }
+}
+
 /// What is given back of two callers.
 fn given_back<J: Naming>(
     alloc: Global,
@@ -87,14 +103,13 @@ fn asked<'a, J: Naming, R: Abort + Wait + Clock>(
     (first, second)
 }
 
-/// A ring with a free slot ends, whole or not.
-fn ends<J: Naming, R: Abort + Wait + Clock>(
+/// A ring with a free slot, and what is given back of its callers.
+fn ring_and_callers<J: Naming, R: Abort + Wait + Clock>(
     rt: &R,
     alloc: Global,
     parts: RingParts,
     back: Back,
-    is_whole: bool,
-)
+) -> (Ring<J, CappedStore>, Vec<ReturnedCaller<J>>)
     requires { parts.name ≡ J.name }
 {
     let ring = founded::<J, CappedStore, R>(rt, parts, CappedStore::new(alloc, 1));
@@ -104,7 +119,37 @@ fn ends<J: Naming, R: Abort + Wait + Clock>(
     assert!(rt; crashed == Ok(()), "it crashes");
     let (first, second) = asked(rt, alloc, &ring);
     let callers = given_back(alloc, first, second, back).expect(rt, "memory for two");
+    (ring, callers)
+}
+
+/// The ring ends, whole or not.
+fn ends<J: Naming, R: Abort + Wait + Clock>(
+    rt: &R,
+    alloc: Global,
+    parts: RingParts,
+    back: Back,
+    is_whole: bool,
+)
+    requires { parts.name ≡ J.name }
+{
+    let (ring, callers) = ring_and_callers::<J, R>(rt, alloc, parts, back);
     let closed = ring.close_with(callers);
+    assert!(rt; closed.is_whole == is_whole, "{back:?}");
+    drop(closed);
+}
+
+/// The ring ends with its callers in any order, whole or not.
+fn ends_in_any_order<J: Naming, R: Abort + Wait + Clock>(
+    rt: &R,
+    alloc: Global,
+    parts: RingParts,
+    back: Back,
+    is_whole: bool,
+)
+    requires { parts.name ≡ J.name }
+{
+    let (ring, callers) = ring_and_callers::<J, R>(rt, alloc, parts, back);
+    let closed = ring.close_all(callers);
     assert!(rt; closed.is_whole == is_whole, "{back:?}");
     drop(closed);
 }

@@ -110,6 +110,18 @@ fn the_oldest_session_is_taken_first_and_no_pending_one(rt: HostRuntime) {
     assert!(rt; left == 1, "{left}");
 }
 
+#[test]
+fn the_first_session_is_taken_though_it_is_pending(rt: HostRuntime) {
+    let mut kept = four(rt.alloc()).expect(&rt, "memory for four sessions");
+    for number in 1..=4u8 {
+        let taken = number_of(kept.take_first());
+        assert!(rt; taken == Some(number), "not {number}, but {taken:?}");
+    }
+    let none = number_of(kept.take_first());
+    drop(kept);
+    assert!(rt; none == None, "no session is left: {none:?}");
+}
+
 /// The sessions 1 to 200, of which each tenth has a pending request.
 fn two_hundred(alloc: Global) -> Option<KeptSessions<Numbered>> {
     let mut kept = KeptSessions::new(alloc);

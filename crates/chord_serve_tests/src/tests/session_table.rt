@@ -142,3 +142,20 @@ fn the_oldest_kept_session_is_dropped(rt: HostRuntime) {
         "{next:?}, {none:?}"
     );
 }
+
+#[test]
+fn all_kept_sessions_are_dropped_in_order(rt: HostRuntime) {
+    let alloc = rt.alloc();
+    let mut table = two(alloc).expect(&rt, "memory for two sessions");
+    let is_parted = part(alloc, &mut table, 1, 9);
+    let first = table.drop_first();
+    let second = table.drop_first();
+    let none = table.drop_first();
+    drop(table);
+    assert!(rt; is_parted, "there was memory");
+    assert!(rt;
+        (first, second) == (Some(Numbered(2)), Some(Numbered(1))),
+        "{first:?}, {second:?}"
+    );
+    assert!(rt; none == None, "no session is left: {none:?}");
+}
