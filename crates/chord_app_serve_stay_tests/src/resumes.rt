@@ -83,7 +83,6 @@ fn cut_load(port: u16, tokens: Tokens) -> Load {
     }
 }
 
-
 /// How many values a key of a load has.
 fn count_values(
     alloc: Global,
@@ -102,13 +101,15 @@ fn count_values(
     let count = match (&sent, &received) {
         (
             Ok(_),
-            Ok((
-                _,
-                WireAnswer::Reply {
-                    reply: Reply::Values(values),
-                    ..
-                },
-            )),
+            Ok(
+                (
+                    _,
+                    WireAnswer::Reply {
+                        reply: Reply::Values(values),
+                        ..
+                    },
+                ),
+            ),
         ) => Ok(values.as_slice().len() as u64),
         _ => Err(io::Error::from(io::ErrorKind::InvalidData)),
     };
