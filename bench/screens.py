@@ -65,16 +65,35 @@ def cells(page):
     return page.find_elements(By.CSS_SELECTOR, "#nodes tr")
 
 
+# A handover takes some milliseconds, and the page looks twice a second. So the page is given the
+# first look at the ring that has a handover under way, again and again, until it is told to go on.
+HOLD = """
+window.looked = window.fetch;
+window.held = null;
+window.fetch = async (path, options) => {
+  if (path !== "/ring") return window.looked(path, options);
+  for (let tries = 0; window.held === null && tries < 1000; tries += 1) {
+    const text = await (await window.looked(path)).text();
+    if (JSON.parse(text).nodes.some((node) => node.outbox.length > 0)) window.held = text;
+  }
+  return window.held === null ? window.looked(path, options) : new Response(window.held);
+};
+"""
+GO_ON = "window.fetch = window.looked;"
+
+
 def shoot_join(page, folder):
     """Nodes join until a picture has an arrow, which a handover under way has."""
-    for number in range(16, 24):
+    page.execute_script(HOLD)
+    for _ in range(16, 24):
         press(page, "Join a node")
         ends = time.monotonic() + 6
         while time.monotonic() < ends:
             if page.find_elements(By.CSS_SELECTOR, "#circle path[marker-end]"):
                 page.save_screenshot(str(folder / "ring-join.png"))
-                if page.find_elements(By.CSS_SELECTOR, "#circle path[marker-end]"):
-                    return number
+                page.execute_script(GO_ON)
+                return
+            time.sleep(0.1)
     sys.exit("no handover was seen")
 
 
@@ -109,7 +128,7 @@ def main():
         ports = [server.stdout.readline().rsplit(":", 1)[1].strip() for _ in range(2)]
         load = subprocess.Popen(
             [program, "load", "--port", ports[0], "--connections", "4", "--kind", "insert",
-             "--keys", "20000", "--seconds", "180"], stdout=subprocess.DEVNULL,
+             "--keys", "400000", "--seconds", "180"], stdout=subprocess.DEVNULL,
         )
         page = browser()
         try:
