@@ -7,7 +7,7 @@ use std::alloc::Global;
 use std::test::Fail;
 
 /// What is told by an answer that comes at most `step` bytes at once.
-fn told(
+pub fn told(
     alloc: Global,
     command: &RingCommand,
     answer: &[u8],

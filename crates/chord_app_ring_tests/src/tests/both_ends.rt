@@ -1,13 +1,12 @@
 //! The command and the server's service together, with no network between.
 
+use super::answers::told;
 use super::operators::NotingOperator;
 use super::requests::{CRASH, FORCED_CRASH, PLAIN_JOIN, WHOLE_JOIN};
-use super::streams::MadeStream;
 use chord_app_operator::{CrashRequest, OperatorService};
-use chord_app_ring::{RingCommand, RingFault, Told, exchange, request_bytes, told_of};
+use chord_app_ring::{RingCommand, RingFault, Told, request_bytes};
 use http_server::{Config, Connection, serve};
 use http1::{Client, Limits};
-use std::alloc::Global;
 use std::hash::RandomState;
 use std::test::Fail;
 
@@ -34,24 +33,13 @@ fn serve_command(rt: &HostRuntime, command: &RingCommand) -> Result<Served, Fail
     })
 }
 
-/// What is told for what the server wrote.
-fn told(alloc: Global, command: &RingCommand, got: &[u8]) -> Result<Told, RingFault> {
-    let mut stream = MadeStream::new(alloc, got, 100);
-    let answer = exchange(alloc, &mut stream, 7001, command);
-    drop(stream);
-    let answer = answer?;
-    let told = told_of(alloc, command, &answer);
-    drop(answer);
-    told
-}
-
 #[test]
 fn a_join_comes_through(rt: HostRuntime) -> Result<(), Fail> {
     for request in [PLAIN_JOIN, WHOLE_JOIN] {
         let command = RingCommand::Join(request);
         let served = serve_command(&rt, &command)?;
         assert!(rt; served.operator.join == Some(request));
-        let told = told(rt.alloc(), &command, &served.got);
+        let told = told(rt.alloc(), &command, &served.got, 100);
         assert!(rt; matches!(&told, Ok(Told::Joined(4))));
         drop(told);
         drop(served);
@@ -65,7 +53,7 @@ fn a_leave_comes_through(rt: HostRuntime) -> Result<(), Fail> {
         let command = RingCommand::Leave(node);
         let served = serve_command(&rt, &command)?;
         assert!(rt; served.operator.left == Some(node));
-        let told = told(rt.alloc(), &command, &served.got);
+        let told = told(rt.alloc(), &command, &served.got, 100);
         assert!(rt; matches!(&told, Ok(Told::Leaving(named)) if *named == node) == is_done);
         assert!(rt;
             matches!(&told, Err(RingFault::Refused(name)) if name.as_str() == "NotStaying")
@@ -87,7 +75,7 @@ fn a_crash_comes_through(rt: HostRuntime) -> Result<(), Fail> {
         let command = RingCommand::Crash(request);
         let served = serve_command(&rt, &command)?;
         assert!(rt; served.operator.crash == Some(request));
-        let told = told(rt.alloc(), &command, &served.got);
+        let told = told(rt.alloc(), &command, &served.got, 100);
         assert!(rt; matches!(&told, Ok(Told::Crashed(7))) == is_done);
         drop(told);
         drop(served);
@@ -98,13 +86,13 @@ fn a_crash_comes_through(rt: HostRuntime) -> Result<(), Fail> {
 #[test]
 fn a_look_and_a_stop_come_through(rt: HostRuntime) -> Result<(), Fail> {
     let served = serve_command(&rt, &RingCommand::Show)?;
-    let told_ring = told(rt.alloc(), &RingCommand::Show, &served.got);
+    let told_ring = told(rt.alloc(), &RingCommand::Show, &served.got, 100);
     assert!(rt; matches!(&told_ring, Ok(Told::Ring(ring)) if ring.nodes.len() == 4));
     drop(told_ring);
     drop(served);
     let served = serve_command(&rt, &RingCommand::Stop)?;
     assert!(rt; served.operator.is_stopped);
-    let told_stop = told(rt.alloc(), &RingCommand::Stop, &served.got);
+    let told_stop = told(rt.alloc(), &RingCommand::Stop, &served.got, 100);
     assert!(rt; matches!(&told_stop, Ok(Told::Stopping)));
     drop(told_stop);
     Ok(())

@@ -22,17 +22,18 @@ const REFUSED: &str =
     "HTTP/1.1 409 Conflict\r\ncontent-length: 24\r\n\r\n{\"refused\":\"NotStaying\"}";
 
 /// Answers the next clients, each after its first bytes, and then no more. A client that sends
-/// nothing is the last.
-fn answer_all(listener: &TcpListener, answers: &[&str]) -> io::Result<()> {
+/// nothing is the last. From then on nobody can connect.
+fn answer_all(listener: TcpListener, answers: &[&str]) -> io::Result<()> {
     for (answer, accepted) in answers.iter().zip(listener.incoming()) {
         let mut stream = accepted?;
         let mut bytes = [0u8; 256];
         if stream.read(&mut bytes)? == 0 {
-            return Ok(());
+            break;
         }
         stream.write_all(answer.as_bytes())?;
         drop(stream);
     }
+    drop(listener);
     Ok(())
 }
 
@@ -84,10 +85,9 @@ fn runs_at<R: Threads + Wait + Clock + Net<Listener = TcpListener, Stream = TcpS
     };
     let (served, ran) = thread::join(
         rt,
-        || answer_all(&listener, texts),
+        || answer_all(listener, texts),
         || runs_and_ends(rt, alloc, &line, lines),
     );
-    drop(listener);
     served.ok()?;
     Some(ran)
 }
