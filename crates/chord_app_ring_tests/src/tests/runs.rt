@@ -12,7 +12,7 @@ use std::time::Clock;
 
 /// A ring without nodes.
 const EMPTY: &str =
-    "HTTP/1.1 200 OK\r\ncontent-length: 98\r\n\r\n{\"callers\":{\"all\":2,\"open\":1},\"connections\":0,\"nodes\":[],\"slots\":8,\"successors\":3,\"uptime_ms\":999}";
+    "HTTP/1.1 200 OK\r\ncontent-length: 287\r\n\r\n{\"callers\":{\"all\":2,\"open\":1},\"connections\":0,\"ends\":{\"callersspent\":0,\"ended\":4,\"idle\":0,\"malformed\":0,\"memory\":0,\"protocol\":0,\"read\":0,\"truncated\":0,\"turnsspent\":0,\"write\":0},\"nodes\":[],\"sessions\":{\"dropped\":0,\"kept\":0,\"refused\":0,\"resumed\":0},\"slots\":8,\"successors\":3,\"uptime_ms\":999}";
 
 /// How it is shown.
 const SHOWN: &str =
@@ -97,7 +97,7 @@ fn the_ring_is_shown_again(rt: HostRuntime) -> Result<(), std::alloc::AllocError
     let twice = format!(in rt.alloc(); "{SHOWN}{SHOWN}")?;
     let command = (RingCommand::Show, 2);
     let ran = runs_at(&rt, rt.alloc(), command, &[EMPTY, EMPTY], (&twice, ""));
-    assert!(rt; ran == Some((Ok(Finish::Done), true, true)));
+    assert!(rt; ran == Some((Ok(Finish::Done), true, true)), "{ran:?}");
     Ok(())
 }
 
@@ -115,7 +115,7 @@ fn ends_of_the_command(rt: HostRuntime) {
         ("220 mail\r\n", ("", ""), Err(Finish::Fault(Fault::Answer))),
     ] {
         let ran = runs_at(&rt, rt.alloc(), leave, &[answer], lines);
-        assert!(rt; ran == Some((finish, true, true)));
+        assert!(rt; ran == Some((finish, true, true)), "{ran:?}");
     }
 }
 
