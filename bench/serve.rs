@@ -2,18 +2,21 @@
 //! nothing else, so that the same program measures all three. Each connection has a thread, which
 //! writes FLIGHT requests at once and then reads their answers.
 //!
-//!     serve echo PORT                                              the echo server
-//!     serve load SERVER PORT KIND CONNECTIONS FLIGHT REQUESTS      requests a second, on one line
+//!     serve echo PORT                                                     the echo server
+//!     serve load SERVER PORT KIND CONNECTIONS FLIGHT REQUESTS KEY VALUE   a line of four numbers
 //!
-//! SERVER is `chord`, `redis` or `echo`; KIND is `insert` (8 bytes under one of 100,000 keys of 12
-//! bytes), `retrieve` (one of those sets), `fill` (one value under each key) or `fill100` (100
-//! values under each of the first 1,000 keys) and `retrieve100` (one of those).
+//! SERVER is `chord`, `redis` or `echo`; KIND is `insert` (a value under one of 100,000 keys),
+//! `retrieve` (one of those sets), `fill` (one value under each key) or `fill100` (100 values under
+//! each of the first 1,000 keys) and `retrieve100` (one of those). KEY and VALUE are the bytes of a
+//! key (12 at least) and of a value (8 at least). The line has the requests a second, and the
+//! microseconds of the 50th, the 99th and the 99.9th percentile. A request's time begins when its
+//! flight is written and ends when its own answer is read.
 
 use std::env;
 use std::io::{Read, Write};
 use std::net::{TcpListener, TcpStream};
 use std::thread;
-use std::time::Instant;
+use std::time::{Duration, Instant};
 
 const KEYS: u64 = 100_000;
 const LARGE_KEYS: u64 = 1_000;
@@ -53,7 +56,41 @@ impl Mixed {
     }
 }
 
-/// The key and the value of request `at` of all.
+/// What all connections of a load do.
+#[derive(Clone, Copy)]
+struct Load {
+    server: Server,
+    port: u16,
+    kind: Kind,
+    flight: u64,
+    requests: u64,
+    key_length: usize,
+    value_length: usize,
+}
+
+impl Load {
+    /// Writes request `at` of a connection's own, of which `sent` are answered.
+    fn put(self, out: &mut Vec<u8>, thread: u64, at: u64, sent: u64, mixed: &mut Mixed) {
+        let (key, start) = picked(self.kind, thread * self.requests + at, mixed);
+        let key = format!("key{key:0width$}", width = self.key_length - 3);
+        let mut value = vec![7; self.value_length];
+        value[..8].copy_from_slice(&start);
+        match self.server {
+            Server::Redis => put_words(out, self.kind.puts(), key.as_bytes(), &value),
+            _ => put_frame(out, self.kind.puts(), at + 1, sent, key.as_bytes(), &value),
+        }
+    }
+
+    /// How many bytes the first answer has, once it is whole.
+    fn answer_length(self, bytes: &[u8]) -> Option<usize> {
+        match self.server {
+            Server::Redis => words_length(bytes),
+            _ => frame_length(bytes),
+        }
+    }
+}
+
+/// The number of the key and the first bytes of the value of request `at` of all.
 fn picked(kind: Kind, at: u64, mixed: &mut Mixed) -> (u64, [u8; 8]) {
     match kind {
         Kind::Insert => (mixed.next() % KEYS, mixed.next().to_be_bytes()),
@@ -120,36 +157,30 @@ fn words_length(bytes: &[u8]) -> Option<usize> {
     Some(end)
 }
 
-/// One connection's requests.
-fn load(server: Server, port: u16, kind: Kind, flight: u64, requests: u64, thread: u64) {
-    let mut stream = TcpStream::connect(("127.0.0.1", port)).expect("nobody listens");
+/// One connection's requests, and how long each took.
+fn ask_all(load: Load, thread: u64) -> Vec<Duration> {
+    let mut stream = TcpStream::connect(("127.0.0.1", load.port)).expect("nobody listens");
     stream.set_nodelay(true).unwrap();
     let mut mixed = Mixed(0x9E37_79B9_7F4A_7C15 ^ (thread + 1) * 0x1234_5678_9ABC);
     let (mut out, mut bytes, mut buffer) = (Vec::new(), Vec::new(), vec![0; 1 << 16]);
+    let mut times = Vec::with_capacity(load.requests as usize);
     let mut sent = 0;
-    while sent < requests {
-        let count = flight.min(requests - sent);
+    while sent < load.requests {
+        let count = load.flight.min(load.requests - sent);
         out.clear();
         for at in sent..sent + count {
-            let (key, value) = picked(kind, thread * requests + at, &mut mixed);
-            let key = format!("key{key:09}");
-            match server {
-                Server::Redis => put_words(&mut out, kind.puts(), key.as_bytes(), &value),
-                _ => put_frame(&mut out, kind.puts(), at + 1, sent, key.as_bytes(), &value),
-            }
+            load.put(&mut out, thread, at, sent, &mut mixed);
         }
+        let begun = Instant::now();
         stream.write_all(&out).unwrap();
         sent += count;
         let (mut answers, mut at) = (0, 0);
         while answers < count {
-            let length = match server {
-                Server::Redis => words_length(&bytes[at..]),
-                _ => frame_length(&bytes[at..]),
-            };
-            match length {
+            match load.answer_length(&bytes[at..]) {
                 Some(length) => {
                     at += length;
                     answers += 1;
+                    times.push(begun.elapsed());
                 }
                 None => {
                     let read = stream.read(&mut buffer).unwrap();
@@ -160,6 +191,13 @@ fn load(server: Server, port: u16, kind: Kind, flight: u64, requests: u64, threa
         }
         bytes.drain(..at);
     }
+    times
+}
+
+/// The least time with this part of all at or below it, in microseconds.
+fn percentile(rising: &[Duration], part: f64) -> f64 {
+    let place = (rising.len() as f64 * part).ceil() as usize;
+    rising[place.max(1) - 1].as_nanos() as f64 / 1000.0
 }
 
 /// Answers each frame with one of the size of an insert's answer.
@@ -210,13 +248,25 @@ fn main() {
         "fill100" => Kind::LargeFill,
         _ => Kind::LargeRetrieve,
     };
-    let (port, connections, flight) = (number(3) as u16, number(5), number(6));
-    let requests = number(7) / connections;
+    let connections = number(5);
+    let load = Load {
+        server,
+        port: number(3) as u16,
+        kind,
+        flight: number(6),
+        requests: number(7) / connections,
+        key_length: number(8) as usize,
+        value_length: number(9) as usize,
+    };
     let begun = Instant::now();
-    thread::scope(|scope| {
-        for thread in 0..connections {
-            scope.spawn(move || load(server, port, kind, flight, requests, thread));
-        }
+    let mut times: Vec<Duration> = thread::scope(|scope| {
+        let threads: Vec<_> = (0..connections)
+            .map(|thread| scope.spawn(move || ask_all(load, thread)))
+            .collect();
+        threads.into_iter().flat_map(|thread| thread.join().unwrap()).collect()
     });
-    println!("{:.0}", (requests * connections) as f64 / begun.elapsed().as_secs_f64());
+    let rate = times.len() as f64 / begun.elapsed().as_secs_f64();
+    times.sort_unstable();
+    let [half, most, all] = [0.5, 0.99, 0.999].map(|part| percentile(&times, part));
+    println!("{rate:.0} {half:.1} {most:.1} {all:.1}");
 }
