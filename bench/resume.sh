@@ -24,6 +24,7 @@ chord=crates/chord_app/out/chord_app
 # start: a new server at a port of its own. stop ends it.
 start() {
     port=$((port + 1)) hold=''
+    rm -f "$room/input.$port"
     mkfifo "$room/input.$port"
     $chord serve --plan "$room/plan.toml" --port $port --stay < "$room/input.$port" > /dev/null &
     server=$!
