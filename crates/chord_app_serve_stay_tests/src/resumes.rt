@@ -180,7 +180,16 @@ fn loads<R: Threads + Wait + Clock + Net<Listener = TcpListener, Stream = TcpStr
 }
 
 /// A load of a server that keeps sessions for `keep` seconds.
-fn load_and_stop<R: Host>(
+fn load_and_stop<
+    R: Threads
+        + Wait
+        + Clock
+        + Net<Listener = TcpListener, Stream = TcpStream>
+        + Copy
+        + Send
+        + Sync
+        + 'static,
+>(
     rt: &R,
     alloc: Global,
     keep: u64,
@@ -391,11 +400,16 @@ fn lines(alloc: Global) -> Result<String, AllocError> {
 }
 
 /// Two hundred sessions and a pending one lose their connections on a server of 64 callers.
-fn two_hundred<R: Host>(
-    rt: &R,
-    alloc: Global,
-    (reader, writer): (PipeReader, PipeWriter),
-) -> Option<bool> {
+fn two_hundred<
+    R: Threads
+        + Wait
+        + Clock
+        + Net<Listener = TcpListener, Stream = TcpStream>
+        + Copy
+        + Send
+        + Sync
+        + 'static,
+>(rt: &R, alloc: Global, (reader, writer): (PipeReader, PipeWriter)) -> Option<bool> {
     let size = Size {
         callers: CALLERS,
         limit: 1,
