@@ -1,7 +1,7 @@
 //! A reader and writer that moves some bytes, and then fails.
 use std::io::{self, Read, Write};
 
-/// Lets so many bytes through in all.
+/// Lets a number of bytes through, and then no more.
 #[derive(Drop)]
 pub struct Cut<T> {
     pub inner: T,

@@ -12,7 +12,7 @@ use Rattle.chord_map.proofs.Lists.{by_test}
 use Rattle.chord_store.specs.Cut.{CutsLeaveFewer, pairs_within, part_up_to}
 use Rattle.chord_store.specs.Inside.{pairs_inside}
 
--- so many steps on
+-- the identifier `steps` steps on is that many steps away
 pub walk_steps : (after steps at : ℕ) → after < 2 ^ 128 → 0 < steps → steps < 2 ^ 128 → at ≡ (after + steps) % 2 ^ 128 → walk after at ≡ steps
 walk_steps after steps at after_in some steps_in is =
     let at_in : at < 2 ^ 128 = omega (arith, is) in

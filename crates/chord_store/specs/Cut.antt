@@ -10,7 +10,7 @@ use Rattle.chord_store.specs.Inside.{pairs_inside}
 abbrev pub part_up_to : Span → Id → Span
 part_up_to span at = record { after = span.after; upto = at }
 
--- the pairs whose keys lie at most so many steps after the start
+-- the pairs whose keys lie at most `steps` steps after the start
 abbrev pub pairs_within : ℕ → ℕ → List Pair → List Pair
 pairs_within after steps pairs = filter (λ (pair : Pair). nat_le (walk after (key_id pair.key)) steps) pairs
 

@@ -7,7 +7,7 @@ ghost use Rattle.chord_store.specs.Inside.{pairs_inside};
 use crate::placed::Placed;
 use chord_ident::{Id, Span};
 
-// The identifier so many steps after the start.
+// The identifier `steps` steps after the start.
 fn after_steps(after: Id, steps: u128) -> Id
     requires { 0 < steps }
     ensures { walk after.number result.number ≡ steps }
@@ -15,7 +15,7 @@ fn after_steps(after: Id, steps: u128) -> Id
     Id::new(after.number.wrapping_add(steps))
 }
 
-// The number of pairs whose keys lie at most so many steps after the start.
+// The number of pairs whose keys lie at most `steps` steps after the start.
 fn count_within(placed: &Placed, after: Id, steps: u128) -> u64
     requires { 0 < steps }
     ensures { result ≡ length (pairs_within after.number steps placed.now) }

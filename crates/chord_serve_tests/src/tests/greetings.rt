@@ -16,7 +16,7 @@ struct Beginning {
     reads: u64,
 }
 
-/// The beginning of a connection, read so many bytes at a time, in so many turns.
+/// The beginning of a connection, read `step` bytes at a time, in at most `turns` turns.
 fn begun(alloc: Global, input: &[u8], step: usize, turns: u64) -> Beginning {
     let limits = Limits { step, calls: 100 };
     let mut reader = Limited::new(input, limits);

@@ -110,8 +110,8 @@ pub fn answers(alloc: Global) -> Result<Vec<u8>, AllocError> {
     )
 }
 
-/// How many of the frames with these lengths are whole in so many bytes, and how many bytes these
-/// have.
+/// How many of the frames with these lengths are whole in the first `bytes` bytes, and how many
+/// bytes these have.
 pub fn whole(lens: &[usize], bytes: usize) -> (usize, usize) {
     let mut sum: usize = 0;
     for (count, len) in lens.iter().enumerate() {

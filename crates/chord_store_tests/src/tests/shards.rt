@@ -123,7 +123,7 @@ fn rests_agree<S: EntryStore>(
     Ok(is_left)
 }
 
-// Whether the cut leaves at least so many pairs before it, and a key less would not; or whether
+// Whether the cut leaves at least `least` pairs before it, and a key less would not; or whether
 // the span has too few pairs before its end, which is a key.
 fn is_cut_right(store: &TreeStore, span: Span, least: u64) -> bool
     requires { 0 < least }
