@@ -3,5 +3,6 @@
 
 mod asks;
 mod loads;
+mod loopback;
 mod sessions;
 mod small_server;

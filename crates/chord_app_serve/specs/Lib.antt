@@ -3,3 +3,4 @@ pub mod Gaps
 pub mod Pace
 pub mod Shown
 pub mod Together
+pub mod ReadPairs

@@ -1,6 +1,6 @@
 -- How a node of a ring is shown to its operator, and what the operator is told. Source: our own.
 use Rattle.std.specs.Prelude.{◌≡◌, ℕ, ◌≤◌, ◌<◌, ◌==◌, Bool, true, false, map, Option, Some, None, All, Ok, Err}
-use Rattle.chord_app_operator.specs.Questions.{Question, Sight, Crash, Join, Answer, Seen, Joined, HasCrashed}
+use Rattle.chord_app_operator.specs.Questions.{Question, Sight, Crash, Join, ReadPairs, Answer, Seen, Joined, HasCrashed, PairsRead}
 use Rattle.chord_app_operator.specs.declared.operator.refusals.CrashRefusal.{CrashRefusal}
 use Rattle.chord_app_operator.specs.declared.operator.refusals.CrashRefusal.TheVariants as crash
 use Rattle.chord_app_operator.specs.declared.request.store_kind.StoreKind.{StoreKind}
@@ -19,6 +19,7 @@ use Rattle.chord_live_ring.specs.declared.node_counts.HandoverCounts.{HandoverCo
 use Rattle.chord_live_ring.specs.declared.sight.NodeSight.{NodeSight as RingNode}
 use Rattle.chord_live_ring.specs.declared.sight.OutboxSight.{OutboxSight as RingItem}
 use Rattle.chord_live_ring.specs.declared.sight.SegmentSight.{SegmentSight as RingSegment}
+use Rattle.chord_app_serve.specs.ReadPairs.{IsRead}
 use Rattle.chord_live_ring.specs.Sights.{IsSightOf}
 use Rattle.chord_live_types.specs.declared.settings.Settings.{Settings}
 use Rattle.chord_model.specs.declared.phase.Phase.{Phase as RingPhase}
@@ -90,10 +91,11 @@ crash_refusal true true false = None
 crash_refusal true false false = Some crash.Unsafe
 
 -- What the operator of a ring with these settings may be told. The ring is shown with nodes of
--- reachable worlds. A node that joins has a number of the ring that is not 0. Unsafe is not told
--- where a crash is forced.
+-- reachable worlds, and pairs are those of one. A node that joins has a number of the ring that is
+-- not 0. Unsafe is not told where a crash is forced.
 abbrev pub Tells : Settings → Question → Answer → Type 0
 Tells settings Sight (Seen (Ok sight)) = (sight.successors ≡ settings.successors) × (sight.slots ≡ settings.slots) × (sight.callers.all ≡ settings.callers) × All IsShownNode sight.nodes.items
 Tells settings (Join request) (Joined (Ok number)) = (1 ≤ number) × (number < settings.slots)
 Tells settings (Crash request) (HasCrashed (Err crash.Unsafe)) = request.is_forced ≡ false
+Tells settings (ReadPairs request) (PairsRead (Ok page)) = IsRead request page
 Tells settings question answer = Unit {0}

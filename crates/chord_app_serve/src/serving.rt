@@ -9,6 +9,7 @@ pub mod info;
 pub mod joining;
 pub mod operating;
 pub mod operator;
+pub mod pairs;
 pub mod server;
 pub mod service;
 pub mod sessions;

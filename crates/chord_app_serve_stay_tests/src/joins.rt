@@ -1,24 +1,19 @@
 //! Nodes that an operator makes join, leave and crash while clients ask.
 
-use crate::operators::{Call, Listeners, PLAIN, unanswered};
+use crate::operators::{Call, PLAIN, unanswered};
+use crate::players::{Deed, Played, Player, Told, serve_player};
 use crate::stays::WAITS;
-use chord_app_plan::Plan;
-use chord_app_serve::{ServerStores, stay};
-use chord_app_serve_testkit::{Act, Answer, Ask, bound, do_acts, plan_with, two_stores};
-use chord_app_sockets::{Doors, Host, OperatorPort, ServerSetup};
-use chord_app_text::Finish;
-use chord_store::CappedStore;
+use chord_app_serve_testkit::{Act, Addresses, Answer, Ask, SMALL, Size, do_acts};
 use log::sink::Discard;
-use std::alloc::{AllocError, Global};
+use std::alloc::Global;
 use std::hash::RandomState;
-use std::io::{self, PipeReader, PipeWriter};
 use std::net::{Net, SocketAddr, TcpListener, TcpStream};
 use std::sync::Wait;
 use std::sync::atomic::{AtomicBool, Ordering};
 use std::test::Fail;
-use std::thread;
 use std::thread::Threads;
 use std::time::Clock;
+use std::{io, thread};
 
 /// Nodes that do not join. The ring has three slots more than nodes, and spare trees.
 const REFUSED: &[Call] = &[
@@ -244,7 +239,7 @@ fn operate_to_the_end<R: Net + Clock>(
 
 /// How a server was operated while two clients asked.
 #[derive(Debug, Drop)]
-struct Played {
+pub struct Joined {
     /// How many rounds each client asked.
     x: io::Result<u64>,
     y: io::Result<u64>,
@@ -253,8 +248,8 @@ struct Played {
     operated: io::Result<Option<(usize, usize)>>,
 }
 
-/// Two clients ask while the operator does its scripts.
-fn play<
+/// Two clients ask while the operator does its scripts. Then the operator stops the server.
+pub fn join_and_ask<
     R: Threads
         + Wait
         + Clock
@@ -263,113 +258,52 @@ fn play<
         + Send
         + Sync
         + 'static,
->(rt: &R, alloc: Global, address: SocketAddr, operator: SocketAddr) -> Played {
+>(rt: &R, alloc: Global, at: Addresses) -> Joined {
     let is_over = AtomicBool::new(false);
     let is_over = &is_over;
     let (x, (y, operated)) = thread::join(
         rt,
-        move || ask_rounds(rt, alloc, address, ROUND_OF_X, is_over),
+        move || ask_rounds(rt, alloc, at.frames, ROUND_OF_X, is_over),
         move || {
             thread::join(
                 rt,
-                move || ask_rounds(rt, alloc, address, ROUND_OF_Y, is_over),
-                move || operate_to_the_end(rt, alloc, operator, is_over),
+                move || ask_rounds(rt, alloc, at.frames, ROUND_OF_Y, is_over),
+                move || operate_to_the_end(rt, alloc, at.operator, is_over),
             )
         },
     );
-    Played { x, y, operated }
+    let _ = unanswered(rt, alloc, at.operator, STOPS).is_ok();
+    Joined { x, y, operated }
 }
 
-/// Plays, and stops the server, by the end of its input if nothing else does.
-fn play_and_stop<
-    R: Threads
-        + Wait
-        + Clock
-        + Net<Listener = TcpListener, Stream = TcpStream>
-        + Copy
-        + Send
-        + Sync
-        + 'static,
->(rt: &R, alloc: Global, address: SocketAddr, operator: SocketAddr, end: PipeWriter) -> Played {
-    let played = play(rt, alloc, address, operator);
-    let _ = unanswered(rt, alloc, operator, STOPS).is_ok();
-    drop(end);
-    played
-}
-
-/// Three spare stores with room for `limit` pairs.
-fn three_spares(alloc: Global, limit: u64) -> Result<Vec<CappedStore>, AllocError> {
-    let mut spares = two_stores(alloc, limit)?;
-    spares.push(CappedStore::new(alloc, limit))?;
-    Ok(spares)
-}
-
-/// Serves until it is stopped. The ring has room for three more nodes.
-fn stayed<R: Host>(
-    rt: &R,
-    alloc: Global,
-    plan: &Plan,
-    listeners: &Listeners,
-    keys: RandomState,
-    input: PipeReader,
-) -> Result<Vec<u8>, Finish> {
-    let mut written: Vec<u8> = Vec::new(alloc);
-    let nodes = two_stores(alloc, 4)?;
-    let spares = three_spares(alloc, 4)?;
-    let setup = ServerSetup {
-        alloc,
-        plan,
-        settings: plan.settings_with(Some(5), None),
-        doors: Doors::Frames(&listeners.clients),
-        operator: Some(OperatorPort {
-            listener: &listeners.operator,
-            keys,
-        }),
-        notes: &Discard,
-    };
-    let stores = ServerStores { nodes, spares };
-    stay(rt, &setup, stores, WAITS, input, &mut written)?;
-    Ok(written)
-}
-
-/// A ring of two nodes is operated while two clients ask. Says whether the server ended well.
-fn operated<
-    R: Threads
-        + Wait
-        + Clock
-        + Net<Listener = TcpListener, Stream = TcpStream>
-        + Copy
-        + Send
-        + Sync
-        + 'static,
->(
-    rt: &R,
-    alloc: Global,
-    keys: RandomState,
-    (input, end): (PipeReader, PipeWriter),
-) -> Option<(bool, Played)> {
-    let plan = plan_with(alloc, 2)?;
-    let (clients, address) = bound(rt)?;
-    let (operator, operator_address) = bound(rt)?;
-    let listeners = Listeners { clients, operator };
-    let (written, played) = thread::join(
-        rt,
-        || stayed(rt, alloc, &plan, &listeners, keys, input),
-        || play_and_stop(rt, alloc, address, operator_address, end),
-    );
-    let is_well = written.is_ok();
+/// Whether the server ended well, and what was told.
+fn joined_of(played: Played) -> Option<(bool, Joined)> {
+    let (written, told) = played?;
+    let is_well = written.written.is_ok();
     drop(written);
-    Some((is_well, played))
+    match told {
+        Ok(Told::Joined(joined)) => Some((is_well, joined)),
+        other => {
+            drop(other);
+            None
+        }
+    }
 }
 
 /// A node joins and gets the key that is asked for, leaves and is gone, two more join, and one
 /// crashes that holds another key: each request is answered as if nothing had happened.
 #[test]
 fn nodes_come_and_go_while_clients_ask(rt: HostRuntime) -> Result<(), Fail> {
-    let keys = RandomState::new(&rt)?;
-    let operated = operated(&rt, rt.alloc(), keys, io::pipe(&rt)?);
-    let (is_well, played) = operated.expect(&rt, "memory and ports for a server");
-    let Played { x, y, operated } = played;
+    let size = Size {
+        callers: 2,
+        joining: 3,
+        operator: Some(RandomState::new(&rt)?),
+        ..SMALL
+    };
+    let player = Player::with_end(Deed::Join, WAITS, io::pipe(&rt)?);
+    let played = serve_player(&rt, rt.alloc(), size, &Discard, player);
+    let (is_well, joined) = joined_of(played).expect(&rt, "memory and ports for a server");
+    let Joined { x, y, operated } = joined;
     assert!(rt;
         operated.unwrap_or(Some((99, 99))) == None,
         "each call of the operator"

@@ -8,6 +8,8 @@ mod lasting;
 #[cfg(test)]
 mod operators;
 #[cfg(test)]
+mod players;
+#[cfg(test)]
 mod redis;
 #[cfg(test)]
 mod redis_hostile;

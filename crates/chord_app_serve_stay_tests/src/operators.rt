@@ -1,20 +1,17 @@
 //! The operator of `serve --stay` over loopback.
 
+use crate::players::{Deed, Player, serve_player};
 use crate::stays::WAITS;
-use chord_app_plan::Plan;
-use chord_app_serve::{ServerStores, stay};
-use chord_app_serve_testkit::{Act, Acts, Answer, Ask, bound, do_acts, plan_with, two_stores};
-use chord_app_sockets::{Doors, Host, OperatorPort, ServerSetup};
-use chord_app_text::Finish;
+use chord_app_serve_testkit::{
+    Act, Acts, Addresses, Answer, Ask, GOOD, SMALL, Size, do_acts, look_at,
+};
 use log::sink::Discard;
 use std::alloc::Global;
 use std::hash::RandomState;
-use std::io::{self, PipeReader, PipeWriter, Read, Write};
-use std::net::{Net, SocketAddr, TcpListener, TcpStream};
-use std::sync::Wait;
+use std::io::{self, Read, Write};
+use std::net::{Net, SocketAddr, TcpStream};
 use std::test::Fail;
 use std::thread;
-use std::thread::Threads;
 use std::time::{Clock, Duration};
 
 /// What an operator asks for, and how it is answered.
@@ -188,6 +185,18 @@ const BEFORE: &[Call] = &[
         has: "{\"refused\":\"BadForce\"}",
     },
     Call {
+        line: "GET /pairs?limit=0",
+        status: "400 Bad Request",
+        has: "{\"refused\":\"BadLimit\"}",
+        ..PLAIN
+    },
+    Call {
+        line: "POST /pairs",
+        status: "405 Method Not Allowed",
+        has: "allow: GET, HEAD",
+        ..PLAIN
+    },
+    Call {
         line: "PUT /ring",
         status: "405 Method Not Allowed",
         has: "allow: GET, HEAD",
@@ -197,6 +206,28 @@ const BEFORE: &[Call] = &[
         line: "GET /rings",
         status: "404 Not Found",
         has: "{\"refused\":\"NoSuchPath\"}",
+        ..PLAIN
+    },
+];
+
+/// The pair of `abc`, and that reading goes on behind its identifier.
+const READ: &[Call] = &[
+    Call {
+        line: "GET /pairs?after=a9993e364706816aba3e25717850c26b&limit=1",
+        status: "200 OK",
+        has: "\r\n\r\n{\"id\":\"a9993e364706816aba3e25717850c26c\",\"key\":\"616263\",\"value\":\"78\"}\n",
+        ..PLAIN
+    },
+    Call {
+        line: "GET /pairs?after=a9993e364706816aba3e25717850c26b&limit=1",
+        status: "200 OK",
+        has: "chord-next: a9993e364706816aba3e25717850c26c\r\n",
+        ..PLAIN
+    },
+    Call {
+        line: "GET /pairs?after=a9993e364706816aba3e25717850c26c",
+        status: "200 OK",
+        has: "\r\n\r\n",
         ..PLAIN
     },
 ];
@@ -263,6 +294,12 @@ const CRASH: &[Call] = &[
         ..PLAIN
     },
     Call {
+        line: "GET /pairs?after=a9993e364706816aba3e25717850c26b",
+        status: "200 OK",
+        has: "content-length: 0\r\n",
+        ..PLAIN
+    },
+    Call {
         line: "GET /health",
         status: "503 Service Unavailable",
         has: "",
@@ -291,121 +328,42 @@ const LATER: Acts = &[
     (0, Act::Leave),
 ];
 
-/// What the operator and the clients do until the server stops. Says whether all are answered.
-fn play<R: Net + Clock>(
+/// Expects that each of these calls is answered as is wanted, at once or after some time.
+fn each_is_answered<R: Net + Clock>(
     rt: &R,
     alloc: Global,
     address: SocketAddr,
-    operator: SocketAddr,
-) -> io::Result<bool> {
+    calls: &[Call],
+) -> io::Result<()> {
+    match unanswered(rt, alloc, address, calls)? {
+        None => Ok(()),
+        Some(_) => Err(io::Error::from(io::ErrorKind::InvalidData)),
+    }
+}
+
+/// An operator and clients, until the operator stops the server.
+pub fn operate<R: Net + Clock>(rt: &R, alloc: Global, at: Addresses) -> io::Result<()> {
     let mut streams = Vec::new(alloc);
-    if unanswered(rt, alloc, operator, BEFORE)? != None {
-        return Ok(false);
+    each_is_answered(rt, alloc, at.operator, BEFORE)?;
+    do_acts(rt, alloc, at.frames, &mut streams, CLIENTS)?;
+    for calls in [READ, LEAVE, READ] {
+        each_is_answered(rt, alloc, at.operator, calls)?;
     }
-    do_acts(rt, alloc, address, &mut streams, CLIENTS)?;
-    if unanswered(rt, alloc, operator, LEAVE)? != None {
-        return Ok(false);
-    }
-    do_acts(rt, alloc, address, &mut streams, LATER)?;
-    Ok(unanswered(rt, alloc, operator, CRASH)? == None)
-}
-
-/// Plays, and then ends the server's input, so that it ends even if it was not stopped.
-fn play_and_end<R: Net + Clock>(
-    rt: &R,
-    alloc: Global,
-    address: SocketAddr,
-    operator: SocketAddr,
-    end: PipeWriter,
-) -> io::Result<bool> {
-    let played = play(rt, alloc, address, operator);
-    drop(end);
-    played
-}
-
-/// Where a server listens.
-#[derive(Drop)]
-pub struct Listeners {
-    pub clients: TcpListener,
-    pub operator: TcpListener,
-}
-
-/// Serves until it is stopped, and gives what was written.
-fn stayed<R: Host>(
-    rt: &R,
-    alloc: Global,
-    plan: &Plan,
-    listeners: &Listeners,
-    keys: RandomState,
-    input: PipeReader,
-) -> Result<Vec<u8>, Finish> {
-    let mut written: Vec<u8> = Vec::new(alloc);
-    let stores = ServerStores::without_spares(alloc, two_stores(alloc, 4)?);
-    let setup = ServerSetup {
-        alloc,
-        plan,
-        settings: plan.settings,
-        doors: Doors::Frames(&listeners.clients),
-        operator: Some(OperatorPort {
-            listener: &listeners.operator,
-            keys,
-        }),
-        notes: &Discard,
-    };
-    stay(rt, &setup, stores, WAITS, input, &mut written)?;
-    Ok(written)
-}
-
-/// Whether the server wrote both addresses and how both connections ended.
-fn is_written(
-    alloc: Global,
-    written: &Result<Vec<u8>, Finish>,
-    address: SocketAddr,
-    operator: SocketAddr,
-) -> bool {
-    let wanted = format!(in alloc;
-        "listening on {address}\noperator on {operator}\nconnection 1 ended\nconnection 0 ended\n"
-    );
-    match (written, &wanted) {
-        (Ok(written), Ok(wanted)) => written.as_slice() == wanted.as_bytes(),
-        _ => false,
-    }
-}
-
-/// A ring of two nodes is operated until it is stopped.
-fn operated<
-    R: Threads
-        + Wait
-        + Clock
-        + Net<Listener = TcpListener, Stream = TcpStream>
-        + Copy
-        + Send
-        + Sync
-        + 'static,
->(
-    rt: &R,
-    alloc: Global,
-    keys: RandomState,
-    (input, end): (PipeReader, PipeWriter),
-) -> Option<(bool, bool)> {
-    let plan = plan_with(alloc, 2)?;
-    let (clients, address) = bound(rt)?;
-    let (operator, operator_address) = bound(rt)?;
-    let listeners = Listeners { clients, operator };
-    let (written, played) = thread::join(
-        rt,
-        || stayed(rt, alloc, &plan, &listeners, keys, input),
-        || play_and_end(rt, alloc, address, operator_address, end),
-    );
-    let is_written = is_written(alloc, &written, address, operator_address);
-    Some((is_written, played.unwrap_or(false)))
+    do_acts(rt, alloc, at.frames, &mut streams, LATER)?;
+    each_is_answered(rt, alloc, at.operator, CRASH)
 }
 
 /// Each call is answered, a node leaves and one crashes, and a stop ends the server.
 #[test]
 fn an_operator_of_a_ring(rt: HostRuntime) -> Result<(), Fail> {
-    let keys = RandomState::new(&rt)?;
-    let operated = operated(&rt, rt.alloc(), keys, io::pipe(&rt)?);
-    assert!(rt; operated == Some((true, true)));
+    let size = Size {
+        callers: 2,
+        operator: Some(RandomState::new(&rt)?),
+        ..SMALL
+    };
+    let player = Player::with_end(Deed::Operate, WAITS, io::pipe(&rt)?);
+    let played = serve_player(&rt, rt.alloc(), size, &Discard, player);
+    let lines = "connection 1 ended\nconnection 0 ended\n";
+    assert!(rt; look_at(rt.alloc(), played, lines) == Some(GOOD));
     Ok(())
 }

@@ -1,20 +1,15 @@
 //! Bytes of Redis's clients that are cut off, that pass a limit, or whose answers nobody reads.
 
-use crate::stays::{WAITS, stay_over};
-use chord_app_plan::Plan;
-use chord_app_serve::serve;
-use chord_app_serve_testkit::{bound, expect, expect_end, leave, plan_with, two_stores};
-use chord_app_sockets::{Doors, Host, ServerSetup};
-use chord_app_text::Finish;
+use crate::players::{Deed, Player, serve_player};
+use crate::stays::WAITS;
+use chord_app_serve_testkit::{
+    Ending, GOOD, SMALL, Size, Speech, expect, expect_end, leave, look_at,
+};
 use log::sink::Discard;
 use std::alloc::{AllocError, Global};
-use std::io::{self, PipeReader, PipeWriter, Read, Write};
-use std::net::{Net, OpenStream, SocketAddr, TcpListener, TcpStream};
-use std::sync::Wait;
+use std::io::{self, Read, Write};
+use std::net::{Net, OpenStream, SocketAddr, TcpStream};
 use std::test::Fail;
-use std::thread;
-use std::thread::Threads;
-use std::time::Clock;
 
 /// Some of what a client sends.
 #[derive(Clone, Copy)]
@@ -176,7 +171,7 @@ const LIMITS: &[Client] = &[
 ];
 
 /// All of these clients, one after another.
-fn each_in_turn<R: Net>(rt: &R, alloc: Global, redis: SocketAddr) -> io::Result<()> {
+pub fn each_in_turn<R: Net>(rt: &R, alloc: Global, redis: SocketAddr) -> io::Result<()> {
     for bytes in CUTS {
         let mut stream = TcpStream::connect(rt, redis)?;
         stream.write_all(bytes)?;
@@ -189,8 +184,8 @@ fn each_in_turn<R: Net>(rt: &R, alloc: Global, redis: SocketAddr) -> io::Result<
 }
 
 /// The lines of a server of these clients, in their order.
-fn lines(alloc: Global, redis: SocketAddr) -> Result<String, AllocError> {
-    let mut text = format!(in alloc; "redis on {redis}\n")?;
+fn lines(alloc: Global) -> Result<String, AllocError> {
+    let mut text = String::new(alloc);
     let cuts = CUTS.iter().map(|_| End::Cut);
     let limits = LIMITS.iter().map(|client| client.end);
     for (number, end) in cuts.chain(limits).enumerate() {
@@ -201,84 +196,21 @@ fn lines(alloc: Global, redis: SocketAddr) -> Result<String, AllocError> {
     Ok(text)
 }
 
-/// Serves this many connections of Redis's clients, and gives what was written.
-fn served<'a, R: Host>(
-    rt: &R,
-    alloc: Global,
-    plan: &'a Plan,
-    redis: &'a TcpListener,
-    connections: usize,
-) -> Result<Vec<u8>, Finish> {
-    let mut written: Vec<u8> = Vec::new(alloc);
-    let stores = two_stores(alloc, 4)?;
-    let setup = ServerSetup {
-        alloc,
-        plan,
-        settings: plan.settings,
-        doors: Doors::Redis(redis),
-        operator: None,
-        notes: &Discard,
-    };
-    serve(rt, &setup, stores, connections, &mut written)?;
-    Ok(written)
-}
-
-/// What a test found: whether each client was answered, and whether the server's lines are right.
-#[derive(Clone, Copy, Debug, PartialEq, Eq)]
-struct Found {
-    is_answered: bool,
-    is_written: bool,
-}
-
-/// All is as it should be.
-const GOOD: Found = Found {
-    is_answered: true,
-    is_written: true,
-};
-
-/// Whether the server wrote this.
-fn is_written(written: Result<Vec<u8>, Finish>, wanted: Result<String, AllocError>) -> bool {
-    let is_so = match (&written, &wanted) {
-        (Ok(written), Ok(wanted)) => written.as_slice() == wanted.as_bytes(),
-        _ => false,
-    };
-    drop(written);
-    drop(wanted);
-    is_so
-}
-
-/// A server of all these clients, each with a caller of its own.
-fn hostile<
-    R: Threads
-        + Wait
-        + Clock
-        + Net<Listener = TcpListener, Stream = TcpStream>
-        + Copy
-        + Send
-        + Sync
-        + 'static,
->(rt: &R, alloc: Global) -> Option<Found> {
-    let plan = plan_with(alloc, 64)?;
-    let (redis, address) = bound(rt)?;
-    let connections = CUTS.len() + LIMITS.len();
-    let (written, answered) = thread::join(
-        rt,
-        || served(rt, alloc, &plan, &redis, connections),
-        || each_in_turn(rt, alloc, address),
-    );
-    drop(redis);
-    drop(plan);
-    Some(Found {
-        is_answered: answered.is_ok(),
-        is_written: is_written(written, lines(alloc, address)),
-    })
-}
-
-/// Each field cut, and each limit passed.
+/// Each field cut, and each limit passed. Each client has a caller of its own.
 #[test]
-fn hostile_bytes_of_redis_clients(rt: HostRuntime) {
-    let found = hostile(&rt, rt.alloc());
-    assert!(rt; found == Some(GOOD));
+fn hostile_bytes_of_redis_clients(rt: HostRuntime) -> Result<(), Fail> {
+    let lines = lines(rt.alloc())?;
+    let size = Size {
+        callers: 64,
+        speech: Speech::Redis,
+        ..SMALL
+    };
+    let ending = Ending::Connections(CUTS.len() + LIMITS.len());
+    let player = (Player::new(Deed::Hostile), ending);
+    let played = serve_player(&rt, rt.alloc(), size, &Discard, player);
+    assert!(rt; look_at(rt.alloc(), played, lines.as_str()) == Some(GOOD));
+    drop(lines);
+    Ok(())
 }
 
 /// Adds 32 members of 4,096 bytes to the set k.
@@ -298,13 +230,12 @@ fn fill<S: Read + Write>(alloc: Global, stream: &mut S) -> io::Result<()> {
 /// can hold.
 const MUCH: Sent = Sent::Often(b"SMEMBERS k\r\n", 224);
 
-/// One client asks for much and does not read; another is served meanwhile, and leaves. Then the
-/// input ends. Gives the open connection.
-fn reads_no_more<R: Net>(
+/// One client asks for much and does not read; another is served meanwhile, and leaves. Gives the
+/// open connection.
+pub fn redis_reads_no_more<R: Net>(
     rt: &R,
     alloc: Global,
     redis: SocketAddr,
-    input: PipeWriter,
 ) -> io::Result<R::Stream> {
     let mut silent = TcpStream::connect(rt, redis)?;
     fill(alloc, &mut silent)?;
@@ -316,67 +247,23 @@ fn reads_no_more<R: Net>(
         end: End::Whole,
     };
     other.act(rt, alloc, redis)?;
-    drop(input);
     Ok(silent)
 }
 
-/// Stays until the input ends, and gives what was written.
-fn stayed<R: Host>(
-    rt: &R,
-    alloc: Global,
-    plan: &Plan,
-    redis: &TcpListener,
-    input: PipeReader,
-) -> Result<Vec<u8>, Finish> {
-    let mut written: Vec<u8> = Vec::new(alloc);
-    let doors = Doors::Redis(redis);
-    stay_over(
-        rt,
-        alloc,
-        plan,
-        doors,
-        1_000,
-        WAITS,
-        input,
-        &Discard,
-        &mut written,
-    )?;
-    Ok(written)
-}
-
-/// A server of a client that does not read.
-fn unread<
-    R: Threads
-        + Wait
-        + Clock
-        + Net<Listener = TcpListener, Stream = TcpStream>
-        + Copy
-        + Send
-        + Sync
-        + 'static,
->(rt: &R, alloc: Global, (reader, writer): (PipeReader, PipeWriter)) -> Option<Found> {
-    let plan = plan_with(alloc, 2)?;
-    let (redis, address) = bound(rt)?;
-    let (written, silent) = thread::join(
-        rt,
-        || stayed(rt, alloc, &plan, &redis, reader),
-        || reads_no_more(rt, alloc, address, writer),
-    );
-    drop(redis);
-    drop(plan);
-    let is_answered = silent.is_ok();
-    drop(silent);
-    let wanted = format!(in alloc; "redis on {address}\nconnection 1 ended\nconnection 0 write\n");
-    Some(Found {
-        is_answered,
-        is_written: is_written(written, wanted),
-    })
-}
+/// A server of two callers for them, whose stores have room for what they add.
+const ROOMY: Size = Size {
+    callers: 2,
+    room: 1_000,
+    speech: Speech::Redis,
+    ..SMALL
+};
 
 /// A client that does not read holds up no other, and the server ends while it is open.
 #[test]
 fn a_redis_client_that_does_not_read_is_left(rt: HostRuntime) -> Result<(), Fail> {
-    let found = unread(&rt, rt.alloc(), io::pipe(&rt)?);
-    assert!(rt; found == Some(GOOD));
+    let player = Player::with_end(Deed::RedisReadsNoMore, WAITS, io::pipe(&rt)?);
+    let played = serve_player(&rt, rt.alloc(), ROOMY, &Discard, player);
+    let lines = "connection 1 ended\nconnection 0 write\n";
+    assert!(rt; look_at(rt.alloc(), played, lines) == Some(GOOD));
     Ok(())
 }

@@ -2,7 +2,7 @@
 
 use crate::stays::{WAITS, stay_over};
 use chord_app_ask::{Drops, Kind, Load, Tokens, Until, run_load};
-use chord_app_serve_testkit::{Act, Answer, Ask, bound, do_acts, is_served, plan_with};
+use chord_app_serve_testkit::{Act, Answer, Ask, bound, do_acts, plan_with};
 use chord_app_sockets::{ClientSeconds, Doors, Host};
 use chord_app_text::{Fault, Finish};
 use chord_map::{Reply, Request};
@@ -384,9 +384,9 @@ fn begins_and_resumes<R: Net + Wait + Clock>(
     Ok(())
 }
 
-/// A line for each connection.
-fn lines(alloc: Global) -> Result<String, AllocError> {
-    let mut lines = String::new(alloc);
+/// The line of the server's address, and one for each connection.
+fn lines(alloc: Global, address: SocketAddr) -> Result<String, AllocError> {
+    let mut lines = format!(in alloc; "listening on {address}\n")?;
     for number in 0..405u32 {
         let is_refused = (202..339).contains(&number);
         let line = if is_refused {
@@ -397,6 +397,20 @@ fn lines(alloc: Global) -> Result<String, AllocError> {
         lines.push_str(&line)?;
     }
     Ok(lines)
+}
+
+/// Whether the server wrote these lines, and no others.
+fn is_written(
+    alloc: Global,
+    address: SocketAddr,
+    written: Result<Vec<u8>, Finish>,
+) -> Option<bool> {
+    let written = written.ok()?;
+    let wanted = lines(alloc, address).ok()?;
+    let is_same = written.as_slice() == wanted.as_bytes();
+    drop(wanted);
+    drop(written);
+    Some(is_same)
 }
 
 /// Two hundred sessions and a pending one lose their connections on a server of 64 callers.
@@ -415,7 +429,6 @@ fn two_hundred<
         limit: 1,
         keep: 1,
     };
-    let wanted = lines(alloc).ok()?;
     let (listener, address) = bound(rt)?;
     let (written, answered) = thread::join(
         rt,
@@ -423,9 +436,8 @@ fn two_hundred<
         || begins_and_resumes(rt, alloc, address, writer),
     );
     drop(listener);
-    let is_served = is_served(alloc, address, answered, written, &wanted);
-    drop(wanted);
-    Some(is_served)
+    let is_written = is_written(alloc, address, written)?;
+    Some(answered.is_ok() && is_written)
 }
 
 #[test]

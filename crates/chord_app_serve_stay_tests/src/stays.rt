@@ -1,9 +1,11 @@
 //! The command `serve --stay` over loopback.
 
+use crate::players::{Deed, Player, serve_player};
 use chord_app_plan::Plan;
 use chord_app_serve::{ServerStores, stay};
 use chord_app_serve_testkit::{
-    Act, Acts, Answer, Ask, bound, do_acts, is_served, leave, plan_with, two_stores,
+    Act, Answer, Ask, GOOD, NOTHING, SMALL, Script, Size, bound, leave, look_at, plan_with,
+    two_stores,
 };
 use chord_app_sockets::{ClientSeconds, Doors, Host, ServerSetup};
 use chord_app_text::{Fault, Finish};
@@ -24,16 +26,6 @@ pub const WAITS: ClientSeconds = ClientSeconds {
     idle: 300,
     keep: 600,
 };
-
-/// How large a server is.
-#[derive(Clone, Copy)]
-struct Size {
-    callers: u64,
-    /// How many pairs each store has room for.
-    limit: u64,
-    /// For how many seconds it waits for clients.
-    seconds: ClientSeconds,
-}
 
 /// Serves until the input ends, over two stores with room for `limit` pairs.
 pub fn stay_over<'a, R: Host, L: Log + Sync, W: Write + Send + Drop>(
@@ -59,112 +51,11 @@ pub fn stay_over<'a, R: Host, L: Log + Sync, W: Write + Send + Drop>(
     stay(rt, &setup, stores, seconds, input, writer)
 }
 
-/// Serves until the input ends, and gives what was written.
-fn stayed_and_noted<R: Host, L: Log + Sync>(
-    rt: &R,
-    alloc: Global,
-    plan: &Plan,
-    listener: &TcpListener,
-    size: Size,
-    input: PipeReader,
-    notes: &L,
-) -> Result<Vec<u8>, Finish> {
-    let mut written: Vec<u8> = Vec::new(alloc);
-    let Size { limit, seconds, .. } = size;
-    stay_over(
-        rt,
-        alloc,
-        plan,
-        Doors::Frames(listener),
-        limit,
-        seconds,
-        input,
-        notes,
-        &mut written,
-    )?;
-    Ok(written)
-}
-
-/// Serves until the input ends, and writes into 32 bytes, which have room for the address only.
-fn stayed_in_32_bytes<R: Host>(
-    rt: &R,
-    alloc: Global,
-    plan: &Plan,
-    listener: &TcpListener,
-    input: PipeReader,
-) -> Result<(), Finish> {
-    let mut room = [0u8; 32];
-    let written = room.as_mut_slice();
-    let doors = Doors::Frames(listener);
-    stay_over(rt, alloc, plan, doors, 4, WAITS, input, &Discard, written)
-}
-
-/// What the clients do before the server's input ends, and afterwards.
-#[derive(Clone, Copy)]
-struct Script {
-    before: Acts,
-    after: Acts,
-}
-
-impl Script {
-    fn play<R: Net>(
-        self,
-        rt: &R,
-        alloc: Global,
-        address: SocketAddr,
-        input: PipeWriter,
-    ) -> io::Result<()> {
-        let mut streams = Vec::new(alloc);
-        do_acts(rt, alloc, address, &mut streams, self.before)?;
-        drop(input);
-        do_acts(rt, alloc, address, &mut streams, self.after)
-    }
-}
-
-/// Checks that the clients are answered, and these lines written, by a server of this size.
-fn writes<
-    R: Threads
-        + Wait
-        + Clock
-        + Net<Listener = TcpListener, Stream = TcpStream>
-        + Copy
-        + Send
-        + Sync
-        + 'static,
-    L: Log + Sync,
->(
-    rt: &R,
-    alloc: Global,
-    size: Size,
-    (reader, writer): (PipeReader, PipeWriter),
-    notes: &L,
-    script: Script,
-    wanted: &str,
-) -> Option<bool> {
-    let plan = plan_with(alloc, size.callers)?;
-    let (listener, address) = bound(rt)?;
-    let (written, answered) = thread::join(
-        rt,
-        || stayed_and_noted(rt, alloc, &plan, &listener, size, reader, notes),
-        || script.play(rt, alloc, address, writer),
-    );
-    drop(listener);
-    drop(plan);
-    Some(is_served(alloc, address, answered, written, wanted))
-}
-
-/// A server of one caller, with room.
-const ONE_CALLER: Size = Size {
-    callers: 1,
-    limit: 4,
-    seconds: WAITS,
-};
-
 /// Four clients, one after another, each with numbers from 1 on. The first adds a value twice, the
 /// second retrieves it and skips a number, the third removes it, twice under one number. The fourth
 /// is there when the input ends.
 const IN_TURN: Script = Script {
-    before: &[
+    first: &[
         (0, Act::Connect),
         (0, Act::Call(1, Ask::Insert(b"x"), Answer::Added)),
         (0, Act::Call(2, Ask::Insert(b"x"), Answer::Present)),
@@ -184,22 +75,24 @@ const IN_TURN: Script = Script {
         (3, Act::Call(1, Ask::Remove(b"x"), Answer::Absent)),
     ],
     after: &[(3, Act::End)],
+    ..NOTHING
 };
 
 /// One caller serves all connections in order. The one that is open at the end is closed.
 #[test]
 fn one_caller_for_all(rt: HostRuntime) -> Result<(), Fail> {
     let wanted = "connection 0 ended\nconnection 1 ended\nconnection 2 ended\nconnection 3 ended\n";
-    let pipe = io::pipe(&rt)?;
-    let is_written = writes(&rt, rt.alloc(), ONE_CALLER, pipe, &Discard, IN_TURN, wanted);
-    assert!(rt; is_written == Some(true));
+    let deed = Deed::Script(IN_TURN);
+    let player = Player::with_end(deed, WAITS, io::pipe(&rt)?);
+    let played = serve_player(&rt, rt.alloc(), SMALL, &Discard, player);
+    assert!(rt; look_at(rt.alloc(), played, wanted) == Some(GOOD));
     Ok(())
 }
 
 /// While the one caller serves, another client is told that none is left. Afterwards the caller
 /// serves the next one.
 const CROWDED: Script = Script {
-    before: &[
+    first: &[
         (0, Act::Connect),
         (0, Act::Call(1, Ask::Insert(b"x"), Answer::Added)),
         (1, Act::Connect),
@@ -210,18 +103,18 @@ const CROWDED: Script = Script {
         (2, Act::Call(1, Ask::Insert(b"x"), Answer::Present)),
         (2, Act::Leave),
     ],
-    after: &[],
+    ..NOTHING
 };
 
 /// Connections are written and logged in the order in which they end.
 #[test]
 fn a_caller_that_is_taken(rt: HostRuntime) -> Result<(), Fail> {
-    let alloc = rt.alloc();
-    let notes = Locked::new(rt, Vec::new(alloc));
+    let notes = Locked::new(rt, Vec::new(rt.alloc()));
     let wanted = "connection 1 callersspent\nconnection 0 ended\nconnection 2 ended\n";
-    let pipe = io::pipe(&rt)?;
-    let is_written = writes(&rt, alloc, ONE_CALLER, pipe, &notes, CROWDED, wanted);
-    assert!(rt; is_written == Some(true));
+    let deed = Deed::Script(CROWDED);
+    let player = Player::with_end(deed, WAITS, io::pipe(&rt)?);
+    let played = serve_player(&rt, rt.alloc(), SMALL, &notes, player);
+    assert!(rt; look_at(rt.alloc(), played, wanted) == Some(GOOD));
     let noted: Vec<u8> = notes.into_inner();
     let wanted =
         "[INFO  chord] connection 1 callersspent\n[INFO  chord] connection 0 ended\n[INFO  chord] connection 2 ended\n";
@@ -234,7 +127,7 @@ fn a_caller_that_is_taken(rt: HostRuntime) -> Result<(), Fail> {
 /// fourth client sees that the request was executed, and finds the store full, twice, until there
 /// is room again.
 const FULL_AND_AGAIN: Script = Script {
-    before: &[
+    first: &[
         (0, Act::Connect),
         (0, Act::Call(1, Ask::Insert(b"x"), Answer::Added)),
         (
@@ -263,7 +156,7 @@ const FULL_AND_AGAIN: Script = Script {
         (3, Act::Leave),
         (1, Act::Leave),
     ],
-    after: &[],
+    ..NOTHING
 };
 
 /// A caller with a pending request serves again only once that is answered.
@@ -271,22 +164,22 @@ const FULL_AND_AGAIN: Script = Script {
 fn a_pending_request(rt: HostRuntime) -> Result<(), Fail> {
     let wanted =
         "connection 0 ended\nconnection 2 callersspent\nconnection 3 ended\nconnection 1 ended\n";
-    let pipe = io::pipe(&rt)?;
-    let script = FULL_AND_AGAIN;
     let size = Size {
         callers: 2,
-        limit: 1,
-        ..ONE_CALLER
+        room: 1,
+        ..SMALL
     };
-    let is_written = writes(&rt, rt.alloc(), size, pipe, &Discard, script, wanted);
-    assert!(rt; is_written == Some(true));
+    let deed = Deed::Script(FULL_AND_AGAIN);
+    let player = Player::with_end(deed, WAITS, io::pipe(&rt)?);
+    let played = serve_player(&rt, rt.alloc(), size, &Discard, player);
+    assert!(rt; look_at(rt.alloc(), played, wanted) == Some(GOOD));
     Ok(())
 }
 
 /// A client asks once, and then sends nothing until the server ends its connection. Its caller
 /// serves the next client.
 const ONE_IS_IDLE: Script = Script {
-    before: &[
+    first: &[
         (0, Act::Connect),
         (0, Act::Call(1, Ask::Insert(b"x"), Answer::Added)),
         (0, Act::End),
@@ -294,20 +187,32 @@ const ONE_IS_IDLE: Script = Script {
         (1, Act::Call(1, Ask::Insert(b"x"), Answer::Present)),
         (1, Act::Leave),
     ],
-    after: &[],
+    ..NOTHING
 };
 
 #[test]
 fn an_idle_client_is_left(rt: HostRuntime) -> Result<(), Fail> {
     let wanted = "connection 0 idle\nconnection 1 ended\n";
-    let pipe = io::pipe(&rt)?;
-    let size = Size {
-        seconds: ClientSeconds { idle: 1, ..WAITS },
-        ..ONE_CALLER
-    };
-    let is_written = writes(&rt, rt.alloc(), size, pipe, &Discard, ONE_IS_IDLE, wanted);
-    assert!(rt; is_written == Some(true));
+    let seconds = ClientSeconds { idle: 1, ..WAITS };
+    let deed = Deed::Script(ONE_IS_IDLE);
+    let player = Player::with_end(deed, seconds, io::pipe(&rt)?);
+    let played = serve_player(&rt, rt.alloc(), SMALL, &Discard, player);
+    assert!(rt; look_at(rt.alloc(), played, wanted) == Some(GOOD));
     Ok(())
+}
+
+/// Serves until the input ends, and writes into 32 bytes, which have room for the address only.
+fn stayed_in_32_bytes<R: Host>(
+    rt: &R,
+    alloc: Global,
+    plan: &Plan,
+    listener: TcpListener,
+    input: PipeReader,
+) -> Result<(), Finish> {
+    let mut room = [0u8; 32];
+    let written = room.as_mut_slice();
+    let doors = Doors::Frames(&listener);
+    stay_over(rt, alloc, plan, doors, 4, WAITS, input, &Discard, written)
 }
 
 /// Opens a connection, and leaves.
@@ -335,10 +240,9 @@ fn stays_without_room<
     let (listener, address) = bound(rt)?;
     let (stayed, answered) = thread::join(
         rt,
-        || stayed_in_32_bytes(rt, alloc, &plan, &listener, reader),
+        || stayed_in_32_bytes(rt, alloc, &plan, listener, reader),
         || one_end(rt, address),
     );
-    drop(listener);
     drop(plan);
     answered.ok()?;
     Some(stayed)

@@ -2,7 +2,6 @@
 
 use crate::plans::changed;
 use chord_app_plan::Plan;
-use chord_app_text::Finish;
 use chord_map::{Bytes, Reply, Request, Values};
 use chord_wire::{
     FaultCode, is_writable, write_fault, write_reply, write_request, write_request_2,
@@ -119,16 +118,14 @@ pub fn ask<S: Read + Write>(
     expect(alloc, stream, &reply_frame(alloc, number, reply)?)
 }
 
-/// Sends an insert of this value, and expects this reply.
-pub fn ask_insert<S: Read + Write>(
-    alloc: Global,
-    stream: &mut S,
-    number: u64,
-    value: &[u8],
-    reply: &Reply,
-) -> io::Result<()> {
-    let request = insert(alloc, value)?;
-    ask(alloc, stream, number, &request, reply)
+/// Adds 32 values of 4,096 bytes, 128 KiB together, by requests 1 to 32.
+pub fn fill<S: Read + Write>(alloc: Global, stream: &mut S) -> io::Result<()> {
+    for number in 0..32u8 {
+        let value = vec![in alloc; number; 4_096]?;
+        let request = insert(alloc, &value)?;
+        ask(alloc, stream, number as u64 + 1, &request, &Reply::Added)?;
+    }
+    Ok(())
 }
 
 /// A reply of these values.
@@ -138,29 +135,6 @@ pub fn values_of(alloc: Global, all: &[&[u8]]) -> Result<Reply, AllocError> {
         values.push(Bytes::from_slice(alloc, value)?)?;
     }
     Ok(Reply::Values(values))
-}
-
-/// What a server writes: its address, and then these lines.
-fn lines(alloc: Global, address: SocketAddr, rest: &str) -> Result<String, AllocError> {
-    format!(in alloc; "listening on {address}\n{rest}")
-}
-
-/// Checks that the clients were answered, and that the server wrote its address and these lines.
-pub fn is_served(
-    alloc: Global,
-    address: SocketAddr,
-    answered: io::Result<()>,
-    written: Result<Vec<u8>, Finish>,
-    wanted: &str,
-) -> bool {
-    let wanted = lines(alloc, address, wanted);
-    let is_written = match (&written, &wanted) {
-        (Ok(written), Ok(wanted)) => written.as_slice() == wanted.as_bytes(),
-        _ => false,
-    };
-    drop(written);
-    drop(wanted);
-    answered.is_ok() && is_written
 }
 
 /// Closes the client's sending side, and expects the server to close the connection.

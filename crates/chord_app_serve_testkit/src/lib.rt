@@ -1,14 +1,19 @@
-//! What tests of servers share: a plan of two nodes, clients over loopback, and lists of what these
-//! do.
+//! What tests of servers share: a plan of two nodes, a server of it beside who asks it, clients over
+//! loopback, and lists of what these do.
 #![tactic(auto)]
 
 mod acts;
 mod clients;
 mod plans;
+mod servers;
 
-pub use acts::{Act, Acts, Answer, Ask, do_acts};
+pub use acts::{Act, Actors, Acts, Answer, Ask, NOTHING, Script, do_acts, do_acts_at};
 pub use clients::{
-    ask, ask_insert, bound, expect, expect_end, insert, is_served, leave, plan_of, plan_with,
-    reply_frame, request_frame, retrieve,
+    ask, bound, expect, expect_end, fill, insert, leave, plan_of, plan_with, reply_frame,
+    request_frame, retrieve,
 };
-pub use plans::{TWO_NODES, changed, two_stores};
+pub use plans::{TWO_NODES, changed, stores, two_stores};
+pub use servers::{
+    Addresses, Ending, Found, GOOD, Listeners, SMALL, Size, Speech, Written, all_bound,
+    end_waiting, look_at, serve_at,
+};

@@ -21,10 +21,16 @@ pub fn changed(alloc: Global, old: &str, new: &str) -> Result<String, AllocError
     }
 }
 
+/// Stores with room for `limit` pairs each.
+pub fn stores(alloc: Global, count: usize, limit: u64) -> Result<Vec<CappedStore>, AllocError> {
+    let mut stores = Vec::new(alloc);
+    for _ in 0..count {
+        stores.push(CappedStore::new(alloc, limit))?;
+    }
+    Ok(stores)
+}
+
 /// A store for each of two nodes, with room for `limit` pairs.
 pub fn two_stores(alloc: Global, limit: u64) -> Result<Vec<CappedStore>, AllocError> {
-    let mut stores = Vec::new(alloc);
-    stores.push(CappedStore::new(alloc, limit))?;
-    stores.push(CappedStore::new(alloc, limit))?;
-    Ok(stores)
+    stores(alloc, 2, limit)
 }

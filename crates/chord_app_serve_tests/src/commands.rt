@@ -1,8 +1,9 @@
 //! The commands `ask` and `load` over loopback, with a ring of two nodes behind the server.
 
-use crate::servers::serve_over;
 use chord_app_ask::{ClientOptions, Kind, Load, Tokens, Until, ask_lines, run_load};
-use chord_app_serve_testkit::{bound, plan_with, two_stores};
+use chord_app_serve_testkit::{
+    Addresses, Ending, SMALL, Size, all_bound, end_waiting, plan_with, serve_at,
+};
 use chord_app_text::{Fault, Finish, WordFault};
 use log::sink::Discard;
 use std::alloc::Global;
@@ -20,8 +21,86 @@ const REQUESTS: &str =
 const REPLIES: &str =
     "added\nadded\npresent\nvalues 2 78 79\nremoved\nabsent\nadded\nvalues 1 -\nvalues 0\n";
 
+/// How a command ended, and whether it wrote what it should.
+type Ran = (Result<Finish, Finish>, bool);
+
+/// A command at a server.
+#[derive(Clone, Copy)]
+enum Command<'a> {
+    Ask(AskLines<'a>),
+    Load(LoadOf<'a>),
+}
+
+impl Command<'_> {
+    /// Does it, and then ends a server that still waits for clients, of which it takes this many.
+    fn run<R: Threads + Wait + Clock + Net<Listener = TcpListener, Stream = TcpStream> + Sync>(
+        self,
+        rt: &R,
+        alloc: Global,
+        at: Addresses,
+        connections: usize,
+    ) -> Ran {
+        let ran = match self {
+            Command::Ask(lines) => lines.run(rt, alloc, at.frames.port()),
+            Command::Load(load) => load.run(rt, alloc, at.frames.port()),
+        };
+        end_waiting(rt, at, connections);
+        ran
+    }
+}
+
+/// What comes of the command at a ring of two nodes that ends after this many connections. Each
+/// store has room for `room` pairs.
+fn ran<
+    R: Threads
+        + Wait
+        + Clock
+        + Net<Listener = TcpListener, Stream = TcpStream>
+        + Copy
+        + Send
+        + Sync
+        + 'static,
+>(rt: &R, alloc: Global, room: u64, connections: usize, command: Command<'_>) -> Option<Ran> {
+    let plan = plan_with(alloc, 3)?;
+    let (listeners, at) = all_bound(rt)?;
+    let size = Size { room, ..SMALL };
+    let ending = Ending::Connections(connections);
+    let (served, ran) = thread::join(
+        rt,
+        || serve_at(rt, alloc, &plan, size, listeners, ending, &Discard),
+        || command.run(rt, alloc, at, connections),
+    );
+    drop(plan);
+    let is_served = served.is_ok();
+    drop(served);
+    if is_served { Some(ran) } else { None }
+}
+
+/// The command `ask` with these lines, which is to write others.
+#[derive(Clone, Copy)]
+struct AskLines<'a> {
+    options: ClientOptions,
+    input: &'a str,
+    wanted: &'a str,
+}
+
+impl AskLines<'_> {
+    fn run<R: Net<Stream = TcpStream> + Clock>(self, rt: &R, alloc: Global, port: u16) -> Ran {
+        let options = ClientOptions {
+            port,
+            ..self.options
+        };
+        let mut reader = self.input.as_bytes();
+        let mut written: Vec<u8> = Vec::new(alloc);
+        let finish = ask_lines(rt, alloc, options, &mut reader, &mut written);
+        let is_written = written.as_slice() == self.wanted.as_bytes();
+        drop(written);
+        (finish, is_written)
+    }
+}
+
 /// Asks a ring of two nodes over `connections` connections, one after another; each store has room
-/// for `room` pairs. Gives how asking ended, and whether it wrote the right lines.
+/// for `room` pairs.
 fn asks_a_ring<
     R: Threads
         + Wait
@@ -39,41 +118,20 @@ fn asks_a_ring<
     (version, window, tries): (u8, u64, u32),
     tokens: Option<Tokens>,
     (input, wanted): (&str, &str),
-) -> Option<(Result<Finish, Finish>, bool)> {
-    let (listener, address) = bound(rt)?;
-    let stores = two_stores(alloc, room).ok()?;
-    let plan = plan_with(alloc, 3)?;
-    let client_options = ClientOptions {
-        port: address.port(),
+) -> Option<Ran> {
+    let options = ClientOptions {
+        port: 0,
         version,
         window,
         tries,
         tokens,
     };
-    let mut ends: Vec<u8> = Vec::new(alloc);
-    let mut reader = input.as_bytes();
-    let mut written: Vec<u8> = Vec::new(alloc);
-    let (served, asked) = thread::join(
-        rt,
-        || serve_over(
-            rt,
-            alloc,
-            &plan,
-            &listener,
-            stores,
-            connections,
-            &Discard,
-            &mut ends,
-        ),
-        || ask_lines(rt, alloc, client_options, &mut reader, &mut written),
-    );
-    let is_written = written.as_slice() == wanted.as_bytes();
-    drop(written);
-    drop(ends);
-    drop(plan);
-    drop(listener);
-    served.ok()?;
-    Some((asked, is_written))
+    let lines = AskLines {
+        options,
+        input,
+        wanted,
+    };
+    ran(rt, alloc, room, connections, Command::Ask(lines))
 }
 
 /// Each version and window gives the same lines, with a session and without one.
@@ -134,64 +192,55 @@ fn is_table(table: &[u8], answered: &str, faults: &str) -> bool {
     }
 }
 
-/// How a load of 21 requests ended on a ring whose stores have room for `room` pairs, and whether
-/// its table has these counts of answers and faults.
-fn loaded<
-    R: Threads
-        + Wait
-        + Clock
-        + Net<Listener = TcpListener, Stream = TcpStream>
-        + Copy
-        + Send
-        + Sync
-        + 'static,
->(
-    rt: &R,
-    alloc: Global,
-    room: u64,
+/// The command `load` with 21 requests, whose table is to have these counts of answers and faults.
+#[derive(Clone, Copy)]
+struct LoadOf<'a> {
     kind: Kind,
-    (answered, faults): (&str, &str),
-) -> Option<(Result<Finish, Finish>, bool)> {
-    let (listener, address) = bound(rt)?;
-    let stores = two_stores(alloc, room).ok()?;
-    let plan = plan_with(alloc, 3)?;
-    let load = Load {
-        port: address.port(),
-        connections: 2,
-        in_flight: 4,
-        keys: 3,
-        value_size: 5,
-        kind,
-        until: Until::Requests(21),
-        tokens: None,
-        drops: None,
-    };
-    let mut ends: Vec<u8> = Vec::new(alloc);
-    let mut table: Vec<u8> = Vec::new(alloc);
-    let lines: Vec<u8> = Vec::new(alloc);
-    let (served, ended) = thread::join(
-        rt,
-        || serve_over(rt, alloc, &plan, &listener, stores, 2, &Discard, &mut ends),
-        || run_load(rt, alloc, load, Some(lines), &mut table),
-    );
-    let is_told = is_table(&table, answered, faults);
-    drop(table);
-    drop(ends);
-    drop(plan);
-    drop(listener);
-    served.ok()?;
-    Some((ended, is_told))
+    answered: &'a str,
+    faults: &'a str,
+}
+
+impl LoadOf<'_> {
+    fn run<R: Threads + Wait + Clock + Net<Listener = TcpListener, Stream = TcpStream> + Sync>(
+        self,
+        rt: &R,
+        alloc: Global,
+        port: u16,
+    ) -> Ran {
+        let load = Load {
+            port,
+            connections: 2,
+            in_flight: 4,
+            keys: 3,
+            value_size: 5,
+            kind: self.kind,
+            until: Until::Requests(21),
+            tokens: None,
+            drops: None,
+        };
+        let mut table: Vec<u8> = Vec::new(alloc);
+        let lines: Vec<u8> = Vec::new(alloc);
+        let finish = run_load(rt, alloc, load, Some(lines), &mut table);
+        let is_told = is_table(&table, self.answered, self.faults);
+        drop(table);
+        (finish, is_told)
+    }
 }
 
 #[test]
 fn loads_of_a_ring(rt: HostRuntime) {
     let unanswered = Finish::Fault(Fault::Unanswered(21));
-    for (room, kind, told, finish) in [
-        (4, Kind::Insert, (" 21", " 0"), Finish::Done),
-        (0, Kind::Retrieve, (" 21", " 0"), Finish::Done),
-        (0, Kind::Insert, (" 0", " 21"), unanswered),
+    for (room, kind, answered, faults, finish) in [
+        (4, Kind::Insert, " 21", " 0", Finish::Done),
+        (0, Kind::Retrieve, " 21", " 0", Finish::Done),
+        (0, Kind::Insert, " 0", " 21", unanswered),
     ] {
-        let ended = loaded(&rt, rt.alloc(), room, kind, told);
+        let load = LoadOf {
+            kind,
+            answered,
+            faults,
+        };
+        let ended = ran(&rt, rt.alloc(), room, 2, Command::Load(load));
         assert!(rt; ended == Some((Ok(finish), true)));
     }
 }

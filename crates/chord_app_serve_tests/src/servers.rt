@@ -1,15 +1,13 @@
 //! The command `serve --connections` over loopback.
 
-use chord_app_plan::Plan;
-use chord_app_serve::serve;
 use chord_app_serve_testkit::{
-    Act, Acts, Answer, Ask, ask, ask_insert, bound, changed, do_acts, expect, expect_end, insert,
-    is_served, leave, plan_of, plan_with, reply_frame, request_frame, retrieve, two_stores,
+    Act, Acts, Addresses, Answer, Ask, Ending, Found, GOOD, SMALL, Size, Written, all_bound, ask,
+    bound, changed, do_acts, end_waiting, expect, expect_end, fill, insert, leave, look_at,
+    plan_of, plan_with, reply_frame, request_frame, retrieve, serve_at,
 };
-use chord_app_sockets::{Doors, Host, ServerSetup, listen};
+use chord_app_sockets::listen;
 use chord_app_text::{Fault, Finish};
 use chord_map::{Bytes, Reply, Request, Values};
-use chord_store::EntryStore;
 use chord_wire::FaultCode;
 use log::Log;
 use log::sink::{Discard, Locked};
@@ -43,6 +41,12 @@ const FOUR: Acts = &[
     (3, Act::End),
 ];
 
+/// A server of one caller whose stores have room for what many clients add.
+const ROOMY: Size = Size {
+    room: 1_000,
+    ..SMALL
+};
+
 /// What the clients of a server do.
 #[derive(Clone, Copy)]
 pub enum Clients {
@@ -52,64 +56,27 @@ pub enum Clients {
 }
 
 impl Clients {
-    fn ask<R: Net>(self, rt: &R, alloc: Global, address: SocketAddr) -> io::Result<()> {
-        match self {
-            Clients::Acting(acts) => do_acts(rt, alloc, address, &mut Vec::new(alloc), acts),
-            Clients::SixtyFour => many_clients(rt, alloc, address, 64),
-            Clients::NeverReads => never_reads(rt, alloc, address),
-        }
+    /// Does it, and then ends a server that still waits for clients, of which it takes this many.
+    fn play<R: Net<Stream = TcpStream>>(
+        self,
+        rt: &R,
+        alloc: Global,
+        at: Addresses,
+        connections: usize,
+    ) -> io::Result<()> {
+        let played = match self {
+            Clients::Acting(acts) => do_acts(rt, alloc, at.frames, &mut Vec::new(alloc), acts),
+            Clients::SixtyFour => many_clients(rt, alloc, at.frames, 64),
+            Clients::NeverReads => never_reads(rt, alloc, at.frames),
+        };
+        end_waiting(rt, at, connections);
+        played
     }
 }
 
-/// Serves `connections` connections over these stores.
-pub fn serve_over<'a, R: Host, S: EntryStore + Send, L: Log + Sync>(
-    rt: &R,
-    alloc: Global,
-    plan: &'a Plan,
-    listener: &'a TcpListener,
-    stores: Vec<S>,
-    connections: usize,
-    notes: &'a L,
-    written: &mut Vec<u8>,
-) -> Result<(), Finish> {
-    let setup = ServerSetup {
-        alloc,
-        plan,
-        settings: plan.settings,
-        doors: Doors::Frames(listener),
-        operator: None,
-        notes,
-    };
-    serve(rt, &setup, stores, connections, written)
-}
-
-/// Serves `connections` connections over two stores with room, and gives what was written.
-fn served<R: Host, L: Log + Sync>(
-    rt: &R,
-    alloc: Global,
-    plan: &Plan,
-    listener: &TcpListener,
-    connections: usize,
-    notes: &L,
-) -> Result<Vec<u8>, Finish> {
-    let stores = two_stores(alloc, 1_000)?;
-    let mut written: Vec<u8> = Vec::new(alloc);
-    serve_over(
-        rt,
-        alloc,
-        plan,
-        listener,
-        stores,
-        connections,
-        notes,
-        &mut written,
-    )?;
-    Ok(written)
-}
-
-/// Checks that the clients are answered, and these lines written, by a server with this many
-/// callers and connections.
-pub fn writes<
+/// What comes of a server with this many callers and connections whose clients do so: it is to
+/// write these lines.
+pub fn served<
     R: Threads
         + Wait
         + Clock
@@ -125,18 +92,18 @@ pub fn writes<
     (callers, connections): (u64, usize),
     notes: &L,
     clients: Clients,
-    wanted: &str,
-) -> Option<bool> {
+    lines: &str,
+) -> Option<Found> {
     let plan = plan_with(alloc, callers)?;
-    let (listener, address) = bound(rt)?;
-    let (written, answered) = thread::join(
+    let (listeners, at) = all_bound(rt)?;
+    let ending = Ending::Connections(connections);
+    let (written, told) = thread::join(
         rt,
-        || served(rt, alloc, &plan, &listener, connections, notes),
-        || clients.ask(rt, alloc, address),
+        || serve_at(rt, alloc, &plan, ROOMY, listeners, ending, notes),
+        || clients.play(rt, alloc, at, connections),
     );
-    drop(listener);
     drop(plan);
-    Some(is_served(alloc, address, answered, written, wanted))
+    look_at(alloc, Some((Written::of(ROOMY, at, written), told)), lines)
 }
 
 /// Checks the lines that are logged, too.
@@ -146,8 +113,8 @@ fn loopback_server(rt: HostRuntime) {
     let notes = Locked::new(rt, Vec::new(alloc));
     let wanted =
         "connection 0 ended\nconnection 1 truncated\nconnection 2 malformed 1\nconnection 3 callersspent\n";
-    let is_written = writes(&rt, alloc, (3, 4), &notes, Clients::Acting(FOUR), wanted);
-    assert!(rt; is_written == Some(true));
+    let found = served(&rt, alloc, (3, 4), &notes, Clients::Acting(FOUR), wanted);
+    assert!(rt; found == Some(GOOD));
     let noted: Vec<u8> = notes.into_inner();
     let wanted =
         "[INFO  chord] connection 0 ended\n[INFO  chord] connection 1 truncated\n[INFO  chord] connection 2 malformed 1\n[INFO  chord] connection 3 callersspent\n";
@@ -179,8 +146,8 @@ fn faulty_clients(rt: HostRuntime) {
             "connection 0 write\nconnection 1 ended\n",
         ),
     ] {
-        let is_written = writes(&rt, rt.alloc(), counts, &Discard, clients, wanted);
-        assert!(rt; is_written == Some(true), "{wanted}");
+        let found = served(&rt, rt.alloc(), counts, &Discard, clients, wanted);
+        assert!(rt; found == Some(GOOD), "{wanted}");
     }
 }
 
@@ -344,25 +311,18 @@ fn sixty_four_ends(alloc: Global) -> Option<String> {
     Some(ends)
 }
 
-/// Checks that 64 clients are answered at once, and their lines written.
-fn writes_sixty_four<
-    R: Threads
-        + Wait
-        + Clock
-        + Net<Listener = TcpListener, Stream = TcpStream>
-        + Copy
-        + Send
-        + Sync
-        + 'static,
->(rt: &R, alloc: Global) -> Option<bool> {
-    let ends = sixty_four_ends(alloc)?;
-    let clients = Clients::SixtyFour;
-    writes(rt, alloc, (64, 64), &Discard, clients, ends.as_str())
-}
-
 #[test]
 fn sixty_four_at_once(rt: HostRuntime) {
-    assert!(rt; writes_sixty_four(&rt, rt.alloc()) == Some(true));
+    let ends = sixty_four_ends(rt.alloc()).expect(&rt, "memory for 64 lines");
+    let found = served(
+        &rt,
+        rt.alloc(),
+        (64, 64),
+        &Discard,
+        Clients::SixtyFour,
+        ends.as_str(),
+    );
+    assert!(rt; found == Some(GOOD));
 }
 
 /// A client sends half of a frame that inserts `x` under `abc`, and another client is served
@@ -376,15 +336,6 @@ const HALF_A_FRAME: Acts = &[
     (0, Act::Leave),
 ];
 
-/// Adds 32 values of 4,096 bytes, 128 KiB together.
-fn fill<S: Read + Write>(alloc: Global, stream: &mut S) -> io::Result<()> {
-    for number in 0..32u8 {
-        let value = vec![in alloc; number; 4_096]?;
-        ask_insert(alloc, stream, number as u64 + 1, &value, &Reply::Added)?;
-    }
-    Ok(())
-}
-
 /// A client that is served.
 const ANOTHER: Acts = &[
     (0, Act::Connect),
@@ -392,8 +343,7 @@ const ANOTHER: Acts = &[
     (0, Act::Leave),
 ];
 
-/// A client sends 4,096 retrieves of 128 KiB each and never reads. Checks that another client is
-/// served.
+/// A client sends 4,096 retrieves of 128 KiB each and never reads. Another one is served.
 fn never_reads<R: Net>(rt: &R, alloc: Global, address: SocketAddr) -> io::Result<()> {
     let mut greedy = TcpStream::connect(rt, address)?;
     fill(alloc, &mut greedy)?;
@@ -468,22 +418,27 @@ fn keeps_answers<
         + Send
         + Sync
         + 'static,
->(rt: &R, alloc: Global) -> Option<bool> {
+>(rt: &R, alloc: Global) -> Option<Found> {
     let plan = plan_with(alloc, 1)?;
-    let (listener, address) = bound(rt)?;
-    let mut client = TcpStream::connect(rt, address).ok()?;
+    let (listeners, at) = all_bound(rt)?;
+    let mut client = TcpStream::connect(rt, at.frames).ok()?;
     let said = say_too_much(alloc, &mut client);
-    let written = served(rt, alloc, &plan, &listener, 1, &Discard);
+    let ending = Ending::Connections(1);
+    let written = serve_at(rt, alloc, &plan, ROOMY, listeners, ending, &Discard);
     let heard = hears_all(alloc, &mut client);
-    drop(listener);
     drop(plan);
-    said.ok()?;
-    Some(is_served(alloc, address, heard, written, "connection 0 malformed 1\n"))
+    let written = Written::of(ROOMY, at, written);
+    let found = Found {
+        is_answered: said.is_ok() && heard.is_ok(),
+        is_written: written.has(alloc, "connection 0 malformed 1\n"),
+    };
+    drop(written);
+    Some(found)
 }
 
 #[test]
 fn answers_before_a_refused_frame(rt: HostRuntime) {
-    assert!(rt; keeps_answers(&rt, rt.alloc()) == Some(true));
+    assert!(rt; keeps_answers(&rt, rt.alloc()) == Some(GOOD));
 }
 
 /// Why a plan is not served whose second node the ring refuses.
@@ -501,8 +456,9 @@ fn not_served<
     let plan = plan_of(alloc, twice.as_str());
     drop(twice);
     let plan = plan?;
-    let (listener, _) = bound(rt)?;
-    let fault = served(rt, alloc, &plan, &listener, 1, &Discard).err();
+    let (listeners, _) = all_bound(rt)?;
+    let ending = Ending::Connections(1);
+    let fault = serve_at(rt, alloc, &plan, ROOMY, listeners, ending, &Discard).err();
     drop(plan);
     fault
 }

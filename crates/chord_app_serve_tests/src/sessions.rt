@@ -1,7 +1,7 @@
 //! Sessions of clients that lose their connections, over loopback.
 
-use crate::servers::{Clients, writes};
-use chord_app_serve_testkit::{Act, Acts, Answer, Ask};
+use crate::servers::{Clients, served};
+use chord_app_serve_testkit::{Act, Acts, Answer, Ask, GOOD};
 use chord_wire::FaultCode;
 use log::sink::Discard;
 
@@ -9,14 +9,10 @@ use log::sink::Discard;
 /// which is answered as before, and goes on. It closes its session over a third one, and then the
 /// token is not known any more.
 const RESUMED: Acts = &[
-    (0, Act::Connect),
-    (0, Act::Open(1, false)),
-    (0, Act::Opened(0, 0)),
+    (0, Act::Begin(1)),
     (0, Act::CallIn(1, 0, Ask::Insert(b"x"), Answer::Added)),
     (0, Act::Leave),
-    (1, Act::Connect),
-    (1, Act::Open(1, true)),
-    (1, Act::Opened(0, 1)),
+    (1, Act::Resume(1, 0, 1)),
     (1, Act::CallIn(1, 0, Ask::Insert(b"x"), Answer::Added)),
     (1, Act::CallIn(2, 1, Ask::Insert(b"x"), Answer::Present)),
     (
@@ -24,17 +20,12 @@ const RESUMED: Acts = &[
         Act::CallIn(1, 0, Ask::Insert(b"x"), Answer::Fault(FaultCode::BadNumber)),
     ),
     (1, Act::Leave),
-    (2, Act::Connect),
-    (2, Act::Open(1, true)),
-    (2, Act::Opened(1, 2)),
+    (2, Act::Resume(1, 1, 2)),
     (2, Act::CallIn(3, 2, Ask::Retrieve, Answer::Values(&[b"x"]))),
     (2, Act::Close),
     (2, Act::Closed),
     (2, Act::End),
-    (3, Act::Connect),
-    (3, Act::Open(1, true)),
-    (3, Act::Hear(0, Answer::Fault(FaultCode::NoSession))),
-    (3, Act::End),
+    (3, Act::Refused(1, true, FaultCode::NoSession)),
 ];
 
 #[test]
@@ -42,37 +33,25 @@ fn a_session_outlives_its_connections(rt: HostRuntime) {
     let wanted =
         "connection 0 ended\nconnection 1 ended\nconnection 2 ended\nconnection 3 malformed 14\n";
     let clients = Clients::Acting(RESUMED);
-    let is_written = writes(&rt, rt.alloc(), (4, 4), &Discard, clients, wanted);
-    assert!(rt; is_written == Some(true));
+    let found = served(&rt, rt.alloc(), (4, 4), &Discard, clients, wanted);
+    assert!(rt; found == Some(GOOD));
 }
 
 /// A client resumes its session before the server noticed that the older connection was lost. The
 /// server ends the older one. Another client can't begin a session of the same token, but one whose
 /// token has another last byte.
 const OLDER_ENDS: Acts = &[
-    (0, Act::Connect),
-    (0, Act::Open(1, false)),
-    (0, Act::Opened(0, 0)),
+    (0, Act::Begin(1)),
     (0, Act::CallIn(1, 0, Ask::Insert(b"x"), Answer::Added)),
-    (1, Act::Connect),
-    (1, Act::Open(1, true)),
-    (1, Act::Opened(0, 1)),
+    (1, Act::Resume(1, 0, 1)),
     (0, Act::End),
     (1, Act::CallIn(2, 1, Ask::Remove(b"x"), Answer::Removed)),
-    (2, Act::Connect),
-    (2, Act::Open(1, false)),
-    (2, Act::Hear(0, Answer::Fault(FaultCode::SessionKnown))),
-    (2, Act::End),
-    (3, Act::Connect),
-    (3, Act::Open(2, false)),
-    (3, Act::Opened(0, 0)),
+    (2, Act::Refused(1, false, FaultCode::SessionKnown)),
+    (3, Act::Begin(2)),
     (3, Act::CallIn(1, 0, Ask::Remove(b"x"), Answer::Absent)),
     (3, Act::Leave),
     (1, Act::Leave),
-    (4, Act::Connect),
-    (4, Act::Open(1, false)),
-    (4, Act::Hear(0, Answer::Fault(FaultCode::SessionKnown))),
-    (4, Act::End),
+    (4, Act::Refused(1, false, FaultCode::SessionKnown)),
 ];
 
 #[test]
@@ -80,8 +59,8 @@ fn an_older_connection_of_a_session_ends(rt: HostRuntime) {
     let wanted =
         "connection 0 ended\nconnection 1 ended\nconnection 2 malformed 13\nconnection 3 ended\nconnection 4 malformed 13\n";
     let clients = Clients::Acting(OLDER_ENDS);
-    let is_written = writes(&rt, rt.alloc(), (5, 5), &Discard, clients, wanted);
-    assert!(rt; is_written == Some(true));
+    let found = served(&rt, rt.alloc(), (5, 5), &Discard, clients, wanted);
+    assert!(rt; found == Some(GOOD));
 }
 
 /// Without a session no connection may send a close, nor an open behind its first request; and the
@@ -96,9 +75,7 @@ const OUT_OF_PLACE: Acts = &[
     (1, Act::Open(1, false)),
     (1, Act::Hear(0, Answer::Fault(FaultCode::OutOfPlace))),
     (1, Act::End),
-    (2, Act::Connect),
-    (2, Act::Open(1, false)),
-    (2, Act::Opened(0, 0)),
+    (2, Act::Begin(1)),
     (2, Act::Ask(1, Ask::Retrieve)),
     (2, Act::Hear(0, Answer::Fault(FaultCode::BadVersion))),
     (2, Act::End),
@@ -108,6 +85,6 @@ const OUT_OF_PLACE: Acts = &[
 fn frames_of_sessions_have_their_places(rt: HostRuntime) {
     let wanted = "connection 0 malformed 16\nconnection 1 malformed 16\nconnection 2 malformed 2\n";
     let clients = Clients::Acting(OUT_OF_PLACE);
-    let is_written = writes(&rt, rt.alloc(), (3, 3), &Discard, clients, wanted);
-    assert!(rt; is_written == Some(true));
+    let found = served(&rt, rt.alloc(), (3, 3), &Discard, clients, wanted);
+    assert!(rt; found == Some(GOOD));
 }

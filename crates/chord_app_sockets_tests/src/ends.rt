@@ -60,11 +60,13 @@ struct Stopped {
     is_woken: bool,
 }
 
-/// Stops a server that waits for a connection, at the end of an input of three bytes.
+/// Stops a server at the end of an input of three bytes. Its listener does not wait, so that the test
+/// ends if it is not woken.
 fn stop_at_the_end<R: Net<Listener = TcpListener, Stream = TcpStream> + Clock>(
     rt: &R,
 ) -> io::Result<Stopped> {
     let listener = TcpListener::bind(rt, "127.0.0.1:0")?;
+    listener.set_nonblocking(true)?;
     let stop = Stop::new(listener.local_addr()?);
     let until = Until::Stopped {
         stop: &stop,

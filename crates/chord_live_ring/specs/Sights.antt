@@ -17,6 +17,8 @@ use Rattle.chord_model.specs.declared.holder.Holder.{Holder}
 use Rattle.chord_model.specs.declared.holder.Holder.TheVariants as holder
 use Rattle.chord_model.specs.declared.message.Message.{Message}
 use Rattle.chord_model.specs.declared.phase.Phase.{Phase}
+use Rattle.chord_node.specs.declared.pages.PairsPage.{PairsPage}
+use Rattle.chord_node.specs.Pages.{PairsFromIs}
 use Rattle.chord_segment.specs.Segment.{Segment}
 use Rattle.chord_table.specs.Shown.{NodeShown}
 
@@ -114,6 +116,12 @@ SightIs crashed seated (Some sight) = look_in sight ≡ sight_of crashed seated.
 abbrev pub IsSightOf : ℕ → NodeSight → Type 0
 IsSightOf number sight =
     (seated : Seated) × (crashed : Bool) × NodeShown (record { node = seated.node; messages = seated.messages }) × (seated.node.number ≡ number) × (look_in sight ≡ sight_of crashed seated.node seated.counts)
+
+-- some reachable world, of which the theorem holds, has a node of this number whose pairs from this
+-- identifier on are those of the page
+abbrev pub IsPageShown : ℕ → Id → ℕ → PairsPage → Type 0
+IsPageShown number first limit page =
+    (seated : Seated) × NodeShown (record { node = seated.node; messages = seated.messages }) × (seated.node.number ≡ number) × PairsFromIs first limit seated.node (Some page)
 
 -- the items of an outbox before this index do not hand x over
 abbrev pub NoneGives : ℕ → List Item → ℕ → Type 0

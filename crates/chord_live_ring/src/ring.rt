@@ -2,7 +2,7 @@
 ghost use Rattle.std.specs.Prelude.{◌≡◌, ◌<◌, ◌≤◌, [], true, Ok, None, IfOk, IfErr, IfSome, vec_len};
 ghost use Rattle.chord_caller.specs.Answers.{new_caller};
 ghost use Rattle.chord_caller.specs.Client.{IsCoreOf};
-ghost use Rattle.chord_live_ring.specs.Sights.{IsSightOf};
+ghost use Rattle.chord_live_ring.specs.Sights.{IsPageShown, IsSightOf};
 ghost use Rattle.chord_live_types.specs.Limits.{AreWithin};
 
 use crate::numbers::Numbers;
@@ -16,7 +16,7 @@ use chord_links::{Links, Peer};
 use chord_live_types::{
     CreateFault, JoinFault, LeaveFault, NoSuchNode, OpenClientFault, OpenFault, Settings,
 };
-use chord_node::{Holder, Phase};
+use chord_node::{Holder, PairsPage, Phase};
 use chord_ring::join_behind;
 use chord_route::find_predecessor;
 use chord_store::EntryStore;
@@ -179,6 +179,28 @@ impl<J: Naming, S: EntryStore> Ring<J, S> {
     {
         let slot = self.slots.get(number as usize)?;
         slot.state.lock(rt).holding(id)
+    }
+
+    /// A page of the pairs of the node of this number from an identifier on, by one look under its
+    /// lock, if the node holds that. None if no node of this number was admitted, or if it crashed.
+    pub fn pairs_from(
+        &self,
+        rt: &impl Wait,
+        alloc: Global,
+        number: u64,
+        first: Id,
+        limit: u64,
+    ) -> Result<Option<PairsPage>, AllocError>
+        requires { 0 < limit }
+        ensures shown { IfOk result (λ found. IfSome found (IsPageShown number first limit)) }
+        ensures beyond { J.name.slots ≤ number → result ≡ Ok None }
+    {
+        let Some(slot) = self.slots.get(number as usize) else {
+            return Ok(None);
+        };
+        slot.state
+            .lock(rt)
+            .pairs_from(&self.table, alloc, number, first, limit)
     }
 
     /// Puts a node into its slot.

@@ -1,10 +1,12 @@
 //! A node with its seat.
-ghost use Rattle.std.specs.Prelude.{◌≡◌, ◌≤◌, ◌++◌, [], ◌∷◌, Some, None, IfOk, IfSome, IfNone, OnOk, OnErr};
+ghost use Rattle.std.specs.Prelude.{◌≡◌, ◌≤◌, ◌<◌, ◌++◌, [], ◌∷◌, Ok, Some, None, IfOk, IfSome, IfNone, OnOk, OnErr};
 ghost use Rattle.chord_live_ring.specs.Deeds.{counted, no_counts};
 ghost use Rattle.chord_live_ring.specs.declared.deed.Deed.TheVariants.{Gave, Ticked};
 ghost use Rattle.chord_live_ring.specs.Sights.{HoldingIs, counts_after, kind_in, look_in, number_in, sight_of};
 ghost use Rattle.chord_live_ring.specs.Tidy.{TidyIs};
+ghost use Rattle.chord_model.specs.Node.{segment_with};
 ghost use Rattle.chord_node.specs.Moves.{LeaveIs, RetireIs};
+ghost use Rattle.chord_node.specs.Pages.{PairsFromIs};
 ghost use Rattle.chord_table.specs.Shown.{NodeShown};
 
 use crate::dealing::{deal_by_id, is_for};
@@ -18,7 +20,7 @@ use crate::tidying::{Tidied, tidy};
 use chord_ident::Id;
 use chord_links::{Links, Peer};
 use chord_node::{
-    GiveFault, Holder, Message, Node, NotStaying, Phase, ResendPartFault, RetireFault,
+    GiveFault, Holder, Message, Node, NotStaying, PairsPage, Phase, ResendPartFault, RetireFault,
 };
 use chord_ring::{CandidateFault, DropFault, StabiliseFault};
 use chord_store::EntryStore;
@@ -136,6 +138,20 @@ impl<J: Naming, S: EntryStore> SeatedNode<J, S> {
         ensures { HoldingIs id.number self.now.node result }
     {
         holding_of(&self.node, id)
+    }
+
+    /// A page of the node's pairs from an identifier on, if the node holds that.
+    pub fn pairs_from(
+        &self,
+        alloc: Global,
+        first: Id,
+        limit: u64,
+    ) -> Result<Option<PairsPage>, AllocError>
+        requires { 0 < limit }
+        ensures page { IfOk result (PairsFromIs first limit self.now.node) }
+        ensures other { segment_with first.number self.now.node.held ≡ None → result ≡ Ok None }
+    {
+        self.node.pairs_from(alloc, first, limit)
     }
 
     /// Counts a round of upkeep.

@@ -1,12 +1,13 @@
 //! Slots of nodes.
-ghost use Rattle.std.specs.Prelude.{◌≡◌, ◌≢◌, false, true, Ok, None, IfOk, IfSome};
+ghost use Rattle.std.specs.Prelude.{◌≡◌, ◌≢◌, ◌<◌, false, true, Ok, None, IfOk, IfSome};
 ghost use Rattle.chord_live_ring.specs.declared.slot.SlotState.TheVariants.{Vacant, Here, Crashed};
-ghost use Rattle.chord_live_ring.specs.Sights.{HoldingIs, IsSightOf, SightIs};
+ghost use Rattle.chord_live_ring.specs.Sights.{HoldingIs, IsPageShown, IsSightOf, SightIs};
+ghost use Rattle.chord_node.specs.Pages.{PairsFromIs};
 
 use crate::seated_node::SeatedNode;
 use crate::sight::NodeSight;
 use chord_ident::Id;
-use chord_node::Holder;
+use chord_node::{Holder, PairsPage};
 use chord_store::EntryStore;
 use chord_table::{Envelope, Naming, Shared};
 use crossbeam_channel::{Receiver, Sender};
@@ -71,6 +72,36 @@ impl<J: Naming, S: EntryStore> SlotState<J, S> {
                 seated.look(table);
                 Ok(Some(seated.sight(alloc, true)?))
             }
+        }
+    }
+
+    /// A page of the pairs of the node in the slot from an identifier on, if the node has this
+    /// number and holds that. A node that crashed tells nothing.
+    pub fn pairs_from(
+        &mut self,
+        table: &Shared<J>,
+        alloc: Global,
+        number: u64,
+        first: Id,
+        limit: u64,
+    ) -> Result<Option<PairsPage>, AllocError>
+        requires { 0 < limit }
+        ensures same { self.new ≡ self.old }
+        ensures vacant { self.old ≡ Vacant → result ≡ Ok None }
+        ensures here { (seated : _) → self.old ≡ Here seated → seated.node.number ≡ number → IfOk result (PairsFromIs first limit seated.node) }
+        ensures other { (seated : _) → self.old ≡ Here seated → seated.node.number ≢ number → result ≡ Ok None }
+        ensures crashed { (seated : _) → self.old ≡ Crashed seated → result ≡ Ok None }
+        ensures shown { IfOk result (λ found. IfSome found (IsPageShown number first limit)) }
+    {
+        match self {
+            SlotState::Here(seated) => {
+                if seated.number() != number {
+                    return Ok(None);
+                }
+                seated.look(table);
+                seated.pairs_from(alloc, first, limit)
+            }
+            SlotState::Vacant | SlotState::Crashed(_) => Ok(None),
         }
     }
 }

@@ -1,5 +1,5 @@
 //! A node with one store.
-ghost use Rattle.std.specs.Prelude.{◌≡◌, ◌≢◌, ◌≤◌, true, false, Some, None, [], length, slice_get, position, is_some, IfOk, IfErr, OnErr};
+ghost use Rattle.std.specs.Prelude.{◌≡◌, ◌≢◌, ◌≤◌, ◌<◌, true, false, Ok, Some, None, [], length, slice_get, position, is_some, IfOk, IfErr, OnErr};
 ghost use Rattle.std.specs.Option.{option_copied};
 ghost use Rattle.chord_ident.specs.Circle.{in_span};
 ghost use Rattle.chord_links.specs.NodeLinks.{alone};
@@ -11,6 +11,7 @@ ghost use Rattle.chord_model.specs.Node.{newborn, founder, segment_with, NodeSte
 ghost use Rattle.chord_node.specs.View.{span_of, segment_shown, item_view, pairs_of_item};
 ghost use Rattle.chord_node.specs.Asked.{AskIs, AskRecords, AskSteps, AskStepsRecording};
 ghost use Rattle.chord_node.specs.Moves.{MoveSteps, SendSteps, CutAtIs, MergeIs, MayGive, GiveIs, ResendIs, LeaveIs, RetireIs};
+ghost use Rattle.chord_node.specs.Pages.{PairsFromIs};
 ghost use Rattle.chord_node.specs.Received.{PartIs, PartSteps, GotIs, BackIs, BackSteps};
 
 use crate::asks::answered::Answered;
@@ -23,6 +24,7 @@ use crate::handovers::held::{cut_segment, merge_segments};
 use crate::handovers::hold::{PutFault, make_held};
 use crate::handovers::part_answer::{Back, PartAnswer};
 use crate::handovers::take_in::take_next;
+use crate::pages::{PairsPage, page_of, rest_from};
 use chord_caller::Ask;
 use chord_handover::{Declined, Got, Outbox, Part, Payload, Taken, Ticket, Verdict};
 use chord_ident::{Id, Span};
@@ -257,6 +259,28 @@ impl<S: EntryStore> Node<S> {
             Some(store) => store.count(),
             None => 0,
         }
+    }
+
+    /// A page of the node's pairs from the identifier `first` on, if the node holds that. It has at
+    /// least `limit` pairs, or all that the held segment has up to the greatest identifier. The last
+    /// identifier alone may bring it above `limit`.
+    pub fn pairs_from(
+        &self,
+        alloc: Global,
+        first: Id,
+        limit: u64,
+    ) -> Result<Option<PairsPage>, AllocError>
+        requires { 0 < limit }
+        ensures page { IfOk result (PairsFromIs first limit self.now) }
+        ensures other { segment_with first.number self.now.held ≡ None → result ≡ Ok None }
+    {
+        let Some(place) = place_with(&self.held, first) else {
+            return Ok(None);
+        };
+        let span = rest_from(first, self.held[place].span());
+        let store = self.store.as_ref().unwrap();
+        let page = page_of(alloc, store, &span, limit)?;
+        Ok(Some(page))
     }
 
     /// A part of an item of the outbox, to be sent again.

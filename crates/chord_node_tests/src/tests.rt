@@ -5,6 +5,7 @@ mod counted_store;
 mod growths;
 mod handovers;
 mod leaving;
+mod pages;
 mod parts;
 mod scripts;
 

@@ -393,92 +393,48 @@ struct Call {
     key: &'static [u8],
 }
 
+const FIRST_OF_3: Call = Call {
+    caller: 3,
+    number: 1,
+    key: b"b",
+};
+
+const THIRD_OF_3: Call = Call {
+    caller: 3,
+    number: 3,
+    key: b"abc",
+};
+
+const FIRST_OF_5: Call = Call {
+    caller: 5,
+    number: 1,
+    key: b"abc",
+};
+
+const SECOND_OF_5: Call = Call {
+    caller: 5,
+    number: 2,
+    key: b"f",
+};
+
+const FIRST_OF_9: Call = Call {
+    caller: 9,
+    ..FIRST_OF_5
+};
+
+const FIRST_OF_4: Call = Call {
+    caller: 4,
+    ..FIRST_OF_5
+};
+
 /// Calls of three callers under three keys, each with floor 0.
-const CALLS: &[Call] = &[
-    Call {
-        caller: 5,
-        number: 1,
-        key: b"abc",
-    },
-    Call {
-        caller: 3,
-        number: 1,
-        key: b"b",
-    },
-    Call {
-        caller: 9,
-        number: 1,
-        key: b"abc",
-    },
-    Call {
-        caller: 5,
-        number: 2,
-        key: b"f",
-    },
-    Call {
-        caller: 3,
-        number: 3,
-        key: b"abc",
-    },
-];
+const CALLS: &[Call] = &[FIRST_OF_5, FIRST_OF_3, FIRST_OF_9, SECOND_OF_5, THIRD_OF_3];
 
 /// The same calls, those of one caller in the same order.
-const IN_ANOTHER_ORDER: &[Call] = &[
-    Call {
-        caller: 9,
-        number: 1,
-        key: b"abc",
-    },
-    Call {
-        caller: 3,
-        number: 1,
-        key: b"b",
-    },
-    Call {
-        caller: 3,
-        number: 3,
-        key: b"abc",
-    },
-    Call {
-        caller: 5,
-        number: 1,
-        key: b"abc",
-    },
-    Call {
-        caller: 5,
-        number: 2,
-        key: b"f",
-    },
-];
+const IN_ANOTHER_ORDER: &[Call] = &[FIRST_OF_9, FIRST_OF_3, THIRD_OF_3, FIRST_OF_5, SECOND_OF_5];
 
 /// The same calls, but the call of caller 9 is caller 4's.
-const OF_ANOTHER_CALLER: &[Call] = &[
-    Call {
-        caller: 5,
-        number: 1,
-        key: b"abc",
-    },
-    Call {
-        caller: 3,
-        number: 1,
-        key: b"b",
-    },
-    Call {
-        caller: 4,
-        number: 1,
-        key: b"abc",
-    },
-    Call {
-        caller: 5,
-        number: 2,
-        key: b"f",
-    },
-    Call {
-        caller: 3,
-        number: 3,
-        key: b"abc",
-    },
-];
+const OF_ANOTHER_CALLER: &[Call] = &[FIRST_OF_5, FIRST_OF_3, FIRST_OF_4, SECOND_OF_5, THIRD_OF_3];
 
 /// The callers and numbers of calls that are none of these.
 const OTHER_CALLS: &[(u64, u64)] = &[(3, 2), (4, 1), (5, 3), (6, 1), (9, 2), (10, 1)];

@@ -26,7 +26,7 @@ pub enum CallFault {
     Ended,
     #[error("the answer is no frame: {0}")]
     Malformed(FaultCode),
-    #[error("no whole answer came in so many reads")]
+    #[error("no whole answer came within the reads that were allowed")]
     TurnsSpent,
     #[error("out of memory")]
     Memory,

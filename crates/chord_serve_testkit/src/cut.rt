@@ -1,7 +1,7 @@
 //! A reader and writer that moves some bytes, and then fails.
 use std::io::{self, Read, Write};
 
-/// Lets a number of bytes through, and then no more.
+/// Lets a number of bytes through, and fails from then on.
 #[derive(Drop)]
 pub struct Cut<T> {
     pub inner: T,

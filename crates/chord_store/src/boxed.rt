@@ -1,7 +1,7 @@
 //! A boxed store is a store.
 use crate::outcome::{Inserted, StoreFault};
 use crate::store::EntryStore;
-use chord_ident::Span;
+use chord_ident::{Id, Span};
 use chord_map::{Bytes, Pair, Values};
 use std::alloc::{AllocError, Global};
 
@@ -36,6 +36,10 @@ impl EntryStore for Box<dyn EntryStore + Send> {
 
     fn copy_span(&self, alloc: Global, span: &Span) -> Result<Vec<Pair>, AllocError> {
         (**self).copy_span(alloc, span)
+    }
+
+    fn cut_after(&self, span: &Span, n: u64) -> Option<Id> {
+        (**self).cut_after(span, n)
     }
 
     fn put_all(&mut self, span: &Span, pairs: &[Pair]) -> Result<(), StoreFault> {

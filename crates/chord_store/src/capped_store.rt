@@ -2,10 +2,11 @@
 ghost use Rattle.std.specs.Prelude.{◌≡◌, []};
 ghost use Rattle.chord_store.specs.Capped.{Capped};
 
+use crate::cut::cut_after;
 use crate::lists::{copy_span, insert_within, put_all_within, take_out, values_under};
 use crate::outcome::{Inserted, StoreFault};
 use crate::store::EntryStore;
-use chord_ident::Span;
+use chord_ident::{Id, Span};
 use chord_map::{Bytes, Pair, PairList, Values};
 use std::alloc::{AllocError, Global};
 use std::marker::Model;
@@ -72,6 +73,10 @@ impl EntryStore for CappedStore {
 
     fn copy_span(&self, alloc: Global, span: &Span) -> Result<Vec<Pair>, AllocError> {
         copy_span(alloc, self.pairs.as_slice(), span)
+    }
+
+    fn cut_after(&self, span: &Span, n: u64) -> Option<Id> {
+        cut_after(&self.pairs, *span, n)
     }
 
     fn put_all(&mut self, span: &Span, pairs: &[Pair]) -> Result<(), StoreFault> {

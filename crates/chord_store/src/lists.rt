@@ -9,6 +9,7 @@ ghost use Rattle.chord_ident.specs.Circle.{in_span, key_id};
 ghost use Rattle.chord_store.specs.Inside.{pairs_inside, pairs_outside};
 ghost use Rattle.chord_store.specs.Store.{HasFew, InsertIs, PutAllIs};
 
+use crate::cut::CountSpan;
 use crate::outcome::{Inserted, StoreFault};
 use chord_ident::{Id, Span};
 use chord_map::limits::SET_VALUES;
@@ -108,6 +109,29 @@ pub fn copy_span(alloc: Global, pairs: &[Pair], span: &Span) -> Result<Vec<Pair>
         }
     }
     Ok(copies)
+}
+
+impl CountSpan for PairList {
+    ghost pairs = { λ list. list };
+
+    /// It computes the identifier of each key.
+    fn count_span(&self, span: &Span) -> u64 {
+        count_inside(self.as_slice(), span)
+    }
+}
+
+/// The number of pairs whose keys lie in the span.
+#[tactic(auto, unfolding(crate::specs::Inside::pairs_inside))]
+fn count_inside(pairs: &[Pair], span: &Span) -> u64
+    ensures { result ≡ length (pairs_inside span.now pairs.now) }
+{
+    let mut count = 0u64;
+    for counted in pairs {
+        if is_inside(span, counted) {
+            count += 1;
+        }
+    }
+    count
 }
 
 /// Adds the pairs, which lie in a span where the list has none,

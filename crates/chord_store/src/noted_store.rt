@@ -5,7 +5,7 @@ ghost use Rattle.chord_map.specs.declared.pair.Pair.{Pair};
 use crate::capped_store::CappedStore;
 use crate::outcome::{Inserted, StoreFault};
 use crate::store::EntryStore;
-use chord_ident::Span;
+use chord_ident::{Id, Span};
 use chord_map::{Bytes, Pair, Values};
 use std::alloc::{AllocError, Global};
 use std::marker::Model;
@@ -78,6 +78,10 @@ impl EntryStore for NotedStore {
 
     fn copy_span(&self, alloc: Global, span: &Span) -> Result<Vec<Pair>, AllocError> {
         self.list.copy_span(alloc, span)
+    }
+
+    fn cut_after(&self, span: &Span, n: u64) -> Option<Id> {
+        self.list.cut_after(span, n)
     }
 
     fn put_all(&mut self, span: &Span, pairs: &[Pair]) -> Result<(), StoreFault> {

@@ -9,6 +9,7 @@ ghost use Rattle.chord_store.specs.Placed.{AreParts, joined};
 ghost use Rattle.chord_store.specs.Store.{AddIs, HasFew};
 
 use crate::copies::sort;
+use crate::cut::CountSpan;
 use crate::outcome::Inserted;
 use crate::slots::Slots;
 use crate::tree::Tree;
@@ -120,16 +121,6 @@ impl Placed {
         }
     }
 
-    /// The number of pairs whose keys lie in the span. It reads the shards of the span alone.
-    pub fn count_span(&self, span: &Span) -> u64
-        ensures { result ≡ length (pairs_inside span.now self.now) }
-    {
-        if self.count == 0 {
-            return 0;
-        }
-        count_inside(&self.slots, &self.others, span)
-    }
-
     /// Drops the pairs whose keys lie in the span. It reads the shards of the span alone.
     pub fn take_out(&mut self, span: &Span)
         ensures { self.new ≡ pairs_outside span.now self.old }
@@ -153,6 +144,18 @@ impl Placed {
         ensures none { pairs_inside span.now self.now ≡ [] → IsOk result }
     {
         copies_of(alloc, &self.slots, &self.others, span)
+    }
+}
+
+impl CountSpan for Placed {
+    ghost pairs = { λ placed. placed };
+
+    /// It reads the shards of the span alone.
+    fn count_span(&self, span: &Span) -> u64 {
+        if self.count == 0 {
+            return 0;
+        }
+        count_inside(&self.slots, &self.others, span)
     }
 }
 

@@ -1,8 +1,6 @@
 //! A store by the identifiers of its keys.
-ghost use Rattle.std.specs.Prelude.{◌≡◌, ◌≤◌, ◌<◌, ◌-◌, ◌^◌, List, [], length, true, IfSome, IfNone};
+ghost use Rattle.std.specs.Prelude.{◌≡◌, ◌≤◌, ◌<◌, ◌-◌, ◌^◌, List, [], length};
 ghost use Rattle.chord_map.specs.declared.pair.Pair.{Pair};
-ghost use Rattle.chord_ident.specs.Circle.{cuts};
-ghost use Rattle.chord_store.specs.Cut.{CutsLeaveFewer, part_up_to};
 ghost use Rattle.chord_store.specs.Inside.{pairs_inside};
 ghost use Rattle.chord_store.specs.Store.{HasFew, InsertIs, PutAllIs};
 
@@ -52,18 +50,6 @@ impl TreeStore {
             placed: Placed::new(alloc, most),
         }
     }
-
-    /// The first identifier of the span at which a cut leaves at least `n` pairs before it, or none
-    /// where no cut does. It counts some parts of the span, as many as an identifier has digits.
-    pub fn cut_after(&self, span: &Span, n: u64) -> Option<Id>
-        requires { 0 < n }
-        ensures cut { IfSome result (λ at. cuts span.now at ≡ true) }
-        ensures enough { IfSome result (λ at. n ≤ length (pairs_inside (part_up_to span.now at) self.now)) }
-        ensures first { IfSome result (λ at. CutsLeaveFewer (part_up_to span.now at) n self.now) }
-        ensures none { IfNone result (CutsLeaveFewer span.now n self.now) }
-    {
-        cut_after(&self.placed, *span, n)
-    }
 }
 
 impl EntryStore for TreeStore {
@@ -97,6 +83,10 @@ impl EntryStore for TreeStore {
 
     fn copy_span(&self, alloc: Global, span: &Span) -> Result<Vec<Pair>, AllocError> {
         self.placed.copy_span(alloc, span)
+    }
+
+    fn cut_after(&self, span: &Span, n: u64) -> Option<Id> {
+        cut_after(&self.placed, *span, n)
     }
 
     fn put_all(&mut self, span: &Span, pairs: &[Pair]) -> Result<(), StoreFault> {

@@ -1,6 +1,7 @@
 //! The command `ask`, over loopback.
 
-use chord_app_ask::{AskOutcome, ClientOptions, ask_lines, ask_one, read_line, read_words};
+use crate::tests::loopback::{Asked, asks, asks_and_ends, bound, end_waiting};
+use chord_app_ask::{AskOutcome, ClientOptions, ask_one, read_line, read_words};
 use chord_app_text::{Fault, Finish, WordFault};
 use chord_map::{Reply, Request};
 use chord_wire::FaultCode;
@@ -19,24 +20,6 @@ fn client_options(port: u16, version: u8, window: u64, tries: u32) -> ClientOpti
         tries,
         tokens: None,
     }
-}
-
-/// How asking ended, and whether it wrote the right lines.
-type Asked = (Result<Finish, Finish>, bool);
-
-fn asks<R: Net<Stream = TcpStream> + Clock>(
-    rt: &R,
-    alloc: Global,
-    client_options: ClientOptions,
-    input: &str,
-    wanted: &str,
-) -> Asked {
-    let mut reader = input.as_bytes();
-    let mut written: Vec<u8> = Vec::new(alloc);
-    let finish = ask_lines(rt, alloc, client_options, &mut reader, &mut written);
-    let is_written = written.as_slice() == wanted.as_bytes();
-    drop(written);
-    (finish, is_written)
 }
 
 /// Asks the request in these words.
@@ -64,11 +47,10 @@ fn finds_nobody(port: u16) -> Result<Finish, Finish> {
 }
 
 /// A port at which nobody listens.
-fn free_port<R: Net<Listener = TcpListener, Stream = TcpStream>>(rt: &R) -> io::Result<u16> {
-    let listener = TcpListener::bind(rt, "127.0.0.1:0")?;
-    let address = listener.local_addr();
+fn free_port<R: Net<Listener = TcpListener, Stream = TcpStream>>(rt: &R) -> Option<u16> {
+    let (listener, port) = bound(rt)?;
     drop(listener);
-    Ok(address?.port())
+    Some(port)
 }
 
 /// Asks at a port at which nobody listens. Checks that it is told so, and nothing else.
@@ -76,9 +58,9 @@ fn asks_nobody<R: Net<Listener = TcpListener, Stream = TcpStream> + Clock>(
     rt: &R,
     alloc: Global,
 ) -> Option<bool> {
-    let port = free_port(rt).ok()?;
+    let port = free_port(rt)?;
     let client_options = client_options(port, 2, 1, 3);
-    let asked = asks(rt, alloc, client_options, "insert abc x\n", "");
+    let asked = asks(rt, alloc, client_options, ("insert abc x\n", ""));
     Some(asked == (finds_nobody(port), true))
 }
 
@@ -88,7 +70,7 @@ fn asks_nobody_one<R: Net<Listener = TcpListener, Stream = TcpStream> + Clock>(
     alloc: Global,
     words: &[&str],
 ) -> Option<bool> {
-    let port = free_port(rt).ok()?;
+    let port = free_port(rt)?;
     let client_options = client_options(port, 1, 1, 1);
     let asked = asks_one(rt, alloc, client_options, words, "");
     Some(asked == (finds_nobody(port), true))
@@ -105,55 +87,57 @@ fn nobody_listens_to_one_request(rt: HostRuntime) {
     assert!(rt; asked == Some(true));
 }
 
-/// Answers the first bytes on a connection.
-fn answer_first<S: Read + Write>(stream: &mut S, answer: &[u8]) -> io::Result<()> {
+/// Answers the first bytes on a connection, if any come. Says whether they do.
+fn answer_first<S: Read + Write>(stream: &mut S, answer: &[u8]) -> io::Result<bool> {
     let mut bytes = [0u8; 64];
-    stream.read(&mut bytes)?;
-    stream.write_all(answer)
+    if stream.read(&mut bytes)? == 0 {
+        return Ok(false);
+    }
+    stream.write_all(answer)?;
+    Ok(true)
 }
 
 /// Accepts `connections` connections, and ends each after its first bytes. The last one gets this
-/// answer first.
-fn ends_early(listener: &TcpListener, connections: usize, answer: &[u8]) -> io::Result<()> {
+/// answer first. A client that sends nothing is the last. From then on nobody can connect.
+fn ends_early(listener: TcpListener, connections: usize, answer: &[u8]) -> io::Result<()> {
     for (number, accepted) in listener.incoming().take(connections).enumerate() {
         let mut stream = accepted?;
         let is_last = number.saturating_add(1) == connections;
         let ended = answer_first(&mut stream, if is_last { answer } else { [].as_slice() });
         drop(stream);
-        ended?;
+        if !ended? {
+            break;
+        }
     }
+    drop(listener);
     Ok(())
 }
 
-/// A listener, and its port.
-fn bound<R: Net<Listener = TcpListener, Stream = TcpStream>>(rt: &R) -> Option<(TcpListener, u16)> {
-    let listener = TcpListener::bind(rt, "127.0.0.1:0").ok()?;
-    let port = listener.local_addr().ok()?.port();
-    Some((listener, port))
+/// What a client asks: lines that are answered by others, or one request.
+#[derive(Clone, Copy)]
+enum Asking<'a> {
+    Lines(&'a str, &'a str),
+    Words(&'a [&'a str], &'a str),
 }
 
-/// Asks the request in these words of a server that answers Added.
-fn asks_one_of_one<R: Threads + Clock + Net<Listener = TcpListener, Stream = TcpStream> + Sync>(
+/// Asks, and then ends a server that still waits for clients, of which it takes this many.
+fn does_and_ends<R: Net<Stream = TcpStream> + Clock>(
     rt: &R,
     alloc: Global,
-    words: &[&str],
-) -> Option<Asked> {
-    let (listener, port) = bound(rt)?;
-    let client_options = client_options(port, 1, 1, 1);
-    let (server, asked) = thread::join(
-        rt,
-        || ends_early(&listener, 1, &ADDED),
-        || asks_one(rt, alloc, client_options, words, "added\n"),
-    );
-    drop(listener);
-    server.ok()?;
-    Some(asked)
-}
-
-#[test]
-fn one_request(rt: HostRuntime) {
-    let asked = asks_one_of_one(&rt, rt.alloc(), &["insert", "a b", ""]);
-    assert!(rt; asked == Some((Ok(Finish::Done), true)));
+    client_options: ClientOptions,
+    asking: Asking<'_>,
+    connections: usize,
+) -> Asked {
+    match asking {
+        Asking::Lines(input, wanted) => {
+            asks_and_ends(rt, alloc, client_options, (input, wanted), connections)
+        }
+        Asking::Words(words, wanted) => {
+            let asked = asks_one(rt, alloc, client_options, words, wanted);
+            end_waiting(rt, client_options.port, connections);
+            asked
+        }
+    }
 }
 
 /// Asks, with `tries` tries, a server that ends each of `ended` connections, the last one after
@@ -161,21 +145,27 @@ fn one_request(rt: HostRuntime) {
 fn asks_one_that_ends<R: Threads + Clock + Net<Listener = TcpListener, Stream = TcpStream> + Sync>(
     rt: &R,
     alloc: Global,
-    tries: u32,
-    (input, wanted): (&str, &str),
+    (version, tries): (u8, u32),
+    asking: Asking<'_>,
     ended: usize,
     answer: &[u8],
 ) -> Option<Asked> {
     let (listener, port) = bound(rt)?;
-    let client_options = client_options(port, 2, 1, tries);
+    let client_options = client_options(port, version, 1, tries);
     let (server, asked) = thread::join(
         rt,
-        || ends_early(&listener, ended, answer),
-        || asks(rt, alloc, client_options, input, wanted),
+        || ends_early(listener, ended, answer),
+        || does_and_ends(rt, alloc, client_options, asking, ended),
     );
-    drop(listener);
     server.ok()?;
     Some(asked)
+}
+
+#[test]
+fn one_request(rt: HostRuntime) {
+    let asking = Asking::Words(&["insert", "a b", ""], "added\n");
+    let asked = asks_one_that_ends(&rt, rt.alloc(), (1, 1), asking, 1, &ADDED);
+    assert!(rt; asked == Some((Ok(Finish::Done), true)));
 }
 
 // Added, number 1.
@@ -186,15 +176,15 @@ const ADDED: [u8; 15] = [0, 0, 0, 0x0b, 1, 0x81, 0, 0, 0, 0, 0, 0, 0, 1, 1];
 #[test]
 fn a_lost_connection(rt: HostRuntime) {
     let unanswered = Finish::Fault(Fault::Unanswered(1));
-    for (lines, ended, answer) in [
+    for (asking, ended, answer) in [
         (
-            ("insert abc x\ninsert abc y\n", "lost\nadded\n"),
+            Asking::Lines("insert abc x\ninsert abc y\n", "lost\nadded\n"),
             2,
             ADDED.as_slice(),
         ),
-        (("remove abc x\n", "lost\n"), 1, [].as_slice()),
+        (Asking::Lines("remove abc x\n", "lost\n"), 1, [].as_slice()),
     ] {
-        let asked = asks_one_that_ends(&rt, rt.alloc(), 3, lines, ended, answer);
+        let asked = asks_one_that_ends(&rt, rt.alloc(), (2, 3), asking, ended, answer);
         assert!(rt; asked == Some((Ok(unanswered), true)));
     }
 }
@@ -206,8 +196,8 @@ fn a_connection_without_a_caller(rt: HostRuntime) {
     let no_caller = [0, 0, 0, 0x0b, 1, 0xff, 0, 0, 0, 0, 0, 0, 0, 0, 15];
     let unanswered = Finish::Fault(Fault::Unanswered(1));
     for input in ["insert abc x\n", "retrieve abc\n"] {
-        let lines = (input, "callersspent\n");
-        let asked = asks_one_that_ends(&rt, rt.alloc(), 3, lines, 1, &no_caller);
+        let asking = Asking::Lines(input, "callersspent\n");
+        let asked = asks_one_that_ends(&rt, rt.alloc(), (2, 3), asking, 1, &no_caller);
         assert!(rt; asked == Some((Ok(unanswered), true)));
     }
 }
@@ -225,9 +215,9 @@ fn a_retrieve_is_asked_again(rt: HostRuntime) {
         (1, ADDED.as_slice(), "lost\n", unanswered),
         (1, bad_number.as_slice(), "fault 9\n", unanswered),
     ] {
-        let lines = ("retrieve abc\n", wanted);
+        let asking = Asking::Lines("retrieve abc\n", wanted);
         let ended = tries as usize;
-        let asked = asks_one_that_ends(&rt, rt.alloc(), tries, lines, ended, answer);
+        let asked = asks_one_that_ends(&rt, rt.alloc(), (2, tries), asking, ended, answer);
         assert!(rt; asked == Some((Ok(finish), true)));
     }
 }

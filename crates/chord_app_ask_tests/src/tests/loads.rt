@@ -1,5 +1,6 @@
 //! The command `load`, over loopback, and its histogram.
 
+use crate::tests::loopback::bound;
 use chord_app_ask::{Histogram, Kind, Load, Report, Until, run_load};
 use chord_app_text::{Fault, Finish};
 use std::alloc::Global;
@@ -27,10 +28,8 @@ fn load(port: u16, kind: Kind, requests: u64) -> Load {
 fn loaded_by_nobody<
     R: Threads + Wait + Clock + Net<Listener = TcpListener, Stream = TcpStream> + Sync,
 >(rt: &R, alloc: Global) -> Option<(bool, usize)> {
-    let listener = TcpListener::bind(rt, "127.0.0.1:0").ok()?;
-    let address = listener.local_addr();
+    let (listener, port) = bound(rt)?;
     drop(listener);
-    let port = address.ok()?.port();
     let load = load(port, Kind::Retrieve, 5);
     let mut table: Vec<u8> = Vec::new(alloc);
     let ended = run_load(rt, alloc, load, None::<Vec<u8>>, &mut table);

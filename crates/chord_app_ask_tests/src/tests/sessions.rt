@@ -1,7 +1,8 @@
 //! The commands in sessions, which go on where connections are lost.
 
+use crate::tests::loopback::{Asked, asks_and_ends, bound, end_waiting};
 use crate::tests::small_server::{SmallServer, Visit};
-use chord_app_ask::{ClientOptions, Drops, Kind, Load, Tokens, Until, ask_lines, run_load};
+use chord_app_ask::{ClientOptions, Drops, Kind, Load, Tokens, Until, run_load};
 use chord_app_text::{Fault, Finish};
 use std::alloc::Global;
 use std::net::{Net, TcpListener, TcpStream};
@@ -10,33 +11,9 @@ use std::thread;
 use std::thread::Threads;
 use std::time::Clock;
 
-/// How asking ended, and whether it wrote the right lines.
-type Asked = (Result<Finish, Finish>, bool);
-
 /// What the server had: how many sessions it keeps, how many were closed, and how many requests
 /// these were asked.
 type Counts = (usize, usize, usize);
-
-/// A listener, and its port.
-fn bound<R: Net<Listener = TcpListener, Stream = TcpStream>>(rt: &R) -> Option<(TcpListener, u16)> {
-    let listener = TcpListener::bind(rt, "127.0.0.1:0").ok()?;
-    let port = listener.local_addr().ok()?.port();
-    Some((listener, port))
-}
-
-fn asks<R: Net<Stream = TcpStream> + Clock>(
-    rt: &R,
-    alloc: Global,
-    client_options: ClientOptions,
-    (input, wanted): (&str, &str),
-) -> Asked {
-    let mut reader = input.as_bytes();
-    let mut written: Vec<u8> = Vec::new(alloc);
-    let finish = ask_lines(rt, alloc, client_options, &mut reader, &mut written);
-    let is_written = written.as_slice() == wanted.as_bytes();
-    drop(written);
-    (finish, is_written)
-}
 
 /// Asks a server that does so with its connections. Gives the port too.
 fn asks_in_a_session<R: Threads + Clock + Net<Listener = TcpListener, Stream = TcpStream> + Sync>(
@@ -57,10 +34,9 @@ fn asks_in_a_session<R: Threads + Clock + Net<Listener = TcpListener, Stream = T
     let mut server = SmallServer::new(alloc);
     let (served, asked) = thread::join(
         rt,
-        || server.run(&listener, visits),
-        || asks(rt, alloc, client_options, lines),
+        || server.run(listener, visits),
+        || asks_and_ends(rt, alloc, client_options, lines, visits.len()),
     );
-    drop(listener);
     let counts = (server.kept(), server.closed, server.asked);
     drop(server);
     served.ok()?;
@@ -184,6 +160,21 @@ fn tokens_differ(rt: HostRuntime) {
     assert!(rt; one.word(0, 0) != one.word(0, 1));
 }
 
+/// Loads, and then ends a server that still waits for clients, of which it takes this many.
+fn loads_and_ends<
+    R: Threads + Wait + Clock + Net<Listener = TcpListener, Stream = TcpStream> + Sync,
+>(
+    rt: &R,
+    alloc: Global,
+    load: Load,
+    table: &mut Vec<u8>,
+    connections: usize,
+) -> Result<Finish, Finish> {
+    let ended = run_load(rt, alloc, load, None::<Vec<u8>>, table);
+    end_waiting(rt, load.port, connections);
+    ended
+}
+
 /// How a load ended whose connections are cut, and its table.
 fn loaded<R: Threads + Wait + Clock + Net<Listener = TcpListener, Stream = TcpStream> + Sync>(
     rt: &R,
@@ -208,10 +199,9 @@ fn loaded<R: Threads + Wait + Clock + Net<Listener = TcpListener, Stream = TcpSt
     let mut table: Vec<u8> = Vec::new(alloc);
     let (served, ended) = thread::join(
         rt,
-        || server.run(&listener, &visits),
-        || run_load(rt, alloc, load, None::<Vec<u8>>, &mut table),
+        || server.run(listener, &visits),
+        || loads_and_ends(rt, alloc, load, &mut table, visits.len()),
     );
-    drop(listener);
     let counts = (server.kept(), server.closed, server.asked);
     drop(server);
     if served.is_err() {

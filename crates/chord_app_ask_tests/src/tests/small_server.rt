@@ -1,71 +1,14 @@
 //! A server of sessions over loopback, one connection after another.
-ghost use Rattle.std.specs.Prelude.{◌≡◌, ◌++◌, ◌∷◌, [], true};
-ghost use Rattle.chord_serve.specs.Question.{IsHeard};
 
-use chord_map::{PlainMap, Request};
 use chord_serve::{
-    Asked, Asker, ClientSession, KeptSessions, Parted, greet, serve_session, tell_no_session,
-    tell_opened, tell_session_known,
+    ClientSession, KeptSessions, Parted, greet, serve_session, tell_no_session, tell_opened,
+    tell_session_known,
 };
-use chord_serve_testkit::Cut;
-use chord_wire::{Opening, SessionFrames, Token, is_writable};
+use chord_serve_testkit::{Cut, MapAsker};
+use chord_wire::{Opening, SessionFrames, Token};
 use std::alloc::Global;
 use std::io::{self, Read, Write};
 use std::net::{TcpListener, TcpStream};
-
-/// Answers from one plain map, and lists the requests asked.
-#[derive(Drop)]
-pub struct MapAsker {
-    map: PlainMap,
-    requests: Vec<Request>,
-}
-
-fn note(requests: &mut Vec<Request>, request: &Request) -> bool
-    ensures { result ≡ true → requests.new.items ≡ requests.old.items ++ request.now ∷ [] }
-{
-    match request.try_copy() {
-        Ok(copy) => {
-            let pushed = requests.push(copy);
-            let is_noted = pushed.is_ok();
-            drop(pushed);
-            is_noted
-        }
-        Err(_) => false,
-    }
-}
-
-impl Asker for MapAsker {
-    ghost answers = { λ a question answer b. IsHeard question answer a.requests.items b.requests.items };
-
-    ghost asked = { λ a. a.requests.items };
-
-    fn ask(&mut self, request: &Request) -> Asked {
-        if !note(&mut self.requests, request) {
-            return Asked::Memory;
-        }
-        if request.check().is_err() {
-            return Asked::NoAnswer;
-        }
-        match self.map.apply(request) {
-            Err(_) => Asked::Memory,
-            Ok(reply) => {
-                if reply.fits(request) && is_writable(&reply) {
-                    return Asked::Reply(reply);
-                }
-                drop(reply);
-                Asked::NoAnswer
-            }
-        }
-    }
-
-    fn retry(&mut self, _number: u64) -> Asked {
-        Asked::NoAnswer
-    }
-
-    ghost notes = { λ a b question answer heard. heard.notes };
-
-    ghost kind = { λ a b question answer heard. heard.kind };
-}
 
 /// What the server does with a connection.
 #[derive(Clone, Copy)]
@@ -119,11 +62,7 @@ impl SmallServer {
             drop(tell_session_known(self.alloc, writer));
             return None;
         }
-        let asker = MapAsker {
-            map: PlainMap::new(self.alloc),
-            requests: Vec::new(self.alloc),
-        };
-        Some(ClientSession::new(self.alloc, asker))
+        Some(ClientSession::new(self.alloc, MapAsker::new(self.alloc)))
     }
 
     /// Keeps what a connection left of its session.
@@ -174,8 +113,9 @@ impl SmallServer {
         }
     }
 
-    /// Accepts as many connections as there are visits, unless a session is closed before.
-    pub fn run(&mut self, listener: &TcpListener, visits: &[Visit<'_>]) -> io::Result<()> {
+    /// Accepts as many connections as there are visits, unless a session is closed before. From then
+    /// on nobody can connect.
+    pub fn run(&mut self, listener: TcpListener, visits: &[Visit<'_>]) -> io::Result<()> {
         for (visit, accepted) in visits.iter().zip(listener.incoming()) {
             let stream = accepted?;
             self.visit(&stream, *visit);
@@ -184,6 +124,7 @@ impl SmallServer {
                 break;
             }
         }
+        drop(listener);
         Ok(())
     }
 }

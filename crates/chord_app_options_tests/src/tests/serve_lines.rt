@@ -155,9 +155,19 @@ fn a_port_that_is_no_number(rt: HostRuntime) {
 struct Waits {
     port: Option<u16>,
     redis: Option<u16>,
+    operator: Option<u16>,
     idle: u64,
     keep: u64,
 }
+
+/// Those of a line that names the port 7 alone.
+const AT_7: Waits = Waits {
+    port: Some(7),
+    redis: None,
+    operator: None,
+    idle: 300,
+    keep: 600,
+};
 
 /// What this command line says of them.
 fn waits_of(alloc: Global, words: &[&str]) -> Option<Waits> {
@@ -173,6 +183,7 @@ fn waits_in(alloc: Global, matches: &ArgMatches) -> Option<Waits> {
     Some(Waits {
         port: line.port,
         redis: line.redis,
+        operator: line.operator,
         idle: line.idle,
         keep: line.keep,
     })
@@ -184,19 +195,15 @@ fn the_port_and_idle_clients_of_serve(rt: HostRuntime) {
     let stays = ["chord", "serve", "--plan", "p", "--port", "0", "--stay"];
     let default = Waits {
         port: Some(0),
-        redis: None,
-        idle: 300,
-        keep: 600,
+        ..AT_7
     };
     assert!(rt; waits_of(rt.alloc(), &stays) == Some(default));
     let idle = [
         "chord", "serve", "--plan", "p", "--port", "7", "--stay", "--idle", "86400",
     ];
     let long = Waits {
-        port: Some(7),
-        redis: None,
         idle: 86_400,
-        keep: 600,
+        ..AT_7
     };
     assert!(rt; waits_of(rt.alloc(), &idle) == Some(long));
 }
@@ -208,12 +215,7 @@ fn the_kept_sessions_of_serve(rt: HostRuntime) {
     let words = [
         "chord", "serve", "--plan", "p", "--port", "7", "--stay", "--keep", "0",
     ];
-    let none = Waits {
-        port: Some(7),
-        redis: None,
-        idle: 300,
-        keep: 0,
-    };
+    let none = Waits { keep: 0, ..AT_7 };
     assert!(rt; waits_of(rt.alloc(), &words) == Some(none));
     let most = [
         "chord", "serve", "--plan", "p", "--port", "7", "--stay", "--keep", "86400",
@@ -222,7 +224,7 @@ fn the_kept_sessions_of_serve(rt: HostRuntime) {
         waits_of(rt.alloc(), &most)
             == Some(Waits {
                 keep: 86_400,
-                ..none
+                ..AT_7
             })
     );
     let more = [
@@ -238,41 +240,24 @@ fn the_port_of_redis_clients(rt: HostRuntime) {
         "chord", "serve", "--plan", "p", "--redis", "6379", "--port", "7", "--stay",
     ];
     let two = Waits {
-        port: Some(7),
         redis: Some(6379),
-        idle: 300,
-        keep: 600,
+        ..AT_7
     };
     assert!(rt; waits_of(rt.alloc(), &both) == Some(two));
     let alone = ["chord", "serve", "--plan", "p", "--redis", "0", "--stay"];
     let one = Waits {
         port: None,
         redis: Some(0),
-        idle: 300,
-        keep: 600,
+        ..AT_7
     };
     assert!(rt; waits_of(rt.alloc(), &alone) == Some(one));
-}
-
-/// The port for operators of this command line, if it has one.
-fn operator_port(alloc: Global, words: &[&str]) -> Option<Option<u16>> {
-    let matches = commands(alloc).ok()?.try_get_matches_from(words).ok()?;
-    let found = operator_port_in(alloc, &matches);
-    drop(matches);
-    found
-}
-
-fn operator_port_in(alloc: Global, matches: &ArgMatches) -> Option<Option<u16>> {
-    let (_, found) = matches.subcommand()?;
-    let line = serve_line_of(alloc, found).ok()?;
-    Some(line.operator)
 }
 
 /// A server has an operator only where its line says so; at port 0 the system picks a port.
 #[test]
 fn the_operator_of_serve(rt: HostRuntime) {
     let alone = ["chord", "serve", "--plan", "p", "--port", "7", "--stay"];
-    assert!(rt; operator_port(rt.alloc(), &alone) == Some(None));
+    assert!(rt; waits_of(rt.alloc(), &alone) == Some(AT_7));
     let operated = [
         "chord",
         "serve",
@@ -284,7 +269,11 @@ fn the_operator_of_serve(rt: HostRuntime) {
         "--operator",
         "0",
     ];
-    assert!(rt; operator_port(rt.alloc(), &operated) == Some(Some(0)));
+    let two = Waits {
+        operator: Some(0),
+        ..AT_7
+    };
+    assert!(rt; waits_of(rt.alloc(), &operated) == Some(two));
     let wrong = [
         "chord",
         "serve",
@@ -296,7 +285,7 @@ fn the_operator_of_serve(rt: HostRuntime) {
         "--operator",
         "65536",
     ];
-    assert!(rt; operator_port(rt.alloc(), &wrong) == None);
+    assert!(rt; waits_of(rt.alloc(), &wrong) == None);
 }
 
 /// How many nodes and callers a command line names, with `--stay`.

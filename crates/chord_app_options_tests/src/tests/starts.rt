@@ -6,7 +6,7 @@ use chord_app_text::{Fault, Finish};
 use clap::ArgMatches;
 use std::alloc::Global;
 use std::io::{self, Read, Write};
-use std::net::{Net, TcpListener, TcpStream};
+use std::net::{Ipv4Addr, Net, TcpListener, TcpStream};
 use std::sync::Wait;
 use std::thread;
 use std::thread::Threads;
@@ -74,13 +74,23 @@ struct Talk {
     answer: &'static [u8],
 }
 
-/// Whether the next client sends what it must. It is answered then.
-fn talks(listener: &TcpListener, alloc: Global, talk: Talk) -> io::Result<bool> {
+/// Whether the next client sends what it must. It is answered then. From then on nobody can connect.
+fn talks(listener: TcpListener, alloc: Global, talk: Talk) -> io::Result<bool> {
     let (mut stream, _) = listener.accept()?;
     let mut asked = vec![in alloc; 0u8; talk.asked.len()]?;
     stream.read_exact(&mut asked)?;
     stream.write_all(talk.answer)?;
+    drop(listener);
     Ok(asked.as_slice() == talk.asked)
+}
+
+/// Does the command, and then ends a server that still waits for a client.
+fn start_and_end<
+    T: Threads + Wait + Clock + Net<Listener = TcpListener, Stream = TcpStream> + Sync,
+>(rt: &HostRuntime, host: &T, command: &str, port: u16, words: &str) -> Option<Ended> {
+    let ended = start(rt, host, command, port, words);
+    drop(TcpStream::connect(host, (Ipv4Addr::LOCALHOST, port)));
+    ended
 }
 
 /// How the command ends at a server that answers one request, and whether that was the right one.
@@ -94,11 +104,10 @@ fn started<T: Threads + Wait + Clock + Net<Listener = TcpListener, Stream = TcpS
     let alloc = rt.alloc();
     let (talked, ended) = thread::join(
         host,
-        || talks(&listener, alloc, talk),
-        || start(rt, host, command, port, words),
+        || talks(listener, alloc, talk),
+        || start_and_end(rt, host, command, port, words),
     );
-    drop(listener);
-    Some((ended?, talked.ok()?))
+    Some((ended?, talked.unwrap_or(false)))
 }
 
 /// Request 1 inserts x under `a`, in version 2. It is answered Added.

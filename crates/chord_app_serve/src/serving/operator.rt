@@ -5,6 +5,7 @@ ghost use Rattle.chord_app_serve.specs.Shown.{crash_refusal, IsShownNode, Tells}
 
 use crate::serving::caller_pool::CallerPool;
 use crate::serving::desk::Desk;
+use crate::serving::pairs::first_of;
 use crate::serving::sessions::Sessions;
 use crate::serving::shown::node_shown;
 use crate::serving::tally::Tally;
@@ -168,8 +169,16 @@ impl<'t, 's, 'r, J: Naming, S: EntryStore, R: Host> Operator for RingOperator<'t
         found
     }
 
-    fn pairs(&mut self, _alloc: Global, _request: PairsRequest) -> Result<PairsPage, AllocError> {
-        Err(AllocError)
+    /// Asks one node after another, each under its lock, for the pairs from the identifier on.
+    fn pairs(&mut self, alloc: Global, request: PairsRequest) -> Result<PairsPage, AllocError> {
+        let first = first_of(request);
+        if let Some(page) = self.held_page(alloc, first, request.limit.max(1))? {
+            return Ok(page);
+        }
+        Ok(PairsPage {
+            pairs: Vec::new(alloc),
+            next: self.gone_on(alloc, first)?,
+        })
     }
 
     fn stop(&mut self) {

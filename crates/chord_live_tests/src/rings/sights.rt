@@ -73,6 +73,7 @@ fn alone<J: Naming, R: Abort + Wait + Clock>(rt: &R, alloc: Global, parts: RingP
     is_new(rt, &sight_of(rt, alloc, &ring, 0));
     answers_two(rt, alloc, &ring);
     has_answered(rt, &sight_of(rt, alloc, &ring, 0));
+    tells_its_pair(rt, alloc, &ring);
     let ticked = ring.tick(rt, 0);
     assert!(rt; ticked.is_ok(), "node 0 is ticked");
     let ticked = ring.tick(rt, 0);
@@ -150,6 +151,73 @@ fn has_answered<R: Abort>(rt: &R, sight: &NodeSight) {
     assert!(rt; sight.pairs == 1, "one pair was added");
 }
 
+/// How a page looks.
+#[derive(Clone, Copy, Debug, PartialEq, Eq)]
+struct PageSeen {
+    pairs: usize,
+    next: Option<Id>,
+}
+
+/// A page of a node's pairs, if it tells one. All of them are of this key.
+fn page_of<J: Naming, S: EntryStore, R: Abort + Wait>(
+    rt: &R,
+    alloc: Global,
+    ring: &Ring<J, S>,
+    number: u64,
+    first: Id,
+    key: &[u8],
+) -> Option<PageSeen> {
+    let page = ring.pairs_from(rt, alloc, number, first, 1);
+    let page = page.expect(rt, "memory for a page")?;
+    let are_of_key = page.pairs.iter().all(|placed| placed.pair.key.as_slice() == key
+        && placed.id == Id::of_bytes(key));
+    assert!(rt;
+        are_of_key,
+        "the pairs are of the key, and have its identifier"
+    );
+    let seen = PageSeen {
+        pairs: page.pairs.len(),
+        next: page.next,
+    };
+    drop(page);
+    Some(seen)
+}
+
+/// The first 16 bytes of the SHA-1 of `a`.
+const ID_OF_A: u128 = 0x86f7e437faa5a7fce15d1ddcb9eaeaea;
+
+/// The pair of `a` is behind the node's own identifier.
+fn tells_its_pair<J: Naming, R: Abort + Wait>(rt: &R, alloc: Global, ring: &Ring<J, CappedStore>) {
+    let before = PageSeen {
+        pairs: 0,
+        next: Some(Id::new(A)),
+    };
+    assert!(rt;
+        page_of(rt, alloc, ring, 0, Id::new(0), b"a") == Some(before),
+        "a page goes up to the node's identifier"
+    );
+    let with_pair = PageSeen {
+        pairs: 1,
+        next: Some(Id::new(ID_OF_A)),
+    };
+    assert!(rt;
+        page_of(rt, alloc, ring, 0, Id::new(A + 1), b"a") == Some(with_pair),
+        "a page of one pair ends with it"
+    );
+    let behind = PageSeen {
+        pairs: 0,
+        next: None,
+    };
+    assert!(rt;
+        page_of(rt, alloc, ring, 0, Id::new(ID_OF_A + 1), b"a") == Some(behind),
+        "the last page ends at the greatest identifier"
+    );
+    assert!(rt;
+        page_of(rt, alloc, ring, 1, Id::new(0), b"a") == None,
+        "there is no node 1 to tell a page"
+    );
+}
+
 fn is_ticked<R: Abort>(rt: &R, sight: &NodeSight) {
     assert!(rt; sight.counts.ticks == 2, "it had two rounds of upkeep");
     assert!(rt; sight.fingers == 2, "each round finds a finger");
@@ -180,6 +248,10 @@ fn crashes<J: Naming, R: Abort + Wait>(rt: &R, alloc: Global, ring: &Ring<J, Cap
     assert!(rt;
         ring.holding(rt, 0, Id::new(A)) == Some(Holder::Node(0)),
         "but it holds what it held"
+    );
+    assert!(rt;
+        page_of(rt, alloc, ring, 0, Id::new(A), b"a") == None,
+        "though it tells no pairs"
     );
     let sight = sight_of(rt, alloc, ring, 0);
     assert!(rt; sight.crashed, "a node that crashed is seen as such");
@@ -216,7 +288,7 @@ fn gives<J: Naming + Send + Sync, R: Abort + Threads + Wait + Clock + Sync>(
     }
     is_giving(rt, &sight_of(rt, alloc, ring, 0));
     is_joined(rt, &sight_of(rt, alloc, ring, 1));
-    is_under_way(rt, ring);
+    is_under_way(rt, alloc, ring);
     takes(rt, alloc, ring);
     founded.close();
 }
@@ -273,7 +345,11 @@ fn is_joined<R: Abort>(rt: &R, sight: &NodeSight) {
 }
 
 /// `abc` is held by the handover.
-fn is_under_way<J: Naming, S: EntryStore, R: Abort + Wait>(rt: &R, ring: &Ring<J, S>) {
+fn is_under_way<J: Naming, S: EntryStore, R: Abort + Wait>(
+    rt: &R,
+    alloc: Global,
+    ring: &Ring<J, S>,
+) {
     let key = Id::of_bytes(b"abc");
     let given = Holder::UnderWay {
         from: 0,
@@ -287,6 +363,14 @@ fn is_under_way<J: Naming, S: EntryStore, R: Abort + Wait>(rt: &R, ring: &Ring<J
     assert!(rt;
         ring.holding(rt, 1, key) == None,
         "node 1 does not hold it yet"
+    );
+    assert!(rt;
+        page_of(rt, alloc, ring, 0, key, b"abc") == None,
+        "node 0 tells no pairs of what it gives"
+    );
+    assert!(rt;
+        page_of(rt, alloc, ring, 1, key, b"abc") == None,
+        "nor does node 1"
     );
     assert!(rt;
         ring.holding(rt, 0, Id::new(A)) == Some(Holder::Node(0)),
@@ -353,6 +437,14 @@ fn has_given<J: Naming, S: EntryStore, R: Abort + Wait + Clock>(
     assert!(rt;
         ring.holding(rt, 0, key) == None,
         "node 0 neither holds it nor hands it over"
+    );
+    let both = PageSeen {
+        pairs: 2,
+        next: Some(key),
+    };
+    assert!(rt;
+        page_of(rt, alloc, ring, 1, key, b"abc") == Some(both),
+        "node 1 tells both pairs of the key in a page of one"
     );
     assert!(rt;
         ring.may_crash(rt, 0) == Ok(true),

@@ -2,7 +2,7 @@
 ghost use Rattle.std.specs.Prelude.{◌≡◌, ◌-◌, ◌^◌, List, []};
 ghost use Rattle.chord_map.specs.declared.pair.Pair.{Pair};
 
-use chord_ident::Span;
+use chord_ident::{Id, Span};
 use chord_map::{Bytes, Pair, Values};
 use chord_store::{CappedStore, EntryStore, Inserted, StoreFault};
 use std::alloc::{AllocError, Global};
@@ -76,6 +76,10 @@ impl<'a> EntryStore for CountedStore<'a> {
 
     fn copy_span(&self, alloc: Global, span: &Span) -> Result<Vec<Pair>, AllocError> {
         self.list.copy_span(alloc, span)
+    }
+
+    fn cut_after(&self, span: &Span, n: u64) -> Option<Id> {
+        self.list.cut_after(span, n)
     }
 
     fn put_all(&mut self, span: &Span, pairs: &[Pair]) -> Result<(), StoreFault> {

@@ -1,10 +1,9 @@
 //! An asker over a plain map, which answers one question otherwise.
-ghost use Rattle.std.specs.Prelude.{◌≡◌, ◌++◌, ◌∷◌, [], true};
 ghost use Rattle.chord_serve.specs.Question.{IsHeard};
 
 use chord_map::{PlainMap, Request};
 use chord_serve::{Asked, Asker};
-use chord_wire::is_writable;
+use chord_serve_testkit::{asked_of, note};
 use std::alloc::Global;
 
 /// What one question is answered in place of its reply.
@@ -23,6 +22,18 @@ pub struct Script {
     pub vain: u64,
 }
 
+impl Script {
+    /// The new request of this number gets this in place of its reply. It is sent again `vain` times
+    /// in vain.
+    pub fn new(number: usize, trouble: Trouble, vain: u64) -> Script {
+        Script {
+            number,
+            trouble,
+            vain,
+        }
+    }
+}
+
 /// Answers from one plain map, but for the request of the script, and lists the requests asked.
 #[derive(Drop)]
 pub struct Scripted {
@@ -30,20 +41,6 @@ pub struct Scripted {
     pub requests: Vec<Request>,
     script: Script,
     pub retried: u64,
-}
-
-fn note(requests: &mut Vec<Request>, request: &Request) -> bool
-    ensures { result ≡ true → requests.new.items ≡ requests.old.items ++ request.now ∷ [] }
-{
-    match request.try_copy() {
-        Ok(copy) => {
-            let pushed = requests.push(copy);
-            let is_noted = pushed.is_ok();
-            drop(pushed);
-            is_noted
-        }
-        Err(_) => false,
-    }
 }
 
 impl Scripted {
@@ -73,19 +70,7 @@ impl Asker for Scripted {
                 Trouble::Memory => Asked::Memory,
             };
         }
-        if request.check().is_err() {
-            return Asked::NoAnswer;
-        }
-        match self.map.apply(request) {
-            Err(_) => Asked::Memory,
-            Ok(reply) => {
-                if reply.fits(request) && is_writable(&reply) {
-                    return Asked::Reply(reply);
-                }
-                drop(reply);
-                Asked::NoAnswer
-            }
-        }
+        asked_of(&mut self.map, request)
     }
 
     fn retry(&mut self, number: u64) -> Asked {
@@ -95,21 +80,7 @@ impl Asker for Scripted {
         }
         match self.requests.get((number - 1) as usize) {
             None => Asked::NoAnswer,
-            Some(request) => {
-                if request.check().is_err() {
-                    return Asked::NoAnswer;
-                }
-                match self.map.apply(request) {
-                    Err(_) => Asked::Memory,
-                    Ok(reply) => {
-                        if reply.fits(request) && is_writable(&reply) {
-                            return Asked::Reply(reply);
-                        }
-                        drop(reply);
-                        Asked::NoAnswer
-                    }
-                }
-            }
+            Some(request) => asked_of(&mut self.map, request),
         }
     }
 

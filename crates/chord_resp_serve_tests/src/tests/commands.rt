@@ -112,11 +112,7 @@ fn commands_that_ask_nothing(rt: HostRuntime) {
 
 #[test]
 fn a_full_store_ends_a_command(rt: HostRuntime) {
-    let script = Script {
-        number: 2,
-        trouble: Trouble::Full,
-        vain: 1,
-    };
+    let script = Script::new(2, Trouble::Full, 1);
     let input = b"sadd k a b c\nping\nscard k\nscard k\nscard k\n";
     let want =
         b"-OOM the node's store is full, 1 of 3 done\r\n+PONG\r\n-TRYAGAIN an earlier request is not settled\r\n:2\r\n:2\r\n+a+b??!!";
@@ -129,11 +125,7 @@ fn a_full_store_ends_a_command(rt: HostRuntime) {
 
 #[test]
 fn no_answer_ends_a_command(rt: HostRuntime) {
-    let script = Script {
-        number: 1,
-        trouble: Trouble::NoAnswer,
-        vain: 0,
-    };
+    let script = Script::new(1, Trouble::NoAnswer, 0);
     let input = b"sadd k a\nscard k\n";
     let want = b"-TRYAGAIN no answer in time, it may have acted\r\n:1\r\n+a?!";
     let is_so = is_answered(rt.alloc(), input, script, want);
@@ -142,11 +134,7 @@ fn no_answer_ends_a_command(rt: HostRuntime) {
 
 #[test]
 fn memory_ends_the_connection(rt: HostRuntime) {
-    let script = Script {
-        number: 2,
-        trouble: Trouble::Memory,
-        vain: 0,
-    };
+    let script = Script::new(2, Trouble::Memory, 0);
     let is_so = is_answered(rt.alloc(), b"sadd k a b c\nping\n", script, b"#+a+b");
     assert!(rt;
         is_so == Some(true),

@@ -128,7 +128,7 @@ fn all_bytes() -> usize {
     all
 }
 
-/// Whether the first `written` bytes are whole answers.
+/// Whether the first `written` bytes of the answers end with a whole answer.
 fn are_whole(written: usize) -> bool {
     let mut whole = 0usize;
     for row in &ROWS {

@@ -289,11 +289,7 @@ fn the_server_tells_its_text_and_the_connections_number(rt: HostRuntime) {
 
 #[test]
 fn what_is_due_is_written_before_memory_ends_a_connection(rt: HostRuntime) {
-    let script = Script {
-        number: 2,
-        trouble: Trouble::Memory,
-        vain: 0,
-    };
+    let script = Script::new(2, Trouble::Memory, 0);
     let got = connected(rt.alloc(), (COMMANDS, ANSWERS), AMPLE, script);
     assert!(rt; got.end == Served::Memory, "memory ran out: {got:?}");
     assert!(rt; got.written == Some(4), "the first answer is written");

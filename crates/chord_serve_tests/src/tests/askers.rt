@@ -1,96 +1,10 @@
-//! Three askers: one over a plain map, one that is full at first, one that runs out of memory once.
-ghost use Rattle.std.specs.Prelude.{◌≡◌, ◌++◌, ◌∷◌, [], true};
+//! Two askers: one that is full at first, and one that runs out of memory once.
 ghost use Rattle.chord_serve.specs.Question.{IsHeard};
 
-use chord_map::{PlainMap, Reply, Request};
+use chord_map::Request;
 use chord_serve::{Asked, Asker};
-use chord_wire::is_writable;
-use std::alloc::{AllocError, Global};
-
-/// Answers from one plain map, and lists the requests asked.
-#[derive(Drop)]
-pub struct MapAsker {
-    map: PlainMap,
-    pub requests: Vec<Request>,
-}
-
-impl MapAsker {
-    pub fn new(alloc: Global) -> MapAsker {
-        MapAsker {
-            map: PlainMap::new(alloc),
-            requests: Vec::new(alloc),
-        }
-    }
-
-    /// Whether the request is executed.
-    fn does(&mut self, request: &Request) -> bool {
-        if request.check().is_err() {
-            return false;
-        }
-        let applied = self.map.apply(request);
-        let is_done = applied.is_ok();
-        drop(applied);
-        is_done
-    }
-
-    /// The asker after it executed this request.
-    pub fn having(mut self, request: Result<Request, AllocError>) -> Option<MapAsker> {
-        let is_done = request.as_ref().is_ok_and(|request| self.does(request));
-        drop(request);
-        if is_done {
-            return Some(self);
-        }
-        drop(self);
-        None
-    }
-}
-
-fn note(requests: &mut Vec<Request>, request: &Request) -> bool
-    ensures { result ≡ true → requests.new.items ≡ requests.old.items ++ request.now ∷ [] }
-{
-    match request.try_copy() {
-        Ok(copy) => {
-            let pushed = requests.push(copy);
-            let is_noted = pushed.is_ok();
-            drop(pushed);
-            is_noted
-        }
-        Err(_) => false,
-    }
-}
-
-impl Asker for MapAsker {
-    ghost answers = { λ a question answer b. IsHeard question answer a.requests.items b.requests.items };
-
-    ghost asked = { λ a. a.requests.items };
-
-    fn ask(&mut self, request: &Request) -> Asked {
-        if !note(&mut self.requests, request) {
-            return Asked::Memory;
-        }
-        if request.check().is_err() {
-            return Asked::NoAnswer;
-        }
-        match self.map.apply(request) {
-            Err(_) => Asked::Memory,
-            Ok(reply) => {
-                if reply.fits(request) && is_writable(&reply) {
-                    return Asked::Reply(reply);
-                }
-                drop(reply);
-                Asked::NoAnswer
-            }
-        }
-    }
-
-    fn retry(&mut self, _number: u64) -> Asked {
-        Asked::NoAnswer
-    }
-
-    ghost notes = { λ a b question answer heard. heard.notes };
-
-    ghost kind = { λ a b question answer heard. heard.kind };
-}
+use chord_serve_testkit::{added, note};
+use std::alloc::Global;
 
 /// Answers Full to each new request, and adds its value when it is asked again.
 #[derive(Drop)]
@@ -128,13 +42,7 @@ impl Asker for FullAtFirst {
         }
         match self.requests.get((number - 1) as usize) {
             None => Asked::NoAnswer,
-            Some(request) => {
-                if Reply::Added.fits(request) {
-                    Asked::Reply(Reply::Added)
-                } else {
-                    Asked::NoAnswer
-                }
-            }
+            Some(request) => added(request),
         }
     }
 
@@ -168,11 +76,7 @@ impl Asker for OutOfMemoryAt {
         if !note(&mut self.requests, request) || self.requests.len() == self.number {
             return Asked::Memory;
         }
-        if Reply::Added.fits(request) {
-            Asked::Reply(Reply::Added)
-        } else {
-            Asked::NoAnswer
-        }
+        added(request)
     }
 
     fn retry(&mut self, _number: u64) -> Asked {

@@ -1,12 +1,11 @@
 //! A client whose connections are cut, and that goes on over others, against the server, over
 //! memory.
 
-use super::askers::MapAsker;
 use super::in_flight::send;
 use super::script::{Line, TOKEN, answers, kept, new_session, visit};
 use chord_map::{Reply, Request};
 use chord_serve::{ClientSession, WireClient, tell_opened};
-use chord_serve_testkit::Cut;
+use chord_serve_testkit::{Cut, MapAsker};
 use chord_wire::{Answer, Token, is_writable, write_reply};
 use std::alloc::{AllocError, Global};
 use std::io::{Read, Write};

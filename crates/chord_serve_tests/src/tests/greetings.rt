@@ -1,10 +1,9 @@
 //! How a connection begins.
 
-use super::askers::MapAsker;
 use super::script::{CLOSE, OPEN, change};
 use super::sessions::{ADDED, INSERT, fault, joined};
 use chord_serve::{ClientSession, Served, greet, serve_plain, tell_no_session, tell_session_known};
-use chord_serve_testkit::{Cut, FREE, Limited, Limits};
+use chord_serve_testkit::{Cut, FREE, Limited, Limits, MapAsker};
 use chord_wire::{Opening, SessionFrames};
 use std::alloc::Global;
 
@@ -16,7 +15,7 @@ struct Beginning {
     reads: u64,
 }
 
-/// The beginning of a connection, read `step` bytes at a time, in at most `turns` turns.
+/// The beginning of a connection, with at most `step` bytes a read, and at most `turns` reads.
 fn begun(alloc: Global, input: &[u8], step: usize, turns: u64) -> Beginning {
     let limits = Limits { step, calls: 100 };
     let mut reader = Limited::new(input, limits);

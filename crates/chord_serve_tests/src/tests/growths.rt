@@ -2,11 +2,11 @@
 //! are written, and a call tried again is answered.
 // With ample memory nothing is refused.
 
-use super::askers::MapAsker;
 use super::in_flight::send;
 use super::sessions::{ADDED, Frames, INSERT, INSERT_2, begun, calls, insert, is_added, three};
 use chord_map::Request;
 use chord_serve::{CallFault, SendFault, Served, WireClient, serve};
+use chord_serve_testkit::MapAsker;
 use chord_wire::Answers;
 use std::alloc::{AllocError, Global};
 

@@ -1,13 +1,13 @@
 //! A client with several requests in flight, against the server, over memory.
 
-use super::askers::{FullAtFirst, MapAsker};
+use super::askers::FullAtFirst;
 use super::sessions::{ADDED, INSERT, INSERT_2, fault, insert};
 use chord_map::{Reply, Request};
 use chord_serve::{
     AgainFault, Asker, CallFault, ReceiveFault, SendFault, Served, WireClient, serve,
     tell_callers_spent,
 };
-use chord_serve_testkit::{Limited, Limits};
+use chord_serve_testkit::{Limited, Limits, MapAsker};
 use chord_wire::{Answer, FaultCode};
 use std::alloc::{AllocError, Global};
 use std::io::Write;

@@ -1,12 +1,13 @@
 //! Sessions that are resumed: a connection is cut, and another one goes on.
 
-use super::askers::{MapAsker, OutOfMemoryAt};
+use super::askers::OutOfMemoryAt;
 use super::script::{
     ANSWERS, CLOSE, CLOSED, Line, OPEN, REQUESTS, answers, change, kept, new_session, one_value,
     opened, requests, retrieve, status, visit, whole,
 };
 use super::sessions::{INSERT, fault, joined};
 use chord_serve::{ClientSession, Parted, Served, SessionTable, laws};
+use chord_serve_testkit::MapAsker;
 use chord_wire::Token;
 use std::alloc::Global;
 

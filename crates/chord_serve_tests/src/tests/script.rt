@@ -1,10 +1,9 @@
 //! Twelve requests of a session and their answers, byte by byte as docs/protocol.md has them; and a
 //! connection that begins with an open.
 
-use super::askers::MapAsker;
 use super::sessions::joined;
 use chord_serve::{Asker, ClientSession, Parted, Served, greet, serve_session, tell_opened};
-use chord_serve_testkit::Cut;
+use chord_serve_testkit::{Cut, MapAsker};
 use chord_wire::SessionFrames;
 use std::alloc::{AllocError, Global};
 
@@ -110,8 +109,8 @@ pub fn answers(alloc: Global) -> Result<Vec<u8>, AllocError> {
     )
 }
 
-/// How many of the frames with these lengths are whole in the first `bytes` bytes, and how many
-/// bytes these have.
+/// How many of the frames with these lengths are whole in the first `bytes` bytes, and how long
+/// these are together.
 pub fn whole(lens: &[usize], bytes: usize) -> (usize, usize) {
     let mut sum: usize = 0;
     for (count, len) in lens.iter().enumerate() {
@@ -124,7 +123,8 @@ pub fn whole(lens: &[usize], bytes: usize) -> (usize, usize) {
     (lens.len(), sum)
 }
 
-/// A connection that lets this input in and so much of it and of its output through.
+/// A connection with this input, which breaks once it let `most_in` bytes of it in, or `most_out`
+/// bytes out.
 #[derive(Clone, Copy)]
 pub struct Line<'a> {
     pub input: &'a [u8],

@@ -1,7 +1,7 @@
-use super::askers::{FullAtFirst, MapAsker};
+use super::askers::FullAtFirst;
 use chord_map::{Reply, Request};
 use chord_serve::{Asker, CallFault, Served, call, call_2, laws, serve};
-use chord_serve_testkit::{FREE, Limited, Limits};
+use chord_serve_testkit::{FREE, Limited, Limits, MapAsker};
 use chord_wire::{Answer, Answers, FaultCode};
 use std::alloc::{AllocError, Global};
 use std::io::{Read, Write};

@@ -1,13 +1,13 @@
 //! The answers to the requests of one read are written together.
 
-use super::askers::{MapAsker, OutOfMemoryAt};
+use super::askers::OutOfMemoryAt;
 use super::sessions::{
     ADDED, Conditions, Frames, INSERT, RETRIEVE, Seen, THREE_ANSWERS, THREE_FRAMES, Talk, fault,
     joined, limited, three_frames,
 };
 use chord_map::Request;
 use chord_serve::Served;
-use chord_serve_testkit::{FREE, Limits};
+use chord_serve_testkit::{FREE, Limits, MapAsker};
 use chord_wire::FaultCode;
 use std::alloc::{AllocError, Global};
 

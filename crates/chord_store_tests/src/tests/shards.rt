@@ -4,9 +4,12 @@ ghost use Rattle.std.specs.Prelude.{◌<◌};
 use super::{drop_what_was_copied, fill_a_set, move_a_span};
 use chord_ident::{Id, Span};
 use chord_map::{Bytes, Pair};
-use chord_store::{EntryStore, Inserted, ListStore, StoreFault, TreeStore};
+use chord_store::{
+    CappedStore, EntryStore, Inserted, ListStore, NotedStore, StoreFault, TreeStore,
+};
 use std::alloc::{AllocError, Global};
 use std::process::Abort;
+use std::sync::{Arc, OnceLock};
 use std::test::Fail;
 
 // The keys are the bytes below this number. Each has two values.
@@ -125,7 +128,7 @@ fn rests_agree<S: EntryStore>(
 
 // Whether the cut leaves at least `least` pairs before it, and a key less would not; or whether
 // the span has too few pairs before its end, which is a key.
-fn is_cut_right(store: &TreeStore, span: Span, least: u64) -> bool
+fn is_cut_right<S: EntryStore>(store: &S, span: Span, least: u64) -> bool
     requires { 0 < least }
 {
     let Some(at) = store.cut_after(&span, least) else {
@@ -141,21 +144,45 @@ fn is_cut_right(store: &TreeStore, span: Span, least: u64) -> bool
     }
 }
 
+// Whether spans of a store, with all keys in it, are cut by the number of their pairs: those behind
+// the first of the keys, up to a key.
+fn is_cut_by_pairs<S: EntryStore>(
+    alloc: Global,
+    store: S,
+    spans: u8,
+    least: &[u64],
+) -> Result<bool, AllocError> {
+    let mut store = store;
+    let mut are_right = fill(alloc, &mut store)?;
+    for n in 0..spans {
+        for pairs in least {
+            are_right = are_right & is_cut_right(&store, between(n, 7), (*pairs).max(1));
+        }
+    }
+    drop(store);
+    Ok(are_right)
+}
+
 #[test]
 fn shards_are_cut_by_their_pairs(rt: HostRuntime) -> Result<(), Fail> {
     let alloc = rt.alloc();
-    let mut shards = TreeStore::with_shards(alloc, 3);
-    let mut are_right = fill(alloc, &mut shards)?;
-    for n in 0..KEYS {
-        let span = between(n, 7);
-        are_right = are_right
-            & is_cut_right(&shards, span, 1)
-            & is_cut_right(&shards, span, 4)
-            & is_cut_right(&shards, span, 15)
-            & is_cut_right(&shards, span, 100);
-    }
-    drop(shards);
-    assert!(&rt; are_right);
+    let tree = TreeStore::with_shards(alloc, 3);
+    assert!(&rt; is_cut_by_pairs(alloc, tree, KEYS, &[1, 4, 15, 100])?);
+    Ok(())
+}
+
+#[test]
+fn each_kind_is_cut_by_its_pairs(rt: HostRuntime) -> Result<(), Fail> {
+    let alloc = rt.alloc();
+    let note = Arc::new(alloc, OnceLock::new())?;
+    let boxed: Box<dyn EntryStore + Send> = Box::new(alloc, TreeStore::new(alloc))?;
+    let list = ListStore::new(alloc);
+    let capped = CappedStore::new(alloc, 100);
+    let noted = NotedStore::new(alloc, note);
+    assert!(&rt; is_cut_by_pairs(alloc, list, 1, &[3, 100])?, "a list");
+    assert!(&rt; is_cut_by_pairs(alloc, capped, 1, &[3])?, "a capped store");
+    assert!(&rt; is_cut_by_pairs(alloc, noted, 1, &[3])?, "a noted store");
+    assert!(&rt; is_cut_by_pairs(alloc, boxed, 2, &[3])?, "a box");
     Ok(())
 }
 

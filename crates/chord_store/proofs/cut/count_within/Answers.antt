@@ -7,8 +7,8 @@ use Rattle.chord_store.proofs.Cutting.{part_within}
 use Rattle.chord_store.proofs.cut.count_within.Goals as goal
 
 pub returns : goal.returns
-returns c =
-    let placed = c.args.placed.now in
+returns g c =
+    let placed = g.C.CountSpan.pairs c.args.counted.now in
     let span : Span = record { after = c.args.after; upto = c.after_steps.result } in
     c.count_span.ensures
     ∙ ap (λ (s : Span). length (pairs_inside s placed)) c.new.ensures

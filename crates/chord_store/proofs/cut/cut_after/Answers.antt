@@ -5,39 +5,39 @@ use Rattle.chord_map.specs.declared.pair.Pair.{Pair}
 use Rattle.chord_store.specs.Cut.{pairs_within, part_up_to}
 use Rattle.chord_store.proofs.Cutting.{cuts_at, cuts_leave, leave_by, part_within, within_none}
 use Rattle.chord_store.proofs.cut.cut_after.Goals as goal
-use Rattle.chord_store.proofs.cut.cut_after.Goals.{then-most-eq0-via-then-most-eq0, then-most-eq0-via-else-most-eq0+then-count_within-n}
 
 pub returns-then-most-eq0-clause-none : goal.returns-then-most-eq0-clause-none
-returns-then-most-eq0-clause-none c =
+returns-then-most-eq0-clause-none g c =
     let span = c.args.span in
-    let placed = c.args.placed.now in
+    let pairs = g.C.CountSpan.pairs c.args.counted.now in
     let whole = skips span.after.number span.upto.number _ (search rules) (search rules) (ap (λ (d : ℕ). (d + (2 ^ 128 - 1)) % 2 ^ 128) c.distance-most.ensures) in
-    elim c.then-most-eq0.branch [
-      | then-most-eq0-via-then-most-eq0 w ↦
-          let none = within_none span.after.number placed (search rules) (λ p. key_id-below p.key) in
-          leave_by span c.args.n _ placed (search rules) (search rules) whole
-          (subst (λ (d : ℕ). length (pairs_within span.after.number d placed) < c.args.n) (sym w.if-most-eq0.true) (omega (arith, none, c.requires)))
-      | then-most-eq0-via-else-most-eq0+then-count_within-n w ↦
-          leave_by span c.args.n _ placed (search rules) (search rules) whole (omega (arith, w.count_within.ensures, w.if-count_within-n.true))
-    ]
+    let none = within_none span.after.number pairs (search rules) (λ p. key_id-below p.key) in
+    leave_by span c.args.n _ pairs (search rules) (search rules) whole
+    (subst (λ (d : ℕ). length (pairs_within span.after.number d pairs) < c.args.n) (sym c.if-most-eq0.true) (omega (arith, none, c.requires)))
+
+pub returns-in_default-clause-none : goal.returns-in_default-clause-none
+returns-in_default-clause-none g c =
+    let span = c.args.span in
+    let whole = skips span.after.number span.upto.number _ (search rules) (search rules) (ap (λ (d : ℕ). (d + (2 ^ 128 - 1)) % 2 ^ 128) c.distance-most.ensures) in
+    leave_by span c.args.n _ (g.C.CountSpan.pairs c.args.counted.now) (search rules) (search rules) whole (search (rules, c.in_default.ensures.none))
 
 pub returns-clause-cut : goal.returns-clause-cut
-returns-clause-cut c =
+returns-clause-cut g c =
     let span = c.args.span in
     let whole = skips span.after.number span.upto.number _ (search rules) (search rules) (ap (λ (d : ℕ). (d + (2 ^ 128 - 1)) % 2 ^ 128) c.distance-most.ensures) in
-    cuts_at span c.after_steps.result (omega (arith, whole, c.after_steps.ensures, c.fewest_steps-steps.ensures.most))
+    cuts_at span c.after_steps.result (omega (arith, whole, c.after_steps.ensures, c.in-Some.ensures.most, c.fewest_steps-steps.ensures.most))
 
 pub returns-clause-enough : goal.returns-clause-enough
-returns-clause-enough c =
+returns-clause-enough g c =
     let span = c.args.span in
-    let placed = c.args.placed.now in
+    let pairs = g.C.CountSpan.pairs c.args.counted.now in
     subst (λ (k : ℕ). c.args.n ≤ k)
-    (sym (ap (λ (ps : List Pair). length ps) (part_within span c.after_steps.result placed)
-    ∙ ap (λ (d : ℕ). length (pairs_within span.after.number d placed)) c.after_steps.ensures))
+    (sym (ap (λ (ps : List Pair). length ps) (part_within span c.after_steps.result pairs)
+    ∙ ap (λ (d : ℕ). length (pairs_within span.after.number d pairs)) c.after_steps.ensures))
     c.fewest_steps-steps.ensures.enough
 
 pub returns-clause-first : goal.returns-clause-first
-returns-clause-first c =
+returns-clause-first g c =
     let span = c.args.span in
-    cuts_leave (part_up_to span c.after_steps.result) c.args.n c.args.placed.now (search rules) (search rules)
+    cuts_leave (part_up_to span c.after_steps.result) c.args.n (g.C.CountSpan.pairs c.args.counted.now) (search rules) (search rules)
     (λ steps less. c.fewest_steps-steps.ensures.least steps (subst (λ (d : ℕ). steps < d) c.after_steps.ensures less))

@@ -4,17 +4,17 @@ use Rattle.chord_store.proofs.Cutting.{steps_some, within_le, within_none}
 use Rattle.chord_store.proofs.cut.fewest_steps.Goals as goal
 
 pub loop-high-init : goal.loop-high-init
-loop-high-init c =
-    let none = within_none c.args.after.number c.args.placed.now (search rules) (λ p. key_id-below p.key) in
+loop-high-init g c =
+    let none = within_none c.args.after.number (g.C.CountSpan.pairs c.args.counted.now) (search rules) (λ p. key_id-below p.key) in
     record {
-      apart = steps_some c.args.after.number c.args.most c.args.n c.args.placed.now (search rules) c.requires.some c.requires.enough;
+      apart = steps_some c.args.after.number c.args.most c.args.n (g.C.CountSpan.pairs c.args.counted.now) (search rules) c.requires.some c.requires.enough;
       most = omega arith;
       few = omega (arith, none, c.requires.some);
       enough = c.requires.enough;
     }
 
 pub returns-clause-least : goal.returns-clause-least
-returns-clause-least c = λ steps less.
+returns-clause-least g c = λ steps less.
     let inv = c.loop-high.invariant in
-    let le = within_le c.args.after.number steps c.loop-high.low c.args.placed.now (omega (arith, less, inv.apart, c.loop-high-test.false)) in
+    let le = within_le c.args.after.number steps c.loop-high.low (g.C.CountSpan.pairs c.args.counted.now) (omega (arith, less, inv.apart, c.loop-high-test.false)) in
     omega (arith, le, inv.few)

@@ -3,12 +3,12 @@ use Rattle.chord_store.specs.Cut.{pairs_within}
 use Rattle.chord_store.proofs.cut.fewest_steps.Given as goal
 
 abbrev pub decreases-loop-high : goal.decreases-loop-high
-decreases-loop-high l = l.high - l.low
+decreases-loop-high g l = l.high - l.low
 
 abbrev pub invariant-loop-high : goal.invariant-loop-high
-invariant-loop-high l = record {
+invariant-loop-high g l = record {
   apart : l.low < l.high;
   most : l.high ≤ l.most;
-  few : length (pairs_within l.after.number l.low l.placed) < l.n;
-  enough : l.n ≤ length (pairs_within l.after.number l.high l.placed);
+  few : length (pairs_within l.after.number l.low (g.C.CountSpan.pairs l.counted)) < l.n;
+  enough : l.n ≤ length (pairs_within l.after.number l.high (g.C.CountSpan.pairs l.counted));
 }

@@ -1,7 +1,7 @@
 use Rattle.std.proofs.Common.{List, length, ap, arith}
 use Rattle.chord_map.specs.declared.pair.Pair.{Pair}
 use Rattle.chord_store.proofs.Dropped.{split_length}
-use Rattle.chord_store.proofs.placed.Placed.count_span.Goals as goal
+use Rattle.chord_store.proofs.placed.PlacedCountSpan.count_span.Goals as goal
 
 pub returns-then-self-eq0 : goal.returns-then-self-eq0
 returns-then-self-eq0 c =

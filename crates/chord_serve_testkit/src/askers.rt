@@ -1,0 +1,114 @@
+//! An asker over one plain map, and the parts of others.
+ghost use Rattle.std.specs.Prelude.{◌≡◌, ◌++◌, ◌∷◌, [], Some, true};
+ghost use Rattle.chord_serve.specs.Question.{IsAnswer, IsHeard, IsReplyTo};
+
+use chord_map::{PlainMap, Reply, Request};
+use chord_serve::{Asked, Asker};
+use chord_wire::is_writable;
+use std::alloc::{AllocError, Global};
+
+/// Lists one more request, if there is memory.
+pub fn note(requests: &mut Vec<Request>, request: &Request) -> bool
+    ensures { result ≡ true → requests.new.items ≡ requests.old.items ++ request.now ∷ [] }
+{
+    match request.try_copy() {
+        Ok(copy) => {
+            let pushed = requests.push(copy);
+            let is_noted = pushed.is_ok();
+            drop(pushed);
+            is_noted
+        }
+        Err(_) => false,
+    }
+}
+
+/// What the map replies to a request, if its client can be told that.
+pub fn asked_of(map: &mut PlainMap, request: &Request) -> Asked
+    ensures answer { IsAnswer result }
+    ensures kind { IsReplyTo result (Some request.now) }
+{
+    if request.check().is_err() {
+        return Asked::NoAnswer;
+    }
+    match map.apply(request) {
+        Err(_) => Asked::Memory,
+        Ok(reply) => {
+            if reply.fits(request) && is_writable(&reply) {
+                return Asked::Reply(reply);
+            }
+            drop(reply);
+            Asked::NoAnswer
+        }
+    }
+}
+
+/// Added, for an insert.
+pub fn added(request: &Request) -> Asked
+    ensures answer { IsAnswer result }
+    ensures kind { IsReplyTo result (Some request.now) }
+{
+    if Reply::Added.fits(request) {
+        Asked::Reply(Reply::Added)
+    } else {
+        Asked::NoAnswer
+    }
+}
+
+/// Answers from one plain map, and lists the requests asked.
+#[derive(Drop)]
+pub struct MapAsker {
+    map: PlainMap,
+    pub requests: Vec<Request>,
+}
+
+impl MapAsker {
+    pub fn new(alloc: Global) -> MapAsker {
+        MapAsker {
+            map: PlainMap::new(alloc),
+            requests: Vec::new(alloc),
+        }
+    }
+
+    /// Whether the request is executed.
+    fn does(&mut self, request: &Request) -> bool {
+        if request.check().is_err() {
+            return false;
+        }
+        let applied = self.map.apply(request);
+        let is_done = applied.is_ok();
+        drop(applied);
+        is_done
+    }
+
+    /// The asker after it executed this request.
+    pub fn having(mut self, request: Result<Request, AllocError>) -> Option<MapAsker> {
+        let is_done = request.as_ref().is_ok_and(|request| self.does(request));
+        drop(request);
+        if is_done {
+            return Some(self);
+        }
+        drop(self);
+        None
+    }
+}
+
+impl Asker for MapAsker {
+    ghost answers = { λ a question answer b. IsHeard question answer a.requests.items b.requests.items };
+
+    ghost asked = { λ a. a.requests.items };
+
+    fn ask(&mut self, request: &Request) -> Asked {
+        if !note(&mut self.requests, request) {
+            return Asked::Memory;
+        }
+        asked_of(&mut self.map, request)
+    }
+
+    fn retry(&mut self, _number: u64) -> Asked {
+        Asked::NoAnswer
+    }
+
+    ghost notes = { λ a b question answer heard. heard.notes };
+
+    ghost kind = { λ a b question answer heard. heard.kind };
+}
