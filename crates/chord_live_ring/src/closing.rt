@@ -88,6 +88,8 @@ impl<J: Naming> Gathering<J> {
             state,
             live: _,
             ticks: _,
+            again_item: _,
+            again_part: _,
             inbox,
             envelopes,
         } = slot;

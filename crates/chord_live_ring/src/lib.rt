@@ -10,15 +10,18 @@
 //! [`Ring::carry`] does the nodes' events on the calling thread. `chord_live` has such callers.
 #![tactic(auto)]
 
+mod adjoining;
 mod carried;
 mod closing;
 mod dealing;
 mod deed;
 mod fault;
+mod handing_over;
 mod keyed;
 mod looking;
 mod node_counts;
 mod numbers;
+mod pieces;
 mod probe;
 mod reader;
 mod resting;
@@ -36,6 +39,7 @@ mod tidying;
 mod waiting;
 mod work;
 
+pub use adjoining::join_adjoining;
 pub use carried::Carried;
 pub use chord_live_types::{
     CreateFault, JoinFault, LeaveFault, NewFault, NoSuchNode, OpenClientFault, OpenFault, Settings,
@@ -46,6 +50,7 @@ pub use dealing::deal;
 pub use fault::RingRetireFault;
 pub use keyed::Keyed;
 pub use node_counts::{AskCounts, HandoverCounts, NodeCounts};
+pub use pieces::trim;
 pub use probe::{NoProbe, Probe};
 pub use returned_caller::ReturnedCaller;
 pub use ring::Ring;

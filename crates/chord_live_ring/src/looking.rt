@@ -5,6 +5,7 @@ ghost use Rattle.chord_ident.specs.Circle.{in_span};
 ghost use Rattle.chord_model.specs.declared.holder.Holder.TheVariants.{UnderWay};
 ghost use Rattle.chord_segment.specs.Callers.{calls_in};
 ghost use Rattle.chord_live_ring.specs.Sights.{capped, segment_sight, outbox_sight, known_fingers, numbers_of, GivesIs, HoldingIs};
+ghost use Rattle.chord_live_ring.specs.Pieces.{goes_to, GivesToIs};
 
 use crate::sight::{OutboxSight, SegmentSight};
 use chord_ident::Id;
@@ -153,4 +154,26 @@ pub(crate) fn holding_of<S: EntryStore>(node: &Node<S>, id: Id) -> Option<Holder
         return Some(Holder::Node(node.number()));
     }
     handover_of(node, id)
+}
+
+/// Whether the item of a node's outbox at this index goes to a node.
+fn item_goes_to<S: EntryStore>(node: &Node<S>, place: usize, to: u64) -> bool
+    ensures { result ≡ goes_to to (slice_get node.now.outbox place) }
+{
+    match node.outbox_item(place as u64) {
+        Some((receiver, _, _)) => receiver == to,
+        None => false,
+    }
+}
+
+/// Whether a node's outbox has an item that goes to another node.
+pub(crate) fn gives_to<S: EntryStore>(node: &Node<S>, to: u64) -> bool
+    ensures { GivesToIs to node.now.outbox result }
+{
+    for place in 0..node.outbox_len() {
+        if item_goes_to(node, place, to) {
+            return true;
+        }
+    }
+    false
 }

@@ -99,6 +99,8 @@ fn vacant_slots<J: Naming, S: EntryStore>(
             state: Mutex::new(SlotState::Vacant),
             live: AtomicBool::new(false),
             ticks: AtomicU64::new(0),
+            again_item: AtomicU64::new(0),
+            again_part: AtomicU64::new(1),
             inbox,
             envelopes,
         })?;

@@ -7,7 +7,7 @@ ghost use Rattle.chord_live_ring.specs.declared.round.Round.TheVariants.{Quiet};
 pub enum Round {
     /// Nothing changed at the node, and it hands nothing over to a node that can still take it.
     Quiet,
-    /// Its links changed, a segment of it was cut, or it hands one over.
+    /// Its links changed, segments of it were cut or joined, or it hands one over.
     Busy,
 }
 

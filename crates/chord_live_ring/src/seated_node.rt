@@ -1,7 +1,9 @@
 //! A node with its seat.
 ghost use Rattle.std.specs.Prelude.{◌≡◌, ◌≤◌, ◌<◌, ◌++◌, [], ◌∷◌, Ok, Some, None, IfOk, IfSome, IfNone, OnOk, OnErr};
+ghost use Rattle.chord_live_ring.specs.Adjoining.{JoinIs};
 ghost use Rattle.chord_live_ring.specs.Deeds.{counted, no_counts};
 ghost use Rattle.chord_live_ring.specs.declared.deed.Deed.TheVariants.{Gave, Ticked};
+ghost use Rattle.chord_live_ring.specs.Pieces.{Gives, GivesNone, GivesPiece, GivesToIs, TrimIs};
 ghost use Rattle.chord_live_ring.specs.Sights.{HoldingIs, counts_after, kind_in, look_in, number_in, sight_of};
 ghost use Rattle.chord_live_ring.specs.Tidy.{TidyIs};
 ghost use Rattle.chord_model.specs.Node.{segment_with};
@@ -9,11 +11,13 @@ ghost use Rattle.chord_node.specs.Moves.{LeaveIs, RetireIs};
 ghost use Rattle.chord_node.specs.Pages.{PairsFromIs};
 ghost use Rattle.chord_table.specs.Shown.{NodeShown};
 
+use crate::adjoining::join_adjoining;
 use crate::dealing::{deal_by_id, is_for};
 use crate::deed::{Deed, MessageKind};
 use crate::keyed::Keyed;
-use crate::looking::{holding_of, known_fingers, numbers_of, outbox_of, segments_of};
+use crate::looking::{gives_to, holding_of, known_fingers, numbers_of, outbox_of, segments_of};
 use crate::node_counts::NodeCounts;
+use crate::pieces::trim;
 use crate::sight::NodeSight;
 use crate::target::Target;
 use crate::tidying::{Tidied, tidy};
@@ -307,6 +311,34 @@ impl<J: Naming, S: EntryStore> SeatedNode<J, S> {
         Ok(tidied)
     }
 
+    /// Joins two held segments that adjoin inside the node's own span, given its predecessor.
+    pub fn join_adjoining(&mut self, table: &Shared<J>, predecessor: Id) -> Result<bool, AllocError>
+        ensures messages { self.new.messages ≡ self.old.messages }
+        ensures counts { self.new.counts ≡ self.old.counts }
+        ensures answer { JoinIs predecessor self.old.node result self.new.node }
+    {
+        let joined = join_adjoining(&mut self.node, predecessor)?;
+        if joined {
+            self.seat.local(table, &self.node);
+        }
+        Ok(joined)
+    }
+
+    /// Cuts a piece of about `most` pairs from the held segment at this index, if it has more.
+    fn trim(&mut self, table: &Shared<J>, place: usize, most: u64) -> Result<bool, AllocError>
+        requires { 0 < most }
+        ensures messages { self.new.messages ≡ self.old.messages }
+        ensures counts { self.new.counts ≡ self.old.counts }
+        ensures answer { TrimIs place most self.old.node result self.new.node }
+        ensures err { OnErr result (self.new ≡ self.old) }
+    {
+        let was_cut = trim(&mut self.node, place, most)?;
+        if was_cut {
+            self.seat.local(table, &self.node);
+        }
+        Ok(was_cut)
+    }
+
     /// The end of the span of the held segment at this index.
     pub fn end_of(&self, place: usize) -> Option<Id> {
         let span = self.node.span(place)?;
@@ -323,6 +355,7 @@ impl<J: Naming, S: EntryStore> SeatedNode<J, S> {
     ) -> Result<(u64, Envelope<J>), GiveFault>
         ensures messages { self.new.messages ≡ self.old.messages }
         ensures counts { OnOk result (self.new.counts ≡ counted Gave self.old.counts) }
+        ensures answer { OnOk result (Gives place to self.old.node self.new.node) }
         ensures err { OnErr result (self.new ≡ self.old) }
     {
         let part = self.node.give(place, to)?;
@@ -330,6 +363,35 @@ impl<J: Naming, S: EntryStore> SeatedNode<J, S> {
         let envelope = self.seat.send(table, &self.node, Message::Part(part));
         self.counts.count(Deed::Gave);
         Ok((number, envelope))
+    }
+
+    /// Puts a piece of about `most` pairs of the held segment at this index into the outbox, or all
+    /// of it if it has no more, and sends the first part. Gives the item's number with it.
+    pub fn give_piece(
+        &mut self,
+        table: &Shared<J>,
+        place: usize,
+        to: u64,
+        most: u64,
+    ) -> Result<(u64, Envelope<J>), GiveFault>
+        requires { 0 < most }
+        ensures messages { self.new.messages ≡ self.old.messages }
+        ensures counts { OnOk result (self.new.counts ≡ counted Gave self.old.counts) }
+        ensures piece { OnOk result (GivesPiece place to most self.old.node self.new.node) }
+        ensures none { OnErr result (GivesNone place most self.old.node self.new.node) }
+        ensures kept { OnErr result (self.new.counts ≡ self.old.counts) }
+    {
+        if self.trim(table, place, most).is_err() {
+            return Err(GiveFault::Memory);
+        }
+        self.give(table, place, to)
+    }
+
+    /// Whether the outbox has an item that goes to this node.
+    pub fn gives_to(&self, to: u64) -> bool
+        ensures { GivesToIs to self.now.node.outbox result }
+    {
+        gives_to(&self.node, to)
     }
 
     /// The receiver and the number of the outbox item at this index, from 0 in the order given.

@@ -114,6 +114,10 @@ pub struct Slot<J: Naming, S: EntryStore> {
     pub(crate) live: AtomicBool,
     /// How many ticks there were, modulo 128.
     pub(crate) ticks: AtomicU64,
+    /// The index of the outbox item that is sent again next.
+    pub(crate) again_item: AtomicU64,
+    /// The part of that item which is sent again next, from 1.
+    pub(crate) again_part: AtomicU64,
     pub(crate) inbox: Sender<Envelope<J>, Global>,
     pub(crate) envelopes: Receiver<Envelope<J>, Global>,
 }

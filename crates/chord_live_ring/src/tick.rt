@@ -7,15 +7,13 @@ use crate::ring::Ring;
 use crate::round::Round;
 use crate::seated_node::SeatedNode;
 use crate::slot::SlotState;
-use crate::target::Target;
 use crate::tidying::Tidied;
 use chord_ident::Id;
 use chord_links::{Links, Peer};
 use chord_live_types::TickFault;
-use chord_node::{GiveFault, Phase, ResendPartFault};
 use chord_route::find_successor;
 use chord_store::EntryStore;
-use chord_table::{Envelope, Naming};
+use chord_table::Naming;
 use std::alloc::AllocError;
 use std::sync::Wait;
 use std::sync::atomic::Ordering;
@@ -179,178 +177,40 @@ impl<J: Naming, S: EntryStore> Ring<J, S> {
         match self.tidy_at(rt, number)? {
             NextMove::Done => Ok(Round::Quiet),
             NextMove::WasCut => Ok(Round::Busy),
-            NextMove::Give(place, end) => {
-                self.give_to_holder(rt, number, place, end)?;
-                Ok(Round::Quiet)
-            }
+            NextMove::Give(place, end) => self.give_to_holder(rt, number, place, end),
         }
     }
 
-    /// Gives the held segment at this index, which ends here, to the node that it belongs to, if
-    /// that stays.
-    fn give_to_holder(
-        &self,
-        rt: &impl Wait,
-        number: u64,
-        place: usize,
-        end: Id,
-    ) -> Result<(), AllocError> {
-        let reader = RingReader { ring: self, rt };
-        let Ok(peer) = find_successor(&reader, number, end) else {
-            return Ok(());
+    /// Joins two held segments that adjoin. Under the node's lock.
+    fn join_seated(&self, seated: &mut SeatedNode<J, S>) -> Result<Round, AllocError> {
+        let Some(predecessor) = seated.links().predecessor() else {
+            return Ok(Round::Quiet);
         };
-        if peer.number == number || self.phase_of(rt, peer.number) != Some(Phase::Staying) {
-            return Ok(());
-        }
-        self.give(rt, number, place, end, peer.number)
-    }
-
-    /// Gives the held segment at this index, if it still ends here, and sends all its parts.
-    fn give(
-        &self,
-        rt: &impl Wait,
-        number: u64,
-        place: usize,
-        end: Id,
-        to: u64,
-    ) -> Result<(), AllocError> {
-        match self.give_first(rt, number, place, end, to) {
-            Ok((item, envelope)) => {
-                self.post(rt, Target::Node(to), envelope);
-                self.send_parts(rt, number, to, item, 2)
-            }
-            Err(GiveFault::Memory) => Err(AllocError),
-            Err(_) => Ok(()),
+        if seated.join_adjoining(&self.table, predecessor.id)? {
+            Ok(Round::Busy)
+        } else {
+            Ok(Round::Quiet)
         }
     }
 
-    fn give_first(
-        &self,
-        rt: &impl Wait,
-        number: u64,
-        place: usize,
-        end: Id,
-        to: u64,
-    ) -> Result<(u64, Envelope<J>), GiveFault> {
+    /// Joins two held segments of a node that adjoin.
+    fn join_segments(&self, rt: &impl Wait, number: u64) -> Result<Round, AllocError> {
         let Some(slot) = self.slots.get(number as usize) else {
-            return Err(GiveFault::NoSegment);
+            return Ok(Round::Quiet);
         };
         match &mut *slot.state.lock(rt) {
-            SlotState::Here(seated) => {
-                if seated.end_of(place) != Some(end) {
-                    return Err(GiveFault::NoSegment);
-                }
-                seated.give(&self.table, place, to)
-            }
-            _ => Err(GiveFault::NoSegment),
+            SlotState::Here(seated) => self.join_seated(seated),
+            _ => Ok(Round::Quiet),
         }
     }
 
-    /// Sends the parts of an outbox item, from this part on.
-    fn send_parts(
-        &self,
-        rt: &impl Wait,
-        number: u64,
-        to: u64,
-        item: u64,
-        first: u64,
-    ) -> Result<(), AllocError> {
-        for part in first..u64::MAX {
-            match self.resend(rt, number, to, item, part) {
-                Ok(envelope) => self.post(rt, Target::Node(to), envelope),
-                Err(ResendPartFault::NoPart) => return Ok(()),
-                Err(ResendPartFault::Memory) => return Err(AllocError),
-            }
-        }
-        Ok(())
-    }
-
-    fn resend(
-        &self,
-        rt: &impl Wait,
-        number: u64,
-        to: u64,
-        item: u64,
-        part: u64,
-    ) -> Result<Envelope<J>, ResendPartFault> {
-        let Some(slot) = self.slots.get(number as usize) else {
-            return Err(ResendPartFault::NoPart);
-        };
-        match &mut *slot.state.lock(rt) {
-            SlotState::Here(seated) => seated.resend_part(&self.table, to, item, part),
-            _ => Err(ResendPartFault::NoPart),
-        }
-    }
-
-    /// The end of a leaving node's first held segment.
-    fn end_at_leaving(&self, rt: &impl Wait, number: u64) -> Option<Id> {
-        let slot = self.slots.get(number as usize)?;
-        match &*slot.state.lock(rt) {
-            SlotState::Here(seated) => {
-                if seated.phase() == Phase::Leaving {
-                    seated.end_of(0)
-                } else {
-                    None
-                }
-            }
-            _ => None,
-        }
-    }
-
-    /// The first entry of a list that is another node, and stays.
-    fn heir(&self, rt: &impl Wait, links: &Links) -> Option<u64> {
-        let me = links.me();
-        for peer in links.list().entries() {
-            if peer.number != me.number && self.phase_of(rt, peer.number) == Some(Phase::Staying) {
-                return Some(peer.number);
-            }
-        }
-        None
-    }
-
-    /// Gives away the first held segment of a leaving node.
-    fn maintain_leaving(&self, rt: &impl Wait, number: u64) -> Result<(), AllocError> {
-        let Some(end) = self.end_at_leaving(rt, number) else {
-            return Ok(());
-        };
-        let Some(links) = self.links_of(rt, number) else {
-            return Ok(());
-        };
-        match self.heir(rt, &links) {
-            Some(to) => self.give(rt, number, 0, end, to),
-            None => Ok(()),
-        }
-    }
-
-    fn outbox_item(&self, rt: &impl Wait, number: u64, place: u64) -> Option<(u64, u64)> {
-        let slot = self.slots.get(number as usize)?;
-        match &*slot.state.lock(rt) {
-            SlotState::Here(seated) => seated.outbox_item(place),
-            _ => None,
-        }
-    }
-
-    /// Sends all parts of the outbox items again, but for those to nodes that crashed.
-    fn maintain_outbox(&self, rt: &impl Wait, number: u64) -> Result<Round, AllocError> {
-        let mut round = Round::Quiet;
-        for place in 0..u64::MAX {
-            let Some((to, item)) = self.outbox_item(rt, number, place) else {
-                return Ok(round);
-            };
-            if self.phase_of(rt, to).is_some() {
-                self.send_parts(rt, number, to, item, 1)?;
-                round = Round::Busy;
-            }
-        }
-        Ok(round)
-    }
-
-    /// Cuts and gives segments, and sends handovers again.
+    /// Sends a handover again, cuts, gives and joins segments.
     fn maintain_holdings(&self, rt: &impl Wait, number: u64) -> Result<Round, AllocError> {
-        let cut = self.maintain_segments(rt, number)?;
-        self.maintain_leaving(rt, number)?;
         let sent = self.maintain_outbox(rt, number)?;
-        Ok(cut.with(sent))
+        let cut = self.maintain_segments(rt, number)?;
+        let given = self.maintain_leaving(rt, number)?;
+        let joined = self.join_segments(rt, number)?;
+        Ok(sent.with(cut).with(given).with(joined))
     }
 
     /// Whether a node's links are other ones than these before.

@@ -19,7 +19,7 @@ pub enum Tidied {
 }
 
 /// Whether a span lies inside the node's own.
-fn is_within(span: Span, own: Span) -> bool
+pub(crate) fn is_within(span: Span, own: Span) -> bool
     ensures { result ≡ is_inside own span }
 {
     own.after == own.upto

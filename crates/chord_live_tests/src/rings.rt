@@ -22,6 +22,7 @@ mod growths;
 mod handing;
 mod kinds;
 mod notes;
+mod pieces;
 mod refusals;
 mod resting;
 mod settling;

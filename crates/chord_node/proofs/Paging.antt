@@ -1,5 +1,5 @@
 -- A page of a node, from the held segment at an index and its store.
-use Rattle.std.proofs.Common.{◌≡◌, ℕ, false, Option, None, Some, List, get_or, refl, sym, ◌∙◌, ap, subst}
+use Rattle.std.proofs.Common.{◌≡◌, ◌<◌, ℕ, false, Option, None, Some, List, [], length, get_or, refl, sym, ◌∙◌, ap, subst}
 use Rattle.std.specs.Prelude.{position, is_some}
 use Rattle.std.proofs.lemmas.Bool.{true≢false}
 use Rattle.chord_ident.specs.declared.id.Id.{Id}
@@ -10,6 +10,8 @@ use Rattle.chord_model.specs.Node.{Node, segment_with}
 use Rattle.chord_node.specs.declared.pages.PairsPage.{PairsPage}
 use Rattle.chord_node.specs.Pages.{IsPageOf, PairsFromIs, rest_from}
 use Rattle.chord_node.specs.View.{segments_of}
+use Rattle.chord_store.specs.Cut.{CutsLeaveFewer, part_up_to}
+use Rattle.chord_store.specs.Inside.{pairs_inside}
 use Rattle.chord_node.proofs.Asking.{IsPlace, has, holds_at, with_here}
 
 none_of : (o : Option Segment) → is_some o ≡ false → o ≡ None
@@ -39,3 +41,8 @@ told_here first limit view old same held i s span rest pairs page held_is place 
     let its : IsPageOf rest limit old.entries page = subst (λ (ps : List Pair). IsPageOf rest limit ps page) (pairs_are ∙ ap (λ (n : Node). n.entries) same) told in
     let at : rest ≡ rest_from first s.segment.span = rest_is ∙ ap (rest_from first) span_is in
     (s.segment, held_here first.number view old same held i s held_is place here, subst (λ (r : Span). IsPageOf r limit old.entries page) at its)
+
+-- with no pairs, each cut leaves fewer than one before it
+pub fewer_of_none : (span : Span) (n : ℕ) (pairs : List Pair) → [] ≡ pairs → 0 < n → CutsLeaveFewer span n pairs
+unfolding pairs_inside
+fewer_of_none span n pairs none some = λ at on_circle cut. subst (λ (ps : List Pair). length (pairs_inside (part_up_to span at) ps) < n) none some

@@ -12,6 +12,7 @@ ghost use Rattle.chord_node.specs.View.{span_of, segment_shown, item_view, pairs
 ghost use Rattle.chord_node.specs.Asked.{AskIs, AskRecords, AskSteps, AskStepsRecording};
 ghost use Rattle.chord_node.specs.Moves.{MoveSteps, SendSteps, CutAtIs, MergeIs, MayGive, GiveIs, ResendIs, LeaveIs, RetireIs};
 ghost use Rattle.chord_node.specs.Pages.{PairsFromIs};
+ghost use Rattle.chord_node.specs.Pieces.{CutAfterIs};
 ghost use Rattle.chord_node.specs.Received.{PartIs, PartSteps, GotIs, BackIs, BackSteps};
 
 use crate::asks::answered::Answered;
@@ -258,6 +259,18 @@ impl<S: EntryStore> Node<S> {
         match &self.store {
             Some(store) => store.count(),
             None => 0,
+        }
+    }
+
+    /// The first identifier of the span at which a cut leaves at least `n` of the node's pairs before
+    /// it, or none if no cut does.
+    pub fn cut_after(&self, span: &Span, n: u64) -> Option<Id>
+        requires { 0 < n }
+        ensures { CutAfterIs span.now n self.now.entries result }
+    {
+        match &self.store {
+            Some(store) => store.cut_after(span, n),
+            None => None,
         }
     }
 

@@ -1,0 +1,55 @@
+-- How a node gives a segment in pieces, so that its lock is held for a moment only. Source: our own.
+use Rattle.std.specs.Prelude.{◌≡◌, ◌⊎◌, ℕ, ◌<◌, ◌==◌, Bool, true, false, Option, None, Some, List, length, Result, Ok, Err, slice_get}
+use Rattle.std.specs.declared.alloc.AllocError.{AllocError}
+use Rattle.chord_handover.specs.Handover.{Item, Part}
+use Rattle.chord_ident.specs.declared.id.Id.{Id}
+use Rattle.chord_model.specs.Node.{Node, NodeStep, cut_held}
+use Rattle.chord_node.specs.Moves.{with_held, GiveIs}
+use Rattle.chord_node.specs.Pieces.{CutAfterIs}
+use Rattle.chord_segment.specs.Segment.{Segment}
+use Rattle.chord_store.specs.Cut.{CutsLeaveFewer}
+
+-- the held segment at this index is to be cut here: before the cut are at least `most` pairs, and
+-- no earlier cut leaves that many
+abbrev pub IsTrimmedAt : ℕ → ℕ → Node → Segment → Id → Type 0
+IsTrimmedAt place most old segment at = (slice_get old.held place ≡ Some segment) × CutAfterIs segment.span most old.entries (Some at)
+
+-- the held segment at this index is cut so, if a cut leaves `most` pairs before it; out of memory
+-- can only come in place of a cut
+abbrev pub TrimIs : ℕ → ℕ → Node → Result Bool AllocError → Node → Type 0
+TrimIs place most old (Ok true) new =
+    (segment : Segment) × (at : Id) × IsTrimmedAt place most old segment at × (new ≡ with_held (cut_held place segment at old.held) old)
+TrimIs place most old (Ok false) new =
+    ((segment : Segment) → slice_get old.held place ≡ Some segment → CutsLeaveFewer segment.span most old.entries) × (new ≡ old)
+TrimIs place most old (Err fault) new = (segment : Segment) × (at : Id) × IsTrimmedAt place most old segment at × (new ≡ old)
+
+-- a cut is one step of the node, and nothing else changes it
+abbrev pub TrimSteps : Node → Result Bool AllocError → Node → Type 0
+TrimSteps old (Ok true) new = NodeStep old None new None None
+TrimSteps old result new = new ≡ old
+
+-- the held segment at this index goes into the outbox, and its first part is sent
+abbrev pub Gives : ℕ → ℕ → Node → Node → Type 0
+Gives place to old new = (part : Part) × GiveIs place to old (Ok part) new
+
+-- the held segment at this index is cut as above, if that is to be done, and then goes into the outbox
+abbrev pub GivesPiece : ℕ → ℕ → ℕ → Node → Node → Type 0
+GivesPiece place to most old new = (cut : Bool) × (trimmed : Node) × TrimIs place most old (Ok cut) trimmed × Gives place to trimmed new
+
+-- what is not given may have been cut
+abbrev pub GivesNone : ℕ → ℕ → Node → Node → Type 0
+GivesNone place most old new = (new ≡ old) ⊎ ((cut : Bool) × TrimIs place most old (Ok cut) new)
+
+-- whether an item, if there is one, goes to a node
+abbrev pub goes_to : ℕ → Option Item → Bool
+goes_to to None = false
+goes_to to (Some item) = item.to == to
+
+-- the items of an outbox before this index do not go to a node
+abbrev pub NoneGoesTo : ℕ → List Item → ℕ → Type 0
+NoneGoesTo to outbox upto = (k : ℕ) → k < upto → goes_to to (slice_get outbox k) ≡ false
+
+-- whether an item of the outbox goes to a node
+abbrev pub GivesToIs : ℕ → List Item → Bool → Type 0
+GivesToIs to outbox true = (k : ℕ) × (goes_to to (slice_get outbox k) ≡ true)
+GivesToIs to outbox false = NoneGoesTo to outbox (length outbox)

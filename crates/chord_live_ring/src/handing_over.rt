@@ -1,0 +1,237 @@
+//! How nodes hand segments over: in pieces, a handover at a time to each receiver.
+use crate::reader::RingReader;
+use crate::ring::Ring;
+use crate::round::Round;
+use crate::slot::SlotState;
+use crate::target::Target;
+use chord_ident::Id;
+use chord_links::Links;
+use chord_node::{GiveFault, Phase, ResendPartFault};
+use chord_route::find_successor;
+use chord_store::EntryStore;
+use chord_table::{Envelope, Naming};
+use std::alloc::AllocError;
+use std::sync::Wait;
+use std::sync::atomic::Ordering;
+
+/// How many pairs a handover has, but for further ones of its last identifier. A node's lock is held
+/// for one of them at a time, by its giver and by its receiver.
+const PIECE_PAIRS: u64 = 1024;
+
+/// How many parts a tick sends again at most.
+const PARTS_A_TICK: u64 = 16;
+
+impl<J: Naming, S: EntryStore> Ring<J, S> {
+    /// Gives a piece of the held segment at this index, which ends here, to the node that it belongs
+    /// to, if that stays.
+    pub(crate) fn give_to_holder(
+        &self,
+        rt: &impl Wait,
+        number: u64,
+        place: usize,
+        end: Id,
+    ) -> Result<Round, AllocError> {
+        let reader = RingReader { ring: self, rt };
+        let Ok(peer) = find_successor(&reader, number, end) else {
+            return Ok(Round::Quiet);
+        };
+        if peer.number == number || self.phase_of(rt, peer.number) != Some(Phase::Staying) {
+            return Ok(Round::Quiet);
+        }
+        self.give(rt, number, place, end, peer.number)
+    }
+
+    /// Gives a piece of the held segment at this index, if it still ends here, and sends all its
+    /// parts.
+    fn give(
+        &self,
+        rt: &impl Wait,
+        number: u64,
+        place: usize,
+        end: Id,
+        to: u64,
+    ) -> Result<Round, AllocError> {
+        match self.give_first(rt, number, place, end, to) {
+            Ok((item, envelope)) => {
+                self.post(rt, Target::Node(to), envelope);
+                self.send_parts(rt, number, to, item, 2, u64::MAX)?;
+                Ok(Round::Busy)
+            }
+            Err(GiveFault::Memory) => Err(AllocError),
+            Err(_) => Ok(Round::Quiet),
+        }
+    }
+
+    /// Puts a piece into the outbox, unless one that waits there goes to the same node: what is in an
+    /// outbox is held by nobody.
+    fn give_first(
+        &self,
+        rt: &impl Wait,
+        number: u64,
+        place: usize,
+        end: Id,
+        to: u64,
+    ) -> Result<(u64, Envelope<J>), GiveFault> {
+        let Some(slot) = self.slots.get(number as usize) else {
+            return Err(GiveFault::NoSegment);
+        };
+        match &mut *slot.state.lock(rt) {
+            SlotState::Here(seated) => {
+                if seated.end_of(place) != Some(end) || seated.gives_to(to) {
+                    return Err(GiveFault::NoSegment);
+                }
+                seated.give_piece(&self.table, place, to, PIECE_PAIRS)
+            }
+            _ => Err(GiveFault::NoSegment),
+        }
+    }
+
+    /// Sends parts of an outbox item, from this one on, `most` at most. Answers whether it sent that
+    /// many, so that there may be more.
+    fn send_parts(
+        &self,
+        rt: &impl Wait,
+        number: u64,
+        to: u64,
+        item: u64,
+        first: u64,
+        most: u64,
+    ) -> Result<bool, AllocError> {
+        for part in first..first.saturating_add(most) {
+            match self.resend(rt, number, to, item, part) {
+                Ok(envelope) => self.post(rt, Target::Node(to), envelope),
+                Err(ResendPartFault::NoPart) => return Ok(false),
+                Err(ResendPartFault::Memory) => return Err(AllocError),
+            }
+        }
+        Ok(true)
+    }
+
+    fn resend(
+        &self,
+        rt: &impl Wait,
+        number: u64,
+        to: u64,
+        item: u64,
+        part: u64,
+    ) -> Result<Envelope<J>, ResendPartFault> {
+        let Some(slot) = self.slots.get(number as usize) else {
+            return Err(ResendPartFault::NoPart);
+        };
+        match &mut *slot.state.lock(rt) {
+            SlotState::Here(seated) => seated.resend_part(&self.table, to, item, part),
+            _ => Err(ResendPartFault::NoPart),
+        }
+    }
+
+    /// The end of a leaving node's first held segment.
+    fn end_at_leaving(&self, rt: &impl Wait, number: u64) -> Option<Id> {
+        let slot = self.slots.get(number as usize)?;
+        match &*slot.state.lock(rt) {
+            SlotState::Here(seated) => {
+                if seated.phase() == Phase::Leaving {
+                    seated.end_of(0)
+                } else {
+                    None
+                }
+            }
+            _ => None,
+        }
+    }
+
+    /// The first entry of a list that is another node, and stays.
+    fn heir(&self, rt: &impl Wait, links: &Links) -> Option<u64> {
+        let me = links.me();
+        for peer in links.list().entries() {
+            if peer.number != me.number && self.phase_of(rt, peer.number) == Some(Phase::Staying) {
+                return Some(peer.number);
+            }
+        }
+        None
+    }
+
+    /// Gives away a piece of the first held segment of a leaving node.
+    pub(crate) fn maintain_leaving(
+        &self,
+        rt: &impl Wait,
+        number: u64,
+    ) -> Result<Round, AllocError> {
+        let Some(end) = self.end_at_leaving(rt, number) else {
+            return Ok(Round::Quiet);
+        };
+        let Some(links) = self.links_of(rt, number) else {
+            return Ok(Round::Quiet);
+        };
+        match self.heir(rt, &links) {
+            Some(to) => self.give(rt, number, 0, end, to),
+            None => Ok(Round::Quiet),
+        }
+    }
+
+    fn outbox_item(&self, rt: &impl Wait, number: u64, place: u64) -> Option<(u64, u64)> {
+        let slot = self.slots.get(number as usize)?;
+        match &*slot.state.lock(rt) {
+            SlotState::Here(seated) => seated.outbox_item(place),
+            _ => None,
+        }
+    }
+
+    /// Whether a node hands something over to a node that did not crash.
+    fn hands_over(&self, rt: &impl Wait, number: u64) -> bool {
+        for place in 0..u64::MAX {
+            let Some((to, _)) = self.outbox_item(rt, number, place) else {
+                return false;
+            };
+            if self.phase_of(rt, to).is_some() {
+                return true;
+            }
+        }
+        false
+    }
+
+    /// The receiver and the number of the outbox item that is sent again next, and its part. Behind
+    /// the last item it begins anew at the first.
+    fn next_again(&self, rt: &impl Wait, number: u64) -> Option<(u64, u64, u64)> {
+        let slot = self.slots.get(number as usize)?;
+        let place = slot.again_item.load(Ordering::SeqCst);
+        if let Some((to, item)) = self.outbox_item(rt, number, place) {
+            return Some((to, item, slot.again_part.load(Ordering::SeqCst)));
+        }
+        slot.again_item.store(0, Ordering::SeqCst);
+        slot.again_part.store(1, Ordering::SeqCst);
+        let (to, item) = self.outbox_item(rt, number, 0)?;
+        Some((to, item, 1))
+    }
+
+    /// Goes on by the next parts of the outbox item that was sent again, or by the next item.
+    fn go_on_again(&self, number: u64, has_more: bool) {
+        let Some(slot) = self.slots.get(number as usize) else {
+            return;
+        };
+        let (item, part) = (
+            slot.again_item.load(Ordering::SeqCst),
+            slot.again_part.load(Ordering::SeqCst),
+        );
+        if has_more {
+            slot.again_part
+                .store(part.saturating_add(PARTS_A_TICK), Ordering::SeqCst);
+        } else {
+            slot.again_item
+                .store(item.saturating_add(1), Ordering::SeqCst);
+            slot.again_part.store(1, Ordering::SeqCst);
+        }
+    }
+
+    /// Sends parts of an outbox item again, of one item each tick, unless its receiver crashed.
+    pub(crate) fn maintain_outbox(&self, rt: &impl Wait, number: u64) -> Result<Round, AllocError> {
+        if !self.hands_over(rt, number) {
+            return Ok(Round::Quiet);
+        }
+        if let Some((to, item, part)) = self.next_again(rt, number) {
+            let has_more = self.phase_of(rt, to).is_some()
+                && self.send_parts(rt, number, to, item, part, PARTS_A_TICK)?;
+            self.go_on_again(number, has_more);
+        }
+        Ok(Round::Busy)
+    }
+}

@@ -1,0 +1,246 @@
+//! Large segments: they go over in pieces, and what adjoins is joined.
+ghost use Rattle.std.specs.Prelude.{◌≡◌};
+
+use super::{A, C, Said, call, founded, settings, succeeds};
+use chord_caller::Ask;
+use chord_ident::{Id, Span};
+use chord_links::Peer;
+use chord_live::OpenCaller;
+use chord_live_ring::{NoProbe, NodeSight, Ring, RingParts, deal, join_adjoining, trim};
+use chord_map::Request;
+use chord_node::{Message, Node};
+use chord_store::{EntryStore, TreeStore};
+use chord_table::Naming;
+use std::alloc::Global;
+use std::marker::Brand;
+use std::process::Abort;
+use std::sync::Wait;
+use std::thread;
+use std::thread::Threads;
+use std::time::{Clock, Duration};
+
+const ZERO: Peer = Peer {
+    number: 0,
+    id: Id { number: A },
+};
+
+/// The first 16 bytes of the SHA-1 of `c`, of `a` and of `b`, as they follow behind A.
+const ID_OF_C: u128 = 0x84a516841ba77a5b4648de2cd0dfcb30;
+
+const ID_OF_B: u128 = 0xe9d71f5ee7c92d6dc9e92ffdad17b8bd;
+
+fn span(after: u128, upto: u128) -> Option<Span> {
+    Some(Span::new(Id::new(after), Id::new(upto)))
+}
+
+/// A node alone that has a value under each of `a`, `b` and `c`.
+fn with_three(alloc: Global) -> Option<Node<TreeStore>> {
+    let mut node = Node::found(alloc, ZERO, 3, TreeStore::new(alloc)).ok()?;
+    for (number, key) in [(1, b"a"), (2, b"b"), (3, b"c")] {
+        let ask = Ask {
+            caller: 7,
+            number,
+            floor: 0,
+            request: Request::insert(alloc, key.as_slice(), b"x").ok()?,
+            hops: 255,
+        };
+        drop(deal(&mut node, Message::Ask(ask)).ok()?);
+    }
+    Some(node)
+}
+
+#[test]
+fn a_segment_is_cut_behind_its_first_pairs(rt: HostRuntime) {
+    let mut node = with_three(rt.alloc()).expect(&rt, "memory for a node");
+    assert!(rt;
+        trim(&mut node, 0, 1).ok() == Some(true),
+        "it has more than a piece of one pair"
+    );
+    assert!(rt;
+        node.span(0) == span(A, ID_OF_C),
+        "the piece ends with the first pair"
+    );
+    assert!(rt; node.span(1) == span(ID_OF_C, A), "the rest is behind it");
+    assert!(rt;
+        trim(&mut node, 0, 1).ok() == Some(false),
+        "a piece is not cut again"
+    );
+    assert!(rt;
+        trim(&mut node, 1, 2).ok() == Some(true),
+        "a cut at the second pair of the rest leaves two"
+    );
+    assert!(rt;
+        node.span(1) == span(ID_OF_C, ID_OF_B),
+        "the piece ends with the second pair"
+    );
+    assert!(rt;
+        trim(&mut node, 1, 3).ok() == Some(false),
+        "it has no more than two pairs"
+    );
+    assert!(rt;
+        trim(&mut node, 3, 1).ok() == Some(false),
+        "there are three segments"
+    );
+    assert!(rt; node.held_count() == 3, "and no cut was refused");
+    drop(node);
+}
+
+/// A node alone that holds (A, c], (c, b] and (b, A].
+fn in_three_pieces(alloc: Global) -> Option<Node<TreeStore>> {
+    let mut node = with_three(alloc)?;
+    node.cut_at(0, Id::new(ID_OF_C)).ok()?;
+    node.cut_at(1, Id::new(ID_OF_B)).ok()?;
+    Some(node)
+}
+
+#[test]
+fn segments_that_adjoin_are_joined(rt: HostRuntime) {
+    let mut node = in_three_pieces(rt.alloc()).expect(&rt, "memory for a node");
+    assert!(rt;
+        join_adjoining(&mut node, Id::new(C)).ok() == Some(false),
+        "one segment alone lies between C and the node"
+    );
+    assert!(rt; node.held_count() == 3, "none was joined");
+    assert!(rt;
+        join_adjoining(&mut node, Id::new(A)).ok() == Some(true),
+        "all three are a node's that is alone"
+    );
+    assert!(rt;
+        node.span(0) == span(A, ID_OF_B),
+        "the second goes on behind the first"
+    );
+    assert!(rt;
+        join_adjoining(&mut node, Id::new(A)).ok() == Some(true),
+        "so does the third"
+    );
+    assert!(rt; node.span(0) == span(A, A), "it holds the whole circle");
+    assert!(rt;
+        join_adjoining(&mut node, Id::new(A)).ok() == Some(false),
+        "which is not joined with itself"
+    );
+    assert!(rt; node.pair_count() == 3, "it has all pairs");
+    drop(node);
+}
+
+/// The pairs that node 0 holds at first: two pieces of 1,024, and a rest.
+const PAIRS: u64 = 2_060;
+
+/// The identifier before A, which leaves node 0 no other one.
+const BEFORE_A: u128 = A - 1;
+
+#[test]
+fn a_segment_goes_over_in_pieces(rt: HostRuntime) {
+    match RingParts::new(rt.alloc(), settings(2, 1, 20, 1_000)) {
+        Ok(parts) => goes_over::<Brand, _>(&rt, rt.alloc(), parts),
+        Err(_) => assert!(rt; false, "these settings are within their limits"),
+    }
+}
+
+/// Node 0 gives all its pairs to node 1, which joins behind it.
+fn goes_over<J: Naming + Send + Sync, R: Abort + Threads + Wait + Clock + Sync>(
+    rt: &R,
+    alloc: Global,
+    parts: RingParts,
+)
+    requires { parts.name ≡ J.name }
+{
+    let founded = founded::<J, TreeStore, R>(rt, parts, TreeStore::new(alloc));
+    let ring = &founded;
+    fill(rt, alloc, ring);
+    let joined = succeeds(ring.join(rt, Id::new(BEFORE_A), 0, TreeStore::new(alloc)));
+    assert!(rt; joined, "a second node joins by the first");
+    let (first, (second, _)) = thread::join(
+        rt,
+        move || ring.work(rt, 0, &NoProbe).is_ok(),
+        move || {
+            thread::join(
+                rt,
+                move || ring.work(rt, 1, &NoProbe).is_ok(),
+                move || {
+                    ticks(rt, alloc, ring);
+                    ring.stop();
+                },
+            )
+        },
+    );
+    assert!(rt; first, "worker 0 ends when the ring is stopped");
+    assert!(rt; second, "worker 1 ends when the ring is stopped");
+    founded.close();
+}
+
+/// A value under each of the keys.
+fn fill<J: Naming, R: Abort + Wait + Clock>(rt: &R, alloc: Global, ring: &Ring<J, TreeStore>) {
+    let mut caller = ring.open_caller(rt, 1).expect(rt, "a caller");
+    for number in 0..PAIRS {
+        let key = [(number / 256) as u8, (number % 256) as u8];
+        let added = call(
+            rt,
+            &mut caller,
+            0,
+            Request::insert(alloc, key.as_slice(), b"x"),
+        );
+        assert!(rt; added == Ok(Said::Added), "key {number} is new");
+    }
+    drop(caller);
+}
+
+fn sight_of<J: Naming, R: Abort + Wait>(
+    rt: &R,
+    alloc: Global,
+    ring: &Ring<J, TreeStore>,
+    number: u64,
+) -> NodeSight {
+    let sight = ring.sight(rt, alloc, number).expect(rt, "memory to look");
+    sight.expect(rt, "a node of this number")
+}
+
+/// Ticks both nodes until node 1 has all pairs in one segment.
+fn ticks<J: Naming, R: Abort + Wait + Clock>(rt: &R, alloc: Global, ring: &Ring<J, TreeStore>) {
+    for _ in 0..10_000u64 {
+        assert!(rt; ring.tick(rt, 0).is_ok(), "node 0 is ticked");
+        assert!(rt; ring.tick(rt, 1).is_ok(), "node 1 is ticked");
+        gives_one_piece(rt, sight_of(rt, alloc, ring, 0));
+        let sight = sight_of(rt, alloc, ring, 1);
+        let is_whole = sight.pairs == PAIRS && sight.segments.len() == 1;
+        drop(sight);
+        if is_whole {
+            break;
+        }
+        thread::sleep(rt, Duration::from_millis(1));
+    }
+    has_all(rt, sight_of(rt, alloc, ring, 1));
+    let giver = sight_of(rt, alloc, ring, 0);
+    assert!(rt; giver.pairs == 0, "node 0 has no pair left");
+    assert!(rt;
+        giver.counts.handovers.given == 3,
+        "it gave two pieces and the rest"
+    );
+    drop(giver);
+}
+
+/// What node 0 hands over at a time is one piece at most.
+fn gives_one_piece<R: Abort>(rt: &R, sight: NodeSight) {
+    assert!(rt; sight.outbox.len() <= 1, "one piece is under way at a time");
+    for item in &sight.outbox {
+        assert!(rt;
+            item.pairs <= 1_024,
+            "a piece has {} pairs, and each identifier one",
+            item.pairs
+        );
+    }
+    drop(sight);
+}
+
+fn has_all<R: Abort>(rt: &R, sight: NodeSight) {
+    assert!(rt; sight.pairs == PAIRS, "node 1 has all pairs");
+    assert!(rt; sight.segments.len() == 1, "in one segment");
+    assert!(rt;
+        sight.segments[0].span == Span::new(Id::new(A), Id::new(BEFORE_A)),
+        "which is its own"
+    );
+    assert!(rt;
+        sight.counts.handovers.taken == 3,
+        "it took two pieces and the rest"
+    );
+    drop(sight);
+}
