@@ -129,7 +129,7 @@ impl<S: EntryStore> Node<S> {
         };
         let segment = &mut self.held[place];
         let store = self.store.as_mut().unwrap();
-        answer_in(self.alloc, segment, store, ask)
+        answer_in(self.alloc, segment, store, x, ask)
     }
 
     /// Answers a call that it owns, with its key's identifier, as `on_ask`
@@ -157,7 +157,7 @@ impl<S: EntryStore> Node<S> {
         };
         let segment = &mut self.held[place];
         let store = self.store.as_mut().unwrap();
-        answer_taken(self.alloc, segment, store, ask)
+        answer_taken(self.alloc, segment, store, id, ask)
     }
 
     /// The node's number.

@@ -10,12 +10,12 @@ impl EntryStore for Box<dyn EntryStore + Send> {
 
     ghost limit = { λ b. (EntryStore-box b).limit b.value };
 
-    fn insert(&mut self, key: &Bytes, value: &[u8]) -> Result<Inserted, StoreFault> {
-        (**self).insert(key, value)
+    fn insert(&mut self, id: Id, key: &Bytes, value: &[u8]) -> Result<Inserted, StoreFault> {
+        (**self).insert(id, key, value)
     }
 
-    fn remove(&mut self, key: &Bytes, value: &[u8]) -> bool {
-        (**self).remove(key, value)
+    fn remove(&mut self, id: Id, key: &Bytes, value: &[u8]) -> bool {
+        (**self).remove(id, key, value)
     }
 
     fn take_out(&mut self, span: &Span) {
@@ -30,8 +30,8 @@ impl EntryStore for Box<dyn EntryStore + Send> {
         (**self).count()
     }
 
-    fn values(&self, alloc: Global, key: &Bytes) -> Result<Values, AllocError> {
-        (**self).values(alloc, key)
+    fn values(&self, alloc: Global, id: Id, key: &Bytes) -> Result<Values, AllocError> {
+        (**self).values(alloc, id, key)
     }
 
     fn copy_span(&self, alloc: Global, span: &Span) -> Result<Vec<Pair>, AllocError> {

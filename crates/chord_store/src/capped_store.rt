@@ -47,11 +47,11 @@ impl EntryStore for CappedStore {
 
     ghost limit = { λ store. store.limit };
 
-    fn insert(&mut self, key: &Bytes, value: &[u8]) -> Result<Inserted, StoreFault> {
+    fn insert(&mut self, _id: Id, key: &Bytes, value: &[u8]) -> Result<Inserted, StoreFault> {
         insert_within(&mut self.pairs, self.limit, key.as_slice(), value)
     }
 
-    fn remove(&mut self, key: &Bytes, value: &[u8]) -> bool {
+    fn remove(&mut self, _id: Id, key: &Bytes, value: &[u8]) -> bool {
         self.pairs.remove(key.as_slice(), value)
     }
 
@@ -67,7 +67,7 @@ impl EntryStore for CappedStore {
         self.pairs.as_slice().len() as u64
     }
 
-    fn values(&self, alloc: Global, key: &Bytes) -> Result<Values, AllocError> {
+    fn values(&self, alloc: Global, _id: Id, key: &Bytes) -> Result<Values, AllocError> {
         values_under(alloc, self.pairs.as_slice(), key.as_slice())
     }
 

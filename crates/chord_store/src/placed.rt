@@ -60,34 +60,38 @@ impl Placed {
         self.count
     }
 
-    pub fn contains(&self, key: &Bytes, value: &[u8]) -> bool
+    pub fn contains(&self, id: Id, key: &Bytes, value: &[u8]) -> bool
+        requires { id.number ≡ key_id key.now }
         ensures { result ≡ has_pair (record { key = key.now; value = value.now }) self.now }
     {
-        is_in(&self.slots, &self.others, key, value)
+        is_in(&self.slots, &self.others, id, key, value)
     }
 
     /// The number of values under the key.
-    pub fn count_under(&self, key: &Bytes) -> usize
+    pub fn count_under(&self, id: Id, key: &Bytes) -> usize
+        requires { id.number ≡ key_id key.now }
         ensures { result ≡ length (values_at key.now self.now) }
     {
-        count_of(&self.slots, &self.others, key)
+        count_of(&self.slots, &self.others, id, key)
     }
 
     /// Copies of the values under the key, in byte order.
-    pub fn values(&self, alloc: Global, key: &Bytes) -> Result<Values, AllocError>
+    pub fn values(&self, alloc: Global, id: Id, key: &Bytes) -> Result<Values, AllocError>
+        requires { id.number ≡ key_id key.now }
         ensures copy { IfOk result (λ values. values ≡ values_at key.now self.now) }
         ensures few { AreFew (values_at key.now self.now) → IsOk result }
     {
-        values_of(alloc, &self.slots, &self.others, key)
+        values_of(alloc, &self.slots, &self.others, id, key)
     }
 
     /// Adds the pair, unless it is there or its set is full.
-    pub fn insert(&mut self, key: &Bytes, value: &[u8]) -> Result<Inserted, AllocError>
-        requires { length self.old < 2 ^ 64 - 1 }
+    pub fn insert(&mut self, id: Id, key: &Bytes, value: &[u8]) -> Result<Inserted, AllocError>
+        requires id { id.number ≡ key_id key.now }
+        requires room { length self.old < 2 ^ 64 - 1 }
         ensures answer { AddIs (record { key = key.now; value = value.now }) self.old result self.new }
         ensures rising { IsRising self.old }
     {
-        match add(&mut self.slots, &mut self.others, key, value)? {
+        match add(&mut self.slots, &mut self.others, id, key, value)? {
             Inserted::Added => {
                 self.count += 1;
                 Ok(Inserted::Added)
@@ -97,23 +101,24 @@ impl Placed {
         }
     }
 
-    /// Adds the pair, unless it is there.
+    /// Adds the pair, unless it is there. It computes the identifier of its key.
     pub fn put(&mut self, pair: &Pair) -> Result<(), AllocError>
         requires room { length self.old < 2 ^ 64 - 1 }
         requires few { length (values_at pair.now.key self.old) < 1000 }
         ensures ok { OnOk result (self.new ≡ insert_pair pair.now self.old) }
         ensures err { OnErr result (self.new ≡ self.old) }
     {
-        self.insert(&pair.key, pair.value.as_slice())?;
+        self.insert(id_of(&pair.key), &pair.key, pair.value.as_slice())?;
         Ok(())
     }
 
     /// Removes the pair, and answers whether it was there.
-    pub fn remove(&mut self, key: &Bytes, value: &[u8]) -> bool
+    pub fn remove(&mut self, id: Id, key: &Bytes, value: &[u8]) -> bool
+        requires { id.number ≡ key_id key.now }
         ensures was_there { result ≡ has_pair (record { key = key.now; value = value.now }) self.old }
         ensures change { self.new ≡ remove_pair (record { key = key.now; value = value.now }) self.old }
     {
-        if drop_pair(&mut self.slots, &mut self.others, key, value) {
+        if drop_pair(&mut self.slots, &mut self.others, id, key, value) {
             self.count -= 1;
             true
         } else {
@@ -160,41 +165,50 @@ impl CountSpan for Placed {
 }
 
 // The identifier of the key.
-fn id_of(key: &Bytes) -> u128
-    ensures { result ≡ key_id key.now }
+fn id_of(key: &Bytes) -> Id
+    ensures { result.number ≡ key_id key.now }
 {
-    Id::of_bytes(key.as_slice()).number
+    Id::of_bytes(key.as_slice())
 }
 
 // Whether one of the parts has the pair.
-fn is_in(slots: &Slots, others: &Tree, key: &Bytes, value: &[u8]) -> bool
+fn is_in(slots: &Slots, others: &Tree, id: Id, key: &Bytes, value: &[u8]) -> bool
+    requires { id.number ≡ key_id key.now }
     ensures { result ≡ has_pair (record { key = key.now; value = value.now }) (joined slots.now others.now) }
 {
-    others.contains(key, value) || slots.contains(id_of(key), key, value)
+    others.contains(key, value) || slots.contains(id.number, key, value)
 }
 
 // The number of values under the key.
-fn count_of(slots: &Slots, others: &Tree, key: &Bytes) -> usize
-    requires { AreParts slots.now others.now }
+fn count_of(slots: &Slots, others: &Tree, id: Id, key: &Bytes) -> usize
+    requires id { id.number ≡ key_id key.now }
+    requires parts { AreParts slots.now others.now }
     ensures { result ≡ length (values_at key.now (joined slots.now others.now)) }
 {
     let count = others.count_under(key);
     if count > 0 {
         return count;
     }
-    slots.count_under(id_of(key), key)
+    slots.count_under(id.number, key)
 }
 
 // Copies of the values under the key, of the part that has it.
-fn values_of(alloc: Global, slots: &Slots, others: &Tree, key: &Bytes) -> Result<Values, AllocError>
-    requires { AreParts slots.now others.now }
+fn values_of(
+    alloc: Global,
+    slots: &Slots,
+    others: &Tree,
+    id: Id,
+    key: &Bytes,
+) -> Result<Values, AllocError>
+    requires id { id.number ≡ key_id key.now }
+    requires parts { AreParts slots.now others.now }
     ensures copy { IfOk result (λ values. values ≡ values_at key.now (joined slots.now others.now)) }
     ensures few { AreFew (values_at key.now (joined slots.now others.now)) → IsOk result }
 {
     if others.count_under(key) > 0 {
         return others.values(alloc, key);
     }
-    slots.values(alloc, id_of(key), key)
+    slots.values(alloc, id.number, key)
 }
 
 // Adds the value under the key, in the part that has the key, or else in the slots,
@@ -202,9 +216,11 @@ fn values_of(alloc: Global, slots: &Slots, others: &Tree, key: &Bytes) -> Result
 fn add(
     slots: &mut Slots,
     others: &mut Tree,
+    id: Id,
     key: &Bytes,
     value: &[u8],
 ) -> Result<Inserted, AllocError>
+    requires id { id.number ≡ key_id key.now }
     requires parts { AreParts slots.old others.old }
     requires room { length (joined slots.old others.old) < 2 ^ 64 - 1 }
     ensures parts { AreParts slots.new others.new }
@@ -213,20 +229,21 @@ fn add(
     if others.count_under(key) > 0 {
         return others.insert(key, value);
     }
-    match slots.insert(id_of(key), key, value)? {
+    match slots.insert(id.number, key, value)? {
         Some(did) => Ok(did),
         None => others.insert(key, value),
     }
 }
 
 // Removes the pair from the part that has it, and answers whether it was there.
-fn drop_pair(slots: &mut Slots, others: &mut Tree, key: &Bytes, value: &[u8]) -> bool
-    requires { AreParts slots.old others.old }
+fn drop_pair(slots: &mut Slots, others: &mut Tree, id: Id, key: &Bytes, value: &[u8]) -> bool
+    requires id { id.number ≡ key_id key.now }
+    requires parts { AreParts slots.old others.old }
     ensures parts { AreParts slots.new others.new }
     ensures was_there { result ≡ has_pair (record { key = key.now; value = value.now }) (joined slots.old others.old) }
     ensures change { joined slots.new others.new ≡ remove_pair (record { key = key.now; value = value.now }) (joined slots.old others.old) }
 {
-    let in_slots = slots.remove(id_of(key), key, value);
+    let in_slots = slots.remove(id.number, key, value);
     let in_others = others.remove(key, value);
     in_slots || in_others
 }

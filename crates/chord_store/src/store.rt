@@ -1,6 +1,6 @@
 //! What every store does.
 ghost use Rattle.std.specs.Prelude.{◌≡◌, ◌≤◌, ◌<◌, ℕ, [], true, List, length, IfOk, IsOk, IfSome, IfNone};
-ghost use Rattle.chord_ident.specs.Circle.{cuts};
+ghost use Rattle.chord_ident.specs.Circle.{cuts, key_id};
 ghost use Rattle.chord_map.specs.Copies.{AreFew};
 ghost use Rattle.chord_map.specs.declared.pair.Pair.{Pair};
 ghost use Rattle.chord_map.specs.Map.{has_pair, remove_pair, values_at};
@@ -14,8 +14,9 @@ use chord_ident::{Id, Span};
 use chord_map::{Bytes, Pair, Values};
 use std::alloc::{AllocError, Global};
 
-/// A map of sets of at most 1,000 values, as the sorted
-/// list of its pairs, with a limit on their number.
+/// A map of sets of at most 1,000 values, as the sorted list of its pairs, with a limit on their
+/// number. Who asks for a key gives its identifier too, so a store that looks keys up by identifier
+/// computes no digest.
 pub trait EntryStore: Drop {
     ghost content: { Self → List Pair };
 
@@ -23,12 +24,14 @@ pub trait EntryStore: Drop {
 
     /// Adds the value to the set under the key. Present and SetFull are answered before the limit
     /// is checked, and memory comes last.
-    fn insert(&mut self, key: &Bytes, value: &[u8]) -> Result<Inserted, StoreFault>
+    fn insert(&mut self, id: Id, key: &Bytes, value: &[u8]) -> Result<Inserted, StoreFault>
+        requires { id.number ≡ key_id key.now }
         ensures answer { InsertIs (record { key = key.now; value = value.now }) (content self.old) (limit self.old) result (content self.new) }
         ensures limit { limit self.new ≡ limit self.old };
 
     /// Removes the value from the set under the key, and answers whether it was there.
-    fn remove(&mut self, key: &Bytes, value: &[u8]) -> bool
+    fn remove(&mut self, id: Id, key: &Bytes, value: &[u8]) -> bool
+        requires { id.number ≡ key_id key.now }
         ensures was_there { result ≡ has_pair (record { key = key.now; value = value.now }) (content self.old) }
         ensures change { content self.new ≡ remove_pair (record { key = key.now; value = value.now }) (content self.old) }
         ensures limit { limit self.new ≡ limit self.old };
@@ -54,7 +57,8 @@ pub trait EntryStore: Drop {
 
     /// The values under the key, in byte order. None, or
     /// a single one of up to 16 bytes, needs no memory.
-    fn values(&self, alloc: Global, key: &Bytes) -> Result<Values, AllocError>
+    fn values(&self, alloc: Global, id: Id, key: &Bytes) -> Result<Values, AllocError>
+        requires { id.number ≡ key_id key.now }
         ensures copy { IfOk result (λ values. values ≡ values_at key.now (content self.now)) }
         ensures few { AreFew (values_at key.now (content self.now)) → IsOk result };
 

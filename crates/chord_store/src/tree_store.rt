@@ -1,5 +1,6 @@
 //! A store by the identifiers of its keys.
 ghost use Rattle.std.specs.Prelude.{◌≡◌, ◌≤◌, ◌<◌, ◌-◌, ◌^◌, List, [], length};
+ghost use Rattle.chord_ident.specs.Circle.{key_id};
 ghost use Rattle.chord_map.specs.declared.pair.Pair.{Pair};
 ghost use Rattle.chord_store.specs.Inside.{pairs_inside};
 ghost use Rattle.chord_store.specs.Store.{HasFew, InsertIs, PutAllIs};
@@ -57,12 +58,12 @@ impl EntryStore for TreeStore {
 
     ghost limit = { λ _. 2 ^ 64 - 1 };
 
-    fn insert(&mut self, key: &Bytes, value: &[u8]) -> Result<Inserted, StoreFault> {
-        insert_new(&mut self.placed, key, value)
+    fn insert(&mut self, id: Id, key: &Bytes, value: &[u8]) -> Result<Inserted, StoreFault> {
+        insert_new(&mut self.placed, id, key, value)
     }
 
-    fn remove(&mut self, key: &Bytes, value: &[u8]) -> bool {
-        self.placed.remove(key, value)
+    fn remove(&mut self, id: Id, key: &Bytes, value: &[u8]) -> bool {
+        self.placed.remove(id, key, value)
     }
 
     fn take_out(&mut self, span: &Span) {
@@ -77,8 +78,8 @@ impl EntryStore for TreeStore {
         self.placed.len()
     }
 
-    fn values(&self, alloc: Global, key: &Bytes) -> Result<Values, AllocError> {
-        self.placed.values(alloc, key)
+    fn values(&self, alloc: Global, id: Id, key: &Bytes) -> Result<Values, AllocError> {
+        self.placed.values(alloc, id, key)
     }
 
     fn copy_span(&self, alloc: Global, span: &Span) -> Result<Vec<Pair>, AllocError> {
@@ -95,27 +96,39 @@ impl EntryStore for TreeStore {
 }
 
 // Adds the value under the key, if it is new and the set has room.
-fn insert_new(placed: &mut Placed, key: &Bytes, value: &[u8]) -> Result<Inserted, StoreFault>
+fn insert_new(
+    placed: &mut Placed,
+    id: Id,
+    key: &Bytes,
+    value: &[u8],
+) -> Result<Inserted, StoreFault>
+    requires { id.number ≡ key_id key.now }
     ensures { InsertIs (record { key = key.now; value = value.now }) placed.old (2 ^ 64 - 1) result placed.new }
 {
     if placed.len() == LIMIT {
-        return insert_into_full(placed, key, value);
+        return insert_into_full(placed, id, key, value);
     }
-    match placed.insert(key, value) {
+    match placed.insert(id, key, value) {
         Ok(did) => Ok(did),
         Err(_) => Err(StoreFault::Memory),
     }
 }
 
 // The answer to an insert into a full store.
-fn insert_into_full(placed: &Placed, key: &Bytes, value: &[u8]) -> Result<Inserted, StoreFault>
-    requires { length placed.now ≡ 2 ^ 64 - 1 }
+fn insert_into_full(
+    placed: &Placed,
+    id: Id,
+    key: &Bytes,
+    value: &[u8],
+) -> Result<Inserted, StoreFault>
+    requires id { id.number ≡ key_id key.now }
+    requires full { length placed.now ≡ 2 ^ 64 - 1 }
     ensures { InsertIs (record { key = key.now; value = value.now }) placed.now (2 ^ 64 - 1) result placed.now }
 {
-    if placed.contains(key, value) {
+    if placed.contains(id, key, value) {
         return Ok(Inserted::Present);
     }
-    if placed.count_under(key) >= SET_VALUES {
+    if placed.count_under(id, key) >= SET_VALUES {
         return Ok(Inserted::SetFull);
     }
     Err(StoreFault::Full)

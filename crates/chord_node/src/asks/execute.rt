@@ -9,6 +9,7 @@ ghost use Rattle.chord_node.specs.Asked.{AnswersIn, done_with};
 use crate::asks::answered::Answered;
 use crate::asks::apply::{apply, is_full};
 use chord_caller::{Ask, Told};
+use chord_ident::Id;
 use chord_map::{Done, Reply, Request};
 use chord_segment::{Past, Segment};
 use chord_store::{EntryStore, StoreFault};
@@ -80,9 +81,11 @@ pub(crate) fn execute_ready<S: EntryStore>(
     alloc: Global,
     segment: &mut Segment,
     store: &mut S,
+    id: Id,
     ask: Ask,
     buffered: Option<Request>,
 ) -> Result<(Answered, Option<Done>), AllocError>
+    requires id { id.number ≡ id_of ask.request }
     requires key { in_span segment.old.segment.span (id_of ask.request) ≡ true }
     requires new { past_at ask.caller ask.number segment.old.segment ≡ New }
     requires room { segment.old.room ≡ Some ask.caller }
@@ -90,7 +93,7 @@ pub(crate) fn execute_ready<S: EntryStore>(
     ensures answers { AnswersIn ask (is_some buffered) segment.old.segment (S.content store.old) (S.limit store.old) result segment.new.segment (S.content store.new) }
     ensures limit { S.limit store.new ≡ S.limit store.old }
 {
-    let reply = match apply(alloc, store, &ask.request) {
+    let reply = match apply(alloc, store, id, &ask.request) {
         Ok(reply) => reply,
         Err(fault) => {
             drop(ask);
@@ -146,21 +149,23 @@ fn execute_in<S: EntryStore>(
     alloc: Global,
     segment: &mut Segment,
     store: &mut S,
+    id: Id,
     ask: &Ask,
 ) -> Result<(Answered, Option<Done>), AllocError>
+    requires id { id.number ≡ id_of ask.now.request }
     requires key { in_span segment.old.segment.span (id_of ask.now.request) ≡ true }
     requires new { past_at ask.now.caller ask.now.number segment.old.segment ≡ New }
     ensures answers { AnswersIn ask.now true segment.old.segment (S.content store.old) (S.limit store.old) result segment.new.segment (S.content store.new) }
     ensures limit { S.limit store.new ≡ S.limit store.old }
 {
     let Ok((copy, buffered)) = prepare(segment, ask) else {
-        return if is_full(store, &ask.request) {
+        return if is_full(store, id, &ask.request) {
             Ok((Answered::Full, None))
         } else {
             Err(AllocError)
         };
     };
-    execute_ready(alloc, segment, store, copy, Some(buffered))
+    execute_ready(alloc, segment, store, id, copy, Some(buffered))
 }
 
 /// Answers a call whose key lies in the segment's span;
@@ -169,8 +174,10 @@ pub(crate) fn answer_in<S: EntryStore>(
     alloc: Global,
     segment: &mut Segment,
     store: &mut S,
+    id: Id,
     ask: &Ask,
 ) -> Result<(Answered, Option<Done>), AllocError>
+    requires id { id.number ≡ id_of ask.now.request }
     requires key { in_span segment.old.segment.span (id_of ask.now.request) ≡ true }
     ensures answers { AnswersIn ask.now true segment.old.segment (S.content store.old) (S.limit store.old) result segment.new.segment (S.content store.new) }
     ensures limit { S.limit store.new ≡ S.limit store.old }
@@ -186,6 +193,6 @@ pub(crate) fn answer_in<S: EntryStore>(
             };
             Ok((Answered::Told(told), None))
         }
-        Past::New => execute_in(alloc, segment, store, ask),
+        Past::New => execute_in(alloc, segment, store, id, ask),
     }
 }

@@ -24,15 +24,17 @@ fn execute_taken<S: EntryStore>(
     alloc: Global,
     segment: &mut Segment,
     store: &mut S,
+    id: Id,
     ask: Ask,
 ) -> Result<(Answered, Option<Done>), AllocError>
+    requires id { id.number ≡ id_of ask.request }
     requires key { in_span segment.old.segment.span (id_of ask.request) ≡ true }
     requires new { past_at ask.caller ask.number segment.old.segment ≡ New }
     ensures answers { AnswersIn ask false segment.old.segment (S.content store.old) (S.limit store.old) result segment.new.segment (S.content store.new) }
     ensures limit { S.limit store.new ≡ S.limit store.old }
 {
     if segment.reserve(ask.caller).is_err() {
-        let is_full = is_full(store, &ask.request);
+        let is_full = is_full(store, id, &ask.request);
         drop(ask);
         return if is_full {
             Ok((Answered::Full, None))
@@ -40,7 +42,7 @@ fn execute_taken<S: EntryStore>(
             Err(AllocError)
         };
     }
-    execute_ready(alloc, segment, store, ask, None)
+    execute_ready(alloc, segment, store, id, ask, None)
 }
 
 /// Answers a call whose key lies in the segment's span.
@@ -48,8 +50,10 @@ pub(crate) fn answer_taken<S: EntryStore>(
     alloc: Global,
     segment: &mut Segment,
     store: &mut S,
+    id: Id,
     ask: Ask,
 ) -> Result<(Answered, Option<Done>), AllocError>
+    requires id { id.number ≡ id_of ask.request }
     requires key { in_span segment.old.segment.span (id_of ask.request) ≡ true }
     ensures answers { AnswersIn ask false segment.old.segment (S.content store.old) (S.limit store.old) result segment.new.segment (S.content store.new) }
     ensures limit { S.limit store.new ≡ S.limit store.old }
@@ -69,7 +73,7 @@ pub(crate) fn answer_taken<S: EntryStore>(
             };
             Ok((Answered::Told(told), None))
         }
-        Past::New => execute_taken(alloc, segment, store, ask),
+        Past::New => execute_taken(alloc, segment, store, id, ask),
     }
 }
 

@@ -6,7 +6,7 @@ use Rattle.chord_store.proofs.placed.drop_pair.Goals as goal
 
 pub returns-then-in_slots-clause-parts : goal.returns-then-in_slots-clause-parts
 returns-then-in_slots-clause-parts c =
-    parts_remove c.args.slots.now c.args.others.now c.requires c.remove-in_slots.new.self c.remove-in_others.new.self (pair_of c.args.key.now c.args.value.now) c.remove-in_slots.ensures.change c.remove-in_others.ensures.change
+    parts_remove c.args.slots.now c.args.others.now c.requires.parts c.remove-in_slots.new.self c.remove-in_others.new.self (pair_of c.args.key.now c.args.value.now) c.remove-in_slots.ensures.change c.remove-in_others.ensures.change
 
 pub returns-then-in_slots-clause-was_there : goal.returns-then-in_slots-clause-was_there
 returns-then-in_slots-clause-was_there c =
@@ -17,11 +17,11 @@ returns-then-in_slots-clause-was_there c =
 
 pub returns-then-in_slots-clause-change : goal.returns-then-in_slots-clause-change
 returns-then-in_slots-clause-change c =
-    joined_remove c.args.slots.now c.args.others.now c.requires c.remove-in_slots.new.self c.remove-in_others.new.self (pair_of c.args.key.now c.args.value.now) c.remove-in_slots.ensures.change c.remove-in_others.ensures.change
+    joined_remove c.args.slots.now c.args.others.now c.requires.parts c.remove-in_slots.new.self c.remove-in_others.new.self (pair_of c.args.key.now c.args.value.now) c.remove-in_slots.ensures.change c.remove-in_others.ensures.change
 
 pub returns-else-in_slots-clause-parts : goal.returns-else-in_slots-clause-parts
 returns-else-in_slots-clause-parts c =
-    parts_remove c.args.slots.now c.args.others.now c.requires c.remove-in_slots.new.self c.remove-in_others.new.self (pair_of c.args.key.now c.args.value.now) c.remove-in_slots.ensures.change c.remove-in_others.ensures.change
+    parts_remove c.args.slots.now c.args.others.now c.requires.parts c.remove-in_slots.new.self c.remove-in_others.new.self (pair_of c.args.key.now c.args.value.now) c.remove-in_slots.ensures.change c.remove-in_others.ensures.change
 
 pub returns-else-in_slots-clause-was_there : goal.returns-else-in_slots-clause-was_there
 returns-else-in_slots-clause-was_there c =
@@ -32,4 +32,4 @@ returns-else-in_slots-clause-was_there c =
 
 pub returns-else-in_slots-clause-change : goal.returns-else-in_slots-clause-change
 returns-else-in_slots-clause-change c =
-    joined_remove c.args.slots.now c.args.others.now c.requires c.remove-in_slots.new.self c.remove-in_others.new.self (pair_of c.args.key.now c.args.value.now) c.remove-in_slots.ensures.change c.remove-in_others.ensures.change
+    joined_remove c.args.slots.now c.args.others.now c.requires.parts c.remove-in_slots.new.self c.remove-in_others.new.self (pair_of c.args.key.now c.args.value.now) c.remove-in_slots.ensures.change c.remove-in_others.ensures.change

@@ -12,26 +12,26 @@ pub returns-then-count_under-gt0-clause-copy : goal.returns-then-count_under-gt0
 returns-then-count_under-gt0-clause-copy c =
     let slots = c.args.slots.now in
     let others = c.args.others.now in
-    let none = slots_vacant slots others c.requires c.args.key.now (omega (arith, c.count_under.ensures, c.if-count_under-gt0.true)) in
-    if_ok_map c.values.result (λ v e. e ∙ sym (over_values others slots (joined slots others) (over_others slots others c.requires) c.args.key.now none)) c.values.ensures.copy
+    let none = slots_vacant slots others c.requires.parts c.args.key.now (omega (arith, c.count_under.ensures, c.if-count_under-gt0.true)) in
+    if_ok_map c.values.result (λ v e. e ∙ sym (over_values others slots (joined slots others) (over_others slots others c.requires.parts) c.args.key.now none)) c.values.ensures.copy
 
 pub returns-then-count_under-gt0-clause-few : goal.returns-then-count_under-gt0-clause-few
 returns-then-count_under-gt0-clause-few c =
     let slots = c.args.slots.now in
     let others = c.args.others.now in
-    let none = slots_vacant slots others c.requires c.args.key.now (omega (arith, c.count_under.ensures, c.if-count_under-gt0.true)) in
-    λ few. c.values.ensures.few (subst AreFew (over_values others slots (joined slots others) (over_others slots others c.requires) c.args.key.now none) few)
+    let none = slots_vacant slots others c.requires.parts c.args.key.now (omega (arith, c.count_under.ensures, c.if-count_under-gt0.true)) in
+    λ few. c.values.ensures.few (subst AreFew (over_values others slots (joined slots others) (over_others slots others c.requires.parts) c.args.key.now none) few)
 
 pub returns-clause-copy : goal.returns-clause-copy
 returns-clause-copy c =
     let slots = c.args.slots.now in
     let others = c.args.others.now in
     let none = others_vacant c.args.key.now others (λ some. omega (arith, c.count_under.ensures, c.if-count_under-gt0.false, some)) in
-    if_ok_map c.values-2.result (λ v e. e ∙ sym (over_values slots others (joined slots others) (over_slots slots others c.requires) c.args.key.now none)) c.values-2.ensures.copy
+    if_ok_map c.values-2.result (λ v e. e ∙ sym (over_values slots others (joined slots others) (over_slots slots others c.requires.parts) c.args.key.now none)) c.values-2.ensures.copy
 
 pub returns-clause-few : goal.returns-clause-few
 returns-clause-few c =
     let slots = c.args.slots.now in
     let others = c.args.others.now in
     let none = others_vacant c.args.key.now others (λ some. omega (arith, c.count_under.ensures, c.if-count_under-gt0.false, some)) in
-    λ few. c.values-2.ensures.few (subst AreFew (over_values slots others (joined slots others) (over_slots slots others c.requires) c.args.key.now none) few)
+    λ few. c.values-2.ensures.few (subst AreFew (over_values slots others (joined slots others) (over_slots slots others c.requires.parts) c.args.key.now none) few)

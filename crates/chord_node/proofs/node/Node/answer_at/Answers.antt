@@ -18,12 +18,12 @@ returns-in_default-clause-answer g c =
 pub returns-in_default-clause-step : goal.returns-in_default-clause-step
 returns-in_default-clause-step g c = asked_steps_recording c.args.ask false c.args.self.now (Ok (c.pass_taken.result, None)) c.args.self.now (returns-in_default-clause-answer g c)
 
-pub answer_taken-requires : goal.answer_taken-requires
-answer_taken-requires g c =
+pub answer_taken-requires-clause-key : goal.answer_taken-requires-clause-key
+answer_taken-requires-clause-key g c =
     let held = c.self.inside.held.items in
     let at = c.place_with.ensures ∙ ap (position (has c.args.id.number)) c.deref.ensures.value ∙ ap (λ (n : ℕ). position (has n) held) c.requires in
     let place = place_from (id_of c.args.ask.request) held c.in-Some.place c.index_mut-segment.result.now (sym c.in-Some.is ∙ at) in
-    record { key = ap (has (id_of c.args.ask.request)) c.index_mut-segment.ensures.value ∙ place.here }
+    ap (has (id_of c.args.ask.request)) c.index_mut-segment.ensures.value ∙ place.here
 
 pub returns-clause-answer : goal.returns-clause-answer
 returns-clause-answer g c =

@@ -32,12 +32,12 @@ returns-in-Err-clause-answer g c =
     let at = place_is held (c.of_bytes-x.ensures ∙ ap key_id c.key.ensures) c.deref.ensures.value c.place_with.ensures in
     (asked_no_further c.args.ask.now _ _ c.self.view_is held refl (find_from (id_of c.args.ask.now.request) held (sym at ∙ c.in_default.is)) c.in-Err.ensures.memory, refl)
 
-pub answer_in-requires : goal.answer_in-requires
-answer_in-requires g c =
+pub answer_in-requires-clause-key : goal.answer_in-requires-clause-key
+answer_in-requires-clause-key g c =
     let held = c.self.inside.held.items in
     let at = place_is held (c.of_bytes-x.ensures ∙ ap key_id c.key.ensures) c.deref.ensures.value c.place_with.ensures in
     let place = place_from (id_of c.args.ask.now.request) held c.in-Some.place c.index_mut-segment.result.now (sym c.in-Some.is ∙ at) in
-    record { key = ap (has (id_of c.args.ask.now.request)) c.index_mut-segment.ensures.value ∙ place.here }
+    ap (has (id_of c.args.ask.now.request)) c.index_mut-segment.ensures.value ∙ place.here
 
 pub returns-clause-answer : goal.returns-clause-answer
 returns-clause-answer g c =
