@@ -1,5 +1,5 @@
 -- How a node gives a segment in pieces, so that its lock is held for a moment only. Source: our own.
-use Rattle.std.specs.Prelude.{◌≡◌, ◌⊎◌, ℕ, ◌<◌, ◌==◌, Bool, true, false, Option, None, Some, List, length, Result, Ok, Err, slice_get}
+use Rattle.std.specs.Prelude.{◌≡◌, ◌⊎◌, ℕ, ◌<◌, ◌+◌, ◌/◌, ◌==◌, Bool, true, false, Option, None, Some, List, length, Result, Ok, Err, slice_get}
 use Rattle.std.specs.declared.alloc.AllocError.{AllocError}
 use Rattle.chord_handover.specs.Handover.{Item, Part}
 use Rattle.chord_ident.specs.declared.id.Id.{Id}
@@ -9,18 +9,23 @@ use Rattle.chord_node.specs.Pieces.{CutAfterIs}
 use Rattle.chord_segment.specs.Segment.{Segment}
 use Rattle.chord_store.specs.Cut.{CutsLeaveFewer}
 
--- the held segment at this index is to be cut here: before the cut are at least `most` pairs, and
--- no earlier cut leaves that many
-abbrev pub IsTrimmedAt : ℕ → ℕ → Node → Segment → Id → Type 0
-IsTrimmedAt place most old segment at = (slice_get old.held place ≡ Some segment) × CutAfterIs segment.span most old.entries (Some at)
+-- a piece has more than half of the pairs that it may have
+abbrev pub fewest_of : ℕ → ℕ
+fewest_of most = most / 2 + 1
 
--- the held segment at this index is cut so, if a cut leaves `most` pairs before it; out of memory
+-- the held segment at this index is to be cut here: before the cut is a piece of at most `most`
+-- pairs, or no earlier cut leaves enough for a piece
+abbrev pub IsTrimmedAt : ℕ → ℕ → Node → Segment → Id → Type 0
+IsTrimmedAt place most old segment at =
+    (slice_get old.held place ≡ Some segment) × CutAfterIs segment.span (fewest_of most) most old.entries (Some at)
+
+-- the held segment at this index is cut so, if a cut leaves enough for a piece; out of memory
 -- can only come in place of a cut
 abbrev pub TrimIs : ℕ → ℕ → Node → Result Bool AllocError → Node → Type 0
 TrimIs place most old (Ok true) new =
     (segment : Segment) × (at : Id) × IsTrimmedAt place most old segment at × (new ≡ with_held (cut_held place segment at old.held) old)
 TrimIs place most old (Ok false) new =
-    ((segment : Segment) → slice_get old.held place ≡ Some segment → CutsLeaveFewer segment.span most old.entries) × (new ≡ old)
+    ((segment : Segment) → slice_get old.held place ≡ Some segment → CutsLeaveFewer segment.span (fewest_of most) old.entries) × (new ≡ old)
 TrimIs place most old (Err fault) new = (segment : Segment) × (at : Id) × IsTrimmedAt place most old segment at × (new ≡ old)
 
 -- a cut is one step of the node, and nothing else changes it

@@ -14,8 +14,8 @@ use std::alloc::AllocError;
 use std::sync::Wait;
 use std::sync::atomic::Ordering;
 
-/// How many pairs a handover has, but for further ones of its last identifier. A node's lock is held
-/// for one of them at a time, by its giver and by its receiver.
+/// The pairs of a handover: more than half as many and at most as many, but for more of one
+/// identifier. A node's lock is held for one of them at a time, at its giver and at its receiver.
 const PIECE_PAIRS: u64 = 1024;
 
 /// How many parts a tick sends again at most.

@@ -324,9 +324,8 @@ impl<J: Naming, S: EntryStore> SeatedNode<J, S> {
         Ok(joined)
     }
 
-    /// Cuts a piece of about `most` pairs from the held segment at this index, if it has more.
+    /// Cuts a piece from the held segment at this index, if that has more pairs.
     fn trim(&mut self, table: &Shared<J>, place: usize, most: u64) -> Result<bool, AllocError>
-        requires { 0 < most }
         ensures messages { self.new.messages ≡ self.old.messages }
         ensures counts { self.new.counts ≡ self.old.counts }
         ensures answer { TrimIs place most self.old.node result self.new.node }
@@ -365,8 +364,9 @@ impl<J: Naming, S: EntryStore> SeatedNode<J, S> {
         Ok((number, envelope))
     }
 
-    /// Puts a piece of about `most` pairs of the held segment at this index into the outbox, or all
-    /// of it if it has no more, and sends the first part. Gives the item's number with it.
+    /// Puts a piece of the held segment at this index into the outbox, or all of it if it has no more,
+    /// and sends the first part. A piece has at most `most` pairs, but for more of one identifier.
+    /// Gives the item's number with it.
     pub fn give_piece(
         &mut self,
         table: &Shared<J>,
@@ -374,7 +374,6 @@ impl<J: Naming, S: EntryStore> SeatedNode<J, S> {
         to: u64,
         most: u64,
     ) -> Result<(u64, Envelope<J>), GiveFault>
-        requires { 0 < most }
         ensures messages { self.new.messages ≡ self.old.messages }
         ensures counts { OnOk result (self.new.counts ≡ counted Gave self.old.counts) }
         ensures piece { OnOk result (GivesPiece place to most self.old.node self.new.node) }

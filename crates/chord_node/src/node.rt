@@ -262,14 +262,14 @@ impl<S: EntryStore> Node<S> {
         }
     }
 
-    /// The first identifier of the span at which a cut leaves at least `n` of the node's pairs before
-    /// it, or none if no cut does.
-    pub fn cut_after(&self, span: &Span, n: u64) -> Option<Id>
+    /// Where a cut of the span leaves at least `n` and at most `most` of the node's pairs before it; or
+    /// else where the first cut leaves at least `n`, or none if no cut does.
+    pub fn cut_after(&self, span: &Span, n: u64, most: u64) -> Option<Id>
         requires { 0 < n }
-        ensures { CutAfterIs span.now n self.now.entries result }
+        ensures { CutAfterIs span.now n most self.now.entries result }
     {
         match &self.store {
-            Some(store) => store.cut_after(span, n),
+            Some(store) => store.cut_after(span, n, most),
             None => None,
         }
     }

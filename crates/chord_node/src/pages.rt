@@ -102,7 +102,7 @@ fn end_of<S: EntryStore>(store: &S, span: &Span, limit: u64) -> Id
     requires { 0 < limit }
     ensures { EndsAt span.now limit (S.content store.now) result }
 {
-    match store.cut_after(span, limit) {
+    match store.cut_after(span, limit, 0) {
         Some(at) => at,
         None => span.upto,
     }

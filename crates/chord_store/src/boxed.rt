@@ -38,8 +38,8 @@ impl EntryStore for Box<dyn EntryStore + Send> {
         (**self).copy_span(alloc, span)
     }
 
-    fn cut_after(&self, span: &Span, n: u64) -> Option<Id> {
-        (**self).cut_after(span, n)
+    fn cut_after(&self, span: &Span, n: u64, most: u64) -> Option<Id> {
+        (**self).cut_after(span, n, most)
     }
 
     fn put_all(&mut self, span: &Span, pairs: &[Pair]) -> Result<(), StoreFault> {

@@ -75,8 +75,8 @@ impl EntryStore for CappedStore {
         copy_span(alloc, self.pairs.as_slice(), span)
     }
 
-    fn cut_after(&self, span: &Span, n: u64) -> Option<Id> {
-        cut_after(&self.pairs, *span, n)
+    fn cut_after(&self, span: &Span, n: u64, most: u64) -> Option<Id> {
+        cut_after(&self.pairs, *span, n, most)
     }
 
     fn put_all(&mut self, span: &Span, pairs: &[Pair]) -> Result<(), StoreFault> {

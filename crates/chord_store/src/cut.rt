@@ -1,7 +1,7 @@
 //! Where a span is cut by a number of pairs.
-ghost use Rattle.std.specs.Prelude.{◌≡◌, ◌≤◌, ◌<◌, ◌+◌, ◌^◌, ℕ, List, length, true, IfSome, IfNone};
+ghost use Rattle.std.specs.Prelude.{◌≡◌, ◌⊎◌, ◌≤◌, ◌<◌, ◌+◌, ◌^◌, ℕ, List, length, true, IfSome, IfNone};
 ghost use Rattle.chord_ident.specs.Circle.{cuts, walk};
-ghost use Rattle.chord_store.specs.Cut.{CutsLeaveFewer, pairs_within, part_up_to};
+ghost use Rattle.chord_store.specs.Cut.{AreFewest, CutsLeaveFewer, IsShort, pairs_within, part_up_to};
 ghost use Rattle.chord_map.specs.declared.pair.Pair.{Pair};
 ghost use Rattle.chord_store.specs.Inside.{pairs_inside};
 
@@ -54,21 +54,28 @@ fn enough_steps<C: CountSpan>(counted: &C, after: Id, most: u128, n: u64) -> Opt
     Some(steps)
 }
 
-// The fewest steps after the start that meet `n` pairs, which `most` steps do.
-fn fewest_steps<C: CountSpan>(counted: &C, after: Id, most: u128, n: u64) -> u128
+// Steps after the start that meet at least `n` pairs, which `most` steps do: some that meet at most
+// `limit`, or else the fewest.
+fn steps_to<C: CountSpan>(counted: &C, after: Id, most: u128, n: u64, limit: u64) -> u128
     requires some { 0 < n }
     requires enough { n ≤ length (pairs_within after.number most (C.pairs counted.now)) }
     ensures some { 0 < result }
     ensures most { result ≤ most }
     ensures enough { n ≤ length (pairs_within after.number result (C.pairs counted.now)) }
-    ensures least { (steps : ℕ) → steps < result → length (pairs_within after.number steps (C.pairs counted.now)) < n }
+    ensures short { (length (pairs_within after.number result (C.pairs counted.now)) ≤ limit) ⊎ AreFewest after.number result n (C.pairs counted.now) }
 {
+    if count_within(counted, after, most) <= limit {
+        return most;
+    }
     let mut low = 0u128;
     let mut high = most;
     while high - low > 1 {
         let middle = low + (high - low) / 2;
-        if count_within(counted, after, middle) < n {
+        let met = count_within(counted, after, middle);
+        if met < n {
             low = middle;
+        } else if met <= limit {
+            return middle;
         } else {
             high = middle;
         }
@@ -76,14 +83,14 @@ fn fewest_steps<C: CountSpan>(counted: &C, after: Id, most: u128, n: u64) -> u12
     high
 }
 
-/// The first identifier of the span at which a cut leaves at least `n` pairs before it, or none
-/// where no cut does. It counts some parts of the span, about twice as many as an identifier has
-/// digits.
-pub fn cut_after<C: CountSpan>(counted: &C, span: Span, n: u64) -> Option<Id>
+/// An identifier of the span at which a cut leaves at least `n` and at most `limit` pairs before it;
+/// or else the first one at which a cut leaves at least `n`, or none where no cut does. It looks at
+/// parts of the span twice as large each time, and then at halves between them.
+pub fn cut_after<C: CountSpan>(counted: &C, span: Span, n: u64, limit: u64) -> Option<Id>
     requires { 0 < n }
     ensures cut { IfSome result (λ at. cuts span at ≡ true) }
     ensures enough { IfSome result (λ at. n ≤ length (pairs_inside (part_up_to span at) (C.pairs counted.now))) }
-    ensures first { IfSome result (λ at. CutsLeaveFewer (part_up_to span at) n (C.pairs counted.now)) }
+    ensures short { IfSome result (λ at. IsShort (part_up_to span at) n limit (C.pairs counted.now)) }
     ensures none { IfNone result (CutsLeaveFewer span n (C.pairs counted.now)) }
 {
     let most = span.after.distance(span.upto).wrapping_sub(1);
@@ -93,6 +100,6 @@ pub fn cut_after<C: CountSpan>(counted: &C, span: Span, n: u64) -> Option<Id>
     let Some(enough) = enough_steps(counted, span.after, most, n) else {
         return None;
     };
-    let steps = fewest_steps(counted, span.after, enough, n);
+    let steps = steps_to(counted, span.after, enough, n, limit);
     Some(after_steps(span.after, steps))
 }

@@ -80,8 +80,8 @@ impl EntryStore for NotedStore {
         self.list.copy_span(alloc, span)
     }
 
-    fn cut_after(&self, span: &Span, n: u64) -> Option<Id> {
-        self.list.cut_after(span, n)
+    fn cut_after(&self, span: &Span, n: u64, most: u64) -> Option<Id> {
+        self.list.cut_after(span, n, most)
     }
 
     fn put_all(&mut self, span: &Span, pairs: &[Pair]) -> Result<(), StoreFault> {

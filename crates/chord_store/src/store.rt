@@ -5,7 +5,7 @@ ghost use Rattle.chord_map.specs.Copies.{AreFew};
 ghost use Rattle.chord_map.specs.declared.pair.Pair.{Pair};
 ghost use Rattle.chord_map.specs.Map.{has_pair, remove_pair, values_at};
 ghost use Rattle.chord_map.specs.Pairs.{IsRising};
-ghost use Rattle.chord_store.specs.Cut.{CutsLeaveFewer, part_up_to};
+ghost use Rattle.chord_store.specs.Cut.{CutsLeaveFewer, IsShort, part_up_to};
 ghost use Rattle.chord_store.specs.Inside.{pairs_inside, pairs_outside};
 ghost use Rattle.chord_store.specs.Store.{HasFew, InsertIs, PutAllIs};
 
@@ -68,14 +68,16 @@ pub trait EntryStore: Drop {
         ensures copies { IfOk result (λ pairs. pairs.items ≡ pairs_inside span.now (content self.now)) }
         ensures none { pairs_inside span.now (content self.now) ≡ [] → IsOk result };
 
-    /// The first identifier of the span at which a cut leaves at least `n` pairs before it, or none
-    /// where no cut does. A tree counts some parts of the span, about twice as many as an
-    /// identifier has digits; a list goes over all its pairs for each.
-    fn cut_after(&self, span: &Span, n: u64) -> Option<Id>
+    /// An identifier of the span at which a cut leaves at least `n` and at most `most` pairs before
+    /// it. If that is not found by few looks, the first one at which a cut leaves at least `n`, or
+    /// none where no cut does. A tree reads the shards of some parts of the span: it doubles a part
+    /// until it has `n` pairs, and halves it down to the first identifier unless it has at most
+    /// `most`. A list goes over all its pairs for each look.
+    fn cut_after(&self, span: &Span, n: u64, most: u64) -> Option<Id>
         requires { 0 < n }
         ensures cut { IfSome result (λ at. cuts span.now at ≡ true) }
         ensures enough { IfSome result (λ at. n ≤ length (pairs_inside (part_up_to span.now at) (content self.now))) }
-        ensures first { IfSome result (λ at. CutsLeaveFewer (part_up_to span.now at) n (content self.now)) }
+        ensures short { IfSome result (λ at. IsShort (part_up_to span.now at) n most (content self.now)) }
         ensures none { IfNone result (CutsLeaveFewer span.now n (content self.now)) };
 
     /// Adds the pairs, which lie in a span where the store has none: all of them or none.

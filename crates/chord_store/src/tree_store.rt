@@ -86,8 +86,8 @@ impl EntryStore for TreeStore {
         self.placed.copy_span(alloc, span)
     }
 
-    fn cut_after(&self, span: &Span, n: u64) -> Option<Id> {
-        cut_after(&self.placed, *span, n)
+    fn cut_after(&self, span: &Span, n: u64, most: u64) -> Option<Id> {
+        cut_after(&self.placed, *span, n, most)
     }
 
     fn put_all(&mut self, span: &Span, pairs: &[Pair]) -> Result<(), StoreFault> {

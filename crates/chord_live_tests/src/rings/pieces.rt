@@ -27,6 +27,8 @@ const ZERO: Peer = Peer {
 /// The first 16 bytes of the SHA-1 of `c`, of `a` and of `b`, as they follow behind A.
 const ID_OF_C: u128 = 0x84a516841ba77a5b4648de2cd0dfcb30;
 
+const ID_OF_A: u128 = 0x86f7e437faa5a7fce15d1ddcb9eaeaea;
+
 const ID_OF_B: u128 = 0xe9d71f5ee7c92d6dc9e92ffdad17b8bd;
 
 fn span(after: u128, upto: u128) -> Option<Span> {
@@ -49,39 +51,62 @@ fn with_three(alloc: Global) -> Option<Node<TreeStore>> {
     Some(node)
 }
 
+/// The index of the segment that holds each of `c`, `a` and `b`.
+#[derive(Clone, Copy, Debug, PartialEq, Eq)]
+struct Places {
+    c: Option<usize>,
+    a: Option<usize>,
+    b: Option<usize>,
+}
+
+fn place_of<S: EntryStore>(node: &Node<S>, id: u128) -> Option<usize> {
+    for place in 0..node.held_count() {
+        if node.span(place)?.contains(Id::new(id)) {
+            return Some(place);
+        }
+    }
+    None
+}
+
+fn places_in<S: EntryStore>(node: &Node<S>) -> Places {
+    Places {
+        c: place_of(node, ID_OF_C),
+        a: place_of(node, ID_OF_A),
+        b: place_of(node, ID_OF_B),
+    }
+}
+
 #[test]
-fn a_segment_is_cut_behind_its_first_pairs(rt: HostRuntime) {
+fn a_piece_has_the_first_pairs(rt: HostRuntime) {
     let mut node = with_three(rt.alloc()).expect(&rt, "memory for a node");
     assert!(rt;
         trim(&mut node, 0, 1).ok() == Some(true),
         "it has more than a piece of one pair"
     );
+    let one_and_two = Places {
+        c: Some(0),
+        a: Some(1),
+        b: Some(1),
+    };
     assert!(rt;
-        node.span(0) == span(A, ID_OF_C),
-        "the piece ends with the first pair"
+        places_in(&node) == one_and_two,
+        "the first pair alone is in the piece"
     );
-    assert!(rt; node.span(1) == span(ID_OF_C, A), "the rest is behind it");
     assert!(rt;
-        trim(&mut node, 0, 1).ok() == Some(false),
-        "a piece is not cut again"
+        trim(&mut node, 0, 2).ok() == Some(false),
+        "one pair is not enough for a piece of two"
     );
     assert!(rt;
         trim(&mut node, 1, 2).ok() == Some(true),
-        "a cut at the second pair of the rest leaves two"
+        "the two others are"
     );
-    assert!(rt;
-        node.span(1) == span(ID_OF_C, ID_OF_B),
-        "the piece ends with the second pair"
-    );
-    assert!(rt;
-        trim(&mut node, 1, 3).ok() == Some(false),
-        "it has no more than two pairs"
-    );
+    assert!(rt; places_in(&node) == one_and_two, "both are in the piece");
+    assert!(rt; node.held_count() == 3, "behind which is no pair");
     assert!(rt;
         trim(&mut node, 3, 1).ok() == Some(false),
         "there are three segments"
     );
-    assert!(rt; node.held_count() == 3, "and no cut was refused");
+    assert!(rt; node.held_count() == 3, "and none was cut");
     drop(node);
 }
 
@@ -122,7 +147,7 @@ fn segments_that_adjoin_are_joined(rt: HostRuntime) {
     drop(node);
 }
 
-/// The pairs that node 0 holds at first: two pieces of 1,024, and a rest.
+/// The pairs that node 0 holds at first: three pieces of up to 1,024 at least.
 const PAIRS: u64 = 2_060;
 
 /// The identifier before A, which leaves node 0 no other one.
@@ -212,8 +237,8 @@ fn ticks<J: Naming, R: Abort + Wait + Clock>(rt: &R, alloc: Global, ring: &Ring<
     let giver = sight_of(rt, alloc, ring, 0);
     assert!(rt; giver.pairs == 0, "node 0 has no pair left");
     assert!(rt;
-        giver.counts.handovers.given == 3,
-        "it gave two pieces and the rest"
+        (3..=5).contains(&giver.counts.handovers.given),
+        "a piece has 513 to 1,024 pairs, and the last may have fewer"
     );
     drop(giver);
 }
@@ -239,8 +264,8 @@ fn has_all<R: Abort>(rt: &R, sight: NodeSight) {
         "which is its own"
     );
     assert!(rt;
-        sight.counts.handovers.taken == 3,
-        "it took two pieces and the rest"
+        (3..=5).contains(&sight.counts.handovers.taken),
+        "it took each piece"
     );
     drop(sight);
 }

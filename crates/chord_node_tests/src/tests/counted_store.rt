@@ -78,8 +78,8 @@ impl<'a> EntryStore for CountedStore<'a> {
         self.list.copy_span(alloc, span)
     }
 
-    fn cut_after(&self, span: &Span, n: u64) -> Option<Id> {
-        self.list.cut_after(span, n)
+    fn cut_after(&self, span: &Span, n: u64, most: u64) -> Option<Id> {
+        self.list.cut_after(span, n, most)
     }
 
     fn put_all(&mut self, span: &Span, pairs: &[Pair]) -> Result<(), StoreFault> {

@@ -1,4 +1,4 @@
-use Rattle.std.proofs.Common.{rules, ◌≤◌, ◌<◌, ◌+◌, ◌-◌, ◌%◌, ◌^◌, ℕ, List, length, sym, ap, subst, ◌∙◌, arith}
+use Rattle.std.proofs.Common.{rules, ◌≤◌, ◌<◌, ◌+◌, ◌-◌, ◌%◌, ◌^◌, ℕ, List, length, sym, ap, subst, ◌∙◌, arith, inl, inr, ⊎_elim}
 use Rattle.chord_ident.proofs.Digest.{key_id-below}
 use Rattle.chord_ident.proofs.Walks.{skips}
 use Rattle.chord_map.specs.declared.pair.Pair.{Pair}
@@ -25,7 +25,7 @@ pub returns-clause-cut : goal.returns-clause-cut
 returns-clause-cut g c =
     let span = c.args.span in
     let whole = skips span.after.number span.upto.number _ (search rules) (search rules) (ap (λ (d : ℕ). (d + (2 ^ 128 - 1)) % 2 ^ 128) c.distance-most.ensures) in
-    cuts_at span c.after_steps.result (omega (arith, whole, c.after_steps.ensures, c.in-Some.ensures.most, c.fewest_steps-steps.ensures.most))
+    cuts_at span c.after_steps.result (omega (arith, whole, c.after_steps.ensures, c.in-Some.ensures.most, c.steps_to-steps.ensures.most))
 
 pub returns-clause-enough : goal.returns-clause-enough
 returns-clause-enough g c =
@@ -34,10 +34,17 @@ returns-clause-enough g c =
     subst (λ (k : ℕ). c.args.n ≤ k)
     (sym (ap (λ (ps : List Pair). length ps) (part_within span c.after_steps.result pairs)
     ∙ ap (λ (d : ℕ). length (pairs_within span.after.number d pairs)) c.after_steps.ensures))
-    c.fewest_steps-steps.ensures.enough
+    c.steps_to-steps.ensures.enough
 
-pub returns-clause-first : goal.returns-clause-first
-returns-clause-first g c =
+pub returns-clause-short : goal.returns-clause-short
+returns-clause-short g c =
     let span = c.args.span in
-    cuts_leave (part_up_to span c.after_steps.result) c.args.n (g.C.CountSpan.pairs c.args.counted.now) (search rules) (search rules)
-    (λ steps less. c.fewest_steps-steps.ensures.least steps (subst (λ (d : ℕ). steps < d) c.after_steps.ensures less))
+    let pairs = g.C.CountSpan.pairs c.args.counted.now in
+    ⊎_elim
+    (λ few. inl (subst (λ (k : ℕ). k ≤ c.args.limit)
+    (sym (ap (λ (ps : List Pair). length ps) (part_within span c.after_steps.result pairs)
+    ∙ ap (λ (d : ℕ). length (pairs_within span.after.number d pairs)) c.after_steps.ensures))
+    few))
+    (λ fewest. inr (cuts_leave (part_up_to span c.after_steps.result) c.args.n pairs (search rules) (search rules)
+    (λ steps less. fewest steps (subst (λ (d : ℕ). steps < d) c.after_steps.ensures less))))
+    c.steps_to-steps.ensures.short

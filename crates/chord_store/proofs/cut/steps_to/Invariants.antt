@@ -1,6 +1,6 @@
 use Rattle.std.proofs.Common.{◌≤◌, ◌<◌, ◌-◌, length}
 use Rattle.chord_store.specs.Cut.{pairs_within}
-use Rattle.chord_store.proofs.cut.fewest_steps.Given as goal
+use Rattle.chord_store.proofs.cut.steps_to.Given as goal
 
 abbrev pub decreases-loop-high : goal.decreases-loop-high
 decreases-loop-high g l = l.high - l.low
