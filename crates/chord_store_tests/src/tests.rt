@@ -32,7 +32,7 @@ fn insert<S: EntryStore>(
     expected: Result<Inserted, StoreFault>,
 ) {
     let key = key(alloc, bytes);
-    let answer = store.insert(&key, value);
+    let answer = store.insert(Id::of_bytes(key.as_slice()), &key, value);
     drop(key);
     assert!(rt; answer == expected);
 }
@@ -40,7 +40,7 @@ fn insert<S: EntryStore>(
 // Removes the value from under the key, and answers whether it was there.
 fn remove<S: EntryStore>(alloc: Global, store: &mut S, bytes: &[u8], value: &[u8]) -> bool {
     let key = key(alloc, bytes);
-    let is_there = store.remove(&key, value);
+    let is_there = store.remove(Id::of_bytes(key.as_slice()), &key, value);
     drop(key);
     is_there
 }
@@ -52,7 +52,7 @@ fn values_under<S: EntryStore>(
     bytes: &[u8],
 ) -> Result<Values, AllocError> {
     let key = key(alloc, bytes);
-    let values = store.values(alloc, &key);
+    let values = store.values(alloc, Id::of_bytes(key.as_slice()), &key);
     drop(key);
     values
 }

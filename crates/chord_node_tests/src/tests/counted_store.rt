@@ -50,12 +50,12 @@ impl<'a> EntryStore for CountedStore<'a> {
 
     ghost limit = { λ _. 2 ^ 64 - 1 };
 
-    fn insert(&mut self, key: &Bytes, value: &[u8]) -> Result<Inserted, StoreFault> {
-        self.list.insert(key, value)
+    fn insert(&mut self, id: Id, key: &Bytes, value: &[u8]) -> Result<Inserted, StoreFault> {
+        self.list.insert(id, key, value)
     }
 
-    fn remove(&mut self, key: &Bytes, value: &[u8]) -> bool {
-        self.list.remove(key, value)
+    fn remove(&mut self, id: Id, key: &Bytes, value: &[u8]) -> bool {
+        self.list.remove(id, key, value)
     }
 
     fn take_out(&mut self, span: &Span) {
@@ -70,8 +70,8 @@ impl<'a> EntryStore for CountedStore<'a> {
         self.list.count()
     }
 
-    fn values(&self, alloc: Global, key: &Bytes) -> Result<Values, AllocError> {
-        self.list.values(alloc, key)
+    fn values(&self, alloc: Global, id: Id, key: &Bytes) -> Result<Values, AllocError> {
+        self.list.values(alloc, id, key)
     }
 
     fn copy_span(&self, alloc: Global, span: &Span) -> Result<Vec<Pair>, AllocError> {

@@ -6,7 +6,7 @@ use super::scripts::{
 };
 use super::{A, B, C, founder, newborn};
 use chord_handover::{Part, Ticket};
-use chord_ident::Span;
+use chord_ident::{Id, Span};
 use chord_map::Bytes;
 use chord_node::{
     Back, CutAtFault, GiveFault, MergeFault, Node, PartAnswer, Phase, ResendPartFault,
@@ -466,8 +466,9 @@ struct GivenBack {
 
 fn use_store(mut store: CappedStore, key: Bytes) -> GivenBack {
     let count = store.count();
-    let first = store.insert(&key, b"x");
-    let second = store.insert(&key, b"y");
+    let id = Id::of_bytes(key.as_slice());
+    let first = store.insert(id, &key, b"x");
+    let second = store.insert(id, &key, b"y");
     drop(store);
     drop(key);
     GivenBack {

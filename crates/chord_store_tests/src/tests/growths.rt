@@ -80,11 +80,13 @@ fn has_these<S: EntryStore>(alloc: Global, store: &S, there: There) -> bool {
 // Whether the pair is added. If memory was refused, the
 // store must be unchanged, and a second try adds it.
 fn is_put<S: EntryStore>(alloc: Global, store: &mut S, key: &Bytes, n: u8, there: There) -> bool {
-    match store.insert(key, &[n; LONG]) {
+    let id = Id::of_bytes(key.as_slice());
+    match store.insert(id, key, &[n; LONG]) {
         Ok(_) => true,
         Err(StoreFault::Full) => false,
         Err(StoreFault::Memory) => {
-            has_these(alloc, store, there) && store.insert(key, &[n; LONG]) == Ok(Inserted::Added)
+            has_these(alloc, store, there)
+                && store.insert(id, key, &[n; LONG]) == Ok(Inserted::Added)
         }
     }
 }
@@ -125,9 +127,10 @@ fn put_all_in_turn<S: EntryStore>(
 // The values under the fifth key, tried again if memory was refused.
 fn values<S: EntryStore>(alloc: Global, store: &S) -> Result<Values, AllocError> {
     let key = long(alloc, 5)?;
-    let values = match store.values(alloc, &key) {
+    let id = Id::of_bytes(key.as_slice());
+    let values = match store.values(alloc, id, &key) {
         Ok(values) => Ok(values),
-        Err(_) => store.values(alloc, &key),
+        Err(_) => store.values(alloc, id, &key),
     };
     drop(key);
     values

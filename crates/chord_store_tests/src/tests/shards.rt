@@ -39,7 +39,8 @@ fn keys_inside(span: Span) -> usize {
 // Adds the values x and y under the key.
 fn add_key<S: EntryStore>(store: &mut S, key: &Bytes) -> bool {
     let added: Result<Inserted, StoreFault> = Ok(Inserted::Added);
-    store.insert(key, b"x") == added && store.insert(key, b"y") == added
+    let id = Id::of_bytes(key.as_slice());
+    store.insert(id, key, b"x") == added && store.insert(id, key, b"y") == added
 }
 
 // Adds all keys.
