@@ -127,19 +127,19 @@ fn rests_agree<S: EntryStore>(
     Ok(is_left)
 }
 
-// Whether the cut leaves at least `least` pairs before it, and a key less would not; or whether
-// the span has too few pairs before its end, which is a key.
-fn is_cut_right<S: EntryStore>(store: &S, span: Span, least: u64) -> bool
+// Whether the cut leaves at least `least` pairs before it, and at most `most` or a key less would not;
+// or whether the span has too few pairs before its end, which is a key.
+fn is_cut_right<S: EntryStore>(store: &S, span: Span, least: u64, most: u64) -> bool
     requires { 0 < least }
 {
-    let Some(at) = store.cut_after(&span, least) else {
+    let Some(at) = store.cut_after(&span, least, most) else {
         let before_end = keys_inside(span).saturating_sub(1) as u64;
         return before_end.saturating_mul(2) < least;
     };
     match span.cut(at) {
         Ok((first, _)) => {
             let pairs = (keys_inside(first) as u64).saturating_mul(2);
-            least <= pairs && pairs < least.saturating_add(2)
+            least <= pairs && (pairs <= most || pairs < least.saturating_add(2))
         }
         Err(_) => false,
     }
@@ -157,7 +157,10 @@ fn is_cut_by_pairs<S: EntryStore>(
     let mut are_right = fill(alloc, &mut store)?;
     for n in 0..spans {
         for pairs in least {
-            are_right = are_right & is_cut_right(&store, between(n, 7), (*pairs).max(1));
+            let least = (*pairs).max(1);
+            are_right = are_right
+                & is_cut_right(&store, between(n, 7), least, 0)
+                & is_cut_right(&store, between(n, 7), least, least.saturating_mul(2));
         }
     }
     drop(store);
