@@ -4,6 +4,7 @@ ghost use Rattle.std.specs.List.{All};
 
 use chord_app_text::{Fault, Finish};
 use chord_app_world::{add_store, empty_ones, world};
+use chord_ident::Id;
 use chord_map::Bytes;
 use chord_store::{CappedStore, EntryStore, ListStore};
 use std::alloc::{AllocError, Global};
@@ -322,9 +323,10 @@ fn kept_of_two(alloc: Global) -> Result<usize, Fail> {
     let mut stores = Vec::new(alloc);
     stores.push(CappedStore::new(alloc, 1))?;
     let mut second = CappedStore::new(alloc, 1);
-    let added = second
-        .insert(&Bytes::from_slice(alloc, b"a")?, b"x")
-        .is_ok();
+    let key = Bytes::from_slice(alloc, b"a")?;
+    let id = Id::of_bytes(key.as_slice());
+    let added = second.insert(id, &key, b"x").is_ok();
+    drop(key);
     stores.push(second)?;
     let kept = empty_ones(alloc, stores)?;
     if added {

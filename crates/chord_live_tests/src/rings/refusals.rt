@@ -83,8 +83,9 @@ const ROOM_FOR_ONE: StoreShown = StoreShown {
 fn show_store(rt: &impl Abort, alloc: Global, mut store: CappedStore) -> StoreShown {
     let key = Bytes::from_slice(alloc, b"a").expect(rt, "memory for a key");
     let count = store.count();
-    let first = store.insert(&key, b"x".as_slice());
-    let second = store.insert(&key, b"y".as_slice());
+    let id = Id::of_bytes(key.as_slice());
+    let first = store.insert(id, &key, b"x".as_slice());
+    let second = store.insert(id, &key, b"y".as_slice());
     drop(key);
     drop(store);
     StoreShown {
