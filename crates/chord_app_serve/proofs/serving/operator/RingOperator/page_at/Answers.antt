@@ -2,7 +2,7 @@ use Rattle.std.proofs.Common.{Option, subst}
 use Rattle.std.specs.Prelude.{IfSome}
 use Rattle.chord_live_ring.specs.Sights.{IsPageShown}
 use Rattle.chord_node.specs.declared.pages.PairsPage.{PairsPage as NodePage}
-use Rattle.chord_app_serve.proofs.serving.pairs.RingOperator.page_at.Goals as goal
+use Rattle.chord_app_serve.proofs.serving.operator.RingOperator.page_at.Goals as goal
 
 pub returns : goal.returns
 returns g c = record {
