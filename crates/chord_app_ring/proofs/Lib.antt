@@ -1,7 +1,11 @@
 pub mod Lists
 pub mod Bytes
 pub mod Circles
+pub mod Ends
 pub mod Faults
+pub mod Inserts
 pub mod Nodes
+pub mod Restored
+pub mod Spelled
 pub mod Texts
 pub mod Refusals

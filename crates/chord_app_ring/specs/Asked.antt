@@ -6,9 +6,11 @@ use Rattle.http1.specs.declared.conn.Limits.{Limits}
 use Rattle.http1.specs.declared.conn.BodySize.{BodySize}
 use Rattle.http1.specs.declared.conn.BodySize.TheVariants.{Empty, Known}
 use Rattle.http1.specs.Client.{new_client, planned_request}
+use Rattle.chord_ident.specs.declared.id.Id.{Id}
 use Rattle.chord_app_operator.specs.declared.request.calls.JoinRequest.{JoinRequest}
+use Rattle.chord_app_operator.specs.declared.request.calls.PairsRequest.{PairsRequest}
 use Rattle.chord_app_operator.specs.Words.{store_word}
-use Rattle.chord_app_operator.specs.Json.{count_data, id_data, record_of}
+use Rattle.chord_app_operator.specs.Json.{count_data, id_hex, id_data, record_of}
 use Rattle.chord_app_ring.specs.declared.command.RingCommand.{RingCommand}
 use Rattle.chord_app_ring.specs.declared.command.RingCommand.TheVariants.{Show, Join, Leave, Crash, Stop}
 
@@ -65,12 +67,28 @@ size_of Stop = Known 0
 abbrev pub limits : Limits
 limits = record { max_head_len = 16384; max_extensions_len = 16384; max_trailers_len = 16384 }
 
--- the request to the server with this port: its head as HTTP/1.1 writes it, and its body
+-- a request to the server with this port: its head as HTTP/1.1 writes it, and its body
+abbrev pub request_by : ℕ → (method path : List ℕ) → BodySize → List ℕ → List ℕ
+request_by port method path size body =
+    planned_request (new_client limits) method path size ((codes "host", codes "127.0.0.1:" ++ decimal port) ∷ []) ++ body
+
 abbrev pub request_of : ℕ → RingCommand → List ℕ
-request_of port command =
-    planned_request (new_client limits) (method_of command) (path_of command) (size_of command)
-    ((codes "host", codes "127.0.0.1:" ++ decimal port) ∷ [])
-    ++ body_of command
+request_of port command = request_by port (method_of command) (path_of command) (size_of command) (body_of command)
+
+-- the path of a request for a page of pairs
+abbrev pub path_behind : List ℕ → ℕ → List ℕ
+path_behind after limit = codes "/pairs?after=" ++ after ++ codes "&limit=" ++ decimal limit
+
+abbrev pub pairs_path_of : Option Id → ℕ → List ℕ
+pairs_path_of None limit = codes "/pairs?limit=" ++ decimal limit
+pairs_path_of (Some after) limit = path_behind (id_hex after) limit
+
+abbrev pub pairs_path : PairsRequest → List ℕ
+pairs_path r = pairs_path_of r.after r.limit
+
+-- the request for it
+abbrev pub pairs_request : ℕ → PairsRequest → List ℕ
+pairs_request port r = request_by port (codes "GET") (pairs_path r) Empty []
 
 -- the status of an answer that does what is asked (RFC 9110, section 15.3)
 abbrev pub good_status : RingCommand → ℕ

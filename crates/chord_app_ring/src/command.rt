@@ -40,7 +40,7 @@ impl RingCommand {
     }
 }
 
-/// What the command line says.
+/// What is asked for, and how often.
 #[derive(Clone, Copy, Debug, PartialEq, Eq)]
 pub struct RingLine {
     /// The operator's port of the server, on 127.0.0.1.
@@ -48,4 +48,14 @@ pub struct RingLine {
     pub command: RingCommand,
     /// How many times the ring is shown, a second apart.
     pub times: u64,
+}
+
+/// What the command line says.
+#[derive(Clone, Copy, Debug, PartialEq, Eq)]
+pub enum RingTask {
+    Ask(RingLine),
+    /// All pairs of the server with this operator's port are written.
+    Dump(u16),
+    /// Pairs are inserted at the server with this port for clients.
+    Restore(u16),
 }

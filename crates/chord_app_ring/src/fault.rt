@@ -1,8 +1,10 @@
 //! Why the command does not do what it is asked for.
 ghost use Rattle.std.specs.Prelude.{◌≡◌};
 ghost use Rattle.chord_app_ring.specs.declared.fault.ReadFault.TheVariants.{Memory};
+ghost use Rattle.chord_app_ring.specs.declared.fault.RestoreFault.TheVariants as restore;
 ghost use Rattle.chord_app_ring.specs.Faults.{ring_fault};
 
+use chord_app_text::{InsertFault, PairFault};
 use std::alloc::{AllocError, AllocFailed};
 use std::io;
 use thiserror::Error;
@@ -62,5 +64,25 @@ impl From<ReadFault> for RingFault {
             ReadFault::NotUnderstood => RingFault::NotUnderstood,
             ReadFault::Memory => RingFault::Memory,
         }
+    }
+}
+
+/// Why a line of a copy is not restored.
+#[derive(Clone, Copy, Debug, PartialEq, Eq)]
+pub enum RestoreFault {
+    /// It is no pair.
+    Pair(PairFault),
+    /// Its pair is not inserted, or is not known to be.
+    Insert(InsertFault),
+    /// The input cannot be read.
+    Read,
+    Memory,
+}
+
+impl From<AllocError> for RestoreFault {
+    ghost from_gives = { λ _ fault. fault ≡ restore.Memory };
+
+    fn from(_refused: AllocError) -> RestoreFault {
+        RestoreFault::Memory
     }
 }

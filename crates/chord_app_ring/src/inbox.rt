@@ -1,21 +1,29 @@
 //! An answer as its bytes come.
+ghost use Rattle.std.specs.Prelude.{length, All};
+ghost use Rattle.httparse.specs.Spans.{IsHeaderWithin};
 
 use crate::fault::RingFault;
 use http1::{Client, Event, ReadError};
-use httparse::spans::EMPTY_HEADER_SPAN;
+use httparse::spans::{EMPTY_HEADER_SPAN, HeaderSpan};
 use std::alloc::Global;
 
 /// The most fields of an answer.
 const FIELDS: usize = 64;
 
-/// The most bytes of an answer's body. A ring of 4,096 nodes has a few million.
+/// The most bytes of an answer's body. A ring of 4,096 nodes has a few million, and a page of pairs
+/// at most 18 million: 999 pairs before the last identifier, and 1,000 of its key.
 const BODY_BYTES: usize = 67_108_864;
+
+/// The field of a page that names the identifier to go on behind.
+const NEXT: &[u8] = b"chord-next";
 
 /// An answer of the server.
 #[derive(Debug, Drop)]
 pub struct Answer {
     /// Its status.
     pub status: u16,
+    /// The value of its field `chord-next`, if it has one.
+    pub next: Option<Vec<u8>>,
     pub body: Vec<u8>,
 }
 
@@ -45,6 +53,18 @@ fn fault_of(error: ReadError) -> RingFault {
     }
 }
 
+/// The value of the first of these fields with this name.
+fn value_of<'a>(bytes: &'a [u8], fields: &[HeaderSpan], name: &[u8]) -> Option<&'a [u8]>
+    requires { All (IsHeaderWithin (length bytes.now)) fields.now }
+{
+    for field in fields {
+        if field.name.of(bytes).eq_ignore_ascii_case(name) {
+            return Some(field.value.of(bytes));
+        }
+    }
+    None
+}
+
 impl Inbox {
     /// For the answer to the request that this client wrote.
     pub fn new(alloc: Global, client: Client) -> Inbox {
@@ -53,6 +73,7 @@ impl Inbox {
             unread: Vec::new(alloc),
             answer: Answer {
                 status: 0,
+                next: None,
                 body: Vec::new(alloc),
             },
         }
@@ -74,6 +95,11 @@ impl Inbox {
             Event::NeedMore => Turn::Read,
             Event::Head(head) => {
                 self.answer.status = head.code;
+                let fields = &headers[..head.headers];
+                self.answer.next = match value_of(&self.unread, fields, NEXT) {
+                    Some(value) => Some(Vec::from_slice(*self.unread.allocator(), value)?),
+                    None => None,
+                };
                 Turn::Again
             }
             Event::Informational(_) => Turn::Again,

@@ -3,11 +3,11 @@ ghost use Rattle.std.specs.Prelude.{◌≡◌, false, IfOk, OnOk, option_map, st
 ghost use Rattle.serde_json.specs.View.{view, members_view};
 ghost use Rattle.serde_json.specs.Written.{compact_text, has_float};
 ghost use Rattle.chord_app_operator.specs.Json.{id_data};
-ghost use Rattle.chord_app_ring.specs.Asked.{path_of, put_if, join_data, body_of, size_of, limits, request_of};
+ghost use Rattle.chord_app_ring.specs.Asked.{path_of, put_if, join_data, body_of, size_of, limits, request_by, request_of, path_behind, pairs_path, pairs_request};
 ghost use Rattle.http1.specs.Client.{new_client};
 
 use crate::command::RingCommand;
-use chord_app_operator::{JoinRequest, ToJson};
+use chord_app_operator::{JoinRequest, PairsRequest, ToJson, id_text};
 use http1::{BodySize, Client, Header, Limits};
 use serde_json::{Map, Value, json, put};
 use std::alloc::{AllocError, Global};
@@ -99,8 +99,41 @@ fn body_size(command: &RingCommand, body: &str) -> BodySize
     }
 }
 
-/// The request for a command, to the server with this port. Out of memory stands also for a head
-/// that HTTP/1.1 has not, which no command makes.
+// A request to the server with this port. Out of memory stands also for a head that HTTP/1.1 has
+// not, which no call here makes.
+fn write_request(
+    client: &mut Client,
+    port: u16,
+    method: &str,
+    path: String,
+    size: BodySize,
+    body: String,
+) -> Result<Vec<u8>, AllocError>
+    requires { client.old ≡ new_client limits }
+    ensures { IfOk result (λ request. request.items ≡ request_by port method.now (string_bytes path) size (string_bytes body)) }
+{
+    let alloc = *path.allocator();
+    let host = format!(in alloc; "127.0.0.1:{port}")?;
+    let headers = [Header {
+        name: b"host",
+        value: host.as_bytes(),
+    }];
+    let mut request = Vec::new(alloc);
+    let written = client.write_request(
+        &mut request,
+        method.as_bytes(),
+        path.as_bytes(),
+        &headers,
+        size,
+    );
+    if written.is_err() {
+        return Err(AllocError);
+    }
+    request.extend_from_slice(body.as_bytes())?;
+    Ok(request)
+}
+
+/// The request for a command, to the server with this port.
 pub fn request_bytes(
     alloc: Global,
     client: &mut Client,
@@ -112,22 +145,44 @@ pub fn request_bytes(
 {
     let path = request_path(alloc, command)?;
     let body = request_body(alloc, command)?;
-    let host = format!(in alloc; "127.0.0.1:{port}")?;
-    let headers = [Header {
-        name: b"host",
-        value: host.as_bytes(),
-    }];
-    let mut request = Vec::new(alloc);
-    let written = client.write_request(
-        &mut request,
-        command.method().as_bytes(),
-        path.as_bytes(),
-        &headers,
-        body_size(command, &body),
-    );
-    if written.is_err() {
-        return Err(AllocError);
+    let size = body_size(command, &body);
+    write_request(client, port, command.method(), path, size, body)
+}
+
+fn path_behind(alloc: Global, after: &str, limit: u64) -> Result<String, AllocError>
+    ensures { IfOk result (λ path. string_bytes path ≡ path_behind after.now limit) }
+{
+    format!(in alloc; "/pairs?after={after}&limit={limit}")
+}
+
+/// The path of a request for a page of pairs.
+pub fn pairs_path(alloc: Global, request: PairsRequest) -> Result<String, AllocError>
+    ensures { IfOk result (λ path. string_bytes path ≡ pairs_path request) }
+{
+    let limit = request.limit;
+    match request.after {
+        Some(after) => path_behind(alloc, &id_text(alloc, after)?, limit),
+        None => format!(in alloc; "/pairs?limit={limit}"),
     }
-    request.extend_from_slice(body.as_bytes())?;
-    Ok(request)
+}
+
+/// The request for a page of pairs, to the server with this port.
+pub fn pairs_bytes(
+    alloc: Global,
+    client: &mut Client,
+    port: u16,
+    request: PairsRequest,
+) -> Result<Vec<u8>, AllocError>
+    requires { client.old ≡ new_client limits }
+    ensures { IfOk result (λ bytes. bytes.items ≡ pairs_request port request) }
+{
+    let path = pairs_path(alloc, request)?;
+    write_request(
+        client,
+        port,
+        "GET",
+        path,
+        BodySize::Empty,
+        String::new(alloc),
+    )
 }

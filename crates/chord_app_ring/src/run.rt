@@ -5,19 +5,17 @@ ghost use Rattle.chord_app_text.specs.declared.finish.Fault.TheVariants as Cause
 ghost use Rattle.chord_app_ring.specs.Faults.{finish_of};
 
 use crate::command::{RingCommand, RingLine};
+use crate::connecting::connect;
 use crate::fault::RingFault;
 use crate::stream::exchange;
 use crate::told::{Told, told_of};
 use chord_app_text::{Fault, Finish};
 use std::alloc::Global;
 use std::io::{Read, Write};
-use std::net::{Ipv4Addr, Net, TcpStream};
+use std::net::{Net, TcpStream};
 use std::sync::Wait;
 use std::thread;
 use std::time::{Clock, Duration};
-
-/// For how many seconds the server may be silent.
-const SILENCE_SECONDS: u64 = 10;
 
 /// Asks for one thing over the stream to the server with this port.
 fn ask_over<S: Read + Write>(
@@ -39,20 +37,14 @@ fn ask<R: Net<Stream = TcpStream>>(
     port: u16,
     command: &RingCommand,
 ) -> Result<Told, RingFault> {
-    let mut stream = match TcpStream::connect(rt, (Ipv4Addr::LOCALHOST, port)) {
-        Ok(stream) => stream,
-        Err(error) => return Err(RingFault::Connect(error.kind())),
-    };
-    let silence = Some(Duration::from_secs(SILENCE_SECONDS));
-    let _ = stream.set_read_timeout(silence).is_ok();
-    let _ = stream.set_write_timeout(silence).is_ok();
+    let mut stream = connect(rt, port)?;
     let told = ask_over(alloc, &mut stream, port, command);
     drop(stream);
     told
 }
 
-/// How the command ends by a fault. The name of a refusal is written.
-fn end_by<E: Write>(fault: RingFault, port: u16, errors: &mut E) -> Finish
+/// How a command ends by a fault. The name of a refusal is written.
+pub fn end_by<E: Write>(fault: RingFault, port: u16, errors: &mut E) -> Finish
     ensures { (result ≡ finish_of port fault) ⊎ (result ≡ End.Fault Cause.Write) }
 {
     match fault {

@@ -3,9 +3,10 @@
 use crate::command::RingCommand;
 use crate::fault::RingFault;
 use crate::inbox::{Answer, Inbox, Turn};
-use crate::request::request_bytes;
+use crate::request::{pairs_bytes, request_bytes};
+use chord_app_operator::PairsRequest;
 use http1::{Client, Limits};
-use std::alloc::Global;
+use std::alloc::{AllocError, Global};
 use std::io::{ErrorKind, Read, Write};
 
 /// How many bytes are read at once at most.
@@ -49,6 +50,27 @@ fn receive<S: Read>(stream: &mut S, inbox: &mut Inbox) -> Result<(), RingFault> 
     Err(RingFault::NotUnderstood)
 }
 
+/// Sends a request of this client, and takes its answer.
+fn talk<S: Read + Write>(
+    stream: &mut S,
+    client: Client,
+    request: Result<Vec<u8>, AllocError>,
+) -> Result<Answer, RingFault> {
+    let request = match request {
+        Ok(request) => request,
+        Err(refused) => {
+            drop(client);
+            return Err(RingFault::from(refused));
+        }
+    };
+    let mut inbox = Inbox::new(*request.allocator(), client);
+    let sent = send(stream, &request);
+    drop(request);
+    sent?;
+    receive(stream, &mut inbox)?;
+    Ok(inbox.into_answer())
+}
+
 /// Asks the server with this port for one thing over the stream to it, and takes its answer.
 pub fn exchange<S: Read + Write>(
     alloc: Global,
@@ -57,10 +79,18 @@ pub fn exchange<S: Read + Write>(
     command: &RingCommand,
 ) -> Result<Answer, RingFault> {
     let mut client = Client::new(Limits::default());
-    let request = request_bytes(alloc, &mut client, port, command)?;
-    send(stream, &request)?;
-    drop(request);
-    let mut inbox = Inbox::new(alloc, client);
-    receive(stream, &mut inbox)?;
-    Ok(inbox.into_answer())
+    let request = request_bytes(alloc, &mut client, port, command);
+    talk(stream, client, request)
+}
+
+/// Asks the server with this port for a page of pairs, and takes its answer.
+pub fn exchange_pairs<S: Read + Write>(
+    alloc: Global,
+    stream: &mut S,
+    port: u16,
+    request: PairsRequest,
+) -> Result<Answer, RingFault> {
+    let mut client = Client::new(Limits::default());
+    let request = pairs_bytes(alloc, &mut client, port, request);
+    talk(stream, client, request)
 }

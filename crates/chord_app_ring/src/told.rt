@@ -96,8 +96,8 @@ fn done(alloc: Global, command: &RingCommand, body: &[u8]) -> Result<Told, ReadF
     }
 }
 
-// Why an answer with another status tells nothing.
-fn refusal(alloc: Global, answer: &Answer) -> RingFault
+/// Why an answer with another status tells nothing.
+pub fn refusal(alloc: Global, answer: &Answer) -> RingFault
     ensures { IsRefusal answer.now.status answer.now.body.items result }
 {
     if answer.status < 400 {

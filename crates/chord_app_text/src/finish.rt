@@ -1,5 +1,6 @@
 //! How a command ends.
 
+use crate::pair_fault::{InsertFault, PairFault};
 use crate::word_fault::WordFault;
 use std::alloc::{AllocError, AllocFailed};
 use std::io::ErrorKind;
@@ -34,6 +35,12 @@ pub enum Fault {
     Lost,
     /// The answer of a server is not understood.
     Answer,
+    /// Pairs that are to be copied stayed under way from one node to another.
+    UnderWay,
+    /// This line, from 1, is no pair.
+    Pair { line: u64, why: PairFault },
+    /// The pair of this line, from 1, was not inserted.
+    Insert { line: u64, why: InsertFault },
 }
 
 impl fmt::Display for Fault {
@@ -73,6 +80,12 @@ impl fmt::Display for Fault {
                 )
             }
             Fault::Answer => write!(f, "fault answer\nthe server's answer is not understood"),
+            Fault::UnderWay => {
+                f.write_str("fault underway\npairs stay under way from one node to another; ")?;
+                f.write_str("the copy ends before them")
+            }
+            Fault::Pair { line, why } => write!(f, "fault line {line}\n{why}"),
+            Fault::Insert { line, why } => write!(f, "fault line {line}\n{why}"),
         }
     }
 }

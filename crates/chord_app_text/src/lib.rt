@@ -1,14 +1,16 @@
 //! What the commands of the program share: how they end ([`Finish`]), the words of a line
-//! ([`Words`]), which word of a request is wrong ([`WordFault`]), and how a line shows replies
-//! ([`ReplyText`]).
+//! ([`Words`]), which word of a request is wrong ([`WordFault`]), why a line of a copy of pairs is
+//! not restored ([`PairFault`], [`InsertFault`]), and how a line shows replies ([`ReplyText`]).
 #![tactic(auto)]
 
 mod finish;
+mod pair_fault;
 mod reply_text;
 mod word_fault;
 mod words;
 
 pub use finish::{Fault, Finish};
+pub use pair_fault::{InsertFault, PairFault};
 pub use reply_text::{Hex, ReplyText};
 pub use word_fault::WordFault;
 pub use words::{LineFault, Words};
