@@ -37,7 +37,7 @@ class NoReply(Exception):
 
 
 def exactly(stream, count):
-    """So many bytes of the stream."""
+    """This many bytes of the stream."""
     got = b""
     while len(got) < count:
         piece = stream.recv(count - len(got))
