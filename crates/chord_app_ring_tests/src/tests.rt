@@ -2,9 +2,12 @@
 
 mod answers;
 mod both_ends;
+mod dumps;
+mod loopback;
 mod operators;
 mod reading;
 mod requests;
+mod restores;
 mod runs;
 mod sights;
 mod streams;

@@ -3,8 +3,14 @@
 use super::answers::told;
 use super::operators::NotingOperator;
 use super::requests::{CRASH, FORCED_CRASH, PLAIN_JOIN, WHOLE_JOIN};
+use super::streams::MadeStream;
 use chord_app_operator::{CrashRequest, OperatorService};
-use chord_app_ring::{RingCommand, RingFault, Told, request_bytes};
+use chord_app_ring::{
+    RingCommand, RingFault, Told, exchange_pairs, insert_of_line, page_of, pairs_bytes,
+    request_behind, request_bytes,
+};
+use chord_ident::Id;
+use chord_map::Request;
 use http_server::{Config, Connection, serve};
 use http1::{Client, Limits};
 use std::hash::RandomState;
@@ -19,12 +25,17 @@ struct Served {
 
 /// Serves what is sent for the command.
 fn serve_command(rt: &HostRuntime, command: &RingCommand) -> Result<Served, Fail> {
-    let alloc = rt.alloc();
     let mut client = Client::new(Limits::default());
-    let sent = request_bytes(alloc, &mut client, 7001, command)?;
+    let sent = request_bytes(rt.alloc(), &mut client, 7001, command)?;
+    serve_bytes(rt, &sent)
+}
+
+/// Serves what is sent.
+fn serve_bytes(rt: &HostRuntime, sent: &[u8]) -> Result<Served, Fail> {
+    let alloc = rt.alloc();
     let mut service = OperatorService::new(alloc, 7001, NotingOperator::new())?;
     let mut connection = Connection::new(alloc, RandomState::new(rt)?, Config::default());
-    let mut reader = sent.as_slice();
+    let mut reader = sent;
     let mut got = Vec::new(alloc);
     serve(&mut connection, &mut service, &mut reader, &mut got)?;
     Ok(Served {
@@ -95,5 +106,27 @@ fn a_look_and_a_stop_come_through(rt: HostRuntime) -> Result<(), Fail> {
     let told_stop = told(rt.alloc(), &RingCommand::Stop, &served.got, 100);
     assert!(rt; matches!(&told_stop, Ok(Told::Stopping)));
     drop(told_stop);
+    Ok(())
+}
+
+#[test]
+fn a_page_comes_through(rt: HostRuntime) -> Result<(), Fail> {
+    let a = Id::of_bytes(b"a");
+    for after in [None, Some(Id { number: 7 }), Some(a)] {
+        let request = request_behind(after);
+        let mut client = Client::new(Limits::default());
+        let sent = pairs_bytes(rt.alloc(), &mut client, 7001, request)?;
+        let served = serve_bytes(&rt, &sent)?;
+        drop(sent);
+        assert!(rt; served.operator.pairs == Some(request));
+        let mut stream = MadeStream::new(rt.alloc(), &served.got, 100);
+        let page = page_of(exchange_pairs(rt.alloc(), &mut stream, 7001, request)?)?;
+        assert!(rt; page.next == Some(a));
+        let insert = insert_of_line(rt.alloc(), &page.lines)?;
+        assert!(rt; insert == Request::insert(rt.alloc(), b"a", b"x")?);
+        drop(page);
+        drop(stream);
+        drop(served);
+    }
     Ok(())
 }

@@ -2,7 +2,7 @@
 
 use super::sights::ring;
 use chord_app_operator::{
-    CrashRefusal, CrashRequest, Holder, JoinRefusal, JoinRequest, LeaveRefusal, Operator,
+    CrashRefusal, CrashRequest, Holder, JoinRefusal, JoinRequest, LeaveRefusal, Operator, Pair,
     PairsPage, PairsRequest, RingSight,
 };
 use chord_ident::Id;
@@ -15,6 +15,7 @@ pub struct NotingOperator {
     pub join: Option<JoinRequest>,
     pub left: Option<u64>,
     pub crash: Option<CrashRequest>,
+    pub pairs: Option<PairsRequest>,
     pub is_stopped: bool,
 }
 
@@ -25,6 +26,7 @@ impl NotingOperator {
             join: None,
             left: None,
             crash: None,
+            pairs: None,
             is_stopped: false,
         }
     }
@@ -66,8 +68,17 @@ impl Operator for NotingOperator {
         Holder::Moved
     }
 
-    fn pairs(&mut self, _alloc: Global, _request: PairsRequest) -> Result<PairsPage, AllocError> {
-        Err(AllocError)
+    fn pairs(&mut self, alloc: Global, request: PairsRequest) -> Result<PairsPage, AllocError> {
+        self.pairs = Some(request);
+        let key = Vec::from_slice(alloc, b"a")?;
+        let value = Vec::from_slice(alloc, b"x")?;
+        let id = Id::of_bytes(&key);
+        let mut pairs = Vec::new(alloc);
+        pairs.push(Pair { id, key, value })?;
+        Ok(PairsPage {
+            pairs,
+            next: Some(id),
+        })
     }
 
     fn stop(&mut self) {

@@ -1,0 +1,191 @@
+//! The command `dump`: at a scripted server, and by pages that are plain values.
+
+use super::loopback::{Ran, Talk, answer_all, bound, end_waiting};
+use chord_app_operator::PairsRequest;
+use chord_app_ring::{
+    DumpFault, PAGE_TRIES, Page, PageTeller, PageTurn, RingFault, dump, request_behind, run_dump,
+};
+use chord_app_text::{Fault, Finish};
+use chord_ident::Id;
+use std::alloc::Global;
+use std::net::{Net, TcpListener, TcpStream};
+use std::sync::Wait;
+use std::thread;
+use std::thread::Threads;
+use std::time::Clock;
+
+/// A look at all pairs, from the first page on.
+const FIRST: &[u8] = b"GET /pairs?limit=1000 HTTP/1.1\r\nhost: 127.0.0.1:";
+
+/// The page behind 7f..ff.
+const SECOND: &[u8] = b"GET /pairs?after=7fffffffffffffffffffffffffffffff&limit=1000 HTTP/1.1\r\n";
+
+/// The page behind 80..00.
+const THIRD: &[u8] = b"GET /pairs?after=80000000000000000000000000000000&limit=1000 HTTP/1.1\r\n";
+
+const FIRST_PAGE: &[u8] =
+    b"HTTP/1.1 200 OK\r\nchord-next: 7fffffffffffffffffffffffffffffff\r\ncontent-length: 6\r\n\r\none\ntw";
+
+const SECOND_PAGE: &[u8] =
+    b"HTTP/1.1 200 OK\r\ncontent-length: 2\r\nChord-Next: 80000000000000000000000000000000\r\n\r\no\n";
+
+const LAST_PAGE: &[u8] = b"HTTP/1.1 200 OK\r\ncontent-length: 6\r\n\r\nthree\n";
+
+/// The page behind 7f..ff while its pairs are under way.
+const MOVING_PAGE: &[u8] =
+    b"HTTP/1.1 200 OK\r\nchord-next: 7fffffffffffffffffffffffffffffff\r\ncontent-length: 0\r\n\r\n";
+
+/// Does the command, and then ends a server that still waits for a client.
+fn dumps<R: Net<Stream = TcpStream> + Clock>(
+    rt: &R,
+    alloc: Global,
+    port: u16,
+    (wanted, told): (&str, &str),
+) -> Ran {
+    let mut written: Vec<u8> = Vec::new(alloc);
+    let mut errors: Vec<u8> = Vec::new(alloc);
+    let finish = run_dump(rt, alloc, port, &mut written, &mut errors);
+    end_waiting(rt, port);
+    let is_written = written.as_slice() == wanted.as_bytes();
+    let is_told = errors.as_slice() == told.as_bytes();
+    drop(written);
+    drop(errors);
+    (finish, is_written, is_told)
+}
+
+/// Does the command at a server with this script. None where not all of it was done.
+fn dumps_at<R: Threads + Wait + Clock + Net<Listener = TcpListener, Stream = TcpStream> + Sync>(
+    rt: &R,
+    alloc: Global,
+    talks: &[Talk<'_>],
+    lines: (&str, &str),
+) -> Option<Ran> {
+    let (listener, port) = bound(rt)?;
+    let (answered, ran) = thread::join(
+        rt,
+        || answer_all(alloc, listener, talks),
+        || dumps(rt, alloc, port, lines),
+    );
+    answered.ok()?.then_some(ran)
+}
+
+#[test]
+fn three_pages_are_copied(rt: HostRuntime) {
+    let talks = [
+        (FIRST, FIRST_PAGE),
+        (SECOND, SECOND_PAGE),
+        (THIRD, LAST_PAGE),
+    ];
+    let ran = dumps_at(&rt, rt.alloc(), &talks, ("one\ntwo\nthree\n", ""));
+    assert!(rt; ran == Some((Ok(Finish::Done), true, true)), "{ran:?}");
+}
+
+#[test]
+fn a_page_under_way_comes_later(rt: HostRuntime) {
+    let talks = [
+        (FIRST, FIRST_PAGE),
+        (SECOND, MOVING_PAGE),
+        (SECOND, LAST_PAGE),
+    ];
+    let ran = dumps_at(&rt, rt.alloc(), &talks, ("one\ntwthree\n", ""));
+    assert!(rt; ran == Some((Ok(Finish::Done), true, true)), "{ran:?}");
+}
+
+/// Second answers by which the copy ends, what is told, and how it ends.
+const ENDS: &[(&[u8], &str, Finish)] = &[
+    (
+        b"HTTP/1.1 200 OK\r\ncontent-length: 6\r\n\r\nthre",
+        "",
+        Finish::Fault(Fault::Lost),
+    ),
+    (
+        b"HTTP/1.1 200 OK\r\nchord-next: 7fff\r\ncontent-length: 0\r\n\r\n",
+        "",
+        Finish::Fault(Fault::Answer),
+    ),
+    (
+        b"HTTP/1.1 200 OK\r\nchord-next: 7ffffffffffffffffffffffffffffffe\r\ncontent-length: 0\r\n\r\n",
+        "",
+        Finish::Fault(Fault::Answer),
+    ),
+    (
+        b"HTTP/1.1 200 OK\r\nchord-next: 7fffffffffffffffffffffffffffffff\r\ncontent-length: 1\r\n\r\nx",
+        "",
+        Finish::Fault(Fault::Answer),
+    ),
+    (
+        b"HTTP/1.1 200 OK\r\nchord-next: ffffffffffffffffffffffffffffffff\r\ncontent-length: 0\r\n\r\n",
+        "",
+        Finish::Fault(Fault::Answer),
+    ),
+    (
+        b"HTTP/1.1 507 Insufficient Storage\r\ncontent-length: 0\r\n\r\n",
+        "refused Memory\n",
+        Finish::Refused,
+    ),
+];
+
+/// What came before stays written.
+#[test]
+fn ends_of_a_copy(rt: HostRuntime) {
+    for (answer, told, finish) in ENDS {
+        let talks = [(FIRST, FIRST_PAGE), (SECOND, *answer)];
+        let ran = dumps_at(&rt, rt.alloc(), &talks, ("one\ntw", told));
+        assert!(rt; ran == Some((Err(*finish), true, true)), "{ran:?}");
+    }
+}
+
+/// Tells that pairs are under way at each try, and counts them.
+#[derive(Drop)]
+struct MovingPages {
+    alloc: Global,
+    asked: u64,
+}
+
+impl PageTeller for MovingPages {
+    ghost tells = { λ _ _ _ _. Unit {0} };
+
+    fn page(&mut self, request: PairsRequest) -> Result<Page, RingFault> {
+        if request != request_behind(None) {
+            return Err(RingFault::Lost);
+        }
+        self.asked = self.asked.saturating_add(1);
+        Ok(Page {
+            lines: Vec::new(self.alloc),
+            next: Some(Id { number: u128::MAX }),
+        })
+    }
+
+    fn rest(&self) {}
+}
+
+#[test]
+fn a_page_under_way_may_never_come(rt: HostRuntime) {
+    let mut pages = MovingPages {
+        alloc: rt.alloc(),
+        asked: 0,
+    };
+    let mut written: Vec<u8> = Vec::new(rt.alloc());
+    let dumped = dump(&mut pages, &mut written);
+    assert!(rt; matches!(&dumped, Err(DumpFault::UnderWay)));
+    assert!(rt; pages.asked == PAGE_TRIES && written.is_empty());
+    drop(dumped);
+}
+
+#[test]
+fn what_follows_a_page(rt: HostRuntime) {
+    let page = Page {
+        lines: Vec::new(rt.alloc()),
+        next: Some(Id { number: 5 }),
+    };
+    for (after, turn) in [
+        (None, Some(PageTurn::On(Id { number: 5 }))),
+        (Some(4), Some(PageTurn::On(Id { number: 5 }))),
+        (Some(5), Some(PageTurn::UnderWay)),
+        (Some(6), None),
+        (Some(u128::MAX), Some(PageTurn::On(Id { number: 5 }))),
+    ] {
+        let after = after.map(Id::new);
+        assert!(rt; page.turn(after) == turn, "{after:?}");
+    }
+}

@@ -1,0 +1,291 @@
+//! The command `restore`: in memory, and at a scripted server.
+
+use super::loopback::{Ran, Talk, answer_all, bound, end_waiting};
+use chord_app_operator::{Pair, pair_lines};
+use chord_app_ring::{LINE_BYTES, RestoreFault, Unrestored, restore, run_restore};
+use chord_app_text::{Fault, Finish, InsertFault, PairFault};
+use chord_ident::Id;
+use chord_map::Request;
+use chord_wire::write_request_2;
+use std::alloc::{AllocError, Global};
+use std::io::ErrorKind;
+use std::net::{Net, TcpListener, TcpStream};
+use std::sync::Wait;
+use std::test::Fail;
+use std::thread;
+use std::thread::Threads;
+
+/// `x` under `a`.
+const FIRST_PAIR: &str =
+    "{\"id\":\"86f7e437faa5a7fce15d1ddcb9eaeaea\",\"key\":\"61\",\"value\":\"78\"}\n";
+
+/// The same, and nothing under `b`.
+const PAIRS: &str =
+    "{\"id\":\"86f7e437faa5a7fce15d1ddcb9eaeaea\",\"key\":\"61\",\"value\":\"78\"}\n{\"value\":\"\", \"key\":\"62\", \"id\":\"E9D71F5EE7C92D6DC9E92FFDAD17B8BD\"}\n";
+
+/// The frames of their inserts.
+const FRAMES: &[u8] =
+    b"\x00\x00\x00\x17\x02\x01\x00\x00\x00\x00\x00\x00\x00\x01\x00\x00\x00\x00\x00\x00\x00\x00\x01a\x00\x01x\x00\x00\x00\x16\x02\x01\x00\x00\x00\x00\x00\x00\x00\x02\x00\x00\x00\x00\x00\x00\x00\x01\x01b\x00\x00";
+
+/// How many bytes the first one has.
+const FIRST_FRAME: usize = 27;
+
+/// The first is added, the second was there.
+const ANSWERS: &[u8] =
+    b"\x00\x00\x00\x0b\x01\x81\x00\x00\x00\x00\x00\x00\x00\x01\x01\x00\x00\x00\x0b\x01\x81\x00\x00\x00\x00\x00\x00\x00\x02\x00";
+
+/// How many bytes the first one has.
+const FIRST_ANSWER: usize = 15;
+
+/// How restoring ended, and how many bytes were written, which are the first of these frames.
+fn restores(
+    alloc: Global,
+    input: &[u8],
+    answers: &[u8],
+) -> (Result<u64, Unrestored>, Option<usize>) {
+    let mut input = input;
+    let mut answers = answers;
+    let mut written: Vec<u8> = Vec::new(alloc);
+    let restored = restore(alloc, &mut input, &mut answers, &mut written);
+    let len = written.len();
+    let is_front = len <= FRAMES.len() && written.as_slice() == &FRAMES[..len];
+    drop(written);
+    (restored, is_front.then_some(len))
+}
+
+#[test]
+fn pairs_are_inserted_in_order(rt: HostRuntime) {
+    let restored = restores(rt.alloc(), PAIRS.as_bytes(), ANSWERS);
+    assert!(rt; restored == (Ok(2), Some(FRAMES.len())), "{restored:?}");
+    assert!(rt; restores(rt.alloc(), b"", b"") == (Ok(0), Some(0)));
+}
+
+/// Lines, and why they are no pairs.
+const WRONG: &[(&str, PairFault)] = &[
+    ("", PairFault::NotJson),
+    ("{\"id\":", PairFault::NotJson),
+    ("[1,2,3]", PairFault::Members),
+    (
+        "{\"id\":\"86f7e437faa5a7fce15d1ddcb9eaeaea\",\"key\":\"61\"}",
+        PairFault::Members,
+    ),
+    (
+        "{\"id\":\"86f7e437faa5a7fce15d1ddcb9eaeaea\",\"key\":\"61\",\"value\":\"78\",\"x\":1}",
+        PairFault::Members,
+    ),
+    (
+        "{\"id\":\"86f7e437faa5a7fce15d1ddcb9eaeaea\",\"key\":\"61\",\"values\":\"78\"}",
+        PairFault::ValueDigits,
+    ),
+    (
+        "{\"id\":\"86f7e437faa5a7fce15d1ddcb9eaea\",\"key\":\"61\",\"value\":\"78\"}",
+        PairFault::IdDigits,
+    ),
+    (
+        "{\"id\":7,\"key\":\"61\",\"value\":\"78\"}",
+        PairFault::IdDigits,
+    ),
+    (
+        "{\"id\":\"86f7e437faa5a7fce15d1ddcb9eaeaea\",\"key\":\"6\",\"value\":\"78\"}",
+        PairFault::KeyDigits,
+    ),
+    (
+        "{\"id\":\"86f7e437faa5a7fce15d1ddcb9eaeaea\",\"key\":\"61\",\"value\":\"7g\"}",
+        PairFault::ValueDigits,
+    ),
+    (
+        "{\"id\":\"da39a3ee5e6b4b0d3255bfef95601890\",\"key\":\"\",\"value\":\"78\"}",
+        PairFault::KeyLength,
+    ),
+    (
+        "{\"id\":\"86f7e437faa5a7fce15d1ddcb9eaeaeb\",\"key\":\"61\",\"value\":\"78\"}",
+        PairFault::OtherId,
+    ),
+];
+
+/// Each is told with its number, behind a line that is inserted.
+#[test]
+fn wrong_lines(rt: HostRuntime) -> Result<(), Fail> {
+    for (line, why) in WRONG {
+        let input = format!(in rt.alloc(); "{FIRST_PAIR}{line}\n{FIRST_PAIR}")?;
+        let restored = restores(rt.alloc(), input.as_bytes(), ANSWERS);
+        drop(input);
+        let wanted = Unrestored {
+            line: 2,
+            fault: RestoreFault::Pair(*why),
+        };
+        assert!(rt;
+            restored == (Err(wanted), Some(FIRST_FRAME)),
+            "{line} {restored:?}"
+        );
+    }
+    Ok(())
+}
+
+/// A line that is cut, and one that is longer than any pair.
+#[test]
+fn lines_without_an_end(rt: HostRuntime) -> Result<(), Fail> {
+    let cut = restores(rt.alloc(), &PAIRS.as_bytes()[..PAIRS.len() - 1], ANSWERS);
+    let wanted = Unrestored {
+        line: 2,
+        fault: RestoreFault::Pair(PairFault::LineCut),
+    };
+    assert!(rt; cut == (Err(wanted), Some(FIRST_FRAME)), "{cut:?}");
+    let long = vec![in rt.alloc(); b' '; LINE_BYTES + 1]?;
+    let wanted = Unrestored {
+        line: 1,
+        fault: RestoreFault::Pair(PairFault::LineLong),
+    };
+    assert!(rt; restores(rt.alloc(), &long, ANSWERS) == (Err(wanted), Some(0)));
+    Ok(())
+}
+
+/// The second answer, behind its length, and why the second line is not restored then.
+const REFUSED: &[(&[u8], InsertFault)] = &[
+    (
+        b"\x01\x81\x00\x00\x00\x00\x00\x00\x00\x02\x02",
+        InsertFault::SetFull,
+    ),
+    (
+        b"\x01\xff\x00\x00\x00\x00\x00\x00\x00\x02\x0a",
+        InsertFault::Full,
+    ),
+    (
+        b"\x01\xff\x00\x00\x00\x00\x00\x00\x00\x02\x0b",
+        InsertFault::NoAnswer,
+    ),
+    (
+        b"\x01\xff\x00\x00\x00\x00\x00\x00\x00\x02\x09",
+        InsertFault::Code(9),
+    ),
+    (
+        b"\x01\xff\x00\x00\x00\x00\x00\x00\x00\x00\x0f",
+        InsertFault::CallersSpent,
+    ),
+    (
+        b"\x01\x81\x00\x00\x00\x00\x00\x00\x00\x03\x01",
+        InsertFault::Answer,
+    ),
+    (
+        b"\x01\x83\x00\x00\x00\x00\x00\x00\x00\x02\x01",
+        InsertFault::Answer,
+    ),
+    (b"\x01\x81\x00\x00", InsertFault::Lost),
+];
+
+#[test]
+fn refused_inserts(rt: HostRuntime) -> Result<(), Fail> {
+    for (answer, why) in REFUSED {
+        let mut answers = ANSWERS[..FIRST_ANSWER].to_vec(rt.alloc())?;
+        answers.extend_from_slice(b"\x00\x00\x00\x0b")?;
+        answers.extend_from_slice(answer)?;
+        let restored = restores(rt.alloc(), PAIRS.as_bytes(), &answers);
+        drop(answers);
+        let wanted = Unrestored {
+            line: 2,
+            fault: RestoreFault::Insert(*why),
+        };
+        assert!(rt;
+            restored == (Err(wanted), Some(FRAMES.len())),
+            "{restored:?}"
+        );
+    }
+    Ok(())
+}
+
+/// A pair whose key and value have these lengths.
+fn pair_of(alloc: Global, key: usize, value: usize) -> Result<Pair, AllocError> {
+    let key = vec![in alloc; b'k'; key]?;
+    let value = vec![in alloc; 0xf0; value]?;
+    Ok(Pair {
+        id: Id::of_bytes(&key),
+        key,
+        value,
+    })
+}
+
+/// The lines of pairs as a server writes them, the shortest and the longest.
+#[test]
+fn a_copy_is_restored(rt: HostRuntime) -> Result<(), Fail> {
+    let alloc = rt.alloc();
+    let mut frames: Vec<u8> = Vec::new(alloc);
+    let mut pairs = Vec::new(alloc);
+    for (place, (key, value)) in [(1, 0), (255, 4096)].iter().enumerate() {
+        let pair = pair_of(alloc, *key, *value)?;
+        let request = Request::insert(alloc, &pair.key, &pair.value)?;
+        assert!(rt; request.check().is_ok());
+        let frame = write_request_2(alloc, place as u64 + 1, place as u64, &request)?;
+        frames.extend_from_slice(&frame)?;
+        drop(frame);
+        drop(request);
+        pairs.push(pair)?;
+    }
+    let lines = pair_lines(alloc, &pairs)?;
+    let mut input = lines.as_bytes();
+    let mut answers = ANSWERS;
+    let mut written: Vec<u8> = Vec::new(alloc);
+    let restored = restore(alloc, &mut input, &mut answers, &mut written);
+    assert!(rt; restored == Ok(2), "{restored:?}");
+    assert!(rt; written.as_slice() == frames.as_slice());
+    Ok(())
+}
+
+/// Does the command, and then ends a server that still waits for a client.
+fn runs<R: Net<Stream = TcpStream>>(
+    rt: &R,
+    alloc: Global,
+    port: u16,
+    (input, wanted): (&str, &str),
+) -> Ran {
+    let mut input = input.as_bytes();
+    let mut written: Vec<u8> = Vec::new(alloc);
+    let finish = run_restore(rt, alloc, port, &mut input, &mut written);
+    end_waiting(rt, port);
+    let is_written = written.as_slice() == wanted.as_bytes();
+    drop(written);
+    (finish, is_written, true)
+}
+
+/// Does the command at a server with this script. None where not all of it was done.
+fn runs_at<R: Threads + Wait + Net<Listener = TcpListener, Stream = TcpStream> + Sync>(
+    rt: &R,
+    alloc: Global,
+    talks: &[Talk<'_>],
+    lines: (&str, &str),
+) -> Option<Ran> {
+    let (listener, port) = bound(rt)?;
+    let (answered, ran) = thread::join(
+        rt,
+        || answer_all(alloc, listener, talks),
+        || runs(rt, alloc, port, lines),
+    );
+    answered.ok()?.then_some(ran)
+}
+
+#[test]
+fn ends_of_a_restore(rt: HostRuntime) {
+    let set_full: &[u8] = b"\x00\x00\x00\x0b\x01\x81\x00\x00\x00\x00\x00\x00\x00\x01\x02";
+    let refused = Finish::Fault(Fault::Insert {
+        line: 1,
+        why: InsertFault::SetFull,
+    });
+    for (answer, wanted, finish) in [
+        (&ANSWERS[..FIRST_ANSWER], "restored 1\n", Ok(Finish::Done)),
+        (set_full, "", Err(refused)),
+    ] {
+        let talks = [(&FRAMES[..FIRST_FRAME], answer)];
+        let ran = runs_at(&rt, rt.alloc(), &talks, (FIRST_PAIR, wanted));
+        assert!(rt; ran == Some((finish, true, true)), "{ran:?}");
+    }
+}
+
+#[test]
+fn a_restore_without_a_server(rt: HostRuntime) {
+    let Some((listener, port)) = bound(&rt) else {
+        return;
+    };
+    drop(listener);
+    let reason = ErrorKind::ConnectionRefused;
+    let wanted = Err(Finish::Fault(Fault::Connect { port, reason }));
+    assert!(rt; runs(&rt, rt.alloc(), port, (FIRST_PAIR, "")) == (wanted, true, true));
+}
