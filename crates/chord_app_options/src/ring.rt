@@ -4,7 +4,7 @@ use crate::faults::{fault_of, print_fault};
 use crate::number::{NumberOption, WrongNumber, number_from, small_number};
 use crate::parts::{with_argument, with_command};
 use chord_app_operator::{CrashRequest, JoinRequest, StoreKind};
-use chord_app_ring::{RingCommand, RingLine, run_ring};
+use chord_app_ring::{RingCommand, RingLine, RingTask, run_dump, run_restore, run_ring};
 use chord_app_text::Finish;
 use chord_ident::Id;
 use clap::{Arg, ArgAction, ArgMatches, Command};
@@ -20,8 +20,25 @@ const OPERATOR: NumberOption = NumberOption {
     least: 1,
     most: 65_535,
     default: None,
-    help: "The operator's port of the server on 127.0.0.1, 1 to 65535",
+    help: "The operator's port of the server on 127.0.0.1, 1 to 65535: for all but restore",
 };
+
+const PORT: NumberOption = NumberOption {
+    name: "port",
+    value_name: "N",
+    least: 1,
+    most: 65_535,
+    default: None,
+    help: "The port for clients of the server on 127.0.0.1, 1 to 65535: for restore alone",
+};
+
+/// What `chord ring dump --help` ends with.
+const DUMP_NOTE: &str =
+    "Each pair is a line of JSON: {\"id\":..,\"key\":..,\"value\":..}, in hexadecimal digits.\nA copy made while clients write is of many moments: what they add or remove meanwhile may be in it or not.";
+
+/// What `chord ring restore --help` ends with.
+const RESTORE_NOTE: &str =
+    "Each line is a pair as dump writes it. Pairs that are there already stay, so it may be done again.";
 
 const TIMES: NumberOption = NumberOption {
     name: "times",
@@ -62,6 +79,8 @@ enum RingWrong<'a> {
     Limit,
     /// What is done once is to be done often.
     Often,
+    /// The port is missing, or it is not of the kind that the command has.
+    Port,
 }
 
 impl fmt::Display for RingWrong<'_> {
@@ -82,6 +101,9 @@ impl fmt::Display for RingWrong<'_> {
             }
             RingWrong::Limit => f.write_str("'--limit <N>' is only for '--store capped'"),
             RingWrong::Often => f.write_str("'--watch' and '--times <N>' are only for the table"),
+            RingWrong::Port => {
+                f.write_str("restore has '--port <N>', and all else has '--operator <PORT>'")
+            }
         }
     }
 }
@@ -135,6 +157,18 @@ fn crash_command<'a>(alloc: Global) -> Result<Command<'a>, AllocError> {
     with_argument(crash, force)
 }
 
+fn dump_command<'a>(alloc: Global) -> Command<'a> {
+    Command::new(alloc, "dump")
+        .about("Writes all pairs, in the order of their identifiers")
+        .after_help(DUMP_NOTE)
+}
+
+fn restore_command<'a>(alloc: Global) -> Command<'a> {
+    Command::new(alloc, "restore")
+        .about("Inserts the pairs that standard input has")
+        .after_help(RESTORE_NOTE)
+}
+
 /// The command `ring`, its arguments, and the commands below it.
 pub fn ring_command<'a>(alloc: Global) -> Result<Command<'a>, AllocError> {
     let watch = Arg::new(alloc, "watch")
@@ -143,12 +177,15 @@ pub fn ring_command<'a>(alloc: Global) -> Result<Command<'a>, AllocError> {
         .help("Shows the ring each second until the server is gone");
     let ring = Command::new(alloc, "ring")
         .about("Shows the ring of a server to its operator, or changes it")
-        .arg(OPERATOR.argument(alloc).required(true));
+        .arg(OPERATOR.argument(alloc));
+    let ring = with_argument(ring, PORT.argument(alloc));
     let ring = with_argument(ring, watch);
     let ring = with_argument(ring, TIMES.argument(alloc));
     let ring = with_command(ring, join_command(alloc));
     let ring = with_command(ring, leave_command(alloc));
     let ring = with_command(ring, crash_command(alloc));
+    let ring = with_command(ring, Ok(dump_command(alloc)));
+    let ring = with_command(ring, Ok(restore_command(alloc)));
     let stop = Command::new(alloc, "stop").about("The server ends");
     with_command(ring, Ok(stop))
 }
@@ -203,33 +240,63 @@ fn command_of<'a>(found: &ArgMatches<'a>) -> Result<RingCommand, RingWrong<'a>> 
     }
 }
 
-/// How often it is asked for. Only a look is asked for more than once.
-fn times_of<'a>(found: &ArgMatches<'a>, command: &RingCommand) -> Result<u64, RingWrong<'a>> {
+/// Whether it is to be done more than once.
+fn is_repeated(found: &ArgMatches) -> bool {
+    found.get_flag("watch") || TIMES.word(found).is_some()
+}
+
+/// How often the ring is shown.
+fn times_of<'a>(found: &ArgMatches<'a>) -> Result<u64, RingWrong<'a>> {
     let times = TIMES.read_if_there(found)?;
     let is_watched = found.get_flag("watch");
-    if *command != RingCommand::Show && (is_watched || times.is_some()) {
-        return Err(RingWrong::Often);
-    }
     Ok(times.unwrap_or(if is_watched { u64::MAX } else { 1 }))
 }
 
-fn read<'a>(found: &ArgMatches<'a>) -> Result<RingLine, RingWrong<'a>> {
-    let word = OPERATOR.word(found).unwrap_or("");
-    let Some(port) = small_number(word) else {
-        return Err(RingWrong::Number(OPERATOR.wrong(word)));
+/// The port of this option, where the other one is absent.
+fn port_of<'a>(
+    found: &ArgMatches<'a>,
+    option: NumberOption,
+    other: NumberOption,
+) -> Result<u16, RingWrong<'a>> {
+    let word = match (option.word(found), other.word(found)) {
+        (Some(word), None) => word,
+        _ => return Err(RingWrong::Port),
     };
+    match small_number(word) {
+        Some(port) => Ok(port),
+        None => Err(RingWrong::Number(option.wrong(word))),
+    }
+}
+
+fn ask_of<'a>(found: &ArgMatches<'a>) -> Result<RingTask, RingWrong<'a>> {
+    let port = port_of(found, OPERATOR, PORT)?;
     let command = command_of(found)?;
-    Ok(RingLine {
+    if command != RingCommand::Show && is_repeated(found) {
+        return Err(RingWrong::Often);
+    }
+    Ok(RingTask::Ask(RingLine {
         port,
-        times: times_of(found, &command)?,
+        times: times_of(found)?,
         command,
-    })
+    }))
+}
+
+fn read<'a>(found: &ArgMatches<'a>) -> Result<RingTask, RingWrong<'a>> {
+    let task = match found.subcommand() {
+        Some(("dump", _)) => RingTask::Dump(port_of(found, OPERATOR, PORT)?),
+        Some(("restore", _)) => RingTask::Restore(port_of(found, PORT, OPERATOR)?),
+        _ => return ask_of(found),
+    };
+    if is_repeated(found) {
+        return Err(RingWrong::Often);
+    }
+    Ok(task)
 }
 
 /// What the command line asks for, or the fault of a wrong value.
-pub fn ring_line_of(alloc: Global, found: &ArgMatches) -> Result<RingLine, clap::Error> {
+pub fn ring_task_of(alloc: Global, found: &ArgMatches) -> Result<RingTask, clap::Error> {
     match read(found) {
-        Ok(line) => Ok(line),
+        Ok(task) => Ok(task),
         Err(wrong) => Err(fault_of(alloc, ring_command(alloc), "chord ring", &wrong)),
     }
 }
@@ -240,9 +307,15 @@ pub fn start_ring<R: Net<Stream = TcpStream> + Clock + Wait>(
     net: &R,
     found: &ArgMatches,
 ) -> Result<Finish, Finish> {
-    let line = match ring_line_of(rt.alloc(), found) {
-        Ok(line) => line,
+    let alloc = rt.alloc();
+    let task = match ring_task_of(alloc, found) {
+        Ok(task) => task,
         Err(fault) => return print_fault(rt, fault),
     };
-    run_ring(net, rt.alloc(), &line, &mut rt.stdout(), &mut rt.stderr())
+    let mut writer = rt.stdout();
+    match task {
+        RingTask::Ask(line) => run_ring(net, alloc, &line, &mut writer, &mut rt.stderr()),
+        RingTask::Dump(port) => run_dump(net, alloc, port, &mut writer, &mut rt.stderr()),
+        RingTask::Restore(port) => run_restore(net, alloc, port, &mut rt.stdin(), &mut writer),
+    }
 }

@@ -1,6 +1,8 @@
 //! How commands end, the words of lines, and replies on them.
 
-use chord_app_text::{Fault, Finish, Hex, LineFault, ReplyText, WordFault, Words};
+use chord_app_text::{
+    Fault, Finish, Hex, InsertFault, LineFault, PairFault, ReplyText, WordFault, Words,
+};
 use chord_ident::Id;
 use chord_map::{Bytes, Reply, Values};
 use std::alloc::Global;
@@ -70,6 +72,31 @@ const TEXTS: &[(Fault, &str)] = &[
     (
         Fault::Answer,
         "fault answer\nthe server's answer is not understood",
+    ),
+    (
+        Fault::UnderWay,
+        "fault underway\npairs stay under way from one node to another; the copy ends before them",
+    ),
+    (
+        Fault::Pair {
+            line: 7,
+            why: PairFault::OtherId,
+        },
+        "fault line 7\nid is not the identifier of the key",
+    ),
+    (
+        Fault::Insert {
+            line: 7,
+            why: InsertFault::SetFull,
+        },
+        "fault line 7\nsetfull: the key has 1000 values already",
+    ),
+    (
+        Fault::Insert {
+            line: 7,
+            why: InsertFault::Code(9),
+        },
+        "fault line 7\nfault 9 of the protocol",
     ),
 ];
 

@@ -1,7 +1,7 @@
 //! Command lines, and what is printed of those that are refused.
 
 use chord_app_options::{
-    client_options_of, commands, load_of, ring_line_of, serve_line_of, stores_of,
+    client_options_of, commands, load_of, ring_task_of, serve_line_of, stores_of,
 };
 use clap::ArgMatches;
 use std::alloc::{AllocError, Global};
@@ -19,7 +19,7 @@ fn fault_of_values(alloc: Global, matches: &ArgMatches) -> Option<clap::Error> {
         "serve" => serve_line_of(alloc, found).err(),
         "ask" => client_options_of(alloc, found).err(),
         "load" => load_of(alloc, found).err(),
-        "ring" => ring_line_of(alloc, found).err(),
+        "ring" => ring_task_of(alloc, found).err(),
         _ => None,
     }
 }

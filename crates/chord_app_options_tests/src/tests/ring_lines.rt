@@ -2,29 +2,29 @@
 
 use crate::tests::lines::{prints, refused, words};
 use chord_app_operator::{CrashRequest, JoinRequest, StoreKind};
-use chord_app_options::{commands, ring_line_of};
-use chord_app_ring::{RingCommand, RingLine};
+use chord_app_options::{commands, ring_task_of};
+use chord_app_ring::{RingCommand, RingLine, RingTask};
 use chord_ident::Id;
 use clap::ArgMatches;
 use std::alloc::Global;
 
-fn line_in(alloc: Global, matches: &ArgMatches) -> Option<RingLine> {
+fn task_in(alloc: Global, matches: &ArgMatches) -> Option<RingTask> {
     let (_, found) = matches.subcommand()?;
-    ring_line_of(alloc, found).ok()
+    ring_task_of(alloc, found).ok()
 }
 
 /// What these words ask for.
-fn line_of_words<'a>(alloc: Global, words: &'a [&'static str]) -> Option<RingLine> {
+fn task_of_words<'a>(alloc: Global, words: &'a [&'static str]) -> Option<RingTask> {
     let matches = commands(alloc).ok()?.try_get_matches_from(words).ok()?;
-    let line = line_in(alloc, &matches);
+    let task = task_in(alloc, &matches);
     drop(matches);
-    line
+    task
 }
 
 /// What a command line asks for.
-fn line_from(alloc: Global, line: &'static str) -> Option<RingLine> {
+fn task_from(alloc: Global, line: &'static str) -> Option<RingTask> {
     let words = words(alloc, line).ok()?;
-    let read = line_of_words(alloc, words.as_slice());
+    let read = task_of_words(alloc, words.as_slice());
     drop(words);
     read
 }
@@ -100,13 +100,21 @@ const LINES: [(&str, RingCommand, u64); 10] = [
 #[test]
 fn lines_of_ring(rt: HostRuntime) {
     for (line, command, times) in LINES {
-        let wanted = RingLine {
+        let wanted = RingTask::Ask(RingLine {
             port: 9,
             command,
             times,
-        };
-        assert!(rt; line_from(rt.alloc(), line) == Some(wanted), "{line}");
+        });
+        assert!(rt; task_from(rt.alloc(), line) == Some(wanted), "{line}");
     }
+}
+
+#[test]
+fn lines_of_copies(rt: HostRuntime) {
+    let dump = task_from(rt.alloc(), "chord ring --operator 9 dump");
+    assert!(rt; dump == Some(RingTask::Dump(9)));
+    let restore = task_from(rt.alloc(), "chord ring --port 7 restore");
+    assert!(rt; restore == Some(RingTask::Restore(7)));
 }
 
 #[test]
@@ -128,7 +136,20 @@ fn refused_lines_of_ring(rt: HostRuntime) {
         "chord ring --operator 9 leave 10000000000000000000",
         "chord ring --operator 9 leave 2 --force",
         "chord ring --operator 9 crash",
-        "chord ring --operator 9 dump",
+        "chord ring --operator 9 copy",
+        "chord ring --operator 9 dump 3",
+        "chord ring --operator 9 --watch dump",
+        "chord ring --operator 9 --times 2 dump",
+        "chord ring --port 9 dump",
+        "chord ring --port 7 --operator 9 dump",
+        "chord ring dump",
+        "chord ring --operator 9 restore",
+        "chord ring --port 7 --operator 9 restore",
+        "chord ring --port 0 restore",
+        "chord ring --port 7 --watch restore",
+        "chord ring restore",
+        "chord ring --port 7",
+        "chord ring --port 7 leave 2",
     ] {
         assert!(rt; refused(rt.alloc(), line) == Some(2), "{line}");
     }
@@ -139,15 +160,19 @@ fn texts_of_refused_lines(rt: HostRuntime) {
     for (line, text) in [
         (
             "chord ring --operator 9 leave x",
-            "error: invalid value 'x' for '<NODE>': the number of a node\n\nUsage: chord ring [OPTIONS] --operator <PORT> [COMMAND]\n\nFor more information, try '--help'.\n",
+            "error: invalid value 'x' for '<NODE>': the number of a node\n\nUsage: chord ring [OPTIONS] [COMMAND]\n\nFor more information, try '--help'.\n",
         ),
         (
             "chord ring --operator 9 join 00ab",
-            "error: invalid value '00ab' for '[ID]': 32 hexadecimal digits\n\nUsage: chord ring [OPTIONS] --operator <PORT> [COMMAND]\n\nFor more information, try '--help'.\n",
+            "error: invalid value '00ab' for '[ID]': 32 hexadecimal digits\n\nUsage: chord ring [OPTIONS] [COMMAND]\n\nFor more information, try '--help'.\n",
         ),
         (
             "chord ring --operator 9 join --limit 3",
-            "error: '--limit <N>' is only for '--store capped'\n\nUsage: chord ring [OPTIONS] --operator <PORT> [COMMAND]\n\nFor more information, try '--help'.\n",
+            "error: '--limit <N>' is only for '--store capped'\n\nUsage: chord ring [OPTIONS] [COMMAND]\n\nFor more information, try '--help'.\n",
+        ),
+        (
+            "chord ring --operator 9 restore",
+            "error: restore has '--port <N>', and all else has '--operator <PORT>'\n\nUsage: chord ring [OPTIONS] [COMMAND]\n\nFor more information, try '--help'.\n",
         ),
     ] {
         assert!(rt; prints(rt.alloc(), line, text) == Some((true, 2)), "{line}");

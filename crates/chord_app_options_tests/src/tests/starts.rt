@@ -1,5 +1,5 @@
-//! The commands `ask`, `load` and `ring` from their words on, over loopback. Their lines go to the output of
-//! the test itself; `chord_app_ask_tests` compares lines.
+//! The commands `ask`, `load` and `ring` from their words on, over loopback. Their lines go to the
+//! output of the test itself; `chord_app_ask_tests` compares lines.
 
 use chord_app_options::{commands, start_ask, start_load, start_ring};
 use chord_app_text::{Fault, Finish};
@@ -47,7 +47,7 @@ fn start<T: Threads + Wait + Clock + Net<Listener = TcpListener, Stream = TcpStr
     words: &str,
 ) -> Option<Ended> {
     let alloc = rt.alloc();
-    let option = if command == "ring" {
+    let option = if command == "ring" && words != "restore" {
         "operator"
     } else {
         "port"
@@ -128,6 +128,12 @@ const RETRIEVE: Talk = Talk {
     answer: b"\x00\x00\x00\x0e\x01\x82\x00\x00\x00\x00\x00\x00\x00\x01\x00\x00\x00\x00",
 };
 
+/// A look at all pairs, of which there are none.
+const PAGE: Talk = Talk {
+    asked: b"GET /pairs?limit=1000 HTTP/1.1\r\n",
+    answer: b"HTTP/1.1 200 OK\r\ncontent-length: 0\r\n\r\n",
+};
+
 /// An open of a session that begins, up to its token. It is refused, as by a server that keeps none.
 const OPEN: Talk = Talk {
     asked: b"\x00\x00\x00\x23\x02\x04\x00\x00\x00\x00\x00\x00\x00\x00\x00\x00\x00\x00\x00\x00\x00\x00",
@@ -157,6 +163,8 @@ fn commands_at_a_server(rt: HostRuntime) {
     assert!(rt; asked == done, "or in version 1, if the words say so");
     let loaded = started(&rt, &rt, ("load", "--no-session --requests 1"), RETRIEVE);
     assert!(rt; loaded == done, "load sends as many as the words say");
+    let dumped = started(&rt, &rt, ("ring", "dump"), PAGE);
+    assert!(rt; dumped == done, "dump asks for the first page");
 }
 
 /// A port at which nobody listens.
@@ -210,7 +218,7 @@ fn rings_nobody<T: Threads + Wait + Clock + Net<Listener = TcpListener, Stream =
 
 #[test]
 fn a_ring_that_nobody_serves(rt: HostRuntime) {
-    for words in ["", "--watch", "leave 3", "stop"] {
+    for words in ["", "--watch", "leave 3", "dump", "restore", "stop"] {
         let (ended, port) = rings_nobody(&rt, &rt, words).unwrap_or((Ok(Finish::Done), 0));
         let reason = io::ErrorKind::ConnectionRefused;
         let wanted = Err(Finish::Fault(Fault::Connect { port, reason }));
