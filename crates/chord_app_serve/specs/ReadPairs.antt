@@ -43,4 +43,4 @@ first_of request = first_behind request.after
 
 -- no pairs, or those of one node from the identifier on
 abbrev pub IsRead : PairsRequest → PairsPage → Type 0
-IsRead request shown = (shown.pairs.items ≡ []) ⊎ IsReadAt (first_of request) (max 1 request.limit) shown
+IsRead request shown = (shown.pairs.items ≡ []) ⊎ IsReadAt (first_of request) (max request.limit 1) shown
