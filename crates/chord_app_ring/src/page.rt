@@ -9,7 +9,7 @@ use chord_app_operator::PairsRequest;
 use chord_ident::Id;
 
 /// How many pairs a page has, if it is not the last of a node's segment.
-pub const PAGE_PAIRS: u64 = 100;
+pub const PAGE_PAIRS: u64 = 1000;
 
 /// A page of a server's pairs.
 #[derive(Debug, Drop)]

@@ -1,4 +1,5 @@
 //! The pages in which a node's pairs are read.
+ghost use Rattle.std.specs.Prelude.{◌<◌};
 
 use super::{A, founder, newborn};
 use chord_caller::Ask;
@@ -160,11 +161,13 @@ fn insertion(alloc: Global, row: Row) -> Result<Request, AllocError> {
 }
 
 /// Inserts the pair of this number, counted from 1.
-fn insert(rt: &impl Abort, alloc: Global, node: &mut Node<CappedStore>, number: u64, row: Row) {
+fn insert(rt: &impl Abort, alloc: Global, node: &mut Node<CappedStore>, number: u64, row: Row)
+    requires { 0 < number }
+{
     let ask = Ask {
         caller: 0,
         number,
-        floor: number.saturating_sub(1),
+        floor: number - 1,
         request: insertion(alloc, row).expect(rt, "memory for a request"),
         hops: 0,
     };
