@@ -5,11 +5,12 @@ takes three pictures of a ring of 16 nodes into which four connections inserted:
 ring-join.png while a node that joined is given its pairs, and ring-crash.png after a node left and
 another crashed, all by the page's own buttons. It takes some two minutes.
 Needs Debian's chromium, chromium-driver and python3-selenium, and the toolchain if no PROGRAM is
-named; it installs nothing. It ends with a status other than 0 where the page does not show what it
+named; pngquant makes the pictures smaller if it is there; it installs nothing. It ends with a status other than 0 where the page does not show what it
 should.
 """
 import pathlib
 import random
+import shutil
 import subprocess
 import sys
 import tempfile
@@ -112,6 +113,13 @@ def shoot(page, folder):
     page.save_screenshot(str(folder / "ring-crash.png"))
 
 
+def shrink(folder):
+    """Makes the pictures smaller, of 256 colours."""
+    if shutil.which("pngquant"):
+        names = [str(folder / f"ring-{name}.png") for name in ("still", "join", "crash")]
+        subprocess.run(["pngquant", "--force", "--ext", ".png", "256", *names], check=True)
+
+
 def main():
     folder = pathlib.Path(sys.argv[1] if len(sys.argv) > 1 else TOP / "docs")
     program = pathlib.Path(sys.argv[2]).resolve() if len(sys.argv) > 2 else PROGRAM
@@ -140,6 +148,7 @@ def main():
             load.wait()
             server.stdin.close()
             ended = server.wait(20)
+    shrink(folder)
     print(f"{folder}/ring-still.png, ring-join.png, ring-crash.png; the server ended with {ended}")
     sys.exit(1 if ended else 0)
 
