@@ -219,14 +219,14 @@ fn sight_of<J: Naming, R: Abort + Wait>(
     sight.expect(rt, "a node of this number")
 }
 
-/// Ticks both nodes until node 1 has all pairs in one segment.
+/// Ticks both nodes until node 1 has all pairs in the segment that is its own.
 fn ticks<J: Naming, R: Abort + Wait + Clock>(rt: &R, alloc: Global, ring: &Ring<J, TreeStore>) {
     for _ in 0..10_000u64 {
         assert!(rt; ring.tick(rt, 0).is_ok(), "node 0 is ticked");
         assert!(rt; ring.tick(rt, 1).is_ok(), "node 1 is ticked");
         gives_one_piece(rt, sight_of(rt, alloc, ring, 0));
         let sight = sight_of(rt, alloc, ring, 1);
-        let is_whole = sight.pairs == PAIRS && sight.segments.len() == 1;
+        let is_whole = is_over(&sight);
         drop(sight);
         if is_whole {
             break;
@@ -241,6 +241,16 @@ fn ticks<J: Naming, R: Abort + Wait + Clock>(rt: &R, alloc: Global, ring: &Ring<
         "a piece has 513 to 1,024 pairs, and the last may have fewer"
     );
     drop(giver);
+}
+
+/// Whether node 1 has all pairs, and one segment, which is all its own.
+fn is_over(sight: &NodeSight) -> bool {
+    match sight.segments.as_slice() {
+        [segment] => {
+            sight.pairs == PAIRS && segment.span == Span::new(Id::new(A), Id::new(BEFORE_A))
+        }
+        _ => false,
+    }
 }
 
 /// What node 0 hands over at a time is one piece at most.
