@@ -1,5 +1,7 @@
 -- What follows from when a server ends.
 use Rattle.std.specs.Prelude.{ℕ, Bool, true, false, Option, Some, None}
+use Rattle.chord_serve.specs.declared.read_size.ReadSize.{ReadSize}
+use Rattle.chord_serve.specs.declared.read_size.ReadSize.TheVariants.{Small, Large}
 use Rattle.chord_app_sockets.specs.declared.until.Until.{Until}
 use Rattle.chord_app_sockets.specs.declared.until.Until.TheVariants as until
 
@@ -12,6 +14,11 @@ most_of (until.Stopped stop seconds) = 18446744073709551615
 abbrev pub turns_of : Until → ℕ
 turns_of (until.Connections connections) = 65536
 turns_of (until.Stopped stop seconds) = 18446744073709551615
+
+-- how many bytes one read of a connection takes at most
+abbrev pub read_size : Until → ReadSize
+read_size (until.Connections connections) = Small
+read_size (until.Stopped stop seconds) = Large
 
 -- how many of a ring's callers are kept for further connections
 abbrev pub kept_of : ℕ → Until → ℕ

@@ -1,6 +1,6 @@
 //! What a server needs besides its ring: where it listens ([`ServerSetup`], [`Doors`],
 //! [`OperatorPort`]), the open connections ([`Clients`]), how long it waits for each
-//! ([`PatientReader`], [`PatientWriter`]), how each ends ([`Ended`]) and is closed
+//! ([`PatientReader`], [`PatientWriter`], [`PollingReader`]), how each ends ([`Ended`]) and is closed
 //! ([`close_slowly`]), the lines that it writes ([`Lines`]), when it ends ([`Until`], [`Stop`]), and
 //! what its handle may do ([`Host`]).
 #![tactic(auto)]
@@ -12,6 +12,7 @@ mod ended;
 mod host;
 mod lines;
 mod patience;
+mod polling;
 mod setup;
 mod stop;
 mod until;
@@ -23,6 +24,7 @@ pub use ended::Ended;
 pub use host::Host;
 pub use lines::Lines;
 pub use patience::{PatientReader, PatientWriter, prepare};
+pub use polling::{Pollable, PollingReader};
 pub use setup::{OperatorPort, ServerSetup, listen};
 pub use stop::Stop;
 pub use until::{ClientSeconds, Until};

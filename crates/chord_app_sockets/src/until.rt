@@ -1,8 +1,9 @@
 //! When a server ends.
 ghost use Rattle.std.specs.Prelude.{◌≡◌, true};
-ghost use Rattle.chord_app_sockets.specs.Until.{most_of, turns_of, kept_of, idle_of, session_seconds, can_be_stopped};
+ghost use Rattle.chord_app_sockets.specs.Until.{most_of, turns_of, read_size, kept_of, idle_of, session_seconds, can_be_stopped};
 
 use crate::stop::Stop;
+use chord_serve::ReadSize;
 use std::net::Net;
 use std::time::Clock;
 
@@ -51,6 +52,16 @@ impl<'a> Until<'a> {
         match self {
             Until::Connections(_) => TURNS,
             Until::Stopped { .. } => u64::MAX,
+        }
+    }
+
+    /// How many bytes one read of a connection takes at most.
+    pub fn read_size(self) -> ReadSize
+        ensures { result ≡ read_size self.entry }
+    {
+        match self {
+            Until::Connections(_) => ReadSize::Small,
+            Until::Stopped { .. } => ReadSize::Large,
         }
     }
 

@@ -2,7 +2,7 @@
 
 use chord_app_sockets::{ClientSeconds, Doors, Ended, Lines, Stop, Until};
 use chord_app_text::{Fault, Finish};
-use chord_serve::Served;
+use chord_serve::{ReadSize, Served};
 use chord_wire::FaultCode;
 use std::alloc::Global;
 use std::io;
@@ -15,6 +15,7 @@ use std::time::Clock;
 struct Shown {
     connections: u64,
     turns: u64,
+    size: ReadSize,
     kept: usize,
     idle: Option<u64>,
     session: u64,
@@ -25,6 +26,7 @@ fn show(until: Until<'_>) -> Shown {
     Shown {
         connections: until.most(),
         turns: until.turns(),
+        size: until.read_size(),
         kept: until.kept_callers(3),
         idle: until.idle(),
         session: until.session_seconds(),
@@ -36,6 +38,7 @@ fn show(until: Until<'_>) -> Shown {
 const SEVEN: Shown = Shown {
     connections: 7,
     turns: 65_536,
+    size: ReadSize::Small,
     kept: 0,
     idle: None,
     session: 600,
@@ -46,6 +49,7 @@ const SEVEN: Shown = Shown {
 const STAYING: Shown = Shown {
     connections: u64::MAX,
     turns: u64::MAX,
+    size: ReadSize::Large,
     kept: 3,
     idle: Some(300),
     session: 60,

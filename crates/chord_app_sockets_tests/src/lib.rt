@@ -7,3 +7,5 @@ mod closing;
 mod ends;
 #[cfg(test)]
 mod patience;
+#[cfg(test)]
+mod polling;

@@ -1,35 +1,37 @@
 //! The server of a connection that speaks Redis's protocol.
 ghost use Rattle.std.specs.Prelude.{◌≡◌, ◌*◌, List, ℕ};
 ghost use Rattle.std.specs.Io.KnownBytes.{Appends, Consumes};
-ghost use Rattle.chord_serve.specs.BytesRead.{ReadsBetween};
+ghost use Rattle.chord_serve.specs.BytesRead.{ReadsBetween, most_bytes};
 ghost use Rattle.chord_serve.specs.Ends.{EndsInput};
 ghost use Rattle.chord_resp_serve.specs.Connections.{IsAnswered, first_numbers};
 
 use crate::connection::{RespConnection, ServerInfo};
 use crate::informs::Informs;
-use chord_serve::{Asker, Served, converse};
+use chord_serve::{Asker, ReadSize, Served, converse};
 use std::alloc::Global;
 use std::io::{Read, Write};
 
 /// Answers the commands from the reader, as [`converse`] does, until the input ends, the client
-/// quits, bytes are no command, a call fails, or `turns` reads were made. Gives the asker back.
+/// quits, bytes are no command, a call fails, or `turns` reads of this size were made. Gives the
+/// asker back.
 pub fn serve_commands<R: Read, W: Write, A: Asker + Drop, I: Informs>(
     alloc: Global,
     reader: &mut R,
     writer: &mut W,
     asker: A,
     server: ServerInfo<'_, I>,
+    size: ReadSize,
     turns: u64,
 ) -> (Served, A)
     ensures end { EndsInput result.0 (R.remaining reader.new) }
-    // Each read takes at most 4,096 bytes, and at least one unless the input ends.
-    ensures bytes { ReadsBetween 0 (4096 * turns) (R.remaining reader.old) (R.remaining reader.new) }
-    ensures spent { result.0 ≡ Served.TurnsSpent → ReadsBetween turns (4096 * turns) (R.remaining reader.old) (R.remaining reader.new) }
+    // Each read takes at least one byte unless the input ends.
+    ensures bytes { ReadsBetween 0 (most_bytes size * turns) (R.remaining reader.old) (R.remaining reader.new) }
+    ensures spent { result.0 ≡ Served.TurnsSpent → ReadsBetween turns (most_bytes size * turns) (R.remaining reader.old) (R.remaining reader.new) }
     ensures answered { (input : List ℕ) × (output : List ℕ) × Consumes (R.remaining reader.old) (R.remaining reader.new) input
         × IsAnswered A.answers (I.tells server.entry.source.now) server.entry.number result.0 first_numbers asker input output result.1
         × Appends (W.contents writer.old) (W.contents writer.new) output }
 {
     let mut connection = RespConnection::new(alloc, server, asker);
-    let served = converse(alloc, &mut connection, reader, writer, turns);
+    let served = converse(alloc, &mut connection, reader, writer, size, turns);
     (served, connection.into_asker())
 }

@@ -1,7 +1,6 @@
 -- A dialogue in frames is what a session served.
 use Rattle.std.proofs.Common.{◌≡◌, ◌⊎◌, ◌<◌, ℕ, List, [], ◌∷◌, ◌++◌, length, Bool, true, false, ◌==◌, Option, Ok, None, refl, sym, ap, subst, ◌∙◌, append_assoc, inl, inr, arith}
-use Rattle.std.proofs.lemmas.Bool.{eqb-true}
-use Rattle.std.proofs.lemmas.List.{append-nil, nil_from_length}
+use Rattle.std.proofs.lemmas.List.{append-nil}
 use Rattle.chord_wire.specs.Reading.{next_request}
 use Rattle.chord_serve.specs.declared.asker.Asked.{Asked}
 use Rattle.chord_serve.specs.declared.served.Served.{Served}
@@ -13,10 +12,8 @@ use Rattle.chord_serve.specs.Parting.{parted_as, KeptAs}
 use Rattle.chord_serve.specs.Served.{Dealt, DealsWithAll, StopsAfter, IsParted}
 use Rattle.chord_serve.specs.Conversing.{Talks, IsStopped, Waits, LosesPiece, Conversed}
 use Rattle.chord_serve.specs.Conversing.Talks.{Begins, Hears, Says}
+use Rattle.chord_serve.proofs.BytesRead.{empty_if}
 use Rattle.chord_serve.proofs.BatchLaws.{nothing, Dealt-then, Dealt-fed, served_after, prefix_served}
-
-empty_between : (xs : List ℕ) → (length xs == 0) ≡ true → xs ≡ []
-empty_between xs e = nil_from_length xs (eqb-true (length xs) 0 e)
 
 some_left : (xs : List ℕ) → (length xs == 0) ≡ false → 0 < length xs
 some_left [] e = cc
@@ -104,7 +101,7 @@ module _ {A D : Type 0} (answers : A → Question → Asked → A → Type 0) (f
       some_done c d i o (frames d ++ p.piece) going all.2 (subst (λ (x : List ℕ). Gave c x o (frames d ++ p.piece) (held d)) bytes more)
 
   pub conversed_serves : (end : Served) (c d : D) (i o : List ℕ) → over c ≡ false → Conversed Fed One Stop Quiet Between end c i o d → Ends end c (frames c ++ i) o (left_of d)
-  conversed_serves served.Ended c d i o going p = subst (λ (x : List ℕ). KeptAs (left_of d) (DealsWithAll answers (held c).version (held c).numbers (held c).asker (frames c ++ i) o x)) (empty_between (frames d) p.1) (waits_all c d i o going p.0)
+  conversed_serves served.Ended c d i o going p = subst (λ (x : List ℕ). KeptAs (left_of d) (DealsWithAll answers (held c).version (held c).numbers (held c).asker (frames c ++ i) o x)) (empty_if (frames d) p.1) (waits_all c d i o going p.0)
   conversed_serves served.Truncated c d i o going p = (frames d, some_left (frames d) p.1, waits_all c d i o going p.0)
   conversed_serves served.Read c d i o going p = (frames d, waits_all c d i o going p)
   conversed_serves served.TurnsSpent c d i o going p = (frames d, waits_all c d i o going p)

@@ -1,12 +1,14 @@
 //! The loop of every protocol: read, answer what is whole, write.
 ghost use Rattle.std.specs.Prelude.{◌≡◌, ◌≢◌, ◌<◌, ◌*◌, [], List, ℕ, Ok, Err, true, IfErr, OnOk};
 ghost use Rattle.std.specs.Io.KnownBytes.{Appends, Consumes};
-ghost use Rattle.chord_serve.specs.BytesRead.{ReadsBetween};
+ghost use Rattle.chord_serve.specs.BytesRead.{ReadsBetween, most_bytes};
 ghost use Rattle.chord_serve.specs.Conversing.{AnswersPart, SendsPart, AnswersAll, TakesTurn, Conversed};
 ghost use Rattle.chord_serve.specs.Ends.{IsStop, EndsInput};
 
 use crate::dialogue::Dialogue;
 use crate::due::Due;
+use crate::intake::Intake;
+use crate::read_size::ReadSize;
 use crate::served::Served;
 use std::alloc::Global;
 use std::io::{Read, Write};
@@ -57,59 +59,65 @@ fn answer_all<D: Dialogue, W: Write>(
     Ok(())
 }
 
-// One read of at most 4,096 bytes, then the answers to all whole requests, written together.
+// One read, then the answers to all whole requests, written together.
 fn take_turn<D: Dialogue, R: Read, W: Write>(
     alloc: Global,
     dialogue: &mut D,
+    intake: &mut Intake,
     reader: &mut R,
     writer: &mut W,
 ) -> Result<(), Served>
     requires { D.waits dialogue.old }
+    ensures size { intake.new.size ≡ intake.old.size }
     ensures end { IfErr result (λ end. EndsInput end (R.remaining reader.new)) }
-    ensures bytes { ReadsBetween 0 4096 (R.remaining reader.old) (R.remaining reader.new) }
+    ensures bytes { ReadsBetween 0 (most_bytes intake.old.size) (R.remaining reader.old) (R.remaining reader.new) }
     ensures not_spent { result ≢ Err Served.TurnsSpent }
-    ensures progress { OnOk result (ReadsBetween 1 4096 (R.remaining reader.old) (R.remaining reader.new)) }
+    ensures progress { OnOk result (ReadsBetween 1 (most_bytes intake.old.size) (R.remaining reader.old) (R.remaining reader.new)) }
     ensures turn { TakesTurn D.hears D.says D.stops D.waits D.between result dialogue.old (R.remaining reader.old) (R.remaining reader.new) (W.contents writer.old) (W.contents writer.new) dialogue.new }
 {
-    let mut buffer = [0u8; 4096];
-    let count = match reader.read(&mut buffer) {
-        Ok(count) => count,
+    match intake.read_from(reader) {
+        Ok(()) => {}
         Err(_) => return Err(Served::Read),
-    };
-    if count == 0 {
+    }
+    let piece = intake.bytes();
+    if piece.is_empty() {
         if dialogue.is_between() {
             return Err(Served::Ended);
         }
         return Err(Served::Truncated);
     }
-    match dialogue.feed(&buffer[..count]) {
+    match dialogue.feed(piece) {
         Ok(()) => answer_all(alloc, dialogue, writer),
         Err(_) => Err(Served::Memory),
     }
 }
 
 /// Answers the requests from the reader until the input ends, a request ends the dialogue,
-/// a call fails, or `turns` reads were made; the contract says how many bytes these may take,
-/// and tests count the reads. The answers to the requests of one read are written together, or
+/// a call fails, or `turns` reads of this size were made; the contract says how many bytes these may
+/// take, and tests count the reads. The answers to the requests of one read are written together, or
 /// whenever they are more than 65,536 bytes. They are also written if a request ends the dialogue.
 pub fn converse<D: Dialogue, R: Read, W: Write>(
     alloc: Global,
     dialogue: &mut D,
     reader: &mut R,
     writer: &mut W,
+    size: ReadSize,
     turns: u64,
 ) -> Served
     requires { D.waits dialogue.old }
     ensures end { EndsInput result (R.remaining reader.new) }
-    // Each read takes at most 4,096 bytes, and at least one unless the input ends.
-    ensures bytes { ReadsBetween 0 (4096 * turns) (R.remaining reader.old) (R.remaining reader.new) }
-    ensures spent { result ≡ Served.TurnsSpent → ReadsBetween turns (4096 * turns) (R.remaining reader.old) (R.remaining reader.new) }
+    // Each read takes at least one byte unless the input ends.
+    ensures bytes { ReadsBetween 0 (most_bytes size * turns) (R.remaining reader.old) (R.remaining reader.new) }
+    ensures spent { result ≡ Served.TurnsSpent → ReadsBetween turns (most_bytes size * turns) (R.remaining reader.old) (R.remaining reader.new) }
     ensures conversed { (input : List ℕ) × (output : List ℕ) × Consumes (R.remaining reader.old) (R.remaining reader.new) input
         × Conversed D.hears D.says D.stops D.waits D.between result dialogue.old input output dialogue.new
         × Appends (W.contents writer.old) (W.contents writer.new) output }
 {
+    let Ok(mut intake) = Intake::new(alloc, size) else {
+        return Served::Memory;
+    };
     for _ in 0..turns {
-        if let Err(end) = take_turn(alloc, dialogue, reader, writer) {
+        if let Err(end) = take_turn(alloc, dialogue, &mut intake, reader, writer) {
             return end;
         }
     }
@@ -122,11 +130,12 @@ pub fn converse_further<D: Dialogue, R: Read, W: Write>(
     dialogue: &mut D,
     reader: &mut R,
     writer: &mut W,
+    size: ReadSize,
     turns: u64,
 ) -> Served
     ensures end { EndsInput result (R.remaining reader.new) }
-    ensures bytes { ReadsBetween 0 (4096 * turns) (R.remaining reader.old) (R.remaining reader.new) }
-    ensures spent { result ≡ Served.TurnsSpent → ReadsBetween turns (4096 * turns) (R.remaining reader.old) (R.remaining reader.new) }
+    ensures bytes { ReadsBetween 0 (most_bytes size * turns) (R.remaining reader.old) (R.remaining reader.new) }
+    ensures spent { result ≡ Served.TurnsSpent → ReadsBetween turns (most_bytes size * turns) (R.remaining reader.old) (R.remaining reader.new) }
     ensures conversed { (input : List ℕ) × (output : List ℕ) × Consumes (R.remaining reader.old) (R.remaining reader.new) input
         × Conversed D.hears D.says D.stops D.waits D.between result dialogue.old input output dialogue.new
         × Appends (W.contents writer.old) (W.contents writer.new) output }
@@ -134,5 +143,5 @@ pub fn converse_further<D: Dialogue, R: Read, W: Write>(
     if let Err(end) = answer_all(alloc, dialogue, writer) {
         return end;
     }
-    converse(alloc, dialogue, reader, writer, turns)
+    converse(alloc, dialogue, reader, writer, size, turns)
 }

@@ -1,8 +1,8 @@
 //! A server of sessions over loopback, one connection after another.
 
 use chord_serve::{
-    ClientSession, KeptSessions, Parted, greet, serve_session, tell_no_session, tell_opened,
-    tell_session_known,
+    ClientSession, KeptSessions, Parted, ReadSize, greet, serve_session, tell_no_session,
+    tell_opened, tell_session_known,
 };
 use chord_serve_testkit::{Cut, MapAsker};
 use chord_wire::{Opening, SessionFrames, Token};
@@ -92,7 +92,15 @@ impl SmallServer {
             self.part(opening.token, Parted::Kept(client));
             return;
         }
-        let (_, left) = serve_session(self.alloc, reader, writer, frames, client, 1_000_000);
+        let (_, left) = serve_session(
+            self.alloc,
+            reader,
+            writer,
+            frames,
+            client,
+            ReadSize::Small,
+            1_000_000,
+        );
         self.part(opening.token, left);
     }
 

@@ -10,8 +10,8 @@ use crate::serving::service::{Service, node_of};
 use crate::serving::sessions::Sessions;
 use crate::serving::tally::Tally;
 use chord_app_sockets::{
-    Clients, Door, Doors, Ended, Host, Lines, PatientReader, PatientWriter, Protocol, ServerSetup,
-    Until, close_slowly, prepare,
+    Clients, Door, Doors, Ended, Host, Lines, PatientReader, PatientWriter, PollingReader,
+    Protocol, ServerSetup, Until, close_slowly, prepare,
 };
 use chord_app_text::Finish;
 use chord_live_ring::{ReturnedCaller, Ring, RingParts};
@@ -109,9 +109,9 @@ impl<'s, 'r, J: Naming, S: EntryStore, R: Host, L: Log, W: Write> Server<'s, 'r,
             Ok(idle) => idle,
             Err(none) => return self.refuse(guest, none),
         };
-        let mut reader = PatientReader::new(guest.stream, &self.clients, self.until.idle());
+        let polling = PollingReader::new(guest.stream);
+        let mut reader = PatientReader::new(polling, &self.clients, self.until.idle());
         let mut writer = PatientWriter::new(guest.stream);
-        let turns = self.until.turns();
         let server = ServerInfo {
             number: guest.number,
             source: self,
@@ -122,7 +122,7 @@ impl<'s, 'r, J: Naming, S: EntryStore, R: Host, L: Log, W: Write> Server<'s, 'r,
             server,
             &mut reader,
             &mut writer,
-            turns,
+            self.until,
         );
         self.pool.give_back(service.rt, caller);
         Ended::by(served, reader.is_idle() || writer.is_idle())

@@ -5,7 +5,7 @@ use crate::nodes::{start_nodes, tick_in_turn};
 use crate::serving::asker::RingAsker;
 use crate::serving::idle::IdleCaller;
 use chord_app_plan::PlanNode;
-use chord_app_sockets::{Ended, ServerSetup};
+use chord_app_sockets::{Ended, ServerSetup, Until};
 use chord_app_text::Finish;
 use chord_live::RingClient;
 use chord_live_ring::Ring;
@@ -74,7 +74,8 @@ impl<'r, J: Naming, S: EntryStore, R: Wait + Clock, L: Log> Service<'r, J, S, R,
     }
 
     /// Serves a client that speaks in frames without a session, by this caller at the node `via`:
-    /// first what was read of it, and then at most `turns` reads. Gives the caller back.
+    /// first what was read of it, and then what it sends, in reads as `until` allows. Gives the
+    /// caller back.
     pub fn serve_frames<I: Read, O: Write>(
         &self,
         idle: IdleCaller<'r, J, S>,
@@ -82,15 +83,16 @@ impl<'r, J: Naming, S: EntryStore, R: Wait + Clock, L: Log> Service<'r, J, S, R,
         frames: SessionFrames,
         reader: &mut I,
         writer: &mut O,
-        turns: u64,
+        until: Until<'_>,
     ) -> (Served, RingClient<'r, J, S>) {
         let asker = RingAsker::new(self.rt, idle, via);
-        let (served, asker) = serve_plain(self.alloc, reader, writer, frames, asker, turns);
+        let (size, turns) = (until.read_size(), until.turns());
+        let (served, asker) = serve_plain(self.alloc, reader, writer, frames, asker, size, turns);
         (served, asker.into_caller())
     }
 
-    /// Serves a client that speaks Redis's protocol, by this caller at the node `via`, with at most
-    /// `turns` reads. Gives the caller back.
+    /// Serves a client that speaks Redis's protocol, by this caller at the node `via`, in
+    /// reads as `until` allows. Gives the caller back.
     pub fn serve_redis<I: Read, O: Write, N: Informs>(
         &self,
         idle: IdleCaller<'r, J, S>,
@@ -98,10 +100,13 @@ impl<'r, J: Naming, S: EntryStore, R: Wait + Clock, L: Log> Service<'r, J, S, R,
         server: ServerInfo<'_, N>,
         reader: &mut I,
         writer: &mut O,
-        turns: u64,
+        until: Until<'_>,
     ) -> (Served, RingClient<'r, J, S>) {
         let asker = RingAsker::new(self.rt, idle, via);
-        let (served, asker) = serve_commands(self.alloc, reader, writer, asker, server, turns);
+        let (size, turns) = (until.read_size(), until.turns());
+        let (served, asker) = serve_commands(
+            self.alloc, reader, writer, asker, server, size, turns,
+        );
         (served, asker.into_caller())
     }
 

@@ -3,7 +3,7 @@
 use crate::serving::asker::RingAsker;
 use crate::serving::idle::IdleCaller;
 use crate::serving::server::{Guest, Server};
-use chord_app_sockets::{Ended, Host, PatientReader, PatientWriter, prepare};
+use chord_app_sockets::{Ended, Host, PatientReader, PatientWriter, PollingReader, prepare};
 use chord_serve::{
     BeginRefusal, ClientSession, Parted, Resumed, Served, greet, serve_session, tell_no_session,
     tell_opened, tell_session_known,
@@ -109,12 +109,17 @@ impl<'s, 'r, J: Naming, S: EntryStore, R: Host, L: Log, W: Write> Server<'s, 'r,
         guest: Guest<'_>,
         frames: SessionFrames,
     ) -> Ended {
-        let mut reader = PatientReader::new(guest.stream, &self.clients, self.until.idle());
+        let polling = PollingReader::new(guest.stream);
+        let mut reader = PatientReader::new(polling, &self.clients, self.until.idle());
         let mut writer = PatientWriter::new(guest.stream);
-        let turns = self.until.turns();
-        let (served, caller) = self
-            .service
-            .serve_frames(idle, guest.via, frames, &mut reader, &mut writer, turns);
+        let (served, caller) = self.service.serve_frames(
+            idle,
+            guest.via,
+            frames,
+            &mut reader,
+            &mut writer,
+            self.until,
+        );
         self.pool.give_back(self.service.rt, caller);
         Ended::by(served, reader.is_idle() || writer.is_idle())
     }
@@ -191,12 +196,13 @@ impl<'s, 'r, J: Naming, S: EntryStore, R: Host, L: Log, W: Write> Server<'s, 'r,
         frames: SessionFrames,
     ) -> Ended {
         let alloc = self.service.alloc;
-        let mut reader = PatientReader::new(guest.stream, &self.clients, self.until.idle());
+        let polling = PollingReader::new(guest.stream);
+        let mut reader = PatientReader::new(polling, &self.clients, self.until.idle());
         let mut writer = PatientWriter::new(guest.stream);
         let (served, parted) = match tell_opened(alloc, &mut writer, &client) {
             Ok(()) => {
-                let turns = self.until.turns();
-                serve_session(alloc, &mut reader, &mut writer, frames, client, turns)
+                let (size, turns) = (self.until.read_size(), self.until.turns());
+                serve_session(alloc, &mut reader, &mut writer, frames, client, size, turns)
             }
             Err(_) => {
                 drop(frames);

@@ -6,7 +6,7 @@ use super::askers::Scripted;
 use super::sessions::{NO_TROUBLE, OneLine, begun};
 use chord_resp::{Commands, ReadError, Words};
 use chord_resp_serve::{About, Numbers, ServerInfo, answer_words, serve_commands};
-use chord_serve::Served;
+use chord_serve::{ReadSize, Served};
 use std::alloc::{AllocError, Global};
 use std::process::Abort;
 
@@ -112,7 +112,15 @@ fn connected(alloc: Global) -> Option<Seen> {
         source: &OneLine,
     };
     let asker = Scripted::new(alloc, NO_TROUBLE);
-    let (end, asker) = serve_commands(alloc, &mut reader, &mut written, asker, server, 100);
+    let (end, asker) = serve_commands(
+        alloc,
+        &mut reader,
+        &mut written,
+        asker,
+        server,
+        ReadSize::Small,
+        100,
+    );
     drop(asker);
     let written = begun(&texts.output, &written);
     drop(texts);

@@ -3,7 +3,7 @@ ghost use Rattle.std.specs.Prelude.{◌≡◌, codes};
 
 use super::askers::{Script, Scripted, Trouble};
 use chord_resp_serve::{Informs, ServerInfo, serve_commands};
-use chord_serve::Served;
+use chord_serve::{ReadSize, Served};
 use chord_serve_testkit::{FREE, Limited, Limits};
 use std::alloc::{AllocError, Global};
 
@@ -90,6 +90,7 @@ fn connected(
         &mut writer,
         asker,
         server,
+        ReadSize::Small,
         conditions.turns,
     );
     let seen = Seen {

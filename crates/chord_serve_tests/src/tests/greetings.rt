@@ -2,7 +2,9 @@
 
 use super::script::{CLOSE, OPEN, change};
 use super::sessions::{ADDED, INSERT, fault, joined};
-use chord_serve::{ClientSession, Served, greet, serve_plain, tell_no_session, tell_session_known};
+use chord_serve::{
+    ClientSession, ReadSize, Served, greet, serve_plain, tell_no_session, tell_session_known,
+};
 use chord_serve_testkit::{Cut, FREE, Limited, Limits, MapAsker};
 use chord_wire::{Opening, SessionFrames};
 use std::alloc::Global;
@@ -102,7 +104,15 @@ fn plain(alloc: Global, input: &[u8], wanted: &[&[u8]]) -> Option<(Served, bool,
     let mut frames = SessionFrames::new(alloc);
     let greeted = greet(&mut reader, &mut frames, 10);
     let asker = MapAsker::new(alloc);
-    let (end, asker) = serve_plain(alloc, &mut reader, &mut writer, frames, asker, 10);
+    let (end, asker) = serve_plain(
+        alloc,
+        &mut reader,
+        &mut writer,
+        frames,
+        asker,
+        ReadSize::Small,
+        10,
+    );
     let asked = asker.requests.len();
     drop(asker);
     let wanted = joined(alloc, wanted);

@@ -5,7 +5,7 @@
 use super::in_flight::send;
 use super::sessions::{ADDED, Frames, INSERT, INSERT_2, begun, calls, insert, is_added, three};
 use chord_map::Request;
-use chord_serve::{CallFault, SendFault, Served, WireClient, serve};
+use chord_serve::{CallFault, ReadSize, SendFault, Served, WireClient, serve};
 use chord_serve_testkit::MapAsker;
 use chord_wire::Answers;
 use std::alloc::{AllocError, Global};
@@ -39,7 +39,7 @@ fn session(alloc: Global) -> Option<(Served, Option<usize>)> {
     let frames = three_frames(alloc).ok()?;
     let asker = MapAsker::new(alloc);
     let mut reader = frames.input.as_slice();
-    let (served, asker) = serve(alloc, &mut reader, &mut written, asker, 10);
+    let (served, asker) = serve(alloc, &mut reader, &mut written, asker, ReadSize::Small, 10);
     drop(asker);
     let begun = begun(&frames.output, &written);
     drop(frames);

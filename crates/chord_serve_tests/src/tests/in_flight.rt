@@ -4,7 +4,7 @@ use super::askers::FullAtFirst;
 use super::sessions::{ADDED, INSERT, INSERT_2, fault, insert};
 use chord_map::{Reply, Request};
 use chord_serve::{
-    AgainFault, Asker, CallFault, ReceiveFault, SendFault, Served, WireClient, serve,
+    AgainFault, Asker, CallFault, ReadSize, ReceiveFault, SendFault, Served, WireClient, serve,
     tell_callers_spent,
 };
 use chord_serve_testkit::{Limited, Limits, MapAsker};
@@ -104,7 +104,7 @@ fn after_inserts(alloc: Global, window: u64, count: u64) -> Option<Flight> {
 fn served<A: Asker + Drop>(alloc: Global, input: &[u8], asker: A) -> (Served, Vec<u8>) {
     let mut reader = input;
     let mut written = Vec::new(alloc);
-    let (served, asker) = serve(alloc, &mut reader, &mut written, asker, 10);
+    let (served, asker) = serve(alloc, &mut reader, &mut written, asker, ReadSize::Small, 10);
     drop(asker);
     (served, written)
 }

@@ -2,7 +2,9 @@
 //! connection that begins with an open.
 
 use super::sessions::joined;
-use chord_serve::{Asker, ClientSession, Parted, Served, greet, serve_session, tell_opened};
+use chord_serve::{
+    Asker, ClientSession, Parted, ReadSize, Served, greet, serve_session, tell_opened,
+};
 use chord_serve_testkit::{Cut, MapAsker};
 use chord_wire::SessionFrames;
 use std::alloc::{AllocError, Global};
@@ -164,7 +166,15 @@ pub fn visit<A: Asker + Drop>(
     let is_told = matches!(greeted, Ok(Some(_)))
         && tell_opened(alloc, &mut writer, &client).is_ok();
     let (end, left) = if is_told {
-        serve_session(alloc, &mut reader, &mut writer, frames, client, 10)
+        serve_session(
+            alloc,
+            &mut reader,
+            &mut writer,
+            frames,
+            client,
+            ReadSize::Small,
+            10,
+        )
     } else {
         drop(frames);
         (Served::Write, Parted::Kept(client))

@@ -1,6 +1,6 @@
 use super::askers::FullAtFirst;
 use chord_map::{Reply, Request};
-use chord_serve::{Asker, CallFault, Served, call, call_2, laws, serve};
+use chord_serve::{Asker, CallFault, ReadSize, Served, call, call_2, laws, serve};
 use chord_serve_testkit::{FREE, Limited, Limits, MapAsker};
 use chord_wire::{Answer, Answers, FaultCode};
 use std::alloc::{AllocError, Global};
@@ -87,11 +87,12 @@ pub fn begun(output: &[u8], written: &[u8]) -> Option<usize> {
     }
 }
 
-/// The devices of a session, and the most reads that it may make.
+/// The devices of a session, and how large and how many its reads may be.
 #[derive(Clone, Copy)]
 pub struct Conditions {
     pub reads: Limits,
     pub writes: Limits,
+    pub size: ReadSize,
     pub turns: u64,
 }
 
@@ -99,6 +100,7 @@ pub struct Conditions {
 const AMPLE: Conditions = Conditions {
     reads: FREE,
     writes: FREE,
+    size: ReadSize::Small,
     turns: 10,
 };
 
@@ -134,7 +136,8 @@ pub fn limited<A: Asker + Drop>(
 ) -> (Seen, A) {
     let mut reader = Limited::new(input, conditions.reads);
     let mut writer = Limited::new(Vec::new(alloc), conditions.writes);
-    let (end, asker) = serve(alloc, &mut reader, &mut writer, asker, conditions.turns);
+    let Conditions { size, turns, .. } = conditions;
+    let (end, asker) = serve(alloc, &mut reader, &mut writer, asker, size, turns);
     let seen = Seen {
         end,
         len: writer.inner.len(),
@@ -391,6 +394,7 @@ fn reading(step: usize, calls: u64, turns: u64) -> Conditions {
     Conditions {
         reads: Limits { step, calls },
         writes: FREE,
+        size: ReadSize::Small,
         turns,
     }
 }
@@ -427,6 +431,7 @@ fn writing(step: usize, calls: u64) -> Conditions {
     Conditions {
         reads: FREE,
         writes: Limits { step, calls },
+        size: ReadSize::Small,
         turns: 20,
     }
 }

@@ -6,7 +6,7 @@ use super::sessions::{
     joined, limited, three_frames,
 };
 use chord_map::Request;
-use chord_serve::Served;
+use chord_serve::{ReadSize, Served};
 use chord_serve_testkit::{FREE, Limits, MapAsker};
 use chord_wire::FaultCode;
 use std::alloc::{AllocError, Global};
@@ -15,6 +15,7 @@ use std::alloc::{AllocError, Global};
 const AMPLE: Conditions = Conditions {
     reads: FREE,
     writes: FREE,
+    size: ReadSize::Small,
     turns: 100,
 };
 
@@ -50,6 +51,34 @@ fn the_answers_to_one_read_are_one_write(rt: HostRuntime) {
             ..seen
         };
         assert!(rt; seen == wanted, "reads of {step} bytes: {seen:?}");
+    }
+}
+
+/// A session over 700 equal inserts, 13,300 bytes, in reads of this size.
+fn many_inserts(alloc: Global, size: ReadSize) -> Result<Seen, AllocError> {
+    let frames = Frames::new(alloc, &[INSERT.as_slice(); 700], &[ADDED.as_slice(); 700])?;
+    let conditions = Conditions { size, ..AMPLE };
+    let (seen, asker) = limited(alloc, frames.both(), conditions, MapAsker::new(alloc));
+    drop(asker);
+    drop(frames);
+    Ok(seen)
+}
+
+#[test]
+fn large_reads_double_up_to_their_size(rt: HostRuntime) {
+    // Three reads of 4,096 bytes, one of 1,012, and the end; one of 4,096, one of 8,192, one of
+    // 1,012, and the end.
+    for (size, reads) in [(ReadSize::Small, 5), (ReadSize::Large, 4)] {
+        let seen = many_inserts(rt.alloc(), size).expect(&rt, "memory for 700 frames");
+        let wanted = Seen {
+            end: Served::Ended,
+            len: 10_500,
+            answered: Some(10_500),
+            is_whole: true,
+            reads,
+            writes: reads - 1,
+        };
+        assert!(rt; seen == wanted, "reads of size {size:?}: {seen:?}");
     }
 }
 

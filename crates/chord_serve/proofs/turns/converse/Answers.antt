@@ -1,7 +1,9 @@
-use Rattle.std.proofs.Common.{ap, arith, ◌+◌, ◌*◌, Err, Ok}
+use Rattle.std.proofs.Common.{[], ap, arith, ◌*◌, Err, Ok, ◌∙◌}
+use Rattle.chord_serve.specs.BytesRead.{most_bytes}
 use Rattle.chord_serve.specs.declared.served.Served.{Served}
-use Rattle.chord_serve.proofs.Conversing.{no_turn, turn_then}
-use Rattle.chord_serve.proofs.BytesRead.{reads_none, reads_then, reads_within}
+use Rattle.std.proofs.KnownBytes.{Consumes-nil}
+use Rattle.chord_serve.proofs.Conversing.{no_turn, turn_then, piece_lost}
+use Rattle.chord_serve.proofs.BytesRead.{reads_none, reads_more, reads_last, reads_done}
 use Rattle.chord_serve.proofs.turns.converse.Goals as goal
 
 pub loop-init : goal.loop-init
@@ -9,7 +11,8 @@ loop-init g c =
     let d = g.D.Dialogue in
     record {
       so = no_turn d.hears d.says d.stops d.waits d.between c.args.dialogue.now (g.R.Read.remaining c.args.reader.now) (g.W.Write.contents c.args.writer.now) c.requires;
-      reads = reads_none 0 (g.R.Read.remaining c.args.reader.now);
+      reads = reads_none (most_bytes c.args.size * 0) (g.R.Read.remaining c.args.reader.now);
+      sized = ap (λ intake. intake.size) c.in-Ok.ensures;
     }
 
 pub loop-preserved : goal.loop-preserved
@@ -19,9 +22,9 @@ loop-preserved g c =
     let held = g.W.Write.contents in
     let new = c.take_turn.new in
     record {
-      so = turn_then d.hears d.says d.stops d.waits d.between (Ok tt) c.args.dialogue.now c.loop.dialogue new.dialogue (left c.args.reader.now) (left c.loop.reader) (left new.reader) (held c.args.writer.now) (held c.loop.writer) (held new.writer) c.loop.invariant.so c.in_default.ensures.turn;
-      reads = reads_within (c.loop.counter + 1) (4096 * c.loop.counter + 4096) (c.loop.counter + 1) (4096 * (c.loop.counter + 1)) (left c.args.reader.now) (left new.reader) (omega arith) (omega arith)
-          (reads_then c.loop.counter (4096 * c.loop.counter) 1 4096 (left c.args.reader.now) (left c.loop.reader) (left new.reader) c.loop.invariant.reads c.in_default.ensures.progress);
+      so = turn_then d.hears d.says d.stops d.waits d.between (Ok tt) c.args.dialogue.now c.loop.dialogue new.dialogue (left c.args.reader.now) (left c.loop.reader) (left new.reader) (held c.args.writer.now) (held c.loop.writer) (held new.writer) c.loop.invariant.so c.in_default-take_turn.ensures.turn;
+      sized = c.in_default-take_turn.ensures.size ∙ c.loop.invariant.sized;
+      reads = reads_more c.args.size c.loop.counter (left c.args.reader.now) (left c.loop.reader) (left new.reader) c.loop.invariant.reads (rw c.loop.invariant.sized at c.in_default-take_turn.ensures.progress);
     }
 
 pub returns-in-Err-clause-conversed : goal.returns-in-Err-clause-conversed
@@ -36,8 +39,7 @@ pub returns-in-Err-clause-bytes : goal.returns-in-Err-clause-bytes
 returns-in-Err-clause-bytes g c =
     let left = g.R.Read.remaining in
     let new = c.take_turn.new in
-    reads_within (c.loop.counter + 0) (4096 * c.loop.counter + 4096) 0 (4096 * c.args.turns) (left c.args.reader.now) (left new.reader) (omega arith) (omega (arith, c.loop-test.true))
-    (reads_then c.loop.counter (4096 * c.loop.counter) 0 4096 (left c.args.reader.now) (left c.loop.reader) (left new.reader) c.loop.invariant.reads c.in-Err.ensures.bytes)
+    reads_last c.args.size c.loop.counter c.args.turns (left c.args.reader.now) (left c.loop.reader) (left new.reader) c.loop-test.true c.loop.invariant.reads (rw c.loop.invariant.sized at c.in-Err.ensures.bytes)
 
 pub returns-in-Err-clause-spent : goal.returns-in-Err-clause-spent
 returns-in-Err-clause-spent g c = λ e. absurd (c.in-Err.ensures.not_spent (ap (λ (s : Served). Err s) e))
@@ -45,9 +47,15 @@ returns-in-Err-clause-spent g c = λ e. absurd (c.in-Err.ensures.not_spent (ap (
 pub returns-clause-bytes : goal.returns-clause-bytes
 returns-clause-bytes g c =
     let left = g.R.Read.remaining in
-    reads_within c.loop.counter (4096 * c.loop.counter) 0 (4096 * c.args.turns) (left c.args.reader.now) (left c.loop.reader) (omega arith) (omega arith) c.loop.invariant.reads
+    reads_done c.args.size c.loop.counter 0 c.args.turns (left c.args.reader.now) (left c.loop.reader) (omega arith) (omega arith) c.loop.invariant.reads
 
 pub returns-clause-spent : goal.returns-clause-spent
 returns-clause-spent g c = λ e.
     let left = g.R.Read.remaining in
-    reads_within c.loop.counter (4096 * c.loop.counter) c.args.turns (4096 * c.args.turns) (left c.args.reader.now) (left c.loop.reader) (omega (arith, c.loop-test.false)) (omega arith) c.loop.invariant.reads
+    reads_done c.args.size c.loop.counter c.args.turns c.args.turns (left c.args.reader.now) (left c.loop.reader) (omega (arith, c.loop-test.false)) (omega arith) c.loop.invariant.reads
+
+pub returns-in_default-clause-conversed : goal.returns-in_default-clause-conversed
+returns-in_default-clause-conversed g c =
+    let d = g.D.Dialogue in
+    let left = g.R.Read.remaining c.args.reader.now in
+    piece_lost d.hears d.says d.stops d.waits d.between c.args.dialogue.now [] left left (g.W.Write.contents c.args.writer.now) (Consumes-nil left)
