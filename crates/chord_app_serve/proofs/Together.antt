@@ -3,14 +3,12 @@ use Rattle.std.proofs.Common.{◌≡◌, ◌≢◌, ℕ, zero, suc, ◌+◌, ◌
 use Rattle.std.proofs.lemmas.Bool.{cond-true, cond-false, ne_eqb}
 use Rattle.std.proofs.lemmas.Grind.{flat_map-append}
 use Rattle.std.proofs.lemmas.List.{map-append}
-use Rattle.std.proofs.lemmas.Option.{same_Some}
 use Rattle.chord_app_plan.specs.declared.ask.PlanAsk.{PlanAsk}
-use Rattle.chord_app_serve.proofs.Asked.{fresh_kind}
+use Rattle.chord_app_serve.proofs.Asked.{fresh_kind, last_request}
 use Rattle.chord_app_serve.specs.Together.{taken_requests, taken_replies, AskedIs, NextIs, replies_of, AreAnswers, requests_of, replies_taken, AreOf, AreGroups}
 use Rattle.chord_app_serve.specs.declared.plan_run.asking.AskResult.{AskResult}
 use Rattle.chord_app_serve.specs.declared.plan_run.asking.AskResult.TheVariants as ended
-use Rattle.chord_caller.proofs.Places.{got_last}
-use Rattle.chord_caller.specs.Caller.{Caller, Submission, fresh_for, submission_at, next_number, with_request, with_reply}
+use Rattle.chord_caller.specs.Caller.{Caller, fresh_for, submission_at, next_number, with_request, with_reply}
 use Rattle.chord_live.specs.Asking.{CallIs}
 use Rattle.chord_live.specs.Ending.{AwaitIs, told_to}
 use Rattle.chord_live_types.specs.declared.caller.AskFault.{AskFault}
@@ -23,15 +21,6 @@ use Rattle.chord_map.specs.declared.request.Request.{Request}
 use Rattle.chord_table.specs.Views.{CallerSight}
 
 -- ---- one ask
-
--- the request that was submitted last has the next number
-last_request : (request : Request) (old : Caller) (s : Submission) → submission_at (next_number old) (with_request request old).submitted ≡ Some s → s.request ≡ request
-last_request request old s at =
-    let last : Submission = record { request = request; mine_seen = length old.mine; told_seen = length old.told } in
-    let next : length old.submitted + 1 ≡ suc (length old.submitted) = omega arith in
-    let found : submission_at (next_number old) (with_request request old).submitted ≡ Some last =
-    ap (λ n. submission_at n (old.submitted ++ last ∷ [])) next ∙ got_last old.submitted last in
-    ap (λ (x : Submission). x.request) (sym (same_Some last s (sym found ∙ at)))
 
 -- the caller after it took the reply to a request that it had just submitted
 took_last : (request asked : Request) (reply : Reply) (old submitted new : Caller) → submitted ≡ with_request request old

@@ -1,8 +1,8 @@
 //! A caller of a ring, as the asker of a session.
-ghost use Rattle.std.specs.Prelude.{◌≡◌, ◌⊎◌, ◌≤◌, [], length};
+ghost use Rattle.std.specs.Prelude.{◌≡◌, ◌≤◌, [], length};
+ghost use Rattle.chord_app_serve.specs.Answered.{AnsweredBy, TellsCall, TellsReply, TellsRetry, told_of_wait};
 ghost use Rattle.chord_app_serve.specs.Asked.{asked_since, has_pending};
 ghost use Rattle.chord_serve.specs.Question.{IsAnswer, IsHeard};
-ghost use Rattle.chord_serve.specs.declared.asker.Asked.TheVariants as Asked;
 
 use crate::serving::idle::IdleCaller;
 use chord_live::RingClient;
@@ -52,9 +52,9 @@ impl<'a, J: Naming, S: EntryStore, R: Wait + Clock> RingAsker<'a, J, S, R> {
 }
 
 /// The reply as an answer, if it has a frame; each reply of a store has.
-fn to_answer(reply: Reply) -> Asked
+fn answer_of_reply(reply: Reply) -> Asked
     ensures fits { IsAnswer result }
-    ensures told { (result ≡ Asked.Reply reply) ⊎ (result ≡ Asked.NoAnswer) }
+    ensures told { TellsReply reply result }
 {
     if is_writable(&reply) {
         Asked::Reply(reply)
@@ -63,23 +63,56 @@ fn to_answer(reply: Reply) -> Asked
     }
 }
 
+/// What is told of a wait that ended without a reply.
+fn answer_of_wait(fault: WaitFault) -> Asked
+    ensures fits { IsAnswer result }
+    ensures told { result ≡ told_of_wait fault }
+{
+    match fault {
+        WaitFault::Full => Asked::Full,
+        WaitFault::NoAnswer => Asked::NoAnswer,
+        WaitFault::Memory => Asked::Memory,
+    }
+}
+
+/// What is told of a new request. If the caller refuses it outright the session ends as out of
+/// memory. Nothing within the session's window should be refused, but no contract says so.
+fn answer_of_call(called: Result<Reply, AskFault>) -> Asked
+    ensures fits { IsAnswer result }
+    ensures told { TellsCall called result }
+{
+    match called {
+        Ok(reply) => answer_of_reply(reply),
+        Err(AskFault::Wait(fault)) => answer_of_wait(fault),
+        Err(AskFault::Begin(_)) => Asked::Memory,
+    }
+}
+
+/// What is told of a request that was sent again.
+fn answer_of_retry(retried: Result<Reply, RetryFault>) -> Asked
+    ensures fits { IsAnswer result }
+    ensures told { TellsRetry retried result }
+{
+    match retried {
+        Ok(reply) => answer_of_reply(reply),
+        Err(RetryFault::Wait(fault)) => answer_of_wait(fault),
+        Err(RetryFault::NoSuchNode) => Asked::NoAnswer,
+        Err(RetryFault::Idle) => Asked::NoAnswer,
+    }
+}
+
 impl<'a, J: Naming, S: EntryStore, R: Wait + Clock> Asker for RingAsker<'a, J, S, R> {
-    ghost answers = { λ a question answer b. IsHeard question answer (asked_since a.before a.caller) (asked_since b.before b.caller) };
+    ghost answers = { λ a question answer b. IsHeard question answer (asked_since a.before a.caller) (asked_since b.before b.caller) × (b.before ≡ a.before) × (b.via ≡ a.via) × AnsweredBy a.before question a.caller answer b.caller };
 
     ghost asked = { λ a. asked_since a.before a.caller };
 
-    /// Asks a request. If the caller refuses it outright the session ends as out of memory. Nothing
-    /// within the session's window should be refused, but no contract says so.
+    /// Asks a request, by a call of the caller.
     fn ask(&mut self, request: &Request) -> Asked {
         let Ok(copy) = request.try_copy() else {
             return Asked::Memory;
         };
-        match self.caller.call(self.rt, self.via, copy) {
-            Ok(reply) if reply.fits(request) => to_answer(reply),
-            Ok(_) | Err(AskFault::Wait(WaitFault::NoAnswer)) => Asked::NoAnswer,
-            Err(AskFault::Wait(WaitFault::Full)) => Asked::Full,
-            Err(_) => Asked::Memory,
-        }
+        let ended = self.caller.call(self.rt, self.via, copy);
+        answer_of_call(ended)
     }
 
     /// Sends the request of this number again; the caller's number is greater by `before`.
@@ -87,17 +120,13 @@ impl<'a, J: Naming, S: EntryStore, R: Wait + Clock> Asker for RingAsker<'a, J, S
         let Some(submitted) = self.before.checked_add(number) else {
             return Asked::NoAnswer;
         };
-        match self.caller.call_again(self.rt, self.via, submitted) {
-            Ok(reply) => to_answer(reply),
-            Err(RetryFault::Wait(WaitFault::Full)) => Asked::Full,
-            Err(RetryFault::Wait(WaitFault::Memory)) => Asked::Memory,
-            Err(_) => Asked::NoAnswer,
-        }
+        let ended = self.caller.call_again(self.rt, self.via, submitted);
+        answer_of_retry(ended)
     }
 
-    ghost notes = { λ a b question answer heard. heard.notes };
+    ghost notes = { λ a b question answer heard. heard.0.notes };
 
-    ghost kind = { λ a b question answer heard. heard.kind };
+    ghost kind = { λ a b question answer heard. heard.0.kind };
 }
 
 impl<'a, J: Naming, S: EntryStore, R: Wait + Clock> MayBePending for RingAsker<'a, J, S, R> {

@@ -1,8 +1,18 @@
-use Rattle.std.proofs.Common.{◌≡◌, ◌+◌, rules}
+use Rattle.std.proofs.Common.{◌≡◌, ◌+◌, ℕ, refl, subst, inl, rules}
 use Rattle.chord_app_serve.proofs.Asked.{heard_again}
+use Rattle.chord_live.specs.Asking.{RetryIs}
+use Rattle.chord_live.specs.Ending.{AwaitIs}
 use Rattle.chord_app_serve.proofs.serving.asker.RingAskerAsker.retry.Goals as goal
 
-pub returns-in-Ok-clause-answer : goal.returns-in-Ok-clause-answer
-returns-in-Ok-clause-answer g c =
-    let place : c.in-Some.submitted ≡ c.args.self.now.before + c.args.number = search rules in
-    heard_again c.args.self.now.before c.args.number c.in-Some.submitted c.in-Ok.reply c.to_answer.result c.args.self.now.caller c.call_again.new.self place c.in-Ok.ensures.answer.1.change c.to_answer.ensures.told
+pub returns-clause-answer : goal.returns-clause-answer
+returns-clause-answer g c =
+    let asker = c.args.self.now in
+    let new = c.call_again-ended.new.self in
+    let place : c.in-Some.submitted ≡ asker.before + c.args.number = search rules in
+    let sent : RetryIs AwaitIs (asker.before + c.args.number) asker.caller c.call_again-ended.result new =
+    subst (λ (number : ℕ). RetryIs AwaitIs number asker.caller c.call_again-ended.result new) place c.call_again-ended.ensures.answer in (
+      heard_again asker.before c.args.number c.call_again-ended.result c.answer_of_retry.result asker.caller new sent c.answer_of_retry.ensures.told,
+      refl,
+      refl,
+      inl (c.call_again-ended.result, sent, c.answer_of_retry.ensures.told),
+    )

@@ -1,4 +1,4 @@
-use Rattle.std.proofs.Common.{◌≡◌, ℕ, Option, refl, subst, inr}
+use Rattle.std.proofs.Common.{ℕ, Option, refl, subst, inr}
 use Rattle.std.specs.Prelude.{IfSome}
 use Rattle.chord_app_operator.specs.declared.operator.pairs.PairsPage.{PairsPage}
 use Rattle.chord_app_serve.specs.ReadPairs.{first_of, IsReadAt}

@@ -1,0 +1,64 @@
+-- What a session is told by a caller of a ring: how the caller's call ended. Source: our own.
+use Rattle.std.specs.Prelude.{◌≡◌, ◌⊎◌, ℕ, ◌+◌, ◌^◌, ◌≤◌, Result, Ok, Err}
+use Rattle.chord_live.specs.Asking.{CallIs, RetryIs}
+use Rattle.chord_live.specs.Ending.{AwaitIs}
+use Rattle.chord_live_types.specs.declared.caller.AskFault.{AskFault}
+use Rattle.chord_live_types.specs.declared.caller.AskFault.TheVariants as ask
+use Rattle.chord_live_types.specs.declared.caller.RetryFault.{RetryFault}
+use Rattle.chord_live_types.specs.declared.caller.RetryFault.TheVariants as retry
+use Rattle.chord_live_types.specs.declared.caller.WaitFault.{WaitFault}
+use Rattle.chord_live_types.specs.declared.caller.WaitFault.TheVariants as wait
+use Rattle.chord_map.specs.Copies.{IsShortRequest}
+use Rattle.chord_map.specs.declared.reply.Reply.{Reply}
+use Rattle.chord_map.specs.declared.request.Request.{Request}
+use Rattle.chord_serve.specs.Question.{Question, Ask, Retry}
+use Rattle.chord_serve.specs.declared.asker.Asked.{Asked}
+use Rattle.chord_serve.specs.declared.asker.Asked.TheVariants as asked
+use Rattle.chord_table.specs.Views.{CallerSight}
+use Rattle.chord_wire.specs.Replies.{IsReply}
+
+-- a reply is told as it is, or as no answer if it has no frame
+abbrev pub TellsReply : Reply → Asked → Type 0
+TellsReply reply (asked.Reply told) = told ≡ reply
+TellsReply reply asked.NoAnswer = ¬ IsReply reply
+TellsReply reply asked.Full = ⊥
+TellsReply reply asked.Memory = ⊥
+
+-- what is told of a wait that ended without a reply
+abbrev pub told_of_wait : WaitFault → Asked
+told_of_wait wait.Full = asked.Full
+told_of_wait wait.NoAnswer = asked.NoAnswer
+told_of_wait wait.Memory = asked.Memory
+
+-- what is told of how the call of a new request ended
+abbrev pub TellsCall : Result Reply AskFault → Asked → Type 0
+TellsCall (Ok reply) answer = TellsReply reply answer
+TellsCall (Err (ask.Wait fault)) answer = answer ≡ told_of_wait fault
+TellsCall (Err (ask.Begin fault)) answer = answer ≡ asked.Memory
+
+-- what is told of how the call of a request that was sent again ended
+abbrev pub TellsRetry : Result Reply RetryFault → Asked → Type 0
+TellsRetry (Ok reply) answer = TellsReply reply answer
+TellsRetry (Err (retry.Wait fault)) answer = answer ≡ told_of_wait fault
+TellsRetry (Err retry.NoSuchNode) answer = answer ≡ asked.NoAnswer
+TellsRetry (Err retry.Idle) answer = answer ≡ asked.NoAnswer
+
+-- the caller was called with the request and the answer tells how that ended, or there was no
+-- memory for a copy of the request and nothing was asked
+abbrev pub AskedBy : Request → CallerSight → Asked → CallerSight → Type 0
+AskedBy request old answer new =
+    ((ended : Result Reply AskFault) × CallIs AwaitIs request old ended new × TellsCall ended answer)
+    ⊎ ((answer ≡ asked.Memory) × (¬ IsShortRequest request) × (new ≡ old))
+
+-- the caller was called with the number and the answer tells how that ended, or no request can have
+-- the number and nothing was asked
+abbrev pub RetriedBy : ℕ → CallerSight → Asked → CallerSight → Type 0
+RetriedBy number old answer new =
+    ((ended : Result Reply RetryFault) × RetryIs AwaitIs number old ended new × TellsRetry ended answer)
+    ⊎ ((answer ≡ asked.NoAnswer) × (2 ^ 64 ≤ number) × (new ≡ old))
+
+-- How a question of a session was answered by a caller that had submitted `before` requests when
+-- the session began: the session's request of a number is the caller's of that many more.
+abbrev pub AnsweredBy : ℕ → Question → CallerSight → Asked → CallerSight → Type 0
+AnsweredBy before (Ask request) old answer new = AskedBy request old answer new
+AnsweredBy before (Retry number) old answer new = RetriedBy (before + number) old answer new
