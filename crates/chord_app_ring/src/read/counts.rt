@@ -1,7 +1,7 @@
 //! The counts of a ring and of a node.
 ghost use Rattle.chord_app_operator.specs.Json.{asks_data, handovers_data, callers_data, ends_data, sessions_data};
 
-use super::of_json::{OfJson, member};
+use super::of_json::{OfJson, four, three, two};
 use crate::fault::ReadFault;
 use chord_app_operator::{AskCounts, CallerCounts, EndCounts, HandoverCounts, SessionCounts};
 use serde_json::Value;
@@ -11,11 +11,19 @@ impl OfJson for AskCounts {
     ghost data_of = { asks_data };
 
     fn of_json(alloc: Global, value: &Value) -> Result<AskCounts, ReadFault> {
+        let (told, forwarded, dropped, full) = four(
+            alloc,
+            value,
+            "told",
+            "forwarded",
+            "dropped",
+            "full",
+        )?;
         Ok(AskCounts {
-            told: member(alloc, value, "told")?,
-            forwarded: member(alloc, value, "forwarded")?,
-            dropped: member(alloc, value, "dropped")?,
-            full: member(alloc, value, "full")?,
+            told,
+            forwarded,
+            dropped,
+            full,
         })
     }
 }
@@ -24,10 +32,11 @@ impl OfJson for HandoverCounts {
     ghost data_of = { handovers_data };
 
     fn of_json(alloc: Global, value: &Value) -> Result<HandoverCounts, ReadFault> {
+        let (given, taken, declined) = three(alloc, value, "given", "taken", "declined")?;
         Ok(HandoverCounts {
-            given: member(alloc, value, "given")?,
-            taken: member(alloc, value, "taken")?,
-            declined: member(alloc, value, "declined")?,
+            given,
+            taken,
+            declined,
         })
     }
 }
@@ -36,10 +45,8 @@ impl OfJson for CallerCounts {
     ghost data_of = { callers_data };
 
     fn of_json(alloc: Global, value: &Value) -> Result<CallerCounts, ReadFault> {
-        Ok(CallerCounts {
-            open: member(alloc, value, "open")?,
-            all: member(alloc, value, "all")?,
-        })
+        let (open, all) = two(alloc, value, "open", "all")?;
+        Ok(CallerCounts { open, all })
     }
 }
 
@@ -47,17 +54,34 @@ impl OfJson for EndCounts {
     ghost data_of = { ends_data };
 
     fn of_json(alloc: Global, value: &Value) -> Result<EndCounts, ReadFault> {
+        let (ended, idle) = two(alloc, value, "ended", "idle")?;
+        let (truncated, malformed, protocol, memory) = four(
+            alloc,
+            value,
+            "truncated",
+            "malformed",
+            "protocol",
+            "memory",
+        )?;
+        let (read, write, turns_spent, callers_spent) = four(
+            alloc,
+            value,
+            "read",
+            "write",
+            "turnsspent",
+            "callersspent",
+        )?;
         Ok(EndCounts {
-            ended: member(alloc, value, "ended")?,
-            truncated: member(alloc, value, "truncated")?,
-            malformed: member(alloc, value, "malformed")?,
-            protocol: member(alloc, value, "protocol")?,
-            read: member(alloc, value, "read")?,
-            write: member(alloc, value, "write")?,
-            turns_spent: member(alloc, value, "turnsspent")?,
-            memory: member(alloc, value, "memory")?,
-            callers_spent: member(alloc, value, "callersspent")?,
-            idle: member(alloc, value, "idle")?,
+            ended,
+            truncated,
+            malformed,
+            protocol,
+            read,
+            write,
+            turns_spent,
+            memory,
+            callers_spent,
+            idle,
         })
     }
 }
@@ -66,11 +90,14 @@ impl OfJson for SessionCounts {
     ghost data_of = { sessions_data };
 
     fn of_json(alloc: Global, value: &Value) -> Result<SessionCounts, ReadFault> {
+        let (kept, resumed, dropped, refused) = four(
+            alloc, value, "kept", "resumed", "dropped", "refused",
+        )?;
         Ok(SessionCounts {
-            kept: member(alloc, value, "kept")?,
-            resumed: member(alloc, value, "resumed")?,
-            dropped: member(alloc, value, "dropped")?,
-            refused: member(alloc, value, "refused")?,
+            kept,
+            resumed,
+            dropped,
+            refused,
         })
     }
 }

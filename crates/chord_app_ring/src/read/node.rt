@@ -1,7 +1,7 @@
 //! A node.
 ghost use Rattle.chord_app_operator.specs.Json.{node_data};
 
-use super::of_json::{OfJson, member};
+use super::of_json::{OfJson, four, three, two};
 use crate::fault::ReadFault;
 use chord_app_operator::NodeSight;
 use serde_json::Value;
@@ -11,20 +11,37 @@ impl OfJson for NodeSight {
     ghost data_of = { node_data };
 
     fn of_json(alloc: Global, value: &Value) -> Result<NodeSight, ReadFault> {
+        let (node, id, phase, store) = four(alloc, value, "node", "id", "phase", "store")?;
+        let (predecessor, fingers, pairs, ticks) = four(
+            alloc,
+            value,
+            "predecessor",
+            "fingers",
+            "pairs",
+            "ticks",
+        )?;
+        let (successors, segments, outbox) = three(
+            alloc,
+            value,
+            "successors",
+            "segments",
+            "outbox",
+        )?;
+        let (asks, handovers) = two(alloc, value, "asks", "handovers")?;
         Ok(NodeSight {
-            node: member(alloc, value, "node")?,
-            id: member(alloc, value, "id")?,
-            phase: member(alloc, value, "phase")?,
-            store: member(alloc, value, "store")?,
-            predecessor: member(alloc, value, "predecessor")?,
-            successors: member(alloc, value, "successors")?,
-            fingers: member(alloc, value, "fingers")?,
-            segments: member(alloc, value, "segments")?,
-            pairs: member(alloc, value, "pairs")?,
-            outbox: member(alloc, value, "outbox")?,
-            asks: member(alloc, value, "asks")?,
-            handovers: member(alloc, value, "handovers")?,
-            ticks: member(alloc, value, "ticks")?,
+            node,
+            id,
+            phase,
+            store,
+            predecessor,
+            successors,
+            fingers,
+            segments,
+            pairs,
+            outbox,
+            asks,
+            handovers,
+            ticks,
         })
     }
 }

@@ -5,7 +5,7 @@ ghost use Rattle.serde_json.specs.Find.{get};
 ghost use Rattle.serde_json.specs.View.{view};
 ghost use Rattle.chord_app_operator.specs.Json.{count_data, id_data, optional_data, list_data};
 ghost use Rattle.chord_app_ring.specs.declared.fault.ReadFault.TheVariants.{Memory};
-ghost use Rattle.chord_app_ring.specs.Reading.{ReadsBack, IsRead};
+ghost use Rattle.chord_app_ring.specs.Reading.{ReadsBack, IsRead, ReadsOne, ReadsTwo, ReadsThree, ReadsFour};
 
 use crate::fault::ReadFault;
 use chord_ident::Id;
@@ -90,10 +90,55 @@ fn push<T: Drop>(list: &mut Vec<T>, item: T) -> Result<(), ReadFault>
 
 /// The member of an object with this name.
 pub fn member<T: OfJson>(alloc: Global, value: &Value, name: &str) -> Result<T, ReadFault>
-    ensures { (x : T) → get name.now (view value.now) ≡ Some (T.data_of x) → IsRead T.data_of (T.data_of x) result }
+    ensures { ReadsOne T.data_of name.now (view value.now) result }
 {
     match value.get(name) {
         Some(member) => T::of_json(alloc, member),
         None => Err(ReadFault::NotUnderstood),
     }
+}
+
+/// Two members, by their names.
+pub fn two<A: OfJson + Drop, B: OfJson + Drop>(
+    alloc: Global,
+    value: &Value,
+    first: &str,
+    second: &str,
+) -> Result<(A, B), ReadFault>
+    ensures { ReadsTwo A.data_of B.data_of first.now second.now (view value.now) result }
+{
+    let a = member(alloc, value, first)?;
+    let b = member(alloc, value, second)?;
+    Ok((a, b))
+}
+
+/// Three members, by their names.
+pub fn three<A: OfJson + Drop, B: OfJson + Drop, C: OfJson + Drop>(
+    alloc: Global,
+    value: &Value,
+    first: &str,
+    second: &str,
+    third: &str,
+) -> Result<(A, B, C), ReadFault>
+    ensures { ReadsThree A.data_of B.data_of C.data_of first.now second.now third.now (view value.now) result }
+{
+    let (a, b) = two(alloc, value, first, second)?;
+    let c = member(alloc, value, third)?;
+    Ok((a, b, c))
+}
+
+/// Four members, by their names.
+pub fn four<A: OfJson + Drop, B: OfJson + Drop, C: OfJson + Drop, D: OfJson + Drop>(
+    alloc: Global,
+    value: &Value,
+    first: &str,
+    second: &str,
+    third: &str,
+    fourth: &str,
+) -> Result<(A, B, C, D), ReadFault>
+    ensures { ReadsFour A.data_of B.data_of C.data_of D.data_of first.now second.now third.now fourth.now (view value.now) result }
+{
+    let (a, b) = two(alloc, value, first, second)?;
+    let (c, d) = two(alloc, value, third, fourth)?;
+    Ok((a, b, c, d))
 }

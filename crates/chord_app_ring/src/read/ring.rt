@@ -7,7 +7,7 @@ ghost use Rattle.chord_app_operator.specs.Json.{ring_data};
 ghost use Rattle.chord_app_ring.specs.Reading.{IsRead};
 ghost use Rattle.chord_app_ring.specs.Telling.{IsUnlessMemory};
 
-use super::of_json::{OfJson, member};
+use super::of_json::{OfJson, four};
 use crate::fault::ReadFault;
 use chord_app_operator::RingSight;
 use serde_json::Value;
@@ -17,15 +17,26 @@ impl OfJson for RingSight {
     ghost data_of = { ring_data };
 
     fn of_json(alloc: Global, value: &Value) -> Result<RingSight, ReadFault> {
+        let (successors, slots, connections, uptime_ms) = four(
+            alloc,
+            value,
+            "successors",
+            "slots",
+            "connections",
+            "uptime_ms",
+        )?;
+        let (callers, ends, sessions, nodes) = four(
+            alloc, value, "callers", "ends", "sessions", "nodes",
+        )?;
         Ok(RingSight {
-            successors: member(alloc, value, "successors")?,
-            slots: member(alloc, value, "slots")?,
-            callers: member(alloc, value, "callers")?,
-            connections: member(alloc, value, "connections")?,
-            ends: member(alloc, value, "ends")?,
-            sessions: member(alloc, value, "sessions")?,
-            uptime_ms: member(alloc, value, "uptime_ms")?,
-            nodes: member(alloc, value, "nodes")?,
+            successors,
+            slots,
+            callers,
+            connections,
+            ends,
+            sessions,
+            uptime_ms,
+            nodes,
         })
     }
 }

@@ -96,49 +96,14 @@ pub fn are_from_zero(pairs: &[Pair]) -> bool {
     })
 }
 
-/// A part, and whether it equals the first part by this rule.
-struct ComparedRow {
-    rule: &'static str,
-    row: PartRow,
-    is_equal: bool,
-}
-
-const COMPARED: &[ComparedRow] = &[
-    ComparedRow {
-        rule: "a part equals one made alike",
-        row: FIRST,
-        is_equal: true,
-    },
-    ComparedRow {
-        rule: "a part does not equal one with fewer pairs",
-        row: PartRow { count: 63, ..FIRST },
-        is_equal: false,
-    },
-    ComparedRow {
-        rule: "a part does not equal one with other pairs",
-        row: PartRow { first: 1, ..FIRST },
-        is_equal: false,
-    },
-    ComparedRow {
-        rule: "a part does not equal another one of its handover",
-        row: PartRow { place: 2, ..FIRST },
-        is_equal: false,
-    },
-    ComparedRow {
-        rule: "a part does not equal one of more parts",
-        row: PartRow { of: 3, ..FIRST },
-        is_equal: false,
-    },
-    ComparedRow {
-        rule: "a part does not equal one of another handover",
-        row: PartRow { number: 2, ..FIRST },
-        is_equal: false,
-    },
-    ComparedRow {
-        rule: "a part does not equal one of another giver",
-        row: PartRow { from: 2, ..FIRST },
-        is_equal: false,
-    },
+/// Parts that differ from the first part in one thing, and in which.
+const UNEQUAL: &[(&str, PartRow)] = &[
+    ("fewer pairs", PartRow { count: 63, ..FIRST }),
+    ("other pairs", PartRow { first: 1, ..FIRST }),
+    ("another place", PartRow { place: 2, ..FIRST }),
+    ("more parts", PartRow { of: 3, ..FIRST }),
+    ("another handover's number", PartRow { number: 2, ..FIRST }),
+    ("another giver", PartRow { from: 2, ..FIRST }),
 ];
 
 /// Whether the part equals the other, which is dropped.
@@ -148,15 +113,16 @@ fn equals(part: &Part, other: Part) -> bool {
     is_equal
 }
 
-/// Compares the part with a copy of it, and with the part of each row.
+/// Compares the part, which is the first, with a copy of it, with one made alike, and with others.
 fn compare(rt: &impl Abort, alloc: Global, part: Part) {
     let copy = part.try_copy().expect(rt, "memory for a copy");
     let is_copied = equals(&part, copy);
     assert!(rt; is_copied, "a part equals its copy");
-    for row in COMPARED {
-        let is_equal = equals(&part, part_of(rt, alloc, row.row));
-        let rule = row.rule;
-        assert!(rt; is_equal == row.is_equal, "{rule}");
+    let is_alike = equals(&part, part_of(rt, alloc, FIRST));
+    assert!(rt; is_alike, "a part equals one made alike");
+    for (other, row) in UNEQUAL {
+        let is_equal = equals(&part, part_of(rt, alloc, *row));
+        assert!(rt; !is_equal, "a part does not equal one with {other}");
     }
     drop(part);
 }

@@ -206,6 +206,14 @@ pub const NONE: Last = Last {
 /// The first handover of node 0 was taken.
 const FIRST_OF_0: Last = Last { of_0: 1, ..NONE };
 
+/// Node 0's first handover is marked as taken.
+const MARK_FIRST: Step = Step {
+    rule: "the next handover of a node was taken",
+    deed: Deed::Mark(0),
+    outcome: Outcome::Marked,
+    last: FIRST_OF_0,
+};
+
 const IN_ORDER: &[Step] = &[
     Step {
         rule: "the second handover is early before the first was taken",
@@ -219,12 +227,7 @@ const IN_ORDER: &[Step] = &[
         outcome: Outcome::Judged(Verdict::Next),
         last: NONE,
     },
-    Step {
-        rule: "the next handover of a node was taken",
-        deed: Deed::Mark(0),
-        outcome: Outcome::Marked,
-        last: FIRST_OF_0,
-    },
+    MARK_FIRST,
     Step {
         rule: "a handover that was taken comes again",
         deed: Deed::Judge(1),
@@ -297,12 +300,7 @@ fn two_parts_make_it_whole_with_all_pairs(rt: HostRuntime) {
 }
 
 const TOO_LATE: &[Step] = &[
-    Step {
-        rule: "the first handover of node 0 was taken",
-        deed: Deed::Mark(0),
-        outcome: Outcome::Marked,
-        last: FIRST_OF_0,
-    },
+    MARK_FIRST,
     Step {
         rule: "a part of a handover that was taken is not of the next",
         deed: Deed::Gather(SECOND),
@@ -439,12 +437,7 @@ const MARKS: &[Step] = &[
         deed: Deed::Buffer(SECOND_OF_2),
         ..BUFFER_SECOND
     },
-    Step {
-        rule: "the first handover of node 0 was taken",
-        deed: Deed::Mark(0),
-        outcome: Outcome::Marked,
-        last: FIRST_OF_0,
-    },
+    MARK_FIRST,
     Step {
         rule: "the buffered parts of a handover that was taken are dropped",
         deed: Deed::Gather(PartRow { number: 2, ..FIRST }),

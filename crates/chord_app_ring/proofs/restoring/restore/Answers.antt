@@ -1,5 +1,6 @@
-use Rattle.std.proofs.Common.{◌≡◌, Option, Vec, Global, Ok, Err, [], refl, sym, ap, ◌∙◌, subst}
+use Rattle.std.proofs.Common.{◌≡◌, Option, Some, List, Vec, Global, Result, Ok, Err, [], refl, sym, ap, ◌∙◌, subst}
 use Rattle.std.specs.Prelude.{ℕ, IfSome}
+use Rattle.chord_app_ring.specs.declared.fault.RestoreFault.{RestoreFault}
 use Rattle.std.specs.Io.KnownBytes.{Consumes}
 use Rattle.std.proofs.KnownBytes.{Appends-nil, Consumes-nil}
 use Rattle.chord_serve.specs.ClientState.{ClientState}
@@ -29,41 +30,41 @@ loop-count-init g c =
 
 pub returns-in-Err : goal.returns-in-Err
 returns-in-Err g c =
-    let far = c.loop-count.invariant in
-    let failed = no_line (g.R.Read.remaining c.args.reader.now) (g.I.Read.remaining c.args.input.now) (g.W.Write.contents c.args.writer.now)
-    c.loop-count.count c.loop-count.unread.items c.loop-count.client.bytes (g.R.Read.remaining c.loop-count.reader) (g.I.Read.remaining c.loop-count.input) (g.W.Write.contents c.loop-count.writer) far.0
-    c.in-Err.fault (g.I.Read.remaining c.next_line.new.input) c.next_line.new.unread.items c.in-Err.ensures in
-    (c.loop-count.count, refl, failed)
+    (c.loop-count.count, refl, no_line c.loop-count.invariant.0 c.in-Err.fault (g.I.Read.remaining c.next_line.new.input) c.next_line.new.unread.items c.in-Err.ensures)
+
+-- what the code knows of the line, said of the client that is ready and of the bytes of the line
+restores_so : (result : Result (Unit {0}) RestoreFault) (shown line : List ℕ) (old : ClientState) (count : ℕ) (left last written written' : Option (List ℕ)) (new : ClientState)
+    → shown ≡ line → old ≡ ready count old.bytes → RestoresLine result shown old left last written written' new → RestoresLine result line (ready count old.bytes) left last written written' new
+restores_so result shown line old count left last written written' new same is restores =
+    subst (λ bytes. RestoresLine result bytes (ready count old.bytes) left last written written' new) same
+    (subst (λ (client : ClientState). RestoresLine result shown client left last written written' new) is restores)
+
+next_so : (found : Option (Vec ℕ Global)) (line : Vec ℕ Global) (old : List ℕ) (here here' : Option (List ℕ)) (new : List ℕ)
+    → found ≡ Some line → IsNextLine (Ok found) old here here' new → IsNextLine (Ok (Some line)) old here here' new
+next_so found line old here here' new is next = subst (λ (o : Option (Vec ℕ Global)). IsNextLine (Ok o) old here here' new) is next
 
 pub returns-in-Err-restored : goal.returns-in-Err-restored
 returns-in-Err-restored g c =
-    let here = g.I.Read.remaining c.loop-count.input in
+    let far = c.loop-count.invariant in
+    let line = c.in-Ok-Some.line in
     let here' = g.I.Read.remaining c.next_line.new.input in
+    let next = next_so c.in-Ok-Some.field-0 line c.loop-count.unread.items (g.I.Read.remaining c.loop-count.input) here' c.next_line.new.unread.items c.in-Ok-Some.field-0-is c.in-Ok-Some.ensures in
     let left = g.R.Read.remaining c.loop-count.reader in
     let last = g.R.Read.remaining c.restore_line-restored.new.reader in
     let written = g.W.Write.contents c.loop-count.writer in
     let written' = g.W.Write.contents c.restore_line-restored.new.writer in
-    let far = c.loop-count.invariant in
-    let next = subst (λ (o : Option (Vec ℕ Global)). IsNextLine (Ok o) c.loop-count.unread.items here here' c.next_line.new.unread.items) c.in-Ok-Some.field-0-is c.in-Ok-Some.ensures in
-    let fails = subst (λ (client : ClientState). RestoresLine (Err c.in-Err-restored.fault) c.deref.result.now client left last written written' c.restore_line-restored.new.client) far.1 c.in-Err-restored.ensures in
-    let failed = line_fails (g.R.Read.remaining c.args.reader.now) (g.I.Read.remaining c.args.input.now) (g.W.Write.contents c.args.writer.now)
-    c.loop-count.count c.loop-count.unread.items c.loop-count.client.bytes left here written far.0
-    here' next.0 c.in-Ok-Some.line.items c.next_line.new.unread.items next.1 next.2 c.in-Err-restored.fault c.restore_line-restored.new.client last written'
-    (subst (λ line. RestoresLine (Err c.in-Err-restored.fault) line (ready c.loop-count.count c.loop-count.client.bytes) left last written written' c.restore_line-restored.new.client) c.deref.ensures.value fails) in
-    (c.loop-count.count, refl, failed)
+    let client = c.restore_line-restored.new.client in
+    let fails = restores_so (Err c.in-Err-restored.fault) c.deref.result.now line.items c.loop-count.client c.loop-count.count left last written written' client c.deref.ensures.value far.1 c.in-Err-restored.ensures in
+    (c.loop-count.count, refl, line_fails far.0 line here' c.next_line.new.unread.items next c.in-Err-restored.fault client last written' fails)
 
 pub loop-count-preserved : goal.loop-count-preserved
 loop-count-preserved g c =
-    let here = g.I.Read.remaining c.loop-count.input in
-    let here' = g.I.Read.remaining c.next_line.new.input in
-    let left = g.R.Read.remaining c.loop-count.reader in
-    let last = g.R.Read.remaining c.restore_line-restored.new.reader in
-    let written = g.W.Write.contents c.loop-count.writer in
-    let written' = g.W.Write.contents c.restore_line-restored.new.writer in
     let far = c.loop-count.invariant in
-    let next = subst (λ (o : Option (Vec ℕ Global)). IsNextLine (Ok o) c.loop-count.unread.items here here' c.next_line.new.unread.items) c.in-Ok-Some.field-0-is c.in-Ok-Some.ensures in
-    let done = subst (λ (client : ClientState). RestoresLine (Ok tt) c.deref.result.now client left last written written' c.restore_line-restored.new.client) far.1 c.in_default.ensures in
-    line_done (g.R.Read.remaining c.args.reader.now) (g.I.Read.remaining c.args.input.now) (g.W.Write.contents c.args.writer.now)
-    c.loop-count.count c.loop-count.unread.items c.loop-count.client.bytes left here written far.0
-    here' next.0 c.in-Ok-Some.line.items c.next_line.new.unread.items next.1 next.2 c.restore_line-restored.new.client last written'
-    (subst (λ line. RestoresLine (Ok tt) line (ready c.loop-count.count c.loop-count.client.bytes) left last written written' c.restore_line-restored.new.client) c.deref.ensures.value done)
+    let line = c.in-Ok-Some.line in
+    let here' = g.I.Read.remaining c.next_line.new.input in
+    let last = g.R.Read.remaining c.restore_line-restored.new.reader in
+    let written' = g.W.Write.contents c.restore_line-restored.new.writer in
+    let client = c.restore_line-restored.new.client in
+    let next = next_so c.in-Ok-Some.field-0 line c.loop-count.unread.items (g.I.Read.remaining c.loop-count.input) here' c.next_line.new.unread.items c.in-Ok-Some.field-0-is c.in-Ok-Some.ensures in
+    let done = restores_so (Ok tt) c.deref.result.now line.items c.loop-count.client c.loop-count.count (g.R.Read.remaining c.loop-count.reader) last (g.W.Write.contents c.loop-count.writer) written' client c.deref.ensures.value far.1 c.in_default.ensures in
+    line_done far.0 line here' c.next_line.new.unread.items next client last written' done

@@ -1,35 +1,13 @@
-use Rattle.std.proofs.Common.{sym, ap}
-use Rattle.std.specs.Prelude.{codes}
-use Rattle.serde_json.specs.Find.{get}
-use Rattle.serde_json.specs.View.{view}
+use Rattle.std.proofs.Common.{refl, sym}
 use Rattle.chord_app_operator.specs.Json.{asks_data}
 use Rattle.chord_app_ring.proofs.Faults.{passed_on}
 use Rattle.chord_app_ring.proofs.read.counts.AskCountsOfJson.of_json.Goals as goal
 
-pub returns-in_err-member : goal.returns-in_err-member
-returns-in_err-member c x e =
-    let is = c.in_err-member.ensures x.told (ap (get (codes "told")) e) in
-    passed_on asks_data (view c.args.value.now) c.in_err-member.field-0.0 c.from_residual.result is c.from_residual.ensures.1
-
-pub returns-in_err-member-2 : goal.returns-in_err-member-2
-returns-in_err-member-2 c x e =
-    let is = c.in_err-member-2.ensures x.forwarded (ap (get (codes "forwarded")) e) in
-    passed_on asks_data (view c.args.value.now) c.in_err-member-2.field-0.0 c.from_residual-in_err-member-2.result is c.from_residual-in_err-member-2.ensures.1
-
-pub returns-in_err-member-3 : goal.returns-in_err-member-3
-returns-in_err-member-3 c x e =
-    let is = c.in_err-member-3.ensures x.dropped (ap (get (codes "dropped")) e) in
-    passed_on asks_data (view c.args.value.now) c.in_err-member-3.field-0.0 c.from_residual-in_err-member-3.result is c.from_residual-in_err-member-3.ensures.1
-
-pub returns-in_err-member-4 : goal.returns-in_err-member-4
-returns-in_err-member-4 c x e =
-    let is = c.in_err-member-4.ensures x.full (ap (get (codes "full")) e) in
-    passed_on asks_data (view c.args.value.now) c.in_err-member-4.field-0.0 c.from_residual-in_err-member-4.result is c.from_residual-in_err-member-4.ensures.1
+pub returns-in_err-told : goal.returns-in_err-told
+returns-in_err-told c x e =
+    passed_on _ c.from_residual.result (c.in_err-told.ensures (asks_data x) x.told x.forwarded x.dropped x.full e refl refl refl refl) c.from_residual.ensures.1
 
 pub returns : goal.returns
 returns c x e =
-    let told_is = c.in_ok-member.ensures x.told (ap (get (codes "told")) e) in
-    let forwarded_is = c.in_ok-member-2.ensures x.forwarded (ap (get (codes "forwarded")) e) in
-    let dropped_is = c.in_ok-member-3.ensures x.dropped (ap (get (codes "dropped")) e) in
-    let full_is = c.in_ok-member-4.ensures x.full (ap (get (codes "full")) e) in
-    rw (told_is, forwarded_is, dropped_is, full_is) (sym e)
+    let told_are = c.in_ok-told.ensures (asks_data x) x.told x.forwarded x.dropped x.full e refl refl refl refl in
+    rw (told_are.0, told_are.1, told_are.2, told_are.3) (sym e)

@@ -1,29 +1,13 @@
-use Rattle.std.proofs.Common.{sym, ap}
-use Rattle.std.specs.Prelude.{codes}
-use Rattle.serde_json.specs.Find.{get}
-use Rattle.serde_json.specs.View.{view}
+use Rattle.std.proofs.Common.{refl, sym}
 use Rattle.chord_app_operator.specs.Json.{segment_data}
 use Rattle.chord_app_ring.proofs.Faults.{passed_on}
 use Rattle.chord_app_ring.proofs.read.parts.SegmentSightOfJson.of_json.Goals as goal
 
-pub returns-in_err-member : goal.returns-in_err-member
-returns-in_err-member c x e =
-    let is = c.in_err-member.ensures x.span.after (ap (get (codes "after")) e) in
-    passed_on segment_data (view c.args.value.now) c.in_err-member.field-0.0 c.from_residual.result is c.from_residual.ensures.1
-
-pub returns-in_err-member-2 : goal.returns-in_err-member-2
-returns-in_err-member-2 c x e =
-    let is = c.in_err-member-2.ensures x.span.upto (ap (get (codes "upto")) e) in
-    passed_on segment_data (view c.args.value.now) c.in_err-member-2.field-0.0 c.from_residual-in_err-member-2.result is c.from_residual-in_err-member-2.ensures.1
-
-pub returns-in_err-member-3 : goal.returns-in_err-member-3
-returns-in_err-member-3 c x e =
-    let is = c.in_err-member-3.ensures x.kept (ap (get (codes "kept")) e) in
-    passed_on segment_data (view c.args.value.now) c.in_err-member-3.field-0.0 c.from_residual-in_err-member-3.result is c.from_residual-in_err-member-3.ensures.1
+pub returns-in_err-after : goal.returns-in_err-after
+returns-in_err-after c x e =
+    passed_on _ c.from_residual.result (c.in_err-after.ensures (segment_data x) x.span.after x.span.upto x.kept e refl refl refl) c.from_residual.ensures.1
 
 pub returns : goal.returns
 returns c x e =
-    let after_is = c.in_ok-member.ensures x.span.after (ap (get (codes "after")) e) in
-    let upto_is = c.in_ok-member-2.ensures x.span.upto (ap (get (codes "upto")) e) in
-    let kept_is = c.in_ok-member-3.ensures x.kept (ap (get (codes "kept")) e) in
-    rw (after_is, upto_is, kept_is) (sym e)
+    let after_are = c.in_ok-after.ensures (segment_data x) x.span.after x.span.upto x.kept e refl refl refl in
+    rw (after_are.0, after_are.1, after_are.2) (sym e)
