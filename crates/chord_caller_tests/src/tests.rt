@@ -21,15 +21,25 @@ fn added(caller: u64, number: u64) -> Told {
     }
 }
 
-/// Whether the ask is the call of this caller and number for the key, sent with this floor.
+/// Whether it is an insert of x under this key.
+fn is_insert(request: &Request, wanted: &[u8]) -> bool {
+    match request {
+        Request::Insert { key, value } => key.as_slice() == wanted
+            && value.as_slice() == b"x".as_slice(),
+        _ => false,
+    }
+}
+
+/// Whether the ask is the call of this caller and number, which inserts x under the key, sent with
+/// this floor.
 fn is_ask(ask: Option<Ask>, caller: u64, number: u64, floor: u64, key: &[u8]) -> bool {
     let Some(ask) = ask else {
         return false;
     };
     let is_call = (ask.caller, ask.number, ask.floor, ask.hops) == (caller, number, floor, 255);
-    let is_key = ask.request.key() == key;
+    let is_insert = is_insert(&ask.request, key);
     drop(ask);
-    is_call & is_key
+    is_call & is_insert
 }
 
 fn number_of(ask: Ask) -> u64 {

@@ -1,6 +1,7 @@
 //! Worked values.
 
 mod growths;
+mod items;
 mod outbox;
 mod parts;
 mod taken;

@@ -47,7 +47,8 @@ fn pair(alloc: Global, value: u64) -> Result<Pair, AllocError> {
     })
 }
 
-fn pairs_of(alloc: Global, row: PartRow) -> Result<Vec<Pair>, AllocError> {
+/// The pairs of the part.
+pub fn pairs_of(alloc: Global, row: PartRow) -> Result<Vec<Pair>, AllocError> {
     let mut pairs = Vec::new(alloc);
     for value in row.first..row.first.saturating_add(row.count) {
         pairs.push(pair(alloc, value)?)?;

@@ -1,4 +1,4 @@
-//! Two askers: one that is full at first, and one that runs out of memory once.
+//! Two askers: one that has no reply at first, and one that runs out of memory once.
 ghost use Rattle.chord_serve.specs.Question.{IsHeard};
 
 use chord_map::Request;
@@ -6,32 +6,43 @@ use chord_serve::{Asked, Asker};
 use chord_serve_testkit::{added, note};
 use std::alloc::Global;
 
-/// Answers Full to each new request, and adds its value when it is asked again.
-#[derive(Drop)]
-pub struct FullAtFirst {
-    pub requests: Vec<Request>,
-    pub retried: u64,
+/// What a new request is answered in place of a reply.
+#[derive(Clone, Copy)]
+pub enum AtFirst {
+    Full,
+    NoAnswer,
 }
 
-impl FullAtFirst {
-    pub fn new(alloc: Global) -> FullAtFirst {
-        FullAtFirst {
+/// Has no reply to a new request, and adds its value when it is asked again.
+#[derive(Drop)]
+pub struct LateAsker {
+    pub requests: Vec<Request>,
+    pub retried: u64,
+    at_first: AtFirst,
+}
+
+impl LateAsker {
+    pub fn new(alloc: Global, at_first: AtFirst) -> LateAsker {
+        LateAsker {
             requests: Vec::new(alloc),
             retried: 0,
+            at_first,
         }
     }
 }
 
-impl Asker for FullAtFirst {
+impl Asker for LateAsker {
     ghost answers = { λ a question answer b. IsHeard question answer a.requests.items b.requests.items };
 
     ghost asked = { λ a. a.requests.items };
 
     fn ask(&mut self, request: &Request) -> Asked {
-        if note(&mut self.requests, request) {
-            Asked::Full
-        } else {
-            Asked::Memory
+        if !note(&mut self.requests, request) {
+            return Asked::Memory;
+        }
+        match self.at_first {
+            AtFirst::Full => Asked::Full,
+            AtFirst::NoAnswer => Asked::NoAnswer,
         }
     }
 

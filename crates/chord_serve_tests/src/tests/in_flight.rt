@@ -1,6 +1,6 @@
 //! A client with several requests in flight, against the server, over memory.
 
-use super::askers::FullAtFirst;
+use super::askers::{AtFirst, LateAsker};
 use super::sessions::{ADDED, INSERT, INSERT_2, fault, insert};
 use chord_map::{Reply, Request};
 use chord_serve::{
@@ -136,7 +136,7 @@ fn mapped(alloc: Global, input: &[u8]) -> (Served, Vec<u8>) {
 
 /// What a server over a store that is full at first writes for these bytes.
 fn full_at_first(alloc: Global, input: &[u8]) -> Vec<u8> {
-    let (_, written) = served(alloc, input, FullAtFirst::new(alloc));
+    let (_, written) = served(alloc, input, LateAsker::new(alloc, AtFirst::Full));
     written
 }
 

@@ -1,4 +1,4 @@
-use super::askers::FullAtFirst;
+use super::askers::{AtFirst, LateAsker};
 use chord_map::{Reply, Request};
 use chord_serve::{Asker, CallFault, ReadSize, Served, call, call_2, laws, serve};
 use chord_serve_testkit::{FREE, Limited, Limits, MapAsker};
@@ -173,19 +173,19 @@ fn mapped(alloc: Global, input: &[&[u8]], output: &[&[u8]]) -> Option<Talk> {
     Some(Talk { seen: seen?, asked })
 }
 
-/// A session over a store that is full at first, and how often that was asked again.
+/// A session over an asker that has no reply at first, and how often it was asked again.
 #[derive(Clone, Copy)]
-struct FullTalk {
+struct LateTalk {
     seen: Seen,
     asked: usize,
     retried: u64,
 }
 
-fn full(alloc: Global, input: &[&[u8]], output: &[&[u8]]) -> Option<FullTalk> {
-    let (seen, asker) = session(alloc, FullAtFirst::new(alloc), input, output);
+fn late(alloc: Global, at_first: AtFirst, input: &[&[u8]], output: &[&[u8]]) -> Option<LateTalk> {
+    let (seen, asker) = session(alloc, LateAsker::new(alloc, at_first), input, output);
     let (asked, retried) = (asker.requests.len(), asker.retried);
     drop(asker);
-    Some(FullTalk {
+    Some(LateTalk {
         seen: seen?,
         asked,
         retried,
@@ -221,12 +221,35 @@ fn a_request_that_got_a_fault_is_asked_again(rt: HostRuntime) {
     let input = [INSERT.as_slice(), &INSERT, &INSERT];
     let full_store = fault(1, 10);
     let output = [full_store.as_slice(), &ADDED, &ADDED];
-    let talk = full(rt.alloc(), &input, &output).expect(&rt, "memory for three frames");
+    let talk = late(rt.alloc(), AtFirst::Full, &input, &output);
+    let talk = talk.expect(&rt, "memory for three frames");
     assert!(rt;
         talk.seen.end == Served::Ended,
         "the session goes on to the end of the input"
     );
     assert!(rt; talk.seen.is_whole, "full, then added, then the same reply");
+    assert!(rt; talk.asked == 1, "it is a new request once");
+    assert!(rt;
+        talk.retried == 1,
+        "it is asked again once, and not after its reply"
+    );
+}
+
+#[test]
+fn a_request_without_an_answer_gets_fault_11(rt: HostRuntime) {
+    let input = [INSERT.as_slice(), &INSERT, &INSERT];
+    let no_answer = fault(1, 11);
+    let output = [no_answer.as_slice(), &ADDED, &ADDED];
+    let talk = late(rt.alloc(), AtFirst::NoAnswer, &input, &output);
+    let talk = talk.expect(&rt, "memory for three frames");
+    assert!(rt;
+        talk.seen.end == Served::Ended,
+        "the session goes on to the end of the input"
+    );
+    assert!(rt;
+        talk.seen.is_whole,
+        "no answer, then added, then the same reply"
+    );
     assert!(rt; talk.asked == 1, "it is a new request once");
     assert!(rt;
         talk.retried == 1,
@@ -246,8 +269,9 @@ fn no_floor_is_above_a_number_without_a_reply(rt: HostRuntime) {
     let mut added = ADDED;
     added[13] = 2;
     // Requests 1 and 2 have no reply, so floor 1 is refused until 1 has one.
-    let talk = full(
+    let talk = late(
         rt.alloc(),
+        AtFirst::Full,
         &[
             &INSERT_2, &second, &above, &third, &INSERT_2, &above, &INSERT_2,
         ],
