@@ -1,6 +1,6 @@
 //! The command lines.
 
-use crate::tests::lines::prints;
+use crate::tests::lines::{names_stores_on, prints};
 use chord_app_options::names_stores;
 
 mod ask_lines;
@@ -34,17 +34,29 @@ fn faults_of_words(rt: HostRuntime) {
     assert!(rt; printed == Some((true, 2)));
 }
 
+/// A letter for each of 64 stores.
+const SIXTY_FOUR: &str = "tttttttttttttttttttttttttttttttttttttttttttttttttttttttttttttttt";
+
+/// One letter too many.
+const SIXTY_FIVE: &str = "ttttttttttttttttttttttttttttttttttttttttttttttttttttttttttttttttt";
+
 #[test]
 fn words_for_stores(rt: HostRuntime) {
-    for word in ["t", "tltltltl", "lnct"] {
+    for word in ["t", "tltltltl", "lnct", SIXTY_FOUR] {
         assert!(rt; names_stores(word), "{word}");
     }
-    for word in [
-        "",
-        "tx",
-        "T",
-        "tttttttttttttttttttttttttttttttttttttttttttttttttttttttttttttttttt",
-    ] {
+    for word in ["", "tx", "T", SIXTY_FIVE] {
         assert!(rt; !names_stores(word), "{word}");
     }
+}
+
+#[test]
+fn stores_of_a_world(rt: HostRuntime) {
+    let named = names_stores_on(rt.alloc(), "chord world --stores nc", "nc");
+    assert!(rt; named == Some(true), "the stores are those of the line");
+    let named = names_stores_on(rt.alloc(), "chord world", "tltltltl");
+    assert!(rt;
+        named == Some(true),
+        "a line that names none has four trees and four lists in turn"
+    );
 }

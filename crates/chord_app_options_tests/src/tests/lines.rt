@@ -59,3 +59,22 @@ pub fn prints(alloc: Global, line: &'static str, wanted: &str) -> Option<(bool, 
     drop(fault);
     Some((text.ok()?.as_str() == wanted, status))
 }
+
+/// Whether the words name these stores.
+fn words_name_stores(alloc: Global, words: &[&'static str], letters: &str) -> Option<bool> {
+    let matches = commands(alloc).ok()?.try_get_matches_from(words).ok()?;
+    let are_named = match matches.subcommand() {
+        Some((_, found)) => stores_of(alloc, found).ok() == Some(letters),
+        None => false,
+    };
+    drop(matches);
+    Some(are_named)
+}
+
+/// Whether a command line names these stores.
+pub fn names_stores_on(alloc: Global, line: &'static str, letters: &str) -> Option<bool> {
+    let words = words(alloc, line).ok()?;
+    let are_named = words_name_stores(alloc, words.as_slice(), letters);
+    drop(words);
+    are_named
+}
