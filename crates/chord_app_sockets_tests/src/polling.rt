@@ -107,24 +107,24 @@ fn a_read_polls_before_it_sleeps(rt: HostRuntime) {
 
 #[test]
 fn reads_after_a_poll_in_vain_sleep_at_once(rt: HostRuntime) {
-    // The reads 2, 4, 7, 12, 21 and 30 poll: one, two, four, eight and eight reads between them do
-    // not.
-    for (reads, polling) in [
-        (3, 1),
-        (4, 2),
-        (6, 2),
-        (7, 3),
-        (11, 3),
-        (12, 4),
-        (20, 4),
-        (21, 5),
-        (29, 5),
-        (30, 6),
+    // The reads 2, 4, 7, 12, 21 and 30 poll 64 times each: one, two, four, eight and eight reads
+    // between them do not.
+    for (reads, polls) in [
+        (3, 64),
+        (4, 128),
+        (6, 128),
+        (7, 192),
+        (11, 192),
+        (12, 256),
+        (20, 256),
+        (21, 320),
+        (29, 320),
+        (30, 384),
     ] {
         let seen = reads_of(reads, u64::MAX);
         assert!(rt;
-            is_seen(seen, reads, 64 * polling, reads),
-            "{polling} of {reads} reads poll: {seen:?}"
+            is_seen(seen, reads, polls, reads),
+            "{polls} polls of {reads} reads: {seen:?}"
         );
     }
 }
