@@ -1,6 +1,6 @@
 //! The command lines.
 
-use crate::tests::lines::{names_stores_on, prints};
+use crate::tests::lines::{names_stores_on, prints, prints_usage};
 use chord_app_options::names_stores;
 
 mod ask_lines;
@@ -28,9 +28,10 @@ fn the_version(rt: HostRuntime) {
 /// The text and status if the word names no stores.
 #[test]
 fn faults_of_words(rt: HostRuntime) {
-    let wanted =
-        "error: invalid value 'x' for '--stores <WORD>': 1 to 64 of the letters t, l, n and c\n\nUsage: chord world [OPTIONS]\n\nFor more information, try '--help'.\n";
-    let printed = prints(rt.alloc(), "chord world --stores x", wanted);
+    let line = "chord world --stores x";
+    let fault =
+        "error: invalid value 'x' for '--stores <WORD>': 1 to 64 of the letters t, l, n and c";
+    let printed = prints_usage(rt.alloc(), line, fault, "chord world [OPTIONS]");
     assert!(rt; printed == Some((true, 2)));
 }
 

@@ -88,8 +88,6 @@ pub enum Act {
     Resume(u8, u64, u64),
     /// It sends what begins a session, or resumes one, whose token has this last byte.
     Open(u8, bool),
-    /// It expects to be told that its session has this floor and this last number.
-    Opened(u64, u64),
     /// It connects and begins or resumes a session, but hears of this fault, and then the end.
     Refused(u8, bool, FaultCode),
     /// It sends a request of its session under this number, with this floor, and expects this
@@ -114,7 +112,6 @@ impl Act {
             Act::Connect | Act::ConnectRedis => Ok(()),
             Act::Begin(last) => open(alloc, stream, last, None),
             Act::Resume(last, floor, number) => open(alloc, stream, last, Some((floor, number))),
-            Act::Opened(floor, last) => expect(alloc, stream, &write_opened(alloc, floor, last)?),
             Act::Refused(last, resumes, code) => {
                 stream.write_all(&open_frame(alloc, last, resumes)?)?;
                 hear(alloc, stream, 0, Answer::Fault(code))?;

@@ -3,12 +3,4 @@
 #![tactic(auto)]
 
 #[cfg(test)]
-mod commands;
-#[cfg(test)]
-mod plan_runs;
-#[cfg(test)]
-mod servers;
-#[cfg(test)]
-mod sessions;
-#[cfg(test)]
-mod upkeep;
+mod tests;

@@ -4,8 +4,9 @@ ghost use Rattle.std.specs.Prelude.{◌≡◌, ◌≤◌, []};
 
 use chord_caller::SubmitFault;
 use chord_ident::Id;
-use chord_live::Caller;
-use chord_live_ring::{Ring, RingParts, Settings};
+use chord_links::Peer;
+use chord_live::{AskingCore, Caller, RingCaller};
+use chord_live_ring::{NodeSight, Ring, RingParts, Settings};
 use chord_live_types::{AskFault, BeginFault, WaitFault};
 use chord_map::{Done, Reply, Request, Values};
 use chord_store::EntryStore;
@@ -29,12 +30,25 @@ mod settling;
 mod sights;
 mod standing;
 mod upkeep;
+mod workers;
 
 pub const A: u128 = 0x40000000000000000000000000000000;
 
 pub const B: u128 = 0x80000000000000000000000000000000;
 
 pub const C: u128 = 0xc0000000000000000000000000000000;
+
+/// Node 0, at A.
+pub const ZERO: Peer = Peer {
+    number: 0,
+    id: Id { number: A },
+};
+
+/// Node 1, at C.
+pub const ONE: Peer = Peer {
+    number: 1,
+    id: Id { number: C },
+};
 
 /// A boxed store, as in the program.
 pub type Store = Box<dyn EntryStore + Send>;
@@ -120,6 +134,11 @@ pub fn settings(slots: usize, callers: usize, tries: u64, wait_ms: u64) -> Setti
     }
 }
 
+/// The parts of a ring with these settings, which are within their limits.
+pub fn parts_with(rt: &impl Abort, alloc: Global, settings: Settings) -> RingParts {
+    RingParts::new(alloc, settings).expect(rt, "these settings are within their limits")
+}
+
 /// A ring whose node A has this store.
 pub fn founded<J: Naming, S: EntryStore, R: Abort + Wait>(
     rt: &R,
@@ -135,45 +154,51 @@ pub fn founded<J: Naming, S: EntryStore, R: Abort + Wait>(
     ring
 }
 
-/// The answer at node `via` to an insert of this pair.
-pub fn inserted<J: Naming, S: EntryStore, R: Wait + Clock>(
-    rt: &R,
-    alloc: Global,
-    caller: &mut Caller<'_, J, S>,
-    via: u64,
-    (key, value): (&[u8], &[u8]),
-) -> Result<Said, AskFault> {
-    match Request::insert(alloc, key, value) {
-        Ok(request) => said_by(caller.ask(rt, via, request)),
-        Err(_) => Err(AskFault::Wait(WaitFault::Memory)),
-    }
+/// Does a tick of a node.
+pub fn tick<J: Naming, S: EntryStore, R: Abort + Wait>(rt: &R, ring: &Ring<J, S>, number: u64) {
+    let ticked = ring.tick(rt, number);
+    assert!(rt; ticked.is_ok(), "node {number} is ticked");
 }
 
-/// The answer at node `via` to a retrieve of this key.
-pub fn retrieved<J: Naming, S: EntryStore, R: Wait + Clock>(
-    rt: &R,
-    alloc: Global,
-    caller: &mut Caller<'_, J, S>,
-    via: u64,
-    key: &[u8],
-) -> Result<Said, AskFault> {
-    match Request::retrieve(alloc, key) {
-        Ok(request) => said_by(caller.ask(rt, via, request)),
-        Err(_) => Err(AskFault::Wait(WaitFault::Memory)),
-    }
+/// Does a round of ticks of nodes 0 and 1.
+pub fn tick_both<J: Naming, S: EntryStore, R: Abort + Wait>(rt: &R, ring: &Ring<J, S>) {
+    tick(rt, ring, 0);
+    tick(rt, ring, 1);
 }
 
-/// The answer to a request that is carried from node `via`.
-pub fn call<J: Naming, S: EntryStore, R: Wait + Clock>(
+/// How a node looks.
+pub fn sight_of<J: Naming, S: EntryStore, R: Abort + Wait>(
     rt: &R,
-    caller: &mut Caller<'_, J, S>,
+    alloc: Global,
+    ring: &Ring<J, S>,
+    number: u64,
+) -> NodeSight {
+    let sight = ring.sight(rt, alloc, number).expect(rt, "memory to look");
+    sight.expect(rt, "a node of this number")
+}
+
+const NO_MEMORY: AskFault = AskFault::Wait(WaitFault::Memory);
+
+/// The answer to a request that is sent to node `via`.
+pub fn ask<J: Naming, S: EntryStore, C: AskingCore, R: Wait + Clock>(
+    rt: &R,
+    asker: &mut RingCaller<'_, J, S, C>,
     via: u64,
     request: Result<Request, AllocError>,
 ) -> Result<Said, AskFault> {
-    match request {
-        Ok(request) => said_by(caller.call(rt, via, request)),
-        Err(_) => Err(AskFault::Wait(WaitFault::Memory)),
-    }
+    let request = request.map_err(|_| NO_MEMORY)?;
+    said_by(asker.ask(rt, via, request))
+}
+
+/// The answer to a request that is carried from node `via`.
+pub fn call<J: Naming, S: EntryStore, C: AskingCore, R: Wait + Clock>(
+    rt: &R,
+    asker: &mut RingCaller<'_, J, S, C>,
+    via: u64,
+    request: Result<Request, AllocError>,
+) -> Result<Said, AskFault> {
+    let request = request.map_err(|_| NO_MEMORY)?;
+    said_by(asker.call(rt, via, request))
 }
 
 /// Begins a retrieve of this key at node `via`, and gives its number.

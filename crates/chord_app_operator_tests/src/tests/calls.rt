@@ -1,12 +1,14 @@
 //! Calls that act.
 
-use super::devices::{ask, request, serve_text};
+use super::devices::{CONFLICT, NOT_FOUND, ask, request, serve_text};
 use super::operators::RingValue;
 use chord_app_operator::{
     CrashRefusal, CrashRequest, JoinRefusal, JoinRequest, LeaveRefusal, StoreKind,
 };
 use chord_ident::Id;
 use std::test::Fail;
+
+const NO_MEMORY: &str = "507 Insufficient Storage";
 
 /// The join that a body without members asks for.
 const PLAIN_JOIN: JoinRequest = JoinRequest {
@@ -50,51 +52,22 @@ fn a_join_may_say_nothing(rt: HostRuntime) -> Result<(), Fail> {
 #[test]
 fn a_join_is_refused_by_its_name(rt: HostRuntime) -> Result<(), Fail> {
     let rows = [
-        (
-            JoinRefusal::IdTaken,
-            "409 Conflict",
-            "{\"refused\":\"IdTaken\"}",
-        ),
-        (
-            JoinRefusal::NoSlot,
-            "409 Conflict",
-            "{\"refused\":\"NoSlot\"}",
-        ),
-        (
-            JoinRefusal::NoStore,
-            "409 Conflict",
-            "{\"refused\":\"NoStore\"}",
-        ),
-        (
-            JoinRefusal::Unsettled,
-            "409 Conflict",
-            "{\"refused\":\"Unsettled\"}",
-        ),
-        (
-            JoinRefusal::NoSuchNode,
-            "409 Conflict",
-            "{\"refused\":\"NoSuchNode\"}",
-        ),
-        (
-            JoinRefusal::Stopped,
-            "409 Conflict",
-            "{\"refused\":\"Stopped\"}",
-        ),
-        (
-            JoinRefusal::Memory,
-            "507 Insufficient Storage",
-            "{\"refused\":\"Memory\"}",
-        ),
+        (JoinRefusal::IdTaken, CONFLICT, "IdTaken"),
+        (JoinRefusal::NoSlot, CONFLICT, "NoSlot"),
+        (JoinRefusal::NoStore, CONFLICT, "NoStore"),
+        (JoinRefusal::Unsettled, CONFLICT, "Unsettled"),
+        (JoinRefusal::NoSuchNode, CONFLICT, "NoSuchNode"),
+        (JoinRefusal::Stopped, CONFLICT, "Stopped"),
+        (JoinRefusal::Memory, NO_MEMORY, "Memory"),
     ];
-    for (refusal, status, body) in rows {
+    for (refusal, status, name) in rows {
         let mut operator = RingValue::new(rt.alloc());
         operator.joined = Err(refusal);
         let seen = ask(&rt, operator, "POST /nodes", "")?;
-        let head = format!(in rt.alloc(); "HTTP/1.1 {status}\r\n")?;
-        let is_as_said = seen.begins(&head) && seen.ends(body) && seen.asked(b"j");
+        let is_refused = seen.is_refused(rt.alloc(), status, name);
+        let asks_once = seen.asked(b"j");
         drop(seen);
-        drop(head);
-        assert!(rt; is_as_said, "{body}");
+        assert!(rt; is_refused? && asks_once, "{name}");
     }
     Ok(())
 }
@@ -106,16 +79,23 @@ fn a_node_leaves(rt: HostRuntime) -> Result<(), Fail> {
     assert!(rt; seen.ends("\r\n\r\n{\"node\":12}"));
     assert!(rt; seen.operator.left == Some(12));
     assert!(rt; seen.asked(b"l"));
-    let mut operator = RingValue::new(rt.alloc());
-    operator.leaves = Err(LeaveRefusal::NotStaying);
-    let seen = ask(&rt, operator, "POST /nodes/12/leave", "")?;
-    assert!(rt; seen.begins("HTTP/1.1 409 Conflict\r\n"));
-    assert!(rt; seen.ends("{\"refused\":\"NotStaying\"}"));
-    let mut operator = RingValue::new(rt.alloc());
-    operator.leaves = Err(LeaveRefusal::NoSuchNode);
-    let seen = ask(&rt, operator, "POST /nodes/12/leave", "")?;
-    assert!(rt; seen.begins("HTTP/1.1 404 Not Found\r\n"));
-    assert!(rt; seen.ends("{\"refused\":\"NoSuchNode\"}"));
+    Ok(())
+}
+
+#[test]
+fn a_leave_is_refused_by_its_name(rt: HostRuntime) -> Result<(), Fail> {
+    let rows = [
+        (LeaveRefusal::NotStaying, CONFLICT, "NotStaying"),
+        (LeaveRefusal::NoSuchNode, NOT_FOUND, "NoSuchNode"),
+    ];
+    for (refusal, status, name) in rows {
+        let mut operator = RingValue::new(rt.alloc());
+        operator.leaves = Err(refusal);
+        let seen = ask(&rt, operator, "POST /nodes/12/leave", "")?;
+        let is_refused = seen.is_refused(rt.alloc(), status, name);
+        drop(seen);
+        assert!(rt; is_refused?, "{name}");
+    }
     Ok(())
 }
 
@@ -142,31 +122,17 @@ fn a_node_crashes_forced_or_not(rt: HostRuntime) -> Result<(), Fail> {
 #[test]
 fn a_crash_is_refused_by_its_name(rt: HostRuntime) -> Result<(), Fail> {
     let rows = [
-        (
-            CrashRefusal::Unsafe,
-            "409 Conflict",
-            "{\"refused\":\"Unsafe\"}",
-        ),
-        (
-            CrashRefusal::NotLive,
-            "409 Conflict",
-            "{\"refused\":\"NotLive\"}",
-        ),
-        (
-            CrashRefusal::NoSuchNode,
-            "404 Not Found",
-            "{\"refused\":\"NoSuchNode\"}",
-        ),
+        (CrashRefusal::Unsafe, CONFLICT, "Unsafe"),
+        (CrashRefusal::NotLive, CONFLICT, "NotLive"),
+        (CrashRefusal::NoSuchNode, NOT_FOUND, "NoSuchNode"),
     ];
-    for (refusal, status, body) in rows {
+    for (refusal, status, name) in rows {
         let mut operator = RingValue::new(rt.alloc());
         operator.crashes = Err(refusal);
         let seen = ask(&rt, operator, "POST /nodes/3/crash", "")?;
-        let head = format!(in rt.alloc(); "HTTP/1.1 {status}\r\n")?;
-        let is_as_said = seen.begins(&head) && seen.ends(body);
+        let is_refused = seen.is_refused(rt.alloc(), status, name);
         drop(seen);
-        drop(head);
-        assert!(rt; is_as_said, "{body}");
+        assert!(rt; is_refused?, "{name}");
     }
     Ok(())
 }
@@ -200,10 +166,9 @@ fn a_look_without_memory_is_refused(rt: HostRuntime) -> Result<(), Fail> {
         let mut operator = RingValue::new(rt.alloc());
         operator.has_memory = false;
         let seen = ask(&rt, operator, line, "")?;
-        let is_as_said = seen.begins("HTTP/1.1 507 Insufficient Storage\r\n")
-            && seen.ends("{\"refused\":\"Memory\"}");
+        let is_refused = seen.is_refused(rt.alloc(), NO_MEMORY, "Memory");
         drop(seen);
-        assert!(rt; is_as_said, "{line}");
+        assert!(rt; is_refused?, "{line}");
     }
     Ok(())
 }

@@ -10,6 +10,10 @@ use std::test::Fail;
 /// The port of all tests.
 pub const PORT: u16 = 7001;
 
+pub const CONFLICT: &str = "409 Conflict";
+
+pub const NOT_FOUND: &str = "404 Not Found";
+
 /// What a client got, and what the operator was asked.
 #[derive(Drop)]
 pub struct Exchange {
@@ -31,6 +35,13 @@ impl Exchange {
     /// Whether what the client got ends with this.
     pub fn ends(&self, text: &str) -> bool {
         self.got.ends_with(text.as_bytes())
+    }
+
+    /// Whether the client was refused with this status, by this name.
+    pub fn is_refused(&self, alloc: Global, status: &str, name: &str) -> Result<bool, Fail> {
+        let head = format!(in alloc; "HTTP/1.1 {status}\r\n")?;
+        let end = format!(in alloc; "\r\n\r\n{{\"refused\":\"{name}\"}}")?;
+        Ok(self.begins(&head) && self.ends(&end))
     }
 
     /// Whether the operator was asked for these calls and no others, by their letters.

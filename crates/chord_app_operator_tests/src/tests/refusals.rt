@@ -1,6 +1,6 @@
 //! Requests that are refused: none of them asks anything of the operator.
 
-use super::devices::{ask, request, serve_bytes, serve_text};
+use super::devices::{NOT_FOUND, ask, request, serve_bytes, serve_text};
 use super::operators::RingValue;
 use std::test::Fail;
 
@@ -22,8 +22,6 @@ const fn bad(line: &'static str, body: &'static str, name: &'static str) -> Refu
     }
 }
 
-const NOT_FOUND: &str = "404 Not Found";
-
 const fn missing(line: &'static str) -> Refused {
     Refused {
         line,
@@ -37,15 +35,10 @@ const fn missing(line: &'static str) -> Refused {
 fn first_wrong(rt: &HostRuntime, rows: &[Refused]) -> Result<Option<Refused>, Fail> {
     for row in rows {
         let seen = ask(rt, RingValue::new(rt.alloc()), row.line, row.body)?;
-        let status = row.status;
-        let name = row.name;
-        let head = format!(in rt.alloc(); "HTTP/1.1 {status}\r\n")?;
-        let end = format!(in rt.alloc(); "\r\n\r\n{{\"refused\":\"{name}\"}}")?;
-        let is_refused = seen.begins(&head) && seen.ends(&end) && seen.asked(b"");
+        let is_refused = seen.is_refused(rt.alloc(), row.status, row.name);
+        let asks_nothing = seen.asked(b"");
         drop(seen);
-        drop(head);
-        drop(end);
-        if !is_refused {
+        if !(is_refused? && asks_nothing) {
             return Ok(Some(*row));
         }
     }

@@ -1,44 +1,46 @@
 //! The command line of `ask`.
 
-use crate::tests::lines::{prints, refused, words};
-use chord_app_options::{client_options_of, commands, wants_session};
+use crate::tests::lines::{ReadLine, prints_usage, read_line, refused};
+use chord_app_options::{client_options_of, wants_session};
 use clap::ArgMatches;
 use std::alloc::Global;
 
-/// The port and version, the window and tries, and how many words the request has.
-type Options = ((u16, u8), (u64, u32), usize);
-
-fn options_in(alloc: Global, matches: &ArgMatches) -> Option<Options> {
-    let (_, found) = matches.subcommand()?;
-    let request = match found.get_strs("request") {
-        Some(words) => Some(words.len()),
-        None => None,
-    };
-    let client_options = client_options_of(alloc, found).ok()?;
-    Some((
-        (client_options.port, client_options.version),
-        (client_options.window, client_options.tries),
-        request?,
-    ))
+/// What a line of `ask` says, and how many words its request has.
+#[derive(Clone, Copy, Debug, PartialEq, Eq)]
+struct AskLine {
+    port: u16,
+    version: u8,
+    window: u64,
+    tries: u32,
+    request: usize,
 }
 
-fn options_of<'a>(alloc: Global, words: &'a [&'static str]) -> Option<Options> {
-    let matches = commands(alloc).ok()?.try_get_matches_from(words).ok()?;
-    let options = options_in(alloc, &matches);
-    drop(matches);
-    options
-}
-
-fn options(alloc: Global, line: &'static str) -> Option<Options> {
-    let words = words(alloc, line).ok()?;
-    let options = options_of(alloc, words.as_slice());
-    drop(words);
-    options
+impl ReadLine for AskLine {
+    fn read(alloc: Global, name: &str, found: &ArgMatches) -> Option<AskLine> {
+        if name != "ask" {
+            return None;
+        }
+        let request = found.get_strs("request")?.len();
+        let options = client_options_of(alloc, found).ok()?;
+        Some(AskLine {
+            port: options.port,
+            version: options.version,
+            window: options.window,
+            tries: options.tries,
+            request,
+        })
+    }
 }
 
 #[test]
 fn options_of_ask(rt: HostRuntime) {
-    let wanted = Some(((7001, 2), (1, 3), 3));
+    let wanted = AskLine {
+        port: 7001,
+        version: 2,
+        window: 1,
+        tries: 3,
+        request: 3,
+    };
     for line in [
         "chord ask --port 7001 insert a b",
         "chord ask insert a b --port 7001",
@@ -46,34 +48,36 @@ fn options_of_ask(rt: HostRuntime) {
         "chord ask insert a -5 --port 7001",
         "chord ask --port 7001 -- insert a -b",
     ] {
-        assert!(rt; options(rt.alloc(), line) == wanted, "{line}");
+        let said = read_line::<AskLine>(rt.alloc(), line);
+        assert!(rt; said == Some(wanted), "{line}: {said:?}");
     }
 }
 
-/// Whether a client of these words begins a session.
-fn session_of_words<'a>(alloc: Global, words: &'a [&'static str]) -> Option<bool> {
-    let matches = commands(alloc).ok()?.try_get_matches_from(words).ok()?;
-    let wanted = matches.subcommand().map(|(_, found)| wants_session(found));
-    drop(matches);
-    wanted
+/// Whether a client begins a session.
+#[derive(Clone, Copy, Debug, PartialEq, Eq)]
+struct SessionLine {
+    is_wanted: bool,
 }
 
-fn session(alloc: Global, line: &'static str) -> Option<bool> {
-    let words = words(alloc, line).ok()?;
-    let wanted = session_of_words(alloc, words.as_slice());
-    drop(words);
-    wanted
+impl ReadLine for SessionLine {
+    fn read(_alloc: Global, _name: &str, found: &ArgMatches) -> Option<SessionLine> {
+        Some(SessionLine {
+            is_wanted: wants_session(found),
+        })
+    }
 }
 
 #[test]
 fn sessions_of_clients(rt: HostRuntime) {
-    for (line, wanted) in [
+    for (line, is_wanted) in [
         ("chord ask --port 7001", true),
         ("chord ask --port 7001 --no-session", false),
         ("chord load --port 7001", true),
         ("chord load --no-session --port 7001", false),
     ] {
-        assert!(rt; session(rt.alloc(), line) == Some(wanted), "{line}");
+        let wanted = SessionLine { is_wanted };
+        let said = read_line::<SessionLine>(rt.alloc(), line);
+        assert!(rt; said == Some(wanted), "{line}");
     }
 }
 
@@ -95,14 +99,7 @@ fn refused_options_of_ask(rt: HostRuntime) {
     }
 }
 
-const USAGE: &str =
-    "\n\nUsage: chord ask [OPTIONS] --port <N> [REQUEST]...\n\nFor more information, try '--help'.\n";
-
-/// Gives whether a command line prints this text and the usage, and its exit status.
-fn prints_usage(alloc: Global, line: &'static str, text: &str) -> Option<(bool, i32)> {
-    let wanted = format!(in alloc; "{text}{USAGE}").ok()?;
-    prints(alloc, line, wanted.as_str())
-}
+const USAGE: &str = "chord ask [OPTIONS] --port <N> [REQUEST]...";
 
 /// Each range is told in the same words, also to a number below 0.
 #[test]
@@ -125,6 +122,7 @@ fn faults_of_ask(rt: HostRuntime) {
             "error: in version 1 of the protocol the window is 1",
         ),
     ] {
-        assert!(rt; prints_usage(rt.alloc(), line, text) == Some((true, 2)));
+        let printed = prints_usage(rt.alloc(), line, text, USAGE);
+        assert!(rt; printed == Some((true, 2)), "{line}");
     }
 }

@@ -1,4 +1,4 @@
-//! Command lines, and what is printed of those that are refused.
+//! What command lines say, and what is printed of those that are refused.
 
 use chord_app_options::{
     client_options_of, commands, load_of, ring_task_of, serve_line_of, stores_of,
@@ -6,8 +6,33 @@ use chord_app_options::{
 use clap::ArgMatches;
 use std::alloc::{AllocError, Global};
 
+/// What a test reads of a command line.
+pub trait ReadLine: Drop {
+    /// What the options of the command with this name say, unless it is another command or a value
+    /// is refused.
+    fn read(alloc: Global, name: &str, found: &ArgMatches) -> Option<Self>;
+}
+
+fn read_words<'a, T: ReadLine>(alloc: Global, words: &'a [&'static str]) -> Option<T> {
+    let matches = commands(alloc).ok()?.try_get_matches_from(words).ok()?;
+    let read = match matches.subcommand() {
+        Some((name, found)) => T::read(alloc, name, found),
+        None => None,
+    };
+    drop(matches);
+    read
+}
+
+/// What a command line says, unless it is refused.
+pub fn read_line<T: ReadLine>(alloc: Global, line: &'static str) -> Option<T> {
+    let words = words(alloc, line).ok()?;
+    let read = read_words(alloc, words.as_slice());
+    drop(words);
+    read
+}
+
 /// The words of a command line.
-pub fn words(alloc: Global, line: &'static str) -> Result<Vec<&'static str>, AllocError> {
+fn words(alloc: Global, line: &'static str) -> Result<Vec<&'static str>, AllocError> {
     line.split_whitespace().collect(alloc)
 }
 
@@ -77,4 +102,17 @@ pub fn names_stores_on(alloc: Global, line: &'static str, letters: &str) -> Opti
     let are_named = words_name_stores(alloc, words.as_slice(), letters);
     drop(words);
     are_named
+}
+
+/// Gives whether a command line prints this fault and then this usage, and its exit status.
+pub fn prints_usage(
+    alloc: Global,
+    line: &'static str,
+    fault: &str,
+    usage: &str,
+) -> Option<(bool, i32)> {
+    let wanted = format!(in alloc;
+        "{fault}\n\nUsage: {usage}\n\nFor more information, try '--help'.\n"
+    );
+    prints(alloc, line, wanted.ok()?.as_str())
 }

@@ -1,30 +1,19 @@
 //! The command line of `load`.
 
-use crate::tests::lines::{prints, refused, words};
+use crate::tests::lines::{ReadLine, prints_usage, read_line, refused};
 use chord_app_ask::{Drops, Kind, Load, Until};
-use chord_app_options::{commands, load_of};
+use chord_app_options::load_of;
 use clap::ArgMatches;
 use std::alloc::Global;
 
-fn load_in(alloc: Global, matches: &ArgMatches) -> Option<Load> {
-    let (_, found) = matches.subcommand()?;
-    load_of(alloc, found).ok()
-}
-
-/// The load that these words ask for.
-fn load_of_words<'a>(alloc: Global, words: &'a [&'static str]) -> Option<Load> {
-    let matches = commands(alloc).ok()?.try_get_matches_from(words).ok()?;
-    let load = load_in(alloc, &matches);
-    drop(matches);
-    load
-}
-
-/// The load that a command line asks for.
-fn load_from(alloc: Global, line: &'static str) -> Option<Load> {
-    let words = words(alloc, line).ok()?;
-    let load = load_of_words(alloc, words.as_slice());
-    drop(words);
-    load
+impl ReadLine for Load {
+    fn read(alloc: Global, name: &str, found: &ArgMatches) -> Option<Load> {
+        if name == "load" {
+            load_of(alloc, found).ok()
+        } else {
+            None
+        }
+    }
 }
 
 /// The load that the line asks for: port, connections and requests in flight; keys and value size;
@@ -33,7 +22,7 @@ fn options(
     alloc: Global,
     line: &'static str,
 ) -> Option<((u16, u64, u64), (u64, usize), (Kind, Until))> {
-    let load = load_from(alloc, line)?;
+    let load = read_line::<Load>(alloc, line)?;
     Some((
         (load.port, load.connections, load.in_flight),
         (load.keys, load.value_size),
@@ -56,7 +45,8 @@ fn a_load_of_its_own(rt: HostRuntime) {
 
 /// How often the load that a line asks for cuts its connections, if it does.
 fn drops(alloc: Global, line: &'static str) -> Option<Option<Drops>> {
-    Some(load_from(alloc, line)?.drops)
+    let load = read_line::<Load>(alloc, line)?;
+    Some(load.drops)
 }
 
 #[test]
@@ -102,8 +92,8 @@ fn refused_options_of_load(rt: HostRuntime) {
 
 #[test]
 fn a_value_size_that_is_too_great(rt: HostRuntime) {
-    let wanted =
-        "error: invalid value '4097' for '--value-size <BYTES>': a number from 0 to 4096\n\nUsage: chord load [OPTIONS] --port <N>\n\nFor more information, try '--help'.\n";
-    let printed = prints(rt.alloc(), "chord load --port 1 --value-size 4097", wanted);
+    let line = "chord load --port 1 --value-size 4097";
+    let fault = "error: invalid value '4097' for '--value-size <BYTES>': a number from 0 to 4096";
+    let printed = prints_usage(rt.alloc(), line, fault, "chord load [OPTIONS] --port <N>");
     assert!(rt; printed == Some((true, 2)));
 }

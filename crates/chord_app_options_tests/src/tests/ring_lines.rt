@@ -1,32 +1,21 @@
 //! The command line of `ring`.
 
-use crate::tests::lines::{prints, refused, words};
+use crate::tests::lines::{ReadLine, prints_usage, read_line, refused};
 use chord_app_operator::{CrashRequest, JoinRequest, StoreKind};
-use chord_app_options::{commands, ring_task_of};
+use chord_app_options::ring_task_of;
 use chord_app_ring::{RingCommand, RingLine, RingTask};
 use chord_ident::Id;
 use clap::ArgMatches;
 use std::alloc::Global;
 
-fn task_in(alloc: Global, matches: &ArgMatches) -> Option<RingTask> {
-    let (_, found) = matches.subcommand()?;
-    ring_task_of(alloc, found).ok()
-}
-
-/// What these words ask for.
-fn task_of_words<'a>(alloc: Global, words: &'a [&'static str]) -> Option<RingTask> {
-    let matches = commands(alloc).ok()?.try_get_matches_from(words).ok()?;
-    let task = task_in(alloc, &matches);
-    drop(matches);
-    task
-}
-
-/// What a command line asks for.
-fn task_from(alloc: Global, line: &'static str) -> Option<RingTask> {
-    let words = words(alloc, line).ok()?;
-    let read = task_of_words(alloc, words.as_slice());
-    drop(words);
-    read
+impl ReadLine for RingTask {
+    fn read(alloc: Global, name: &str, found: &ArgMatches) -> Option<RingTask> {
+        if name == "ring" {
+            ring_task_of(alloc, found).ok()
+        } else {
+            None
+        }
+    }
 }
 
 /// The join of a tree that says nothing else.
@@ -105,15 +94,16 @@ fn lines_of_ring(rt: HostRuntime) {
             command,
             times,
         });
-        assert!(rt; task_from(rt.alloc(), line) == Some(wanted), "{line}");
+        let task = read_line::<RingTask>(rt.alloc(), line);
+        assert!(rt; task == Some(wanted), "{line}");
     }
 }
 
 #[test]
 fn lines_of_copies(rt: HostRuntime) {
-    let dump = task_from(rt.alloc(), "chord ring --operator 9 dump");
+    let dump = read_line::<RingTask>(rt.alloc(), "chord ring --operator 9 dump");
     assert!(rt; dump == Some(RingTask::Dump(9)));
-    let restore = task_from(rt.alloc(), "chord ring --port 7 restore");
+    let restore = read_line::<RingTask>(rt.alloc(), "chord ring --port 7 restore");
     assert!(rt; restore == Some(RingTask::Restore(7)));
 }
 
@@ -155,26 +145,29 @@ fn refused_lines_of_ring(rt: HostRuntime) {
     }
 }
 
+const USAGE: &str = "chord ring [OPTIONS] [COMMAND]";
+
 #[test]
 fn texts_of_refused_lines(rt: HostRuntime) {
     for (line, text) in [
         (
             "chord ring --operator 9 leave x",
-            "error: invalid value 'x' for '<NODE>': the number of a node\n\nUsage: chord ring [OPTIONS] [COMMAND]\n\nFor more information, try '--help'.\n",
+            "error: invalid value 'x' for '<NODE>': the number of a node",
         ),
         (
             "chord ring --operator 9 join 00ab",
-            "error: invalid value '00ab' for '[ID]': 32 hexadecimal digits\n\nUsage: chord ring [OPTIONS] [COMMAND]\n\nFor more information, try '--help'.\n",
+            "error: invalid value '00ab' for '[ID]': 32 hexadecimal digits",
         ),
         (
             "chord ring --operator 9 join --limit 3",
-            "error: '--limit <N>' is only for '--store capped'\n\nUsage: chord ring [OPTIONS] [COMMAND]\n\nFor more information, try '--help'.\n",
+            "error: '--limit <N>' is only for '--store capped'",
         ),
         (
             "chord ring --operator 9 restore",
-            "error: restore has '--port <N>', and all else has '--operator <PORT>'\n\nUsage: chord ring [OPTIONS] [COMMAND]\n\nFor more information, try '--help'.\n",
+            "error: restore has '--port <N>', and all else has '--operator <PORT>'",
         ),
     ] {
-        assert!(rt; prints(rt.alloc(), line, text) == Some((true, 2)), "{line}");
+        let printed = prints_usage(rt.alloc(), line, text, USAGE);
+        assert!(rt; printed == Some((true, 2)), "{line}");
     }
 }

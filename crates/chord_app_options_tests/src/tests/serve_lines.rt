@@ -1,18 +1,11 @@
 //! The command line of `serve`.
 
-use crate::tests::lines::{prints, words};
-use chord_app_options::{commands, number_from, serve_line_of, small_number};
+use crate::tests::lines::{ReadLine, prints, prints_usage, read_line};
+use chord_app_options::{number_from, serve_line_of, small_number};
 use clap::ArgMatches;
 use std::alloc::Global;
 
-const USAGE: &str =
-    "\n\nUsage: chord serve --plan <FILE> <--port <N>|--redis <N>> <--connections <K>|--stay>\n\nFor more information, try '--help'.\n";
-
-/// Gives whether a command line prints this text and the usage, and its exit status.
-fn prints_usage(alloc: Global, line: &'static str, text: &str) -> Option<(bool, i32)> {
-    let wanted = format!(in alloc; "{text}{USAGE}").ok()?;
-    prints(alloc, line, wanted.as_str())
-}
+const USAGE: &str = "chord serve --plan <FILE> <--port <N>|--redis <N>> <--connections <K>|--stay>";
 
 /// `serve` requires a plan, a port of at least one protocol, and one of `--connections` and `--stay`.
 #[test]
@@ -55,64 +48,95 @@ fn faults_of_serve(rt: HostRuntime) {
             "error: the argument '--connections <K>' cannot be used with '--callers <N>'",
         ),
     ] {
-        assert!(rt; prints_usage(rt.alloc(), line, text) == Some((true, 2)));
+        let printed = prints_usage(rt.alloc(), line, text, USAGE);
+        assert!(rt; printed == Some((true, 2)), "{line}");
     }
 }
 
-/// Gives whether the command is `serve` with the plan `p` and port 7, whether it serves this many
-/// connections, and whether `--notes` is there.
-fn matched(
-    alloc: Global,
-    matches: &ArgMatches,
+/// What a line of `serve` says of the plan `p`.
+#[derive(Clone, Copy, Debug, PartialEq, Eq)]
+struct LineOfP {
+    port: Option<u16>,
+    redis: Option<u16>,
+    operator: Option<u16>,
     connections: Option<usize>,
-) -> Option<(bool, bool, bool)> {
-    let (name, found) = matches.subcommand()?;
-    let line = serve_line_of(alloc, found).ok()?;
-    let is_serve = name == "serve" && line.plan == "p" && line.port == Some(7);
-    Some((is_serve, line.connections == connections, line.notes))
+    idle: u64,
+    keep: u64,
+    slots: Option<usize>,
+    callers: Option<usize>,
+    notes: bool,
 }
 
-/// What `matched` gives for this command line, or None if it is refused.
-fn serves(
-    alloc: Global,
-    line: &'static str,
-    connections: Option<usize>,
-) -> Option<(bool, bool, bool)> {
-    let words = words(alloc, line).ok()?;
-    let commands = commands(alloc).ok()?;
-    match commands.try_get_matches_from(words.as_slice()) {
-        Ok(matches) => {
-            let serves = matched(alloc, &matches, connections);
-            drop(matches);
-            serves
+/// A line that names the port 7 alone, and what a line need not name.
+const AT_7: LineOfP = LineOfP {
+    port: Some(7),
+    redis: None,
+    operator: None,
+    connections: None,
+    idle: 300,
+    keep: 600,
+    slots: None,
+    callers: None,
+    notes: false,
+};
+
+impl ReadLine for LineOfP {
+    fn read(alloc: Global, name: &str, found: &ArgMatches) -> Option<LineOfP> {
+        let line = serve_line_of(alloc, found).ok()?;
+        if name != "serve" || line.plan != "p" {
+            return None;
         }
-        Err(error) => {
-            drop(error);
-            None
-        }
+        Some(LineOfP {
+            port: line.port,
+            redis: line.redis,
+            operator: line.operator,
+            connections: line.connections,
+            idle: line.idle,
+            keep: line.keep,
+            slots: line.slots,
+            callers: line.callers,
+            notes: line.notes,
+        })
+    }
+}
+
+/// Checks that each line says this.
+fn say(rt: &HostRuntime, rows: &[(&'static str, LineOfP)]) {
+    for (line, wanted) in rows {
+        let said = read_line::<LineOfP>(rt.alloc(), *line);
+        assert!(rt; said == Some(*wanted), "{line}: {said:?}");
+    }
+}
+
+/// Checks that each line is refused.
+fn are_refused(rt: &HostRuntime, lines: &[&'static str]) {
+    for line in lines {
+        let said = read_line::<LineOfP>(rt.alloc(), *line);
+        assert!(rt; said == None, "{line}: {said:?}");
     }
 }
 
 /// `serve` takes `--connections` or `--stay`, with or without `--notes`.
-#[test]
-fn lines_of_serve(rt: HostRuntime) {
-    let line = "chord serve --plan p --port 7 --stay --notes";
-    assert!(rt; serves(rt.alloc(), line, None) == Some((true, true, true)));
-}
+const ENDS: &[(&str, LineOfP)] = &[
+    (
+        "chord serve --plan p --port 7 --stay --notes",
+        LineOfP {
+            notes: true,
+            ..AT_7
+        },
+    ),
+    (
+        "chord serve --plan p --port 7 --connections 9",
+        LineOfP {
+            connections: Some(9),
+            ..AT_7
+        },
+    ),
+];
 
 #[test]
 fn options_of_serve(rt: HostRuntime) {
-    for (line, connections, notes) in [
-        ("chord serve --plan p --port 7 --stay --notes", None, true),
-        (
-            "chord serve --plan p --port 7 --connections 9",
-            Some(9),
-            false,
-        ),
-    ] {
-        let serves = serves(rt.alloc(), line, connections);
-        assert!(rt; serves == Some((true, true, notes)));
-    }
+    say(&rt, ENDS);
 }
 
 /// Ports and connections are numbers from 1 to 65,535.
@@ -143,193 +167,144 @@ fn numbers_within_limits(rt: HostRuntime) {
 
 #[test]
 fn a_port_that_is_no_number(rt: HostRuntime) {
-    let wanted =
-        "error: invalid value '-1' for '--port <N>': a number from 0 to 65535\n\nUsage: chord serve [OPTIONS] --plan <FILE> <--port <N>|--redis <N>> <--connections <K>|--stay>\n\nFor more information, try '--help'.\n";
-    let printed = prints(rt.alloc(), "chord serve --plan p --port -1 --stay", wanted);
+    let line = "chord serve --plan p --port -1 --stay";
+    let fault = "error: invalid value '-1' for '--port <N>': a number from 0 to 65535";
+    let usage =
+        "chord serve [OPTIONS] --plan <FILE> <--port <N>|--redis <N>> <--connections <K>|--stay>";
+    let printed = prints_usage(rt.alloc(), line, fault, usage);
     assert!(rt; printed == Some((true, 2)));
 }
 
-/// The ports of a command line, for how many seconds a client may be idle, and for how many a session
-/// without a connection is kept.
-#[derive(Clone, Copy, Debug, PartialEq, Eq)]
-struct Waits {
-    port: Option<u16>,
-    redis: Option<u16>,
-    operator: Option<u16>,
-    idle: u64,
-    keep: u64,
-}
-
-/// Those of a line that names the port 7 alone.
-const AT_7: Waits = Waits {
-    port: Some(7),
-    redis: None,
-    operator: None,
-    idle: 300,
-    keep: 600,
-};
-
-/// What this command line says of them.
-fn waits_of(alloc: Global, words: &[&str]) -> Option<Waits> {
-    let matches = commands(alloc).ok()?.try_get_matches_from(words).ok()?;
-    let found = waits_in(alloc, &matches);
-    drop(matches);
-    found
-}
-
-fn waits_in(alloc: Global, matches: &ArgMatches) -> Option<Waits> {
-    let (_, found) = matches.subcommand()?;
-    let line = serve_line_of(alloc, found).ok()?;
-    Some(Waits {
-        port: line.port,
-        redis: line.redis,
-        operator: line.operator,
-        idle: line.idle,
-        keep: line.keep,
-    })
-}
-
 /// At port 0 the system picks one; a client may be idle for 300 seconds unless the line says more.
+const IDLE: &[(&str, LineOfP)] = &[
+    (
+        "chord serve --plan p --port 0 --stay",
+        LineOfP {
+            port: Some(0),
+            ..AT_7
+        },
+    ),
+    (
+        "chord serve --plan p --port 7 --stay --idle 86400",
+        LineOfP {
+            idle: 86_400,
+            ..AT_7
+        },
+    ),
+];
+
 #[test]
 fn the_port_and_idle_clients_of_serve(rt: HostRuntime) {
-    let stays = ["chord", "serve", "--plan", "p", "--port", "0", "--stay"];
-    let default = Waits {
-        port: Some(0),
-        ..AT_7
-    };
-    assert!(rt; waits_of(rt.alloc(), &stays) == Some(default));
-    let idle = [
-        "chord", "serve", "--plan", "p", "--port", "7", "--stay", "--idle", "86400",
-    ];
-    let long = Waits {
-        idle: 86_400,
-        ..AT_7
-    };
-    assert!(rt; waits_of(rt.alloc(), &idle) == Some(long));
+    say(&rt, IDLE);
 }
 
 /// Sessions without a connection are kept for 600 seconds unless the line says another number; for 0
 /// none is kept.
+const KEPT: &[(&str, LineOfP)] = &[
+    (
+        "chord serve --plan p --port 7 --stay --keep 0",
+        LineOfP { keep: 0, ..AT_7 },
+    ),
+    (
+        "chord serve --plan p --port 7 --stay --keep 86400",
+        LineOfP {
+            keep: 86_400,
+            ..AT_7
+        },
+    ),
+];
+
 #[test]
 fn the_kept_sessions_of_serve(rt: HostRuntime) {
-    let words = [
-        "chord", "serve", "--plan", "p", "--port", "7", "--stay", "--keep", "0",
-    ];
-    let none = Waits { keep: 0, ..AT_7 };
-    assert!(rt; waits_of(rt.alloc(), &words) == Some(none));
-    let most = [
-        "chord", "serve", "--plan", "p", "--port", "7", "--stay", "--keep", "86400",
-    ];
-    assert!(rt;
-        waits_of(rt.alloc(), &most)
-            == Some(Waits {
-                keep: 86_400,
-                ..AT_7
-            })
-    );
-    let more = [
-        "chord", "serve", "--plan", "p", "--port", "7", "--stay", "--keep", "86401",
-    ];
-    assert!(rt; waits_of(rt.alloc(), &more) == None);
+    say(&rt, KEPT);
+    are_refused(&rt, &["chord serve --plan p --port 7 --stay --keep 86401"]);
 }
 
 /// Redis's clients have a port of their own, beside the other one or alone.
+const REDIS: &[(&str, LineOfP)] = &[
+    (
+        "chord serve --plan p --redis 6379 --port 7 --stay",
+        LineOfP {
+            redis: Some(6379),
+            ..AT_7
+        },
+    ),
+    (
+        "chord serve --plan p --redis 0 --stay",
+        LineOfP {
+            port: None,
+            redis: Some(0),
+            ..AT_7
+        },
+    ),
+];
+
 #[test]
 fn the_port_of_redis_clients(rt: HostRuntime) {
-    let both = [
-        "chord", "serve", "--plan", "p", "--redis", "6379", "--port", "7", "--stay",
-    ];
-    let two = Waits {
-        redis: Some(6379),
-        ..AT_7
-    };
-    assert!(rt; waits_of(rt.alloc(), &both) == Some(two));
-    let alone = ["chord", "serve", "--plan", "p", "--redis", "0", "--stay"];
-    let one = Waits {
-        port: None,
-        redis: Some(0),
-        ..AT_7
-    };
-    assert!(rt; waits_of(rt.alloc(), &alone) == Some(one));
+    say(&rt, REDIS);
 }
 
 /// A server has an operator only where its line says so; at port 0 the system picks a port.
+const OPERATED: &[(&str, LineOfP)] = &[
+    ("chord serve --plan p --port 7 --stay", AT_7),
+    (
+        "chord serve --plan p --port 7 --stay --operator 0",
+        LineOfP {
+            operator: Some(0),
+            ..AT_7
+        },
+    ),
+];
+
 #[test]
 fn the_operator_of_serve(rt: HostRuntime) {
-    let alone = ["chord", "serve", "--plan", "p", "--port", "7", "--stay"];
-    assert!(rt; waits_of(rt.alloc(), &alone) == Some(AT_7));
-    let operated = [
-        "chord",
-        "serve",
-        "--plan",
-        "p",
-        "--port",
-        "7",
-        "--stay",
-        "--operator",
-        "0",
-    ];
-    let two = Waits {
-        operator: Some(0),
-        ..AT_7
-    };
-    assert!(rt; waits_of(rt.alloc(), &operated) == Some(two));
-    let wrong = [
-        "chord",
-        "serve",
-        "--plan",
-        "p",
-        "--port",
-        "7",
-        "--stay",
-        "--operator",
-        "65536",
-    ];
-    assert!(rt; waits_of(rt.alloc(), &wrong) == None);
-}
-
-/// How many nodes and callers a command line names, with `--stay`.
-fn sizes_of(alloc: Global, rest: &str) -> Option<(Option<usize>, Option<usize>)> {
-    let line = format!(in alloc; "chord serve --plan p --port 7 --stay{rest}").ok()?;
-    let words = Vec::from_iter(alloc, line.split(' ')).ok()?;
-    let matches = commands(alloc)
-        .ok()?
-        .try_get_matches_from(words.as_slice())
-        .ok()?;
-    let found = sizes_in(alloc, &matches);
-    drop(matches);
-    found
-}
-
-fn sizes_in(alloc: Global, matches: &ArgMatches) -> Option<(Option<usize>, Option<usize>)> {
-    let (_, found) = matches.subcommand()?;
-    let line = serve_line_of(alloc, found).ok()?;
-    Some((line.slots, line.callers))
+    say(&rt, OPERATED);
+    are_refused(
+        &rt,
+        &["chord serve --plan p --port 7 --stay --operator 65536"],
+    );
 }
 
 /// A server that stays has the plan's numbers of nodes and callers, or those of its line, each from 1
 /// to 4,096.
+const SIZES: &[(&str, LineOfP)] = &[
+    (
+        "chord serve --plan p --port 7 --stay --slots 4096 --callers 4096",
+        LineOfP {
+            slots: Some(4_096),
+            callers: Some(4_096),
+            ..AT_7
+        },
+    ),
+    (
+        "chord serve --plan p --port 7 --stay --callers 1 --slots 1",
+        LineOfP {
+            slots: Some(1),
+            callers: Some(1),
+            ..AT_7
+        },
+    ),
+    (
+        "chord serve --plan p --port 7 --stay --slots 9",
+        LineOfP {
+            slots: Some(9),
+            ..AT_7
+        },
+    ),
+];
+
 #[test]
 fn the_size_of_serve(rt: HostRuntime) {
-    let alloc = rt.alloc();
-    assert!(rt; sizes_of(alloc, "") == Some((None, None)), "the plan's");
-    let most = sizes_of(alloc, " --slots 4096 --callers 4096");
-    assert!(rt;
-        most == Some((Some(4_096), Some(4_096))),
-        "the most of each"
+    say(&rt, SIZES);
+    are_refused(
+        &rt,
+        &[
+            "chord serve --plan p --port 7 --stay --slots 0",
+            "chord serve --plan p --port 7 --stay --slots 4097",
+            "chord serve --plan p --port 7 --stay --callers 0",
+            "chord serve --plan p --port 7 --stay --callers 4097",
+        ],
     );
-    let least = sizes_of(alloc, " --callers 1 --slots 1");
-    assert!(rt; least == Some((Some(1), Some(1))), "the least of each");
-    let nodes = sizes_of(alloc, " --slots 9");
-    assert!(rt; nodes == Some((Some(9), None)), "nodes alone");
-    for wrong in [
-        " --slots 0",
-        " --slots 4097",
-        " --callers 0",
-        " --callers 4097",
-    ] {
-        assert!(rt; sizes_of(alloc, wrong) == None, "{wrong}");
-    }
 }
 
 const SERVE_HELP: &str = concat!(

@@ -1,18 +1,13 @@
 //! The command `dump`: at a scripted server, and by pages that are plain values.
 
-use super::loopback::{Ran, Talk, answer_all, bound, end_waiting};
+use super::loopback::Command;
 use chord_app_operator::PairsRequest;
 use chord_app_ring::{
-    DumpFault, PAGE_TRIES, Page, PageTeller, PageTurn, RingFault, dump, request_behind, run_dump,
+    DumpFault, PAGE_TRIES, Page, PageTeller, PageTurn, RingFault, dump, request_behind,
 };
 use chord_app_text::{Fault, Finish};
 use chord_ident::Id;
 use std::alloc::Global;
-use std::net::{Net, TcpListener, TcpStream};
-use std::sync::Wait;
-use std::thread;
-use std::thread::Threads;
-use std::time::Clock;
 
 /// A look at all pairs, from the first page on.
 const FIRST: &[u8] = b"GET /pairs?limit=1000 HTTP/1.1\r\nhost: 127.0.0.1:";
@@ -35,40 +30,6 @@ const LAST_PAGE: &[u8] = b"HTTP/1.1 200 OK\r\ncontent-length: 6\r\n\r\nthree\n";
 const MOVING_PAGE: &[u8] =
     b"HTTP/1.1 200 OK\r\nchord-next: 7fffffffffffffffffffffffffffffff\r\ncontent-length: 0\r\n\r\n";
 
-/// Does the command, and then ends a server that still waits for a client.
-fn dumps<R: Net<Stream = TcpStream> + Clock>(
-    rt: &R,
-    alloc: Global,
-    port: u16,
-    (wanted, told): (&str, &str),
-) -> Ran {
-    let mut written: Vec<u8> = Vec::new(alloc);
-    let mut errors: Vec<u8> = Vec::new(alloc);
-    let finish = run_dump(rt, alloc, port, &mut written, &mut errors);
-    end_waiting(rt, port);
-    let is_written = written.as_slice() == wanted.as_bytes();
-    let is_told = errors.as_slice() == told.as_bytes();
-    drop(written);
-    drop(errors);
-    (finish, is_written, is_told)
-}
-
-/// Does the command at a server with this script. None where not all of it was done.
-fn dumps_at<R: Threads + Wait + Clock + Net<Listener = TcpListener, Stream = TcpStream> + Sync>(
-    rt: &R,
-    alloc: Global,
-    talks: &[Talk<'_>],
-    lines: (&str, &str),
-) -> Option<Ran> {
-    let (listener, port) = bound(rt)?;
-    let (answered, ran) = thread::join(
-        rt,
-        || answer_all(alloc, listener, talks),
-        || dumps(rt, alloc, port, lines),
-    );
-    answered.ok()?.then_some(ran)
-}
-
 #[test]
 fn three_pages_are_copied(rt: HostRuntime) {
     let talks = [
@@ -76,7 +37,7 @@ fn three_pages_are_copied(rt: HostRuntime) {
         (SECOND, SECOND_PAGE),
         (THIRD, LAST_PAGE),
     ];
-    let ran = dumps_at(&rt, rt.alloc(), &talks, ("one\ntwo\nthree\n", ""));
+    let ran = Command::Dump.run_at(&rt, rt.alloc(), &talks, ("one\ntwo\nthree\n", ""));
     assert!(rt; ran == Some((Ok(Finish::Done), true, true)), "{ran:?}");
 }
 
@@ -87,52 +48,45 @@ fn a_page_under_way_comes_later(rt: HostRuntime) {
         (SECOND, MOVING_PAGE),
         (SECOND, LAST_PAGE),
     ];
-    let ran = dumps_at(&rt, rt.alloc(), &talks, ("one\ntwthree\n", ""));
+    let ran = Command::Dump.run_at(&rt, rt.alloc(), &talks, ("one\ntwthree\n", ""));
     assert!(rt; ran == Some((Ok(Finish::Done), true, true)), "{ran:?}");
 }
 
-/// Second answers by which the copy ends, what is told, and how it ends.
-const ENDS: &[(&[u8], &str, Finish)] = &[
-    (
-        b"HTTP/1.1 200 OK\r\ncontent-length: 6\r\n\r\nthre",
-        "",
-        Finish::Fault(Fault::Lost),
-    ),
-    (
-        b"HTTP/1.1 200 OK\r\nchord-next: 7fff\r\ncontent-length: 0\r\n\r\n",
-        "",
-        Finish::Fault(Fault::Answer),
-    ),
-    (
-        b"HTTP/1.1 200 OK\r\nchord-next: 7ffffffffffffffffffffffffffffffe\r\ncontent-length: 0\r\n\r\n",
-        "",
-        Finish::Fault(Fault::Answer),
-    ),
-    (
-        b"HTTP/1.1 200 OK\r\nchord-next: 7fffffffffffffffffffffffffffffff\r\ncontent-length: 1\r\n\r\nx",
-        "",
-        Finish::Fault(Fault::Answer),
-    ),
-    (
-        b"HTTP/1.1 200 OK\r\nchord-next: ffffffffffffffffffffffffffffffff\r\ncontent-length: 0\r\n\r\n",
-        "",
-        Finish::Fault(Fault::Answer),
-    ),
-    (
-        b"HTTP/1.1 507 Insufficient Storage\r\ncontent-length: 0\r\n\r\n",
-        "refused Memory\n",
-        Finish::Refused,
-    ),
+/// Second answers whose next page can't follow: its identifier is cut, lies before the page, is the
+/// page's own though there is a pair, or is the greatest.
+const NOT_UNDERSTOOD: &[&[u8]] = &[
+    b"HTTP/1.1 200 OK\r\nchord-next: 7fff\r\ncontent-length: 0\r\n\r\n",
+    b"HTTP/1.1 200 OK\r\nchord-next: 7ffffffffffffffffffffffffffffffe\r\ncontent-length: 0\r\n\r\n",
+    b"HTTP/1.1 200 OK\r\nchord-next: 7fffffffffffffffffffffffffffffff\r\ncontent-length: 1\r\n\r\nx",
+    b"HTTP/1.1 200 OK\r\nchord-next: ffffffffffffffffffffffffffffffff\r\ncontent-length: 0\r\n\r\n",
 ];
 
-/// What came before stays written.
 #[test]
-fn ends_of_a_copy(rt: HostRuntime) {
-    for (answer, told, finish) in ENDS {
+fn a_copy_ends_at_an_answer_that_is_not_understood(rt: HostRuntime) {
+    let wanted = Some((Err(Finish::Fault(Fault::Answer)), true, true));
+    for answer in NOT_UNDERSTOOD {
         let talks = [(FIRST, FIRST_PAGE), (SECOND, *answer)];
-        let ran = dumps_at(&rt, rt.alloc(), &talks, ("one\ntw", told));
-        assert!(rt; ran == Some((Err(*finish), true, true)), "{ran:?}");
+        let ran = Command::Dump.run_at(&rt, rt.alloc(), &talks, ("one\ntw", ""));
+        assert!(rt; ran == wanted, "what came before stays written: {ran:?}");
     }
+}
+
+#[test]
+fn a_copy_ends_at_an_answer_that_is_cut(rt: HostRuntime) {
+    let cut = b"HTTP/1.1 200 OK\r\ncontent-length: 6\r\n\r\nthre";
+    let talks = [(FIRST, FIRST_PAGE), (SECOND, cut.as_slice())];
+    let ran = Command::Dump.run_at(&rt, rt.alloc(), &talks, ("one\ntw", ""));
+    let wanted = Some((Err(Finish::Fault(Fault::Lost)), true, true));
+    assert!(rt; ran == wanted, "what came before stays written: {ran:?}");
+}
+
+#[test]
+fn a_copy_ends_at_a_refusal(rt: HostRuntime) {
+    let refused = b"HTTP/1.1 507 Insufficient Storage\r\ncontent-length: 0\r\n\r\n";
+    let talks = [(FIRST, FIRST_PAGE), (SECOND, refused.as_slice())];
+    let ran = Command::Dump.run_at(&rt, rt.alloc(), &talks, ("one\ntw", "refused Memory\n"));
+    let wanted = Some((Err(Finish::Refused), true, true));
+    assert!(rt; ran == wanted, "what came before stays written: {ran:?}");
 }
 
 /// Tells that pairs are under way at each try, and counts them.

@@ -1,19 +1,14 @@
 //! The command `restore`: in memory, and at a scripted server.
 
-use super::loopback::{Ran, Talk, answer_all, bound, end_waiting};
+use super::loopback::Command;
 use chord_app_operator::{Pair, pair_lines};
-use chord_app_ring::{LINE_BYTES, RestoreFault, Unrestored, restore, run_restore};
+use chord_app_ring::{LINE_BYTES, RestoreFault, Unrestored, restore};
 use chord_app_text::{Fault, Finish, InsertFault, PairFault};
 use chord_ident::Id;
 use chord_map::Request;
 use chord_wire::write_request_2;
 use std::alloc::{AllocError, Global};
-use std::io::ErrorKind;
-use std::net::{Net, TcpListener, TcpStream};
-use std::sync::Wait;
 use std::test::Fail;
-use std::thread;
-use std::thread::Threads;
 
 /// `x` under `a`.
 const FIRST_PAIR: &str =
@@ -230,38 +225,6 @@ fn a_copy_is_restored(rt: HostRuntime) -> Result<(), Fail> {
     Ok(())
 }
 
-/// Does the command, and then ends a server that still waits for a client.
-fn runs<R: Net<Stream = TcpStream>>(
-    rt: &R,
-    alloc: Global,
-    port: u16,
-    (input, wanted): (&str, &str),
-) -> Ran {
-    let mut input = input.as_bytes();
-    let mut written: Vec<u8> = Vec::new(alloc);
-    let finish = run_restore(rt, alloc, port, &mut input, &mut written);
-    end_waiting(rt, port);
-    let is_written = written.as_slice() == wanted.as_bytes();
-    drop(written);
-    (finish, is_written, true)
-}
-
-/// Does the command at a server with this script. None where not all of it was done.
-fn runs_at<R: Threads + Wait + Net<Listener = TcpListener, Stream = TcpStream> + Sync>(
-    rt: &R,
-    alloc: Global,
-    talks: &[Talk<'_>],
-    lines: (&str, &str),
-) -> Option<Ran> {
-    let (listener, port) = bound(rt)?;
-    let (answered, ran) = thread::join(
-        rt,
-        || answer_all(alloc, listener, talks),
-        || runs(rt, alloc, port, lines),
-    );
-    answered.ok()?.then_some(ran)
-}
-
 #[test]
 fn ends_of_a_restore(rt: HostRuntime) {
     let set_full: &[u8] = b"\x00\x00\x00\x0b\x01\x81\x00\x00\x00\x00\x00\x00\x00\x01\x02";
@@ -274,18 +237,14 @@ fn ends_of_a_restore(rt: HostRuntime) {
         (set_full, "", Err(refused)),
     ] {
         let talks = [(&FRAMES[..FIRST_FRAME], answer)];
-        let ran = runs_at(&rt, rt.alloc(), &talks, (FIRST_PAIR, wanted));
+        let command = Command::Restore(FIRST_PAIR);
+        let ran = command.run_at(&rt, rt.alloc(), &talks, (wanted, ""));
         assert!(rt; ran == Some((finish, true, true)), "{ran:?}");
     }
 }
 
 #[test]
 fn a_restore_without_a_server(rt: HostRuntime) {
-    let Some((listener, port)) = bound(&rt) else {
-        return;
-    };
-    drop(listener);
-    let reason = ErrorKind::ConnectionRefused;
-    let wanted = Err(Finish::Fault(Fault::Connect { port, reason }));
-    assert!(rt; runs(&rt, rt.alloc(), port, (FIRST_PAIR, "")) == (wanted, true, true));
+    let is_told = Command::Restore(FIRST_PAIR).finds_nobody(&rt, rt.alloc());
+    assert!(rt; is_told == Some(true), "nobody listens");
 }

@@ -2,11 +2,12 @@
 ghost use Rattle.std.specs.Prelude.{◌≡◌, [], ◌∷◌};
 ghost use Rattle.chord_table.specs.Shown.{WitnessShown};
 
+use super::workers::{Deed, with_a_worker};
 use super::{
-    Known, Said, Store, begin, call, founded, inserted, only_call, retrieved, said_by, settings,
+    Known, Said, Store, ask, begin, call, founded, only_call, parts_with, said_by, settings,
 };
 use chord_live::{Caller, OpenCaller};
-use chord_live_ring::{NoProbe, Ring, RingParts};
+use chord_live_ring::{Ring, RingParts};
 use chord_live_types::{AskFault, CollectFault, LeaveFault, WaitFault};
 use chord_map::Request;
 use chord_store::{CappedStore, EntryStore};
@@ -16,7 +17,6 @@ use std::marker::Brand;
 use std::process::Abort;
 use std::sync::Wait;
 use std::test::Fail;
-use std::thread;
 use std::thread::Threads;
 use std::time::Clock;
 
@@ -24,13 +24,8 @@ use std::time::Clock;
 fn a_capped_ring(rt: HostRuntime) -> Result<(), Fail> {
     let alloc = rt.alloc();
     let store: Store = Box::new(alloc, CappedStore::new(alloc, 1))?;
-    match RingParts::new(alloc, settings(1, 3, 1, 2_000)) {
-        Ok(parts) => capped_boxed::<Brand, _>(&rt, alloc, parts, store),
-        Err(_) => {
-            drop(store);
-            assert!(rt; false, "these settings are within their limits");
-        }
-    }
+    let parts = parts_with(&rt, alloc, settings(1, 3, 1, 2_000));
+    capped_boxed::<Brand, _>(&rt, alloc, parts, store);
     Ok(())
 }
 
@@ -56,21 +51,13 @@ fn capped<J: Naming + Send + Sync, S: EntryStore + Send, R: Abort + Threads + Wa
     requires name { parts.name ≡ J.name }
     requires vacant { S.content store ≡ [] }
 {
-    let founded = founded::<J, S, R>(rt, parts, store);
-    let ring = &founded;
-    let (ended, _) = thread::join(
-        rt,
-        move || ring.work(rt, 0, &NoProbe).is_ok(),
-        move || {
-            use_the_ring(rt, alloc, ring);
-            ring.stop();
-        },
-    );
-    founded.close();
-    assert!(rt; ended, "a worker ends when its ring is stopped");
+    let ring = founded::<J, S, R>(rt, parts, store);
+    with_a_worker(rt, alloc, &ring, Deed::AskForRoom);
+    ring.close();
 }
 
-fn use_the_ring<J: Naming, S: EntryStore, R: Abort + Wait + Clock>(
+/// Callers fill the ring, make room in it, tell each other of it, and its node crashes.
+pub fn use_the_ring<J: Naming, S: EntryStore, R: Abort + Wait + Clock>(
     rt: &R,
     alloc: Global,
     ring: &Ring<J, S>,
@@ -93,9 +80,9 @@ fn fill<J: Naming, S: EntryStore, R: Abort + Wait + Clock>(
     zero: &mut Caller<'_, J, S>,
     one: &mut Caller<'_, J, S>,
 ) {
-    let added = inserted(rt, alloc, zero, 0, (b"a", b"x"));
+    let added = ask(rt, zero, 0, Request::insert(alloc, b"a", b"x"));
     assert!(rt; added == Ok(Said::Added), "a node with room adds a pair");
-    let full = inserted(rt, alloc, one, 0, (b"a", b"y"));
+    let full = ask(rt, one, 0, Request::insert(alloc, b"a", b"y"));
     assert!(rt;
         full == Err(AskFault::Wait(WaitFault::Full)),
         "a full store answers Full"
@@ -107,18 +94,6 @@ fn fill<J: Naming, S: EntryStore, R: Abort + Wait + Clock>(
     );
 }
 
-/// The answer of node 0 to the remove of `a` and x.
-fn removed<J: Naming, S: EntryStore, R: Wait + Clock>(
-    rt: &R,
-    alloc: Global,
-    caller: &mut Caller<'_, J, S>,
-) -> Result<Said, AskFault> {
-    match Request::remove(alloc, b"a", b"x") {
-        Ok(request) => said_by(caller.ask(rt, 0, request)),
-        Err(_) => Err(AskFault::Wait(WaitFault::Memory)),
-    }
-}
-
 /// Caller 0 removes its pair, and caller 1 asks again.
 fn make_room<J: Naming, S: EntryStore, R: Abort + Wait + Clock>(
     rt: &R,
@@ -126,7 +101,7 @@ fn make_room<J: Naming, S: EntryStore, R: Abort + Wait + Clock>(
     zero: &mut Caller<'_, J, S>,
     one: &mut Caller<'_, J, S>,
 ) {
-    let removed = removed(rt, alloc, zero);
+    let removed = ask(rt, zero, 0, Request::remove(alloc, b"a", b"x"));
     assert!(rt; removed == Ok(Said::Removed), "a pair is removed");
     let retried = said_by(one.retry(rt, 0, 1));
     assert!(rt;
@@ -222,7 +197,7 @@ fn crash<J: Naming, S: EntryStore, R: Abort + Wait + Clock>(
     ring: &Ring<J, S>,
     zero: &mut Caller<'_, J, S>,
 ) {
-    let seen = retrieved(rt, alloc, zero, 0, b"a");
+    let seen = ask(rt, zero, 0, Request::retrieve(alloc, b"a"));
     assert!(rt; seen == Ok(Said::OnlyY), "a node that lives answers");
     zero.look();
     let crashed = ring.crash(rt, 0);
@@ -236,7 +211,7 @@ fn crash<J: Naming, S: EntryStore, R: Abort + Wait + Clock>(
     );
     let ticked = ring.tick(rt, 0);
     assert!(rt; ticked.is_ok(), "a crashed node may be ticked");
-    let unheard = retrieved(rt, alloc, zero, 0, b"a");
+    let unheard = ask(rt, zero, 0, Request::retrieve(alloc, b"a"));
     assert!(rt;
         unheard == Err(AskFault::Wait(WaitFault::NoAnswer)),
         "a crashed node does not answer"

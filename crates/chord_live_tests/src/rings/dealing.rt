@@ -1,25 +1,15 @@
 //! One node's events, without a lock.
 ghost use Rattle.std.specs.Prelude.{◌≤◌};
 
-use super::{A, C, Said, said_in};
+use super::{C, ONE, Said, ZERO, said_in};
 use chord_caller::Ask;
 use chord_ident::Id;
-use chord_links::{Links, Peer};
+use chord_links::Links;
 use chord_live_ring::{Target, Tidied, deal, tidy};
 use chord_map::Request;
 use chord_node::{Message, Node, NotStaying};
 use chord_store::CappedStore;
 use std::alloc::{AllocError, Global};
-
-const ZERO: Peer = Peer {
-    number: 0,
-    id: Id { number: A },
-};
-
-const ONE: Peer = Peer {
-    number: 1,
-    id: Id { number: C },
-};
 
 /// A call of caller 7: insert x under this key.
 fn ask(alloc: Global, number: u64, key: &[u8]) -> Result<Ask, AllocError>

@@ -2,7 +2,7 @@
 ghost use Rattle.std.specs.Prelude.{◌≡◌};
 
 use super::refusals::{join, peer};
-use super::{C, Said, call, founded, settings};
+use super::{C, Said, call, founded, parts_with, settings};
 use chord_live::{Caller, OpenCaller};
 use chord_live_ring::{ReturnedCaller, Ring, RingParts};
 use chord_map::Request;
@@ -22,44 +22,56 @@ enum Back {
     FirstAlone,
 }
 
+/// How a ring takes its callers back.
+#[derive(Clone, Copy, Debug, PartialEq, Eq)]
+enum Closing {
+    /// By `close_with`, which wants them by number.
+    ByNumber,
+    /// By `close_all`.
+    InAnyOrder,
+}
+
 #[test]
 fn a_ring_ends_whole(rt: HostRuntime) {
-    match RingParts::new(rt.alloc(), settings(3, 2, 1, 1_000)) {
-        Ok(parts) => ends::<Brand, _>(&rt, rt.alloc(), parts, Back::Both, true),
-        Err(_) => assert!(rt; false, "these settings are within their limits"),
-    }
+    ends(&rt, rt.alloc(), Closing::ByNumber, Back::Both, true);
 }
 
 #[test]
 fn a_caller_that_is_kept_is_missed(rt: HostRuntime) {
-    match RingParts::new(rt.alloc(), settings(3, 2, 1, 1_000)) {
-        Ok(parts) => ends::<Brand, _>(&rt, rt.alloc(), parts, Back::FirstAlone, false),
-        Err(_) => assert!(rt; false, "these settings are within their limits"),
-    }
+    ends(&rt, rt.alloc(), Closing::ByNumber, Back::FirstAlone, false);
 }
 
 #[test]
 fn callers_are_given_back_by_number(rt: HostRuntime) {
-    match RingParts::new(rt.alloc(), settings(3, 2, 1, 1_000)) {
-        Ok(parts) => ends::<Brand, _>(&rt, rt.alloc(), parts, Back::Swapped, false),
-        Err(_) => assert!(rt; false, "these settings are within their limits"),
-    }
+    ends(&rt, rt.alloc(), Closing::ByNumber, Back::Swapped, false);
 }
 
 #[test]
 fn callers_are_given_back_in_any_order(rt: HostRuntime) {
-    match RingParts::new(rt.alloc(), settings(3, 2, 1, 1_000)) {
-        Ok(parts) => ends_in_any_order::<Brand, _>(&rt, rt.alloc(), parts, Back::Swapped, true),
-        Err(_) => assert!(rt; false, "these settings are within their limits"),
-    }
+    ends(&rt, rt.alloc(), Closing::InAnyOrder, Back::Swapped, true);
 }
 
 #[test]
 fn one_caller_less_is_not_all(rt: HostRuntime) {
-    match RingParts::new(rt.alloc(), settings(3, 2, 1, 1_000)) {
-        Ok(parts) => ends_in_any_order::<Brand, _>(&rt, rt.alloc(), parts, Back::FirstAlone, false),
-        Err(_) => assert!(rt; false, "these settings are within their limits"),
-    }
+    ends(
+        &rt,
+        rt.alloc(),
+        Closing::InAnyOrder,
+        Back::FirstAlone,
+        false,
+    );
+}
+
+/// A ring ends, whole or not, when these of its callers are given back.
+fn ends<R: Abort + Wait + Clock>(
+    rt: &R,
+    alloc: Global,
+    closing: Closing,
+    back: Back,
+    is_whole: bool,
+) {
+    let parts = parts_with(rt, alloc, settings(3, 2, 1, 1_000));
+    closes::<Brand, R>(rt, alloc, parts, closing, back, is_whole);
 }
 
 /// What is given back of two callers.
@@ -122,34 +134,21 @@ fn ring_and_callers<J: Naming, R: Abort + Wait + Clock>(
     (ring, callers)
 }
 
-/// The ring ends, whole or not.
-fn ends<J: Naming, R: Abort + Wait + Clock>(
+fn closes<J: Naming, R: Abort + Wait + Clock>(
     rt: &R,
     alloc: Global,
     parts: RingParts,
+    closing: Closing,
     back: Back,
     is_whole: bool,
 )
     requires { parts.name ≡ J.name }
 {
     let (ring, callers) = ring_and_callers::<J, R>(rt, alloc, parts, back);
-    let closed = ring.close_with(callers);
-    assert!(rt; closed.is_whole == is_whole, "{back:?}");
-    drop(closed);
-}
-
-/// The ring ends with its callers in any order, whole or not.
-fn ends_in_any_order<J: Naming, R: Abort + Wait + Clock>(
-    rt: &R,
-    alloc: Global,
-    parts: RingParts,
-    back: Back,
-    is_whole: bool,
-)
-    requires { parts.name ≡ J.name }
-{
-    let (ring, callers) = ring_and_callers::<J, R>(rt, alloc, parts, back);
-    let closed = ring.close_all(callers);
-    assert!(rt; closed.is_whole == is_whole, "{back:?}");
+    let closed = match closing {
+        Closing::ByNumber => ring.close_with(callers),
+        Closing::InAnyOrder => ring.close_all(callers),
+    };
+    assert!(rt; closed.is_whole == is_whole, "{closing:?}, {back:?}");
     drop(closed);
 }

@@ -2,22 +2,23 @@
 //! With ample memory nothing is refused; the tests are run with each growth refused in turn too.
 ghost use Rattle.std.specs.Prelude.{◌≡◌, []};
 
-use super::{A, C, Known, Said, begin, inserted, only_call, said_by, settings, succeeds};
+use super::workers::{Deed, with_a_worker};
+use super::{A, C, Known, Said, ask, begin, only_call, said_by, settings, succeeds};
 use chord_caller::SubmitFault;
 use chord_ident::Id;
 use chord_live::{Caller, OpenCaller};
-use chord_live_ring::{NoProbe, Ring, RingParts, Round};
+use chord_live_ring::{Ring, RingParts, Round};
 use chord_live_types::{
     AskFault, BeginFault, CollectFault, CreateFault, JoinFault, NewFault, RetryFault, TickFault,
     WaitFault,
 };
+use chord_map::Request;
 use chord_store::{CappedStore, EntryStore};
 use chord_table::Naming;
 use std::alloc::Global;
 use std::marker::Brand;
 use std::process::Abort;
 use std::sync::Wait;
-use std::thread;
 use std::thread::Threads;
 use std::time::Clock;
 
@@ -103,25 +104,16 @@ fn two_nodes<J: Naming + Send + Sync, R: Abort + Threads + Wait + Clock + Sync>(
 )
     requires { parts.name ≡ J.name }
 {
-    let Ok(opened) = parts.assemble::<J, CappedStore>() else {
+    let Ok(ring) = parts.assemble::<J, CappedStore>() else {
         return;
     };
-    let ring = &opened;
-    settle(rt, alloc, ring);
-    let (ended, _) = thread::join(
-        rt,
-        move || ring.work(rt, 0, &NoProbe).is_ok(),
-        move || {
-            use_the_ring(rt, alloc, ring);
-            ring.stop();
-        },
-    );
-    opened.close();
-    assert!(rt; ended, "a worker ends when its ring is stopped");
+    settle(rt, alloc, &ring);
+    with_a_worker(rt, alloc, &ring, Deed::AskAgain);
+    ring.close();
 }
 
 /// Two callers are answered, and a note of one reaches the other.
-fn use_the_ring<J: Naming, S: EntryStore, R: Abort + Wait + Clock>(
+pub fn use_the_ring<J: Naming, S: EntryStore, R: Abort + Wait + Clock>(
     rt: &R,
     alloc: Global,
     ring: &Ring<J, S>,
@@ -162,7 +154,7 @@ fn added<J: Naming, S: EntryStore, R: Wait + Clock>(
     alloc: Global,
     caller: &mut Caller<'_, J, S>,
 ) -> Option<Said> {
-    match inserted(rt, alloc, caller, 0, (b"b", b"x")) {
+    match ask(rt, caller, 0, Request::insert(alloc, b"b", b"x")) {
         Err(AskFault::Wait(WaitFault::Memory))
         | Err(AskFault::Begin(BeginFault::Submit(SubmitFault::Memory))) => {
             added_again(rt, alloc, caller)
@@ -190,7 +182,7 @@ fn added_again<J: Naming, S: EntryStore, R: Wait + Clock>(
     if caller.is_pending(1) {
         return retried(rt, caller);
     }
-    inserted(rt, alloc, caller, 0, (b"b", b"x")).ok()
+    ask(rt, caller, 0, Request::insert(alloc, b"b", b"x")).ok()
 }
 
 /// Sends the pending request again, twice if out of memory.

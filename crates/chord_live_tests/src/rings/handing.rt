@@ -1,26 +1,16 @@
 //! What a node does with the parts of handovers and with the answers to them, without a lock.
 
-use super::{A, C};
+use super::{C, ONE, ZERO};
 use chord_caller::Ask;
 use chord_handover::{Part, Ticket};
 use chord_ident::Id;
-use chord_links::{Links, Peer};
+use chord_links::Links;
 use chord_live_ring::{Target, deal};
 use chord_map::Request;
 use chord_node::{Message, Node};
 use chord_store::{CappedStore, EntryStore};
 use std::alloc::Global;
 use std::process::Abort;
-
-const ZERO: Peer = Peer {
-    number: 0,
-    id: Id { number: A },
-};
-
-const ONE: Peer = Peer {
-    number: 1,
-    id: Id { number: C },
-};
 
 /// The first handover of node 0 to node 1.
 const FIRST: Ticket = Ticket {

@@ -1,9 +1,10 @@
 //! A client and a caller that stores replies ask a ring by the same calls.
 ghost use Rattle.std.specs.Prelude.{◌≡◌};
 
-use super::{Said, founded, said_by, settings};
+use super::workers::{Deed, with_a_worker};
+use super::{Said, ask, call, founded, parts_with, said_by, settings};
 use chord_live::{AskingCore, Caller, OpenCaller, RingCaller};
-use chord_live_ring::{NoProbe, RingParts};
+use chord_live_ring::{Ring, RingParts};
 use chord_live_types::{AskFault, RetryFault, WaitFault};
 use chord_map::Request;
 use chord_store::{CappedStore, EntryStore};
@@ -12,35 +13,28 @@ use std::alloc::Global;
 use std::marker::Brand;
 use std::process::Abort;
 use std::sync::Wait;
-use std::thread;
 use std::thread::Threads;
 use std::time::Clock;
 
 #[test]
 fn a_client_is_answered_again_once_there_is_room(rt: HostRuntime) {
     let alloc = rt.alloc();
-    match RingParts::new(alloc, settings(1, 2, 1, 2)) {
-        Ok(parts) => client_without_room::<Brand, _>(&rt, alloc, parts),
-        Err(_) => assert!(rt; false, "these settings are within their limits"),
-    }
+    let parts = parts_with(&rt, alloc, settings(1, 2, 1, 2));
+    client_without_room::<Brand, _>(&rt, alloc, parts);
 }
 
 #[test]
 fn a_caller_is_answered_again_once_there_is_room(rt: HostRuntime) {
     let alloc = rt.alloc();
-    match RingParts::new(alloc, settings(1, 2, 1, 2)) {
-        Ok(parts) => caller_without_room::<Brand, _>(&rt, alloc, parts),
-        Err(_) => assert!(rt; false, "these settings are within their limits"),
-    }
+    let parts = parts_with(&rt, alloc, settings(1, 2, 1, 2));
+    caller_without_room::<Brand, _>(&rt, alloc, parts);
 }
 
 #[test]
 fn a_client_asks_through_inboxes(rt: HostRuntime) {
     let alloc = rt.alloc();
-    match RingParts::new(alloc, settings(1, 1, 1, 2_000)) {
-        Ok(parts) => client_with_a_worker::<Brand, _>(&rt, alloc, parts),
-        Err(_) => assert!(rt; false, "these settings are within their limits"),
-    }
+    let parts = parts_with(&rt, alloc, settings(1, 1, 1, 2_000));
+    client_with_a_worker::<Brand, _>(&rt, alloc, parts);
 }
 
 fn client_without_room<J: Naming, R: Abort + Wait + Clock>(rt: &R, alloc: Global, parts: RingParts)
@@ -67,15 +61,6 @@ fn caller_without_room<J: Naming, R: Abort + Wait + Clock>(rt: &R, alloc: Global
     ring.close();
 }
 
-/// The answer at node 0 to a request that is carried.
-fn carried<J: Naming, S: EntryStore, C: AskingCore, R: Abort + Wait + Clock>(
-    rt: &R,
-    asker: &mut RingCaller<'_, J, S, C>,
-    request: Request,
-) -> Result<Said, AskFault> {
-    said_by(asker.call(rt, 0, request))
-}
-
 /// The node has room for one pair, which the filler inserts and removes again.
 fn ask_until_there_is_room<J: Naming, S: EntryStore, C: AskingCore, R: Abort + Wait + Clock>(
     rt: &R,
@@ -83,11 +68,9 @@ fn ask_until_there_is_room<J: Naming, S: EntryStore, C: AskingCore, R: Abort + W
     filler: &mut Caller<'_, J, S>,
     asker: &mut RingCaller<'_, J, S, C>,
 ) {
-    let x = Request::insert(alloc, b"a", b"x").expect(rt, "memory for a request");
-    let added = carried(rt, filler, x);
+    let added = call(rt, filler, 0, Request::insert(alloc, b"a", b"x"));
     assert!(rt; added == Ok(Said::Added), "a node with room adds a pair");
-    let y = Request::insert(alloc, b"a", b"y").expect(rt, "memory for a request");
-    let full = carried(rt, asker, y);
+    let full = call(rt, asker, 0, Request::insert(alloc, b"a", b"y"));
     assert!(rt;
         full == Err(AskFault::Wait(WaitFault::Full)),
         "a full store answers Full"
@@ -102,8 +85,7 @@ fn ask_until_there_is_room<J: Naming, S: EntryStore, C: AskingCore, R: Abort + W
         nowhere == Err(RetryFault::NoSuchNode),
         "no node has number 5"
     );
-    let remove = Request::remove(alloc, b"a", b"x").expect(rt, "memory for a request");
-    let removed = carried(rt, filler, remove);
+    let removed = call(rt, filler, 0, Request::remove(alloc, b"a", b"x"));
     assert!(rt; removed == Ok(Said::Removed), "a pair is removed");
     let answered = said_by(asker.call_again(rt, 0, 1));
     assert!(rt; answered == Ok(Said::Added), "now there is room for it");
@@ -123,20 +105,20 @@ fn client_with_a_worker<J: Naming + Send + Sync, R: Abort + Threads + Wait + Clo
 )
     requires name { parts.name ≡ J.name }
 {
-    let founded = founded::<J, CappedStore, R>(rt, parts, CappedStore::new(alloc, 2));
-    let ring = &founded;
-    let (ended, _) = thread::join(
-        rt,
-        move || ring.work(rt, 0, &NoProbe).is_ok(),
-        move || {
-            let mut client = ring.open_client(rt, 2).expect(rt, "a client");
-            ask_through_inboxes(rt, alloc, &mut client);
-            drop(client);
-            ring.stop();
-        },
-    );
-    founded.close();
-    assert!(rt; ended, "a worker ends when its ring is stopped");
+    let ring = founded::<J, CappedStore, R>(rt, parts, CappedStore::new(alloc, 2));
+    with_a_worker(rt, alloc, &ring, Deed::AskThroughInboxes);
+    ring.close();
+}
+
+/// A client asks a ring whose node has a worker.
+pub fn a_client_asks<J: Naming, S: EntryStore, R: Abort + Wait + Clock>(
+    rt: &R,
+    alloc: Global,
+    ring: &Ring<J, S>,
+) {
+    let mut client = ring.open_client(rt, 2).expect(rt, "a client");
+    ask_through_inboxes(rt, alloc, &mut client);
+    drop(client);
 }
 
 /// A worker of node 0 runs.
@@ -145,8 +127,7 @@ fn ask_through_inboxes<J: Naming, S: EntryStore, C: AskingCore, R: Abort + Wait 
     alloc: Global,
     asker: &mut RingCaller<'_, J, S, C>,
 ) {
-    let insert = Request::insert(alloc, b"a", b"x").expect(rt, "memory for a request");
-    let added = said_by(asker.ask(rt, 0, insert));
+    let added = ask(rt, asker, 0, Request::insert(alloc, b"a", b"x"));
     assert!(rt; added == Ok(Said::Added), "a worker answers");
     let retrieve = Request::retrieve(alloc, b"a").expect(rt, "memory for a request");
     let begun = asker.begin(rt, 0, retrieve);

@@ -1,7 +1,7 @@
 //! A note of one caller of a ring, which another one meets.
 ghost use Rattle.std.specs.Prelude.{◌≡◌};
 
-use super::{Known, Said, call, founded, only_call, settings};
+use super::{Known, Said, call, founded, only_call, parts_with, settings};
 use chord_live::{Caller, OpenCaller};
 use chord_live_ring::RingParts;
 use chord_map::Request;
@@ -15,10 +15,8 @@ use std::time::Clock;
 
 #[test]
 fn a_note_is_met(rt: HostRuntime) {
-    match RingParts::new(rt.alloc(), settings(1, 2, 1, 2_000)) {
-        Ok(parts) => meets::<Brand, _>(&rt, rt.alloc(), parts),
-        Err(_) => assert!(rt; false, "these settings are within their limits"),
-    }
+    let parts = parts_with(&rt, rt.alloc(), settings(1, 2, 1, 2_000));
+    meets::<Brand, _>(&rt, rt.alloc(), parts);
 }
 
 fn meets<J: Naming, R: Abort + Wait + Clock>(rt: &R, alloc: Global, parts: RingParts)

@@ -1,12 +1,12 @@
 //! Large segments: they go over in pieces, and what adjoins is joined.
 ghost use Rattle.std.specs.Prelude.{◌≡◌};
 
-use super::{A, C, Said, call, founded, settings, succeeds};
+use super::workers::{Deed, with_two_workers};
+use super::{A, C, Said, ZERO, call, founded, parts_with, settings, sight_of, succeeds, tick_both};
 use chord_caller::Ask;
 use chord_ident::{Id, Span};
-use chord_links::Peer;
 use chord_live::OpenCaller;
-use chord_live_ring::{NoProbe, NodeSight, Ring, RingParts, deal, join_adjoining, trim};
+use chord_live_ring::{NodeSight, Ring, RingParts, deal, join_adjoining, trim};
 use chord_map::Request;
 use chord_node::{Message, Node};
 use chord_store::{EntryStore, TreeStore};
@@ -18,11 +18,6 @@ use std::sync::Wait;
 use std::thread;
 use std::thread::Threads;
 use std::time::{Clock, Duration};
-
-const ZERO: Peer = Peer {
-    number: 0,
-    id: Id { number: A },
-};
 
 /// The first 16 bytes of the SHA-1 of `c`, of `a` and of `b`, as they follow behind A.
 const ID_OF_C: u128 = 0x84a516841ba77a5b4648de2cd0dfcb30;
@@ -155,42 +150,24 @@ const BEFORE_A: u128 = A - 1;
 
 #[test]
 fn a_segment_goes_over_in_pieces(rt: HostRuntime) {
-    match RingParts::new(rt.alloc(), settings(2, 1, 20, 1_000)) {
-        Ok(parts) => goes_over::<Brand, _>(&rt, rt.alloc(), parts),
-        Err(_) => assert!(rt; false, "these settings are within their limits"),
-    }
+    let parts = parts_with(&rt, rt.alloc(), settings(2, 1, 20, 1_000));
+    gives_all::<Brand, _>(&rt, rt.alloc(), parts);
 }
 
 /// Node 0 gives all its pairs to node 1, which joins behind it.
-fn goes_over<J: Naming + Send + Sync, R: Abort + Threads + Wait + Clock + Sync>(
+fn gives_all<J: Naming + Send + Sync, R: Abort + Threads + Wait + Clock + Sync>(
     rt: &R,
     alloc: Global,
     parts: RingParts,
 )
     requires { parts.name ≡ J.name }
 {
-    let founded = founded::<J, TreeStore, R>(rt, parts, TreeStore::new(alloc));
-    let ring = &founded;
-    fill(rt, alloc, ring);
+    let ring = founded::<J, TreeStore, R>(rt, parts, TreeStore::new(alloc));
+    fill(rt, alloc, &ring);
     let joined = succeeds(ring.join(rt, Id::new(BEFORE_A), 0, TreeStore::new(alloc)));
     assert!(rt; joined, "a second node joins by the first");
-    let (first, (second, _)) = thread::join(
-        rt,
-        move || ring.work(rt, 0, &NoProbe).is_ok(),
-        move || {
-            thread::join(
-                rt,
-                move || ring.work(rt, 1, &NoProbe).is_ok(),
-                move || {
-                    ticks(rt, alloc, ring);
-                    ring.stop();
-                },
-            )
-        },
-    );
-    assert!(rt; first, "worker 0 ends when the ring is stopped");
-    assert!(rt; second, "worker 1 ends when the ring is stopped");
-    founded.close();
+    with_two_workers(rt, alloc, &ring, Deed::GoOver);
+    ring.close();
 }
 
 /// A value under each of the keys.
@@ -209,21 +186,14 @@ fn fill<J: Naming, R: Abort + Wait + Clock>(rt: &R, alloc: Global, ring: &Ring<J
     drop(caller);
 }
 
-fn sight_of<J: Naming, R: Abort + Wait>(
+/// Ticks both nodes until node 1 has all pairs in the segment that is its own.
+pub fn goes_over<J: Naming, S: EntryStore, R: Abort + Wait + Clock>(
     rt: &R,
     alloc: Global,
-    ring: &Ring<J, TreeStore>,
-    number: u64,
-) -> NodeSight {
-    let sight = ring.sight(rt, alloc, number).expect(rt, "memory to look");
-    sight.expect(rt, "a node of this number")
-}
-
-/// Ticks both nodes until node 1 has all pairs in the segment that is its own.
-fn ticks<J: Naming, R: Abort + Wait + Clock>(rt: &R, alloc: Global, ring: &Ring<J, TreeStore>) {
+    ring: &Ring<J, S>,
+) {
     for _ in 0..10_000u64 {
-        assert!(rt; ring.tick(rt, 0).is_ok(), "node 0 is ticked");
-        assert!(rt; ring.tick(rt, 1).is_ok(), "node 1 is ticked");
+        tick_both(rt, ring);
         gives_one_piece(rt, sight_of(rt, alloc, ring, 0));
         let sight = sight_of(rt, alloc, ring, 1);
         let is_whole = is_over(&sight);

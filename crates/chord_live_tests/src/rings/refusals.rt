@@ -1,7 +1,7 @@
 //! Which calls are refused, and in which order.
 ghost use Rattle.std.specs.Prelude.{◌≡◌};
 
-use super::{A, B, C, Said, begin, call, founded, retrieved, said_by, settings, succeeds};
+use super::{A, B, C, Said, ask, begin, call, founded, parts_with, said_by, settings, succeeds};
 use chord_caller::SubmitFault;
 use chord_ident::Id;
 use chord_links::Peer;
@@ -135,10 +135,8 @@ pub fn join<J: Naming, R: Abort + Wait>(
 
 #[test]
 fn a_ring_refuses(rt: HostRuntime) {
-    match RingParts::new(rt.alloc(), settings(2, 1, 1, 10)) {
-        Ok(parts) => refusals::<Brand, _>(&rt, rt.alloc(), parts),
-        Err(_) => assert!(rt; false, "these settings are within their limits"),
-    }
+    let parts = parts_with(&rt, rt.alloc(), settings(2, 1, 1, 10));
+    refusals::<Brand, _>(&rt, rt.alloc(), parts);
 }
 
 /// A ring with no node, with the first, with two, with calls for unknown nodes, with one that left,
@@ -282,10 +280,8 @@ fn is_stopped<J: Naming, R: Abort + Wait + Clock>(
 
 #[test]
 fn a_caller_refuses(rt: HostRuntime) {
-    match RingParts::new(rt.alloc(), settings(1, 1, 1, 1)) {
-        Ok(parts) => caller_refusals::<Brand, _>(&rt, rt.alloc(), parts),
-        Err(_) => assert!(rt; false, "these settings are within their limits"),
-    }
+    let parts = parts_with(&rt, rt.alloc(), settings(1, 1, 1, 1));
+    caller_refusals::<Brand, _>(&rt, rt.alloc(), parts);
 }
 
 /// A ring with one caller, whose window has two requests.
@@ -320,7 +316,7 @@ fn bad_requests<J: Naming, R: Abort + Wait + Clock>(
         begun == Err(bad),
         "a request is judged before its node is looked for"
     );
-    let asked = retrieved(rt, alloc, caller, 5, b"");
+    let asked = ask(rt, caller, 5, Request::retrieve(alloc, b""));
     assert!(rt;
         asked == Err(AskFault::Begin(bad)),
         "also where the caller waits"
@@ -390,7 +386,7 @@ fn a_full_window<J: Naming, R: Abort + Wait + Clock>(
         more == Err(full),
         "a full window is seen before the node is looked for"
     );
-    let asked = retrieved(rt, alloc, caller, 5, b"a");
+    let asked = ask(rt, caller, 5, Request::retrieve(alloc, b"a"));
     assert!(rt;
         asked == Err(AskFault::Begin(full)),
         "also where the caller waits"
@@ -423,10 +419,8 @@ fn no_answers<J: Naming, R: Abort + Wait + Clock>(rt: &R, caller: &mut Caller<'_
 
 #[test]
 fn a_stopped_ring_does_not_answer(rt: HostRuntime) {
-    match RingParts::new(rt.alloc(), settings(1, 1, 1_000, 60_000)) {
-        Ok(parts) => stopped::<Brand, _>(&rt, rt.alloc(), parts),
-        Err(_) => assert!(rt; false, "these settings are within their limits"),
-    }
+    let parts = parts_with(&rt, rt.alloc(), settings(1, 1, 1_000, 60_000));
+    stopped::<Brand, _>(&rt, rt.alloc(), parts);
 }
 
 /// Asks once, then stops the ring twice and asks again.
@@ -439,7 +433,7 @@ fn stopped<J: Naming, R: Abort + Wait + Clock>(rt: &R, alloc: Global, parts: Rin
     assert!(rt; called == Ok(Said::Added), "a ring that runs answers");
     ring.stop();
     ring.stop();
-    let unheard = retrieved(rt, alloc, &mut caller, 0, b"abc");
+    let unheard = ask(rt, &mut caller, 0, Request::retrieve(alloc, b"abc"));
     assert!(rt;
         unheard == Err(AskFault::Wait(WaitFault::NoAnswer)),
         "a stopped ring does not answer"

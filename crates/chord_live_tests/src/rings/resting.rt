@@ -2,7 +2,7 @@
 ghost use Rattle.std.specs.Prelude.{◌≡◌};
 
 use super::refusals::{join, peer};
-use super::{C, begin, founded, settings};
+use super::{C, begin, founded, parts_with, settings, sight_of, tick};
 use chord_live::OpenCaller;
 use chord_live_ring::{NoProbe, Ring, RingParts, Round};
 use chord_store::{CappedStore, EntryStore};
@@ -29,10 +29,8 @@ fn two_rounds_are_quiet_if_both_are(rt: HostRuntime) {
 
 #[test]
 fn rounds_become_quiet(rt: HostRuntime) {
-    match RingParts::new(rt.alloc(), settings(2, 1, 1, 10)) {
-        Ok(parts) => lone::<Brand, _>(&rt, rt.alloc(), parts),
-        Err(_) => assert!(rt; false, "these settings are within their limits"),
-    }
+    let parts = parts_with(&rt, rt.alloc(), settings(2, 1, 1, 10));
+    lone::<Brand, _>(&rt, rt.alloc(), parts);
 }
 
 /// A node that is alone learns one of its 128 fingers in each round.
@@ -53,10 +51,8 @@ fn lone<J: Naming, R: Abort + Wait>(rt: &R, alloc: Global, parts: RingParts)
 
 #[test]
 fn who_rests_is_woken_by_nodes(rt: HostRuntime) {
-    match RingParts::new(rt.alloc(), settings(2, 1, 1, 10)) {
-        Ok(parts) => rests::<Brand, _>(&rt, rt.alloc(), parts),
-        Err(_) => assert!(rt; false, "these settings are within their limits"),
-    }
+    let parts = parts_with(&rt, rt.alloc(), settings(2, 1, 1, 10));
+    rests::<Brand, _>(&rt, rt.alloc(), parts);
 }
 
 /// Each of a node's steps that others should hear of ends one rest.
@@ -92,10 +88,8 @@ fn rests<J: Naming, R: Abort + Wait + Clock>(rt: &R, alloc: Global, parts: RingP
 
 #[test]
 fn a_gone_node_works_at_its_ticks(rt: HostRuntime) {
-    match RingParts::new(rt.alloc(), settings(2, 1, 1, 10)) {
-        Ok(parts) => passes_on::<Brand, _>(&rt, rt.alloc(), parts),
-        Err(_) => assert!(rt; false, "these settings are within their limits"),
-    }
+    let parts = parts_with(&rt, rt.alloc(), settings(2, 1, 1, 10));
+    passes_on::<Brand, _>(&rt, rt.alloc(), parts);
 }
 
 /// How many requests node 1 passed on.
@@ -104,8 +98,7 @@ fn passed_on<J: Naming, S: EntryStore, R: Abort + Wait>(
     alloc: Global,
     ring: &Ring<J, S>,
 ) -> u64 {
-    let sight = ring.sight(rt, alloc, 1).expect(rt, "memory to look");
-    let sight = sight.expect(rt, "node 1");
+    let sight = sight_of(rt, alloc, ring, 1);
     sight.counts.asks.forwarded
 }
 
@@ -117,8 +110,8 @@ fn passes_on<J: Naming, R: Abort + Wait + Clock>(rt: &R, alloc: Global, parts: R
     let joined = join(rt, alloc, &ring, C, 0);
     assert!(rt; joined == Ok(peer(1, C)), "a second node joins");
     for _ in 0..3u64 {
-        assert!(rt; ring.tick(rt, 1).is_ok(), "node 1 is ticked");
-        assert!(rt; ring.tick(rt, 0).is_ok(), "node 0 is ticked");
+        tick(rt, &ring, 1);
+        tick(rt, &ring, 0);
     }
     let leaves = ring.leave(rt, 1);
     assert!(rt; leaves == Ok(()), "it begins to leave");

@@ -2,9 +2,10 @@
 ghost use Rattle.std.specs.Prelude.{◌≡◌};
 
 use super::refusals::{join, peer};
-use super::{A, B, C, founded, settings, succeeds};
+use super::workers::{Deed, with_two_workers};
+use super::{B, C, founded, parts_with, settings, succeeds, tick};
 use chord_ident::Id;
-use chord_live_ring::{NoProbe, Ring, RingParts, RingRetireFault};
+use chord_live_ring::{Ring, RingParts, RingRetireFault};
 use chord_live_types::JoinFault;
 use chord_store::{CappedStore, EntryStore};
 use chord_table::Naming;
@@ -21,10 +22,8 @@ const E: u128 = 0xe0000000000000000000000000000000;
 
 #[test]
 fn a_join_is_unsettled(rt: HostRuntime) {
-    match RingParts::new(rt.alloc(), settings(4, 1, 1, 10)) {
-        Ok(parts) => joins::<Brand, _>(&rt, rt.alloc(), parts),
-        Err(_) => assert!(rt; false, "these settings are within their limits"),
-    }
+    let parts = parts_with(&rt, rt.alloc(), settings(4, 1, 1, 10));
+    joins::<Brand, _>(&rt, rt.alloc(), parts);
 }
 
 /// Node 1 crashes once node 0 lists it.
@@ -71,18 +70,10 @@ fn refuses_and_settles<J: Naming, R: Abort + Wait + Clock>(
     );
 }
 
-/// Does a tick of one node.
-fn tick<J: Naming, S: EntryStore, R: Abort + Wait + Clock>(rt: &R, ring: &Ring<J, S>, number: u64) {
-    let ticked = ring.tick(rt, number);
-    assert!(rt; ticked.is_ok(), "a node that exists is ticked");
-}
-
 #[test]
 fn a_node_that_is_needed_does_not_retire(rt: HostRuntime) {
-    match RingParts::new(rt.alloc(), settings(2, 1, 1, 1_000)) {
-        Ok(parts) => leaves::<Brand, _>(&rt, rt.alloc(), parts),
-        Err(_) => assert!(rt; false, "these settings are within their limits"),
-    }
+    let parts = parts_with(&rt, rt.alloc(), settings(2, 1, 1, 1_000));
+    leaves::<Brand, _>(&rt, rt.alloc(), parts);
 }
 
 /// Node 0 leaves a ring of two, each of which has a worker.
@@ -93,27 +84,11 @@ fn leaves<J: Naming + Send + Sync, R: Abort + Threads + Wait + Clock + Sync>(
 )
     requires { parts.name ≡ J.name }
 {
-    let founded = founded::<J, CappedStore, R>(rt, parts, CappedStore::new(alloc, 1));
-    let joined = succeeds(founded.join(rt, Id::new(C), 0, CappedStore::new(alloc, 1)));
+    let ring = founded::<J, CappedStore, R>(rt, parts, CappedStore::new(alloc, 1));
+    let joined = succeeds(ring.join(rt, Id::new(C), 0, CappedStore::new(alloc, 1)));
     assert!(rt; joined, "the second node joins");
-    let ring = &founded;
-    let (first, (second, _)) = thread::join(
-        rt,
-        move || ring.work(rt, 0, &NoProbe).is_ok(),
-        move || {
-            thread::join(
-                rt,
-                move || ring.work(rt, 1, &NoProbe).is_ok(),
-                move || {
-                    leave_and_retire(rt, ring);
-                    ring.stop();
-                },
-            )
-        },
-    );
-    founded.close();
-    assert!(rt; first, "worker 0 ends when the ring is stopped");
-    assert!(rt; second, "worker 1 ends when the ring is stopped");
+    with_two_workers(rt, alloc, &ring, Deed::LeaveAndRetire);
+    ring.close();
 }
 
 /// Ticks node 0, which leaves, until it holds nothing. Gives why it does not retire then.
@@ -133,7 +108,10 @@ fn give_all<J: Naming, S: EntryStore, R: Abort + Wait + Clock>(
 }
 
 /// Node 1 is not ticked while node 0 leaves, so it lists node 0 alone.
-fn leave_and_retire<J: Naming, S: EntryStore, R: Abort + Wait + Clock>(rt: &R, ring: &Ring<J, S>) {
+pub fn leave_and_retire<J: Naming, S: EntryStore, R: Abort + Wait + Clock>(
+    rt: &R,
+    ring: &Ring<J, S>,
+) {
     tick(rt, ring, 1);
     tick(rt, ring, 0);
     let leaves = ring.leave(rt, 0);

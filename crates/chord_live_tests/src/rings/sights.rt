@@ -1,11 +1,12 @@
 //! How nodes look to an operator, and whether one may crash.
 ghost use Rattle.std.specs.Prelude.{◌≡◌};
 
-use super::{A, Said, call, founded, settings, succeeds};
+use super::workers::{Deed, with_two_workers};
+use super::{A, Said, call, founded, parts_with, settings, sight_of, succeeds, tick, tick_both};
 use chord_ident::{Id, Span};
 use chord_live::OpenCaller;
 use chord_live_ring::{
-    AskCounts, HandoverCounts, NoProbe, NodeSight, OutboxSight, Ring, RingParts, SegmentSight,
+    AskCounts, HandoverCounts, NodeSight, OutboxSight, Ring, RingParts, SegmentSight,
 };
 use chord_live_types::{AskFault, NoSuchNode, WaitFault};
 use chord_map::Request;
@@ -46,23 +47,15 @@ fn span(after: u128, upto: u128) -> Span {
     Span::new(Id::new(after), Id::new(upto))
 }
 
-/// How a node looks.
-fn sight_of<J: Naming, S: EntryStore, R: Abort + Wait>(
-    rt: &R,
-    alloc: Global,
-    ring: &Ring<J, S>,
-    number: u64,
-) -> NodeSight {
-    let sight = ring.sight(rt, alloc, number).expect(rt, "memory to look");
-    sight.expect(rt, "a node of this number")
+/// Whether a node holds one segment alone, of this span, and keeps this many replies in it.
+fn holds_alone(sight: &NodeSight, span: Span, kept: u64) -> bool {
+    sight.segments.as_slice() == [SegmentSight { span, kept }].as_slice()
 }
 
 #[test]
 fn a_node_that_is_alone_is_seen(rt: HostRuntime) {
-    match RingParts::new(rt.alloc(), settings(2, 2, 1, 5)) {
-        Ok(parts) => alone::<Brand, _>(&rt, rt.alloc(), parts),
-        Err(_) => assert!(rt; false, "these settings are within their limits"),
-    }
+    let parts = parts_with(&rt, rt.alloc(), settings(2, 2, 1, 5));
+    alone::<Brand, _>(&rt, rt.alloc(), parts);
 }
 
 /// A ring of one node with room for one pair.
@@ -74,10 +67,8 @@ fn alone<J: Naming, R: Abort + Wait + Clock>(rt: &R, alloc: Global, parts: RingP
     answers_two(rt, alloc, &ring);
     has_answered(rt, &sight_of(rt, alloc, &ring, 0));
     tells_its_pair(rt, alloc, &ring);
-    let ticked = ring.tick(rt, 0);
-    assert!(rt; ticked.is_ok(), "node 0 is ticked");
-    let ticked = ring.tick(rt, 0);
-    assert!(rt; ticked.is_ok(), "node 0 is ticked again");
+    tick(rt, &ring, 0);
+    tick(rt, &ring, 0);
     is_ticked(rt, &sight_of(rt, alloc, &ring, 0));
     let other = ring.sight(rt, alloc, 1);
     let is_seen = matches!(&other, Ok(None));
@@ -98,12 +89,8 @@ fn is_new<R: Abort>(rt: &R, sight: &NodeSight) {
         "it is its own successor"
     );
     assert!(rt; sight.fingers == 0, "it knows no finger");
-    let whole = SegmentSight {
-        span: span(A, A),
-        kept: 0,
-    };
     assert!(rt;
-        sight.segments.as_slice() == [whole].as_slice(),
+        holds_alone(sight, span(A, A), 0),
         "it holds the whole circle"
     );
     assert!(rt; sight.pairs == 0, "it has no pair");
@@ -140,12 +127,8 @@ fn has_answered<R: Abort>(rt: &R, sight: &NodeSight) {
         sight.counts.asks == asks(1, 0, 0, 1),
         "one request was told its reply, and one that the store is full"
     );
-    let whole = SegmentSight {
-        span: span(A, A),
-        kept: 1,
-    };
     assert!(rt;
-        sight.segments.as_slice() == [whole].as_slice(),
+        holds_alone(sight, span(A, A), 1),
         "a reply that was told is kept, and Full is none"
     );
     assert!(rt; sight.pairs == 1, "one pair was added");
@@ -261,10 +244,8 @@ fn crashes<J: Naming, R: Abort + Wait>(rt: &R, alloc: Global, ring: &Ring<J, Cap
 
 #[test]
 fn a_handover_is_seen(rt: HostRuntime) {
-    match RingParts::new(rt.alloc(), settings(2, 3, 20, 1_000)) {
-        Ok(parts) => gives::<Brand, _>(&rt, rt.alloc(), parts),
-        Err(_) => assert!(rt; false, "these settings are within their limits"),
-    }
+    let parts = parts_with(&rt, rt.alloc(), settings(2, 3, 20, 1_000));
+    gives::<Brand, _>(&rt, rt.alloc(), parts);
 }
 
 /// Node 0 holds `abc` and gives it to node 1, which joins by it.
@@ -275,30 +256,33 @@ fn gives<J: Naming + Send + Sync, R: Abort + Threads + Wait + Clock + Sync>(
 )
     requires { parts.name ≡ J.name }
 {
-    let founded = founded::<J, CappedStore, R>(rt, parts, CappedStore::new(alloc, 4));
-    let ring = &founded;
-    let mut caller = ring.open_caller(rt, 1).expect(rt, "a caller");
-    let added = call(rt, &mut caller, 0, Request::insert(alloc, b"abc", b"x"));
-    drop(caller);
+    let ring = founded::<J, CappedStore, R>(rt, parts, CappedStore::new(alloc, 4));
+    let added = said_to_another(rt, alloc, &ring, 0, (b"abc", b"x"));
     assert!(rt; added == Ok(Said::Added), "node 0 holds all keys");
     let joined = succeeds(ring.join(rt, Id::new(M), 0, CappedStore::new(alloc, 4)));
     assert!(rt; joined, "a second node joins by the first");
     for _ in 0..8u64 {
-        tick(rt, ring);
+        tick_both(rt, &ring);
     }
-    is_giving(rt, &sight_of(rt, alloc, ring, 0));
-    is_joined(rt, &sight_of(rt, alloc, ring, 1));
-    is_under_way(rt, alloc, ring);
-    takes(rt, alloc, ring);
-    founded.close();
+    is_giving(rt, &sight_of(rt, alloc, &ring, 0));
+    is_joined(rt, &sight_of(rt, alloc, &ring, 1));
+    is_under_way(rt, alloc, &ring);
+    with_two_workers(rt, alloc, &ring, Deed::TakeAndCrash);
+    ring.close();
 }
 
-/// Does a round of ticks.
-fn tick<J: Naming, S: EntryStore, R: Abort + Wait>(rt: &R, ring: &Ring<J, S>) {
-    let zero = ring.tick(rt, 0);
-    assert!(rt; zero.is_ok(), "node 0 is ticked");
-    let one = ring.tick(rt, 1);
-    assert!(rt; one.is_ok(), "node 1 is ticked");
+/// What a new caller is told at node `via` to an insert.
+fn said_to_another<J: Naming, S: EntryStore, R: Abort + Wait + Clock>(
+    rt: &R,
+    alloc: Global,
+    ring: &Ring<J, S>,
+    via: u64,
+    (key, value): (&[u8], &[u8]),
+) -> Result<Said, AskFault> {
+    let mut caller = ring.open_caller(rt, 1).expect(rt, "one more caller");
+    let said = call(rt, &mut caller, via, Request::insert(alloc, key, value));
+    drop(caller);
+    said
 }
 
 /// Nobody took in what node 0 gave: it is in its outbox.
@@ -308,12 +292,8 @@ fn is_giving<R: Abort>(rt: &R, sight: &NodeSight) {
         "node 1 comes behind node 0"
     );
     assert!(rt; sight.predecessor == Some(1), "and before it");
-    let own = SegmentSight {
-        span: span(M, A),
-        kept: 0,
-    };
     assert!(rt;
-        sight.segments.as_slice() == [own].as_slice(),
+        holds_alone(sight, span(M, A), 0),
         "it holds what is its own"
     );
     let given = OutboxSight {
@@ -378,29 +358,14 @@ fn is_under_way<J: Naming, S: EntryStore, R: Abort + Wait>(
     );
 }
 
-/// Each node has a worker until node 1 took what node 0 gave, and is asked for it.
-fn takes<J: Naming + Send + Sync, S: EntryStore + Send, R: Abort + Threads + Wait + Clock + Sync>(
+/// Node 1 takes what node 0 gave, is asked for it, and crashes.
+pub fn takes_and_crashes<J: Naming, S: EntryStore, R: Abort + Wait + Clock>(
     rt: &R,
     alloc: Global,
     ring: &Ring<J, S>,
 ) {
-    let (first, (second, _)) = thread::join(
-        rt,
-        move || ring.work(rt, 0, &NoProbe).is_ok(),
-        move || {
-            thread::join(
-                rt,
-                move || ring.work(rt, 1, &NoProbe).is_ok(),
-                move || {
-                    has_given(rt, alloc, ring);
-                    asks_by_a_crashed_node(rt, alloc, ring);
-                    ring.stop();
-                },
-            )
-        },
-    );
-    assert!(rt; first, "worker 0 ends when the ring is stopped");
-    assert!(rt; second, "worker 1 ends when the ring is stopped");
+    has_given(rt, alloc, ring);
+    asks_by_a_crashed_node(rt, alloc, ring);
 }
 
 /// Waits until node 0 has an empty outbox.
@@ -426,7 +391,8 @@ fn has_given<J: Naming, S: EntryStore, R: Abort + Wait + Clock>(
     ring: &Ring<J, S>,
 ) {
     wait_for_workers(rt, alloc, ring);
-    asks_by_node_0(rt, alloc, ring);
+    let added = said_to_another(rt, alloc, ring, 0, (b"abc", b"y"));
+    assert!(rt; added == Ok(Said::Added), "node 1 adds a pair");
     has_passed_on(rt, &sight_of(rt, alloc, ring, 0));
     has_taken(rt, &sight_of(rt, alloc, ring, 1));
     let key = Id::of_bytes(b"abc");
@@ -465,12 +431,8 @@ fn has_passed_on<R: Abort>(rt: &R, sight: &NodeSight) {
 }
 
 fn has_taken<R: Abort>(rt: &R, sight: &NodeSight) {
-    let given = SegmentSight {
-        span: span(A, M),
-        kept: 2,
-    };
     assert!(rt;
-        sight.segments.as_slice() == [given].as_slice(),
+        holds_alone(sight, span(A, M), 2),
         "node 1 holds what was given, with the replies to both callers"
     );
     assert!(rt; sight.pairs == 2, "and with both pairs");
@@ -492,23 +454,9 @@ fn asks_by_a_crashed_node<J: Naming, S: EntryStore, R: Abort + Wait + Clock>(
 ) {
     let crashed = ring.crash(rt, 1);
     assert!(rt; crashed == Ok(()), "node 1 crashes");
-    let mut caller = ring.open_caller(rt, 1).expect(rt, "a third caller");
-    let added = call(rt, &mut caller, 1, Request::insert(alloc, b"eq", b"x"));
-    drop(caller);
+    let added = said_to_another(rt, alloc, ring, 1, (b"eq", b"x"));
     assert!(rt;
         added == Ok(Said::Added),
         "a call by a node that crashed begins at the next live one"
     );
-}
-
-/// A new caller inserts under `abc` by node 0.
-fn asks_by_node_0<J: Naming, S: EntryStore, R: Abort + Wait + Clock>(
-    rt: &R,
-    alloc: Global,
-    ring: &Ring<J, S>,
-) {
-    let mut caller = ring.open_caller(rt, 1).expect(rt, "a second caller");
-    let added = call(rt, &mut caller, 0, Request::insert(alloc, b"abc", b"y"));
-    drop(caller);
-    assert!(rt; added == Ok(Said::Added), "node 1 adds a pair");
 }

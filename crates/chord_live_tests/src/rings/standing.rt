@@ -4,7 +4,7 @@ ghost use Rattle.std.specs.Prelude.{◌≡◌, ◌<◌, None, Some, IfSome};
 ghost use Rattle.chord_caller.specs.Caller.{CallerStep};
 ghost use Rattle.chord_caller.specs.Caller.Letter.{AskLetter};
 
-use super::{Said, founded, said_in, settings};
+use super::{Said, founded, parts_with, said_in, settings};
 use chord_caller::{Ask, CallerCore};
 use chord_ident::Id;
 use chord_live_ring::{Keyed, Ring, RingParts, Target};
@@ -21,18 +21,14 @@ use std::time::{Clock, Duration};
 
 #[test]
 fn a_core_and_its_seat(rt: HostRuntime) {
-    match RingParts::new(rt.alloc(), settings(2, 1, 3, 5)) {
-        Ok(parts) => stands::<Brand, _>(&rt, rt.alloc(), parts),
-        Err(_) => assert!(rt; false, "these settings are within their limits"),
-    }
+    let parts = parts_with(&rt, rt.alloc(), settings(2, 1, 3, 5));
+    stands::<Brand, _>(&rt, rt.alloc(), parts);
 }
 
 #[test]
 fn a_call_with_its_identifier_is_carried(rt: HostRuntime) {
-    match RingParts::new(rt.alloc(), settings(1, 2, 3, 5)) {
-        Ok(parts) => carries::<Brand, _>(&rt, rt.alloc(), parts),
-        Err(_) => assert!(rt; false, "these settings are within their limits"),
-    }
+    let parts = parts_with(&rt, rt.alloc(), settings(1, 2, 3, 5));
+    carries::<Brand, _>(&rt, rt.alloc(), parts);
 }
 
 /// A ring of one node carries the call of its first caller, admits a client, and has no room for a
@@ -42,13 +38,8 @@ fn carries<J: Naming, R: Abort + Wait + Clock>(rt: &R, alloc: Global, parts: Rin
 {
     let ring = founded::<J, CappedStore, R>(rt, parts, CappedStore::new(alloc, 1));
     let told = told_by_id(rt, alloc, &ring);
-    let added = Told {
-        caller: 0,
-        number: 1,
-        said: Said::Added,
-    };
     assert!(rt;
-        told == Some(added),
+        told == Some(ADDED),
         "the reply to a call comes back to its caller"
     );
     admits_a_client(rt, &ring);
@@ -145,13 +136,8 @@ fn admits<J: Naming, R: Abort + Wait + Clock>(rt: &R, alloc: Global, ring: &Ring
     drop(seat);
     drop(core);
     assert!(rt; number == 0, "the first caller has number 0");
-    let added = Told {
-        caller: 0,
-        number: 1,
-        said: Said::Added,
-    };
     assert!(rt;
-        told == Some(added),
+        told == Some(ADDED),
         "its insert is carried, and the reply comes to it"
     );
     let more = is_there(ring.hear(rt, number, Duration::from_millis(0)));
@@ -170,6 +156,13 @@ struct Told {
     number: u64,
     said: Said,
 }
+
+/// The first call of the first caller added a pair.
+const ADDED: Told = Told {
+    caller: 0,
+    number: 1,
+    said: Said::Added,
+};
 
 /// The reply to the insert of a caller that is carried.
 fn answered<J: Naming, R: Wait + Clock>(

@@ -2,10 +2,12 @@
 ghost use Rattle.std.specs.Prelude.{◌≡◌, [], ◌∷◌};
 ghost use Rattle.chord_table.specs.Shown.{WitnessShown};
 
-use super::{C, Said, call, founded, inserted, retrieved, said_by, settings, succeeds};
+use super::{
+    C, Said, ask, call, founded, parts_with, said_by, settings, succeeds, tick, tick_both,
+};
 use chord_ident::Id;
 use chord_links::Links;
-use chord_live::{OpenCaller, RingClient};
+use chord_live::{Caller, OpenCaller, RingClient};
 use chord_live_ring::{NoProbe, Probe, Ring, RingParts};
 use chord_live_types::{AskFault, WaitFault};
 use chord_map::Request;
@@ -106,10 +108,8 @@ fn place_of(then: Then) -> Id {
 
 /// A ring of two nodes in which this is done once it is settled.
 fn is_kept<R: Abort + Threads + Wait + Clock + Sync>(rt: &R, alloc: Global, then: Then) {
-    match RingParts::new(alloc, settings(2, 3, tries_of(then), 1_000)) {
-        Ok(parts) => two_nodes::<Brand, _>(rt, alloc, parts, then),
-        Err(_) => assert!(rt; false, "these settings are within their limits"),
-    }
+    let parts = parts_with(rt, alloc, settings(2, 3, tries_of(then), 1_000));
+    two_nodes::<Brand, _>(rt, alloc, parts, then);
 }
 
 /// Starts node 0 at A, and node 1, which joins by it.
@@ -161,14 +161,6 @@ fn worked<J: Naming + Send + Sync, R: Abort + Threads + Wait + Clock + Sync>(
     assert!(rt; second, "worker 1 ends when the ring is stopped");
 }
 
-/// Does a round of ticks.
-fn tick<J: Naming, S: EntryStore, R: Abort + Wait + Clock>(rt: &R, ring: &Ring<J, S>) {
-    let zero = ring.tick(rt, 0);
-    assert!(rt; zero.is_ok(), "node 0 is ticked");
-    let one = ring.tick(rt, 1);
-    assert!(rt; one.is_ok(), "node 1 is ticked");
-}
-
 /// Does eight rounds of ticks, and what is done then.
 fn settle_and_then<
     J: Naming + Send + Sync,
@@ -176,7 +168,7 @@ fn settle_and_then<
     R: Abort + Threads + Wait + Clock + Sync,
 >(rt: &R, alloc: Global, ring: &Ring<J, S>, probe: &Held<'_, R>, then: Then) {
     for _ in 0..8u64 {
-        tick(rt, ring);
+        tick_both(rt, ring);
         thread::sleep(rt, Duration::from_millis(5));
     }
     match then {
@@ -194,10 +186,10 @@ fn inserted_alone<J: Naming, S: EntryStore, R: Abort + Wait + Clock>(
     alloc: Global,
     ring: &Ring<J, S>,
     via: u64,
-    pair: (&[u8], &[u8]),
+    (key, value): (&[u8], &[u8]),
 ) -> Result<Said, AskFault> {
     let mut caller = ring.open_caller(rt, 1).expect(rt, "a caller");
-    let answer = inserted(rt, alloc, &mut caller, via, pair);
+    let answer = ask(rt, &mut caller, via, Request::insert(alloc, key, value));
     drop(caller);
     answer
 }
@@ -264,23 +256,33 @@ fn two_locks<
     assert!(rt; zero == Ok(Said::Added), "node 0 answers once it is opened");
 }
 
+/// A caller whose insert of x under `abc` by node 0 was passed on to node 1.
+fn caller_of_abc<'a, J: Naming, S: EntryStore, R: Abort + Wait + Clock>(
+    rt: &R,
+    alloc: Global,
+    ring: &'a Ring<J, S>,
+) -> Caller<'a, J, S> {
+    let mut caller = ring.open_caller(rt, 1).expect(rt, "a caller");
+    let added = ask(rt, &mut caller, 0, Request::insert(alloc, b"abc", b"x"));
+    assert!(rt;
+        added == Ok(Said::Added),
+        "a call is passed on to the node that holds its key"
+    );
+    caller
+}
+
 /// Node 0, which held nothing of `abc`, crashes.
 fn crash<J: Naming, S: EntryStore, R: Abort + Wait + Clock>(
     rt: &R,
     alloc: Global,
     ring: &Ring<J, S>,
 ) {
-    let mut caller = ring.open_caller(rt, 1).expect(rt, "a caller");
-    let added = inserted(rt, alloc, &mut caller, 0, (b"abc", b"x"));
-    assert!(rt;
-        added == Ok(Said::Added),
-        "a call is passed on to the node that holds its key"
-    );
+    let mut caller = caller_of_abc(rt, alloc, ring);
     let crashed = ring.crash(rt, 0);
     assert!(rt; crashed == Ok(()), "node 0 crashes");
     let ticked = ring.tick(rt, 1);
     assert!(rt; ticked.is_ok(), "node 1 drops it");
-    let seen = retrieved(rt, alloc, &mut caller, 1, b"abc");
+    let seen = ask(rt, &mut caller, 1, Request::retrieve(alloc, b"abc"));
     assert!(rt; seen == Ok(Said::OnlyX), "node 1 answers for what it holds");
     drop(caller);
 }
@@ -291,44 +293,14 @@ fn leave<J: Naming, S: EntryStore, R: Abort + Wait + Clock>(
     alloc: Global,
     ring: &Ring<J, S>,
 ) {
-    let mut caller = ring.open_caller(rt, 1).expect(rt, "a caller");
-    let added = inserted(rt, alloc, &mut caller, 0, (b"abc", b"x"));
-    assert!(rt;
-        added == Ok(Said::Added),
-        "a call is passed on to the node that holds its key"
-    );
+    let mut caller = caller_of_abc(rt, alloc, ring);
     let called = call(rt, &mut caller, 0, Request::retrieve(alloc, b"abc"));
     assert!(rt; called == Ok(Said::OnlyX), "so is one that is carried");
     retire(rt, ring);
     forget(rt, ring);
-    let seen = retrieved(rt, alloc, &mut caller, 0, b"abc");
+    let seen = ask(rt, &mut caller, 0, Request::retrieve(alloc, b"abc"));
     assert!(rt; seen == Ok(Said::OnlyX), "node 0 has what node 1 held");
     drop(caller);
-}
-
-/// The answer to a client's insert by node 0.
-fn client_inserted<J: Naming, S: EntryStore, R: Wait + Clock>(
-    rt: &R,
-    alloc: Global,
-    client: &mut RingClient<'_, J, S>,
-    (key, value): (&[u8], &[u8]),
-) -> Result<Said, AskFault> {
-    match Request::insert(alloc, key, value) {
-        Ok(request) => said_by(client.call(rt, 0, request)),
-        Err(_) => Err(AskFault::Wait(WaitFault::Memory)),
-    }
-}
-
-/// The answer to a client's retrieve of `abc` by node 0.
-fn client_retrieved<J: Naming, S: EntryStore, R: Wait + Clock>(
-    rt: &R,
-    alloc: Global,
-    client: &mut RingClient<'_, J, S>,
-) -> Result<Said, AskFault> {
-    match Request::retrieve(alloc, b"abc") {
-        Ok(request) => said_by(client.call(rt, 0, request)),
-        Err(_) => Err(AskFault::Wait(WaitFault::Memory)),
-    }
 }
 
 /// `abc` is held by node 1, `eq` by node 0, and the identifiers of both have the same first byte.
@@ -338,21 +310,21 @@ fn guess<J: Naming, S: EntryStore, R: Abort + Wait + Clock>(
     ring: &Ring<J, S>,
 ) {
     let mut client = ring.open_client(rt, 1).expect(rt, "a client");
-    let added = client_inserted(rt, alloc, &mut client, (b"abc", b"x"));
+    let added = call(rt, &mut client, 0, Request::insert(alloc, b"abc", b"x"));
     assert!(rt;
         added == Ok(Said::Added),
         "a call is passed on to the node that holds its key"
     );
-    let other = client_inserted(rt, alloc, &mut client, (b"eq", b"y"));
+    let other = call(rt, &mut client, 0, Request::insert(alloc, b"eq", b"y"));
     assert!(rt;
         other == Ok(Said::Added),
         "a call with a wrong guess is passed on too"
     );
-    let seen = client_retrieved(rt, alloc, &mut client);
+    let seen = call(rt, &mut client, 0, Request::retrieve(alloc, b"abc"));
     assert!(rt; seen == Ok(Said::OnlyX), "node 1 answers for `abc`");
     let crashed = ring.crash(rt, 0);
     assert!(rt; crashed == Ok(()), "node 0 crashes");
-    let again = client_retrieved(rt, alloc, &mut client);
+    let again = call(rt, &mut client, 0, Request::retrieve(alloc, b"abc"));
     assert!(rt;
         again == Ok(Said::OnlyX),
         "the client begins at node 1, which answered last"
@@ -380,7 +352,7 @@ fn insert_x_until_answered<J: Naming, S: EntryStore, R: Wait + Clock>(
     alloc: Global,
     client: &mut RingClient<'_, J, S>,
 ) -> Option<Said> {
-    let mut said = client_inserted(rt, alloc, client, (b"abc", b"x")).ok();
+    let mut said = call(rt, client, 0, Request::insert(alloc, b"abc", b"x")).ok();
     for _ in 0..20u64 {
         if said.is_none() {
             said = said_by(client.call_again(rt, 0, 1)).ok();
@@ -399,19 +371,19 @@ fn guess_crashed<J: Naming, S: EntryStore, R: Abort + Wait + Clock>(
     let mut client = ring.open_client(rt, 1).expect(rt, "a client");
     let added = insert_x_until_answered(rt, alloc, &mut client);
     assert!(rt; added == Some(Said::Added), "x is added under `abc`");
-    let seen = client_retrieved(rt, alloc, &mut client);
+    let seen = call(rt, &mut client, 0, Request::retrieve(alloc, b"abc"));
     assert!(rt;
         seen == Ok(Said::OnlyX),
         "the first call for `abc` is answered"
     );
     let crashed = ring.crash(rt, 1);
     assert!(rt; crashed == Ok(()), "node 1 crashes");
-    let other = client_inserted(rt, alloc, &mut client, (b"eq", b"y"));
+    let other = call(rt, &mut client, 0, Request::insert(alloc, b"eq", b"y"));
     assert!(rt;
         other == Ok(Said::Added),
         "the first node that is asked for `eq` is not node 1"
     );
-    let lost = client_retrieved(rt, alloc, &mut client);
+    let lost = call(rt, &mut client, 0, Request::retrieve(alloc, b"abc"));
     assert!(rt;
         lost == Err(AskFault::Wait(WaitFault::NoAnswer)),
         "node 1 was the one that answered for `abc`"
@@ -426,7 +398,7 @@ fn retire<J: Naming, S: EntryStore, R: Abort + Wait + Clock>(rt: &R, ring: &Ring
     let mut is_retired = false;
     for _ in 0..1_000u64 {
         if !is_retired {
-            tick(rt, ring);
+            tick_both(rt, ring);
             thread::sleep(rt, Duration::from_millis(1));
             is_retired = ring.retire(rt, 1).is_ok();
         }
@@ -436,8 +408,7 @@ fn retire<J: Naming, S: EntryStore, R: Abort + Wait + Clock>(rt: &R, ring: &Ring
 
 /// After its next tick node 0 has no finger at node 1.
 fn forget<J: Naming, S: EntryStore, R: Abort + Wait + Clock>(rt: &R, ring: &Ring<J, S>) {
-    let ticked = ring.tick(rt, 0);
-    assert!(rt; ticked.is_ok(), "node 0 is ticked");
+    tick(rt, ring, 0);
     let links = ring.links_of(rt, 0).expect(rt, "the links of node 0");
     let finger = finger_at_1(&links);
     assert!(rt; finger == None, "no finger is at a node that retired");

@@ -231,9 +231,8 @@ const INSERT_X: Call = Call {
 /// Insert y, as call 2.
 const INSERT_Y: Call = Call {
     number: 2,
-    floor: 0,
-    hops: 255,
     asked: Asked::Insert(b"y"),
+    ..INSERT_X
 };
 
 const ADDED: Told = Told {
@@ -289,9 +288,7 @@ const FILLS_UP: &[Step] = &[
         rule: "a full store executes a call that adds no pair",
         call: Call {
             number: 3,
-            floor: 0,
-            hops: 255,
-            asked: Asked::Insert(b"x"),
+            ..INSERT_X
         },
         seen: Seen {
             answer: Answer::Told(PRESENT),
@@ -319,8 +316,8 @@ const TAKES_REPLIES: &[Step] = &[
         call: Call {
             number: 2,
             floor: 1,
-            hops: 255,
             asked: Asked::Retrieve,
+            ..INSERT_X
         },
         seen: Seen {
             answer: Answer::Told(VALUES),
@@ -359,30 +356,30 @@ fn a_newborn_node_drops_a_call(rt: HostRuntime) {
     follow(&rt, rt.alloc(), node, Way::Lent, LOST);
 }
 
-const PASSED_ON: &[Step] = &[
-    Step {
-        rule: "a call for another's key goes on to the first entry, with one hop less",
-        call: INSERT_X,
-        seen: Seen {
-            answer: Answer::Forward {
-                to: 0,
-                number: 1,
-                hops: 254,
-            },
-            executed: None,
-        },
-    },
-    Step {
-        rule: "a call for another's key is dropped if no hops are left",
-        call: Call {
+/// The call goes on to node 0.
+const GOES_ON: Step = Step {
+    rule: "a call for another's key goes on to the first entry, with one hop less",
+    call: INSERT_X,
+    seen: Seen {
+        answer: Answer::Forward {
+            to: 0,
             number: 1,
-            floor: 0,
-            hops: 0,
-            asked: Asked::Insert(b"x"),
+            hops: 254,
         },
-        seen: DROPPED,
+        executed: None,
     },
-];
+};
+
+const NO_HOPS: Step = Step {
+    rule: "a call for another's key is dropped if no hops are left",
+    call: Call {
+        hops: 0,
+        ..INSERT_X
+    },
+    seen: DROPPED,
+};
+
+const PASSED_ON: &[Step] = &[GOES_ON, NO_HOPS];
 
 #[test]
 fn a_call_is_passed_on(rt: HostRuntime) {
@@ -394,7 +391,6 @@ fn a_call_is_passed_on(rt: HostRuntime) {
 const LAST_HOP: &[Step] = &[
     Step {
         rule: "a call for a key up to the first entry goes there, with one hop less",
-        call: INSERT_X,
         seen: Seen {
             answer: Answer::Forward {
                 to: 1,
@@ -403,16 +399,11 @@ const LAST_HOP: &[Step] = &[
             },
             executed: None,
         },
+        ..GOES_ON
     },
     Step {
         rule: "its last hop too needs one",
-        call: Call {
-            number: 1,
-            floor: 0,
-            hops: 0,
-            asked: Asked::Insert(b"x"),
-        },
-        seen: DROPPED,
+        ..NO_HOPS
     },
 ];
 

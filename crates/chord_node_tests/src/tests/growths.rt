@@ -4,13 +4,11 @@
 
 use super::handovers::{CUT_AND_MERGE, DECLINED, GIVES_ALL, GIVES_HALF, RESENDS};
 use super::parts::{MISFITS, TAKES_X};
-use super::scripts::{Deed, Outcome, Step, WHOLE, follow_founder, follow_newborn};
+use super::scripts::{PUT_X, Step, follow_founder, follow_newborn};
 
 const PUTS_X: &[Step] = &[Step {
     rule: "a call that was refused memory is executed when it comes again",
-    deed: Deed::Put(1, b"abc"),
-    outcome: Outcome::Added,
-    state: WHOLE,
+    ..PUT_X
 }];
 
 #[test]

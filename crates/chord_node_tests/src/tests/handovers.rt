@@ -1,8 +1,8 @@
 //! What a node cuts, merges, gives and takes back.
 
 use super::scripts::{
-    A_A, A_B, A_C, B_A, B_C, C_A, Deed, EmptyPart, FIRST, FIRST_PART, Item, Outcome, Pairs,
-    PartShown, State, Step, WHOLE, follow, follow_founder, giver,
+    A_B, A_C, B_A, B_C, C_A, Deed, EmptyPart, FIRST, FIRST_PART, GAVE_ALL, Item, ONLY_PART,
+    Outcome, PUT_X, Pairs, PartShown, State, Step, WHOLE, follow, follow_founder, giver,
 };
 use super::{A, B, C, founder, newborn};
 use chord_handover::{Part, Ticket};
@@ -170,28 +170,6 @@ fn gives_no_segment_that_it_does_not_hold(rt: HostRuntime) {
     follow_founder(&rt, rt.alloc(), 1, &[GIVES_NOTHING]);
 }
 
-/// Node 0 after it gave the whole circle to node 1.
-const GAVE_ALL: State = State {
-    held: 0,
-    first: None,
-    kept: 1,
-    item: Some(Item {
-        to: 1,
-        number: 1,
-        span: A_A,
-    }),
-    ..WHOLE
-};
-
-/// The only part of the first handover of node 0 to node 1, without pairs.
-const ONLY_PART: PartShown = PartShown {
-    ticket: FIRST,
-    place: 1,
-    of: 1,
-    span: Some(A_A),
-    pairs: Pairs::None,
-};
-
 pub const GIVES_ALL: &[Step] = &[
     Step {
         rule: "a segment that is held may be given",
@@ -228,13 +206,12 @@ fn gives_what_it_holds(rt: HostRuntime) {
 const GAVE_HALF: State = State {
     held: 1,
     first: Some(C_A),
-    kept: 1,
     item: Some(Item {
         to: 1,
         number: 1,
         span: A_C,
     }),
-    ..WHOLE
+    ..GAVE_ALL
 };
 
 /// The only part of that handover, with x under `abc`.
@@ -246,12 +223,7 @@ const X_PART: PartShown = PartShown {
 
 /// Node 0 gives (A, C], with x under `abc`, to node 1.
 pub const GIVES_HALF: &[Step] = &[
-    Step {
-        rule: "x is added under `abc`",
-        deed: Deed::Put(1, b"abc"),
-        outcome: Outcome::Added,
-        state: WHOLE,
-    },
+    PUT_X,
     CUT_C,
     Step {
         rule: "what is given is kept in the outbox, once",

@@ -3,8 +3,8 @@
 use super::counted_store::CountedStore;
 use super::found;
 use super::scripts::{
-    A_A, A_B, B_C, Deed, EmptyPart, FIRST, FIRST_PART, Item, NEWBORN, Outcome, Pairs, PartShown,
-    State, Step, WHOLE, follow, follow_founder, follow_newborn,
+    A_B, B_C, Deed, EmptyPart, FIRST, FIRST_PART, GAVE_ALL, Item, NEWBORN, ONLY_PART, Outcome,
+    PUT_X, Pairs, PartShown, State, Step, WHOLE, follow, follow_founder, follow_newborn,
 };
 use chord_handover::Ticket;
 use chord_node::{NotStaying, PartAnswer, Phase, RetireFault};
@@ -70,51 +70,36 @@ fn says_that_it_does_not_stay(rt: HostRuntime) -> Result<(), AllocError> {
     Ok(())
 }
 
-/// Node 0 after it gave the whole circle, with x under `abc`, to node 1.
-const GAVE_ALL: State = State {
-    held: 0,
-    first: None,
-    kept: 1,
-    item: Some(Item {
-        to: 1,
-        number: 1,
-        span: A_A,
-    }),
-    ..LEAVING
+/// Node 0, leaving, after it gave the whole circle, with x under `abc`, to node 1.
+const LEAVING_EMPTY: State = State {
+    phase: Phase::Leaving,
+    ..GAVE_ALL
 };
 
 /// Node 0 once node 1 took the circle.
 const HOLDS_NOTHING: State = State {
     kept: 0,
     item: None,
-    ..GAVE_ALL
+    ..LEAVING_EMPTY
 };
 
 const HANDS_OVER: &[Step] = &[
-    Step {
-        rule: "x is added under `abc`",
-        deed: Deed::Put(1, b"abc"),
-        outcome: Outcome::Added,
-        state: WHOLE,
-    },
+    PUT_X,
     BEGIN_LEAVE,
     Step {
         rule: "a leaving node gives what it holds",
         deed: Deed::Give(0, 1),
         outcome: Outcome::Give(Ok(PartShown {
-            ticket: FIRST,
-            place: 1,
-            of: 1,
-            span: Some(A_A),
             pairs: Pairs::X,
+            ..ONLY_PART
         })),
-        state: GAVE_ALL,
+        state: LEAVING_EMPTY,
     },
     Step {
         rule: "a node with an item in its outbox does not retire",
         deed: Deed::Retire,
         outcome: Outcome::Retire(Err(RetireFault::NotEmpty)),
-        state: GAVE_ALL,
+        state: LEAVING_EMPTY,
     },
     Step {
         rule: "a Got frees the item that it names",
@@ -228,6 +213,13 @@ const LATER: Step = Step {
     state: GONE,
 };
 
+/// The first handover of node 1 to node 2.
+const GIVEN_ON: Ticket = Ticket {
+    from: 1,
+    to: 2,
+    number: 1,
+};
+
 const GONE_NODE: &[Step] = &[
     Step {
         rule: "node 1 takes a handover",
@@ -243,15 +235,9 @@ const GONE_NODE: &[Step] = &[
         rule: "it gives it on",
         deed: Deed::Give(0, 2),
         outcome: Outcome::Give(Ok(PartShown {
-            ticket: Ticket {
-                from: 1,
-                to: 2,
-                number: 1,
-            },
-            place: 1,
-            of: 1,
+            ticket: GIVEN_ON,
             span: Some(A_B),
-            pairs: Pairs::None,
+            ..ONLY_PART
         })),
         state: State {
             kept: 1,
@@ -265,11 +251,7 @@ const GONE_NODE: &[Step] = &[
     },
     Step {
         rule: "a Got frees it",
-        deed: Deed::Got(Ticket {
-            from: 1,
-            to: 2,
-            number: 1,
-        }),
+        deed: Deed::Got(GIVEN_ON),
         outcome: Outcome::Freed,
         state: TOOK_ONE,
     },

@@ -15,35 +15,25 @@ use chord_store::{CappedStore, EntryStore};
 use std::alloc::Global;
 use std::process::Abort;
 
+const AT_B: Id = Id { number: B };
+
+const AT_C: Id = Id { number: C };
+
+/// The whole circle.
 pub const A_A: Span = Span {
     after: Id { number: A },
     upto: Id { number: A },
 };
 
-pub const A_B: Span = Span {
-    after: Id { number: A },
-    upto: Id { number: B },
-};
+pub const A_B: Span = Span { upto: AT_B, ..A_A };
 
-pub const A_C: Span = Span {
-    after: Id { number: A },
-    upto: Id { number: C },
-};
+pub const A_C: Span = Span { upto: AT_C, ..A_A };
 
-pub const B_A: Span = Span {
-    after: Id { number: B },
-    upto: Id { number: A },
-};
+pub const B_A: Span = Span { after: AT_B, ..A_A };
 
-pub const B_C: Span = Span {
-    after: Id { number: B },
-    upto: Id { number: C },
-};
+pub const B_C: Span = Span { upto: AT_C, ..B_A };
 
-pub const C_A: Span = Span {
-    after: Id { number: C },
-    upto: Id { number: A },
-};
+pub const C_A: Span = Span { after: AT_C, ..A_A };
 
 /// A part with no pairs. The first one has an empty segment of the span.
 #[derive(Clone, Copy, Debug, PartialEq, Eq)]
@@ -186,6 +176,36 @@ pub const FIRST_PART: EmptyPart = EmptyPart {
     place: 1,
     of: 1,
     span: A_B,
+};
+
+/// Inserts x at a node that holds the whole circle.
+pub const PUT_X: Step = Step {
+    rule: "x is added under `abc`",
+    deed: Deed::Put(1, b"abc"),
+    outcome: Outcome::Added,
+    state: WHOLE,
+};
+
+/// The state of node 0 after it gave the whole circle to node 1.
+pub const GAVE_ALL: State = State {
+    held: 0,
+    first: None,
+    kept: 1,
+    item: Some(Item {
+        to: 1,
+        number: 1,
+        span: A_A,
+    }),
+    ..WHOLE
+};
+
+/// The only part of that handover, without pairs.
+pub const ONLY_PART: PartShown = PartShown {
+    ticket: FIRST,
+    place: 1,
+    of: 1,
+    span: Some(A_A),
+    pairs: Pairs::None,
 };
 
 /// Call `number` of caller 0, which inserts x under this key.

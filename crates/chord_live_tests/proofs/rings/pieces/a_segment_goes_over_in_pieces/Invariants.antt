@@ -1,5 +1,5 @@
 use Rattle.chord_live_tests.proofs.rings.pieces.a_segment_goes_over_in_pieces.Given as goal
 
 -- picks the name of the ring that was just made
-abbrev pub ghosts-goes_over : goal.ghosts-goes_over
-ghosts-goes_over g a = record { name = a.parts.name }
+abbrev pub ghosts-gives_all : goal.ghosts-gives_all
+ghosts-gives_all g a = record { name = a.parts.name }

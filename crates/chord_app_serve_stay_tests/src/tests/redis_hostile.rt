@@ -1,7 +1,7 @@
 //! Bytes of Redis's clients that are cut off, that pass a limit, or whose answers nobody reads.
 
-use crate::players::{Deed, Player, serve_player};
-use crate::stays::WAITS;
+use crate::tests::players::{Deed, Player, serve_player};
+use crate::tests::stays::WAITS;
 use chord_app_serve_testkit::{
     Ending, GOOD, SMALL, Size, Speech, expect, expect_end, leave, look_at,
 };
@@ -100,37 +100,46 @@ const CUTS: &[&[u8]] = &[
     b"PING\r",
 ];
 
+/// A client that is refused for a line that is too long.
+const TOO_LONG: Client = Client {
+    sent: &[],
+    heard: b"-ERR Protocol error: too big inline request\r\n",
+    end: End::Protocol,
+};
+
+/// A client that is refused for the length of a word.
+const BAD_LENGTH: Client = Client {
+    heard: b"-ERR Protocol error: invalid bulk length\r\n",
+    ..TOO_LONG
+};
+
 /// Clients that pass a limit, and some that just keep it.
 const LIMITS: &[Client] = &[
     Client {
         sent: &[Sent::Once(b"*1025\r\n")],
         heard: b"-ERR Protocol error: invalid multibulk length\r\n",
-        end: End::Protocol,
+        ..TOO_LONG
     },
     Client {
         sent: &[Sent::Once(b"*"), Sent::Often(b"0", 33)],
-        heard: b"-ERR Protocol error: too big inline request\r\n",
-        end: End::Protocol,
+        ..TOO_LONG
     },
     Client {
         sent: &[Sent::Once(b"*1\r\nPING\r\n")],
         heard: b"-ERR Protocol error: expected '$', got 'P'\r\n",
-        end: End::Protocol,
+        ..TOO_LONG
     },
     Client {
         sent: &[Sent::Once(b"*1\r\n$1048577\r\n")],
-        heard: b"-ERR Protocol error: invalid bulk length\r\n",
-        end: End::Protocol,
+        ..BAD_LENGTH
     },
     Client {
         sent: &[Sent::Once(b"*1\r\n$"), Sent::Often(b"0", 33)],
-        heard: b"-ERR Protocol error: too big inline request\r\n",
-        end: End::Protocol,
+        ..TOO_LONG
     },
     Client {
         sent: &[Sent::Once(b"*1\r\n$4\r\nPINGS\r\n")],
-        heard: b"-ERR Protocol error: invalid bulk length\r\n",
-        end: End::Protocol,
+        ..BAD_LENGTH
     },
     // A member of 1 MiB is read to its end and refused, and so is one of 4,097 bytes.
     Client {

@@ -1,7 +1,7 @@
 //! The operator of `serve --stay` over loopback.
 
-use crate::players::{Deed, Player, serve_player};
-use crate::stays::WAITS;
+use crate::tests::players::{Deed, Player, serve_player};
+use crate::tests::stays::WAITS;
 use chord_app_serve_testkit::{
     Act, Acts, Addresses, Answer, Ask, GOOD, SMALL, Size, do_acts, look_at,
 };
@@ -32,6 +32,14 @@ pub const PLAIN: Call = Call {
     body: "",
     status: "",
     has: "",
+};
+
+/// A node may not join, since all slots are taken.
+pub const NO_SLOT: Call = Call {
+    line: "POST /nodes",
+    status: "409 Conflict",
+    has: "{\"refused\":\"NoSlot\"}",
+    ..PLAIN
 };
 
 /// The answer to a call.
@@ -152,12 +160,7 @@ const BEFORE: &[Call] = &[
         has: "{\"id\":\"a9993e364706816aba3e25717850c26c\",\"node\":1}",
         ..PLAIN
     },
-    Call {
-        line: "POST /nodes",
-        status: "409 Conflict",
-        has: "{\"refused\":\"NoSlot\"}",
-        ..PLAIN
-    },
+    NO_SLOT,
     Call {
         line: "POST /nodes/2/leave",
         status: "404 Not Found",

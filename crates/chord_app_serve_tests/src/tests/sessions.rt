@@ -1,6 +1,6 @@
 //! Sessions of clients that lose their connections, over loopback.
 
-use crate::servers::{Clients, served};
+use crate::tests::servers::{Clients, served};
 use chord_app_serve_testkit::{Act, Acts, Answer, Ask, GOOD};
 use chord_wire::FaultCode;
 use log::sink::Discard;

@@ -2,7 +2,7 @@
 //! the others are answered. With ample memory nothing is refused; the toolchain's failing
 //! allocations refuse one.
 
-use crate::stays::{WAITS, stay_over};
+use crate::tests::stays::{WAITS, stay_over};
 use chord_app_plan::Plan;
 use chord_app_serve_testkit::{bound, plan_with};
 use chord_app_sockets::{Doors, Host};

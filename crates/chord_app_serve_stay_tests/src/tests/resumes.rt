@@ -1,65 +1,21 @@
 //! Many sessions of one server: loads whose connections are cut, and more sessions than callers.
 
-use crate::stays::{WAITS, stay_over};
+use crate::tests::players::{Deed, Played, Player, Told, serve_player};
+use crate::tests::stays::WAITS;
 use chord_app_ask::{Drops, Kind, Load, Tokens, Until, run_load};
-use chord_app_serve_testkit::{Act, Answer, Ask, bound, do_acts, plan_with};
-use chord_app_sockets::{ClientSeconds, Doors, Host};
+use chord_app_serve_testkit::{Act, Answer, Ask, GOOD, SMALL, Size, do_acts, look_at};
+use chord_app_sockets::{ClientSeconds, Host};
 use chord_app_text::{Fault, Finish};
 use chord_map::{Reply, Request};
 use chord_serve::WireClient;
 use chord_wire::{Answer as WireAnswer, FaultCode};
 use log::sink::Discard;
 use std::alloc::{AllocError, Global};
-use std::io::{self, PipeReader, PipeWriter};
-use std::net::{Net, SocketAddr, TcpListener, TcpStream};
+use std::net::{Net, SocketAddr, TcpStream};
 use std::sync::Wait;
 use std::test::Fail;
-use std::thread;
-use std::thread::Threads;
 use std::time::{Clock, Duration};
-
-/// How large a server is.
-#[derive(Clone, Copy)]
-struct Size {
-    callers: u64,
-    /// How many pairs each store has room for.
-    limit: u64,
-    /// For how many seconds a session without a connection is kept.
-    keep: u64,
-}
-
-/// Serves until the input ends, and gives what was written.
-fn stayed<R: Host>(
-    rt: &R,
-    alloc: Global,
-    listener: &TcpListener,
-    size: Size,
-    input: PipeReader,
-) -> Result<Vec<u8>, Finish> {
-    let Some(plan) = plan_with(alloc, size.callers) else {
-        return Err(Finish::OutOfMemory);
-    };
-    let seconds = ClientSeconds {
-        keep: size.keep,
-        ..WAITS
-    };
-    let doors = Doors::Frames(listener);
-    let mut written: Vec<u8> = Vec::new(alloc);
-    let ended = stay_over(
-        rt,
-        alloc,
-        &plan,
-        doors,
-        size.limit,
-        seconds,
-        input,
-        &Discard,
-        &mut written,
-    );
-    drop(plan);
-    ended?;
-    Ok(written)
-}
+use std::{io, thread};
 
 /// How many requests a load has.
 const REQUESTS: u64 = 3_200;
@@ -145,7 +101,7 @@ fn number_at(table: &[u8], word: &str) -> Option<u64> {
 
 /// How a load went.
 #[derive(Debug, Drop)]
-struct Loaded {
+pub struct Loaded {
     finish: Result<Finish, Finish>,
     /// How many requests had a reply.
     replies: Option<u64>,
@@ -156,18 +112,11 @@ struct Loaded {
 }
 
 /// Loads the server, and counts what it holds then.
-fn loads<R: Threads + Wait + Clock + Net<Listener = TcpListener, Stream = TcpStream> + Sync>(
-    rt: &R,
-    alloc: Global,
-    address: SocketAddr,
-    tokens: Tokens,
-    input: PipeWriter,
-) -> Loaded {
+pub fn loads<R: Host>(rt: &R, alloc: Global, address: SocketAddr, tokens: Tokens) -> Loaded {
     let load = cut_load(address.port(), tokens);
     let mut table: Vec<u8> = Vec::new(alloc);
     let finish = run_load(rt, alloc, load, None::<Vec<u8>>, &mut table);
     let values = count_all_values(rt, alloc, address).ok();
-    drop(input);
     let replies = number_at(&table, "requests");
     let resumed = number_at(&table, "resumed");
     drop(table);
@@ -179,40 +128,30 @@ fn loads<R: Threads + Wait + Clock + Net<Listener = TcpListener, Stream = TcpStr
     }
 }
 
-/// A load of a server that keeps sessions for `keep` seconds.
-fn load_and_stop<
-    R: Threads
-        + Wait
-        + Clock
-        + Net<Listener = TcpListener, Stream = TcpStream>
-        + Copy
-        + Send
-        + Sync
-        + 'static,
->(
-    rt: &R,
-    alloc: Global,
-    keep: u64,
-    tokens: Tokens,
-    (reader, writer): (PipeReader, PipeWriter),
-) -> Option<Loaded> {
-    let size = Size {
-        callers: 16,
-        limit: 10_000,
-        keep,
-    };
-    let (listener, address) = bound(rt)?;
-    let (served, loaded) = thread::join(
-        rt,
-        || stayed(rt, alloc, &listener, size, reader),
-        || loads(rt, alloc, address, tokens, writer),
-    );
-    drop(listener);
-    match served {
-        Ok(lines) => drop(lines),
-        Err(_) => return None,
+/// A server for a load.
+const LOADED: Size = Size {
+    callers: 16,
+    room: 10_000,
+    ..SMALL
+};
+
+/// A server that keeps sessions for `keep` seconds.
+pub fn keeping(keep: u64) -> ClientSeconds {
+    ClientSeconds { keep, ..WAITS }
+}
+
+/// How the load of a server went that ended well.
+fn loaded_of(played: Played) -> Option<Loaded> {
+    let (written, told) = played?;
+    let is_well = written.written.is_ok();
+    drop(written);
+    match told {
+        Ok(Told::Loaded(loaded)) => is_well.then_some(loaded),
+        other => {
+            drop(other);
+            None
+        }
     }
-    Some(loaded)
 }
 
 /// Sixteen clients lose connections and go on over others: each insert acts once, since no insert
@@ -220,7 +159,9 @@ fn load_and_stop<
 #[test]
 fn sixteen_clients_go_on(rt: HostRuntime) -> Result<(), Fail> {
     let tokens = Tokens::new(&rt)?;
-    let loaded = load_and_stop(&rt, rt.alloc(), 600, tokens, io::pipe(&rt)?);
+    let player = Player::with_end(Deed::Load(tokens), keeping(600), io::pipe(&rt)?);
+    let played = serve_player(&rt, rt.alloc(), LOADED, &Discard, player);
+    let loaded = loaded_of(played);
     let is_whole = loaded.as_ref().is_some_and(|loaded| {
         loaded.finish == Ok(Finish::Done)
             && loaded.replies == Some(REQUESTS)
@@ -236,7 +177,9 @@ fn sixteen_clients_go_on(rt: HostRuntime) -> Result<(), Fail> {
 #[test]
 fn sixteen_clients_are_lost(rt: HostRuntime) -> Result<(), Fail> {
     let tokens = Tokens::new(&rt)?;
-    let loaded = load_and_stop(&rt, rt.alloc(), 0, tokens, io::pipe(&rt)?);
+    let player = Player::with_end(Deed::Load(tokens), keeping(0), io::pipe(&rt)?);
+    let played = serve_player(&rt, rt.alloc(), LOADED, &Discard, player);
+    let loaded = loaded_of(played);
     let is_lost = loaded.as_ref().is_some_and(|loaded| {
         let Ok(Finish::Fault(Fault::Unanswered(lost))) = loaded.finish else {
             return false;
@@ -276,50 +219,30 @@ fn does<R: Net>(
     do_acts(rt, alloc, address, &mut streams, acts)
 }
 
-/// Begins a session, which asks once and then loses its connection.
-fn begins<R: Net>(
+/// Opens a session so, which sends request 1 and then loses its connection.
+fn asks_once<R: Net>(
     rt: &R,
     alloc: Global,
     address: SocketAddr,
-    token: u8,
+    opening: Act,
     (ask, answer): (Ask, Answer),
 ) -> io::Result<()> {
     let acts = [
-        (0, Act::Connect),
-        (0, Act::Open(token, false)),
-        (0, Act::Opened(0, 0)),
+        (0, opening),
         (0, Act::CallIn(1, 0, ask, answer)),
         (0, Act::Leave),
     ];
     does(rt, alloc, address, &acts)
 }
 
-/// Resumes a session, which sends its request again.
-fn resumes<R: Net>(
-    rt: &R,
-    alloc: Global,
-    address: SocketAddr,
-    token: u8,
-    (ask, answer): (Ask, Answer),
-) -> io::Result<()> {
-    let acts = [
-        (0, Act::Connect),
-        (0, Act::Open(token, true)),
-        (0, Act::Opened(0, 1)),
-        (0, Act::CallIn(1, 0, ask, answer)),
-        (0, Act::Leave),
-    ];
-    does(rt, alloc, address, &acts)
+/// Resumes a session of this token, which sent request 1.
+fn resumed(token: u8) -> Act {
+    Act::Resume(token, 0, 1)
 }
 
 /// A client that resumes a session that is not kept is told so.
 fn finds_none<R: Net>(rt: &R, alloc: Global, address: SocketAddr, token: u8) -> io::Result<()> {
-    let acts = [
-        (0, Act::Connect),
-        (0, Act::Open(token, true)),
-        (0, Act::Hear(0, Answer::Fault(FaultCode::NoSession))),
-        (0, Act::End),
-    ];
+    let acts = [(0, Act::Refused(token, true, FaultCode::NoSession))];
     does(rt, alloc, address, &acts)
 }
 
@@ -332,14 +255,14 @@ fn begins_all<R: Net + Wait + Clock>(rt: &R, alloc: Global, address: SocketAddr)
         (0, Act::Leave),
     ];
     does(rt, alloc, address, &first)?;
-    let full = Answer::Fault(FaultCode::Full);
-    begins(rt, alloc, address, PENDING, (Ask::Insert(b"y"), full))?;
+    let full = (Ask::Insert(b"y"), Answer::Fault(FaultCode::Full));
+    asks_once(rt, alloc, address, Act::Begin(PENDING), full)?;
     for token in 1..=LAST {
         if token > 1 && token as u64 % (CALLERS - 1) == 1 {
             thread::sleep(rt, Duration::from_millis(1_200));
         }
         let present = (Ask::Insert(b"x"), Answer::Present);
-        begins(rt, alloc, address, token, present)?;
+        asks_once(rt, alloc, address, Act::Begin(token), present)?;
     }
     Ok(())
 }
@@ -352,15 +275,13 @@ fn resumes_all<R: Net>(rt: &R, alloc: Global, address: SocketAddr) -> io::Result
             finds_none(rt, alloc, address, token)?;
         } else {
             let present = (Ask::Insert(b"x"), Answer::Present);
-            resumes(rt, alloc, address, token, present)?;
+            asks_once(rt, alloc, address, resumed(token), present)?;
         }
     }
     let full = (Ask::Insert(b"y"), Answer::Fault(FaultCode::Full));
-    resumes(rt, alloc, address, PENDING, full)?;
+    asks_once(rt, alloc, address, resumed(PENDING), full)?;
     let room = [
-        (0, Act::Connect),
-        (0, Act::Open(LAST, true)),
-        (0, Act::Opened(0, 1)),
+        (0, resumed(LAST)),
         (0, Act::CallIn(2, 1, Ask::Remove(b"x"), Answer::Removed)),
         (0, Act::Close),
         (0, Act::Closed),
@@ -368,25 +289,22 @@ fn resumes_all<R: Net>(rt: &R, alloc: Global, address: SocketAddr) -> io::Result
     ];
     does(rt, alloc, address, &room)?;
     let added = (Ask::Insert(b"y"), Answer::Added);
-    resumes(rt, alloc, address, PENDING, added)
+    asks_once(rt, alloc, address, resumed(PENDING), added)
 }
 
-/// Begins all sessions and resumes them, and then ends the server.
-fn begins_and_resumes<R: Net + Wait + Clock>(
+/// Begins all sessions and resumes them.
+pub fn begins_and_resumes<R: Net + Wait + Clock>(
     rt: &R,
     alloc: Global,
     address: SocketAddr,
-    input: PipeWriter,
 ) -> io::Result<()> {
     begins_all(rt, alloc, address)?;
-    resumes_all(rt, alloc, address)?;
-    drop(input);
-    Ok(())
+    resumes_all(rt, alloc, address)
 }
 
-/// The line of the server's address, and one for each connection.
-fn lines(alloc: Global, address: SocketAddr) -> Result<String, AllocError> {
-    let mut lines = format!(in alloc; "listening on {address}\n")?;
+/// The line for each connection.
+fn lines(alloc: Global) -> Result<String, AllocError> {
+    let mut lines = String::new(alloc);
     for number in 0..405u32 {
         let is_refused = (202..339).contains(&number);
         let line = if is_refused {
@@ -399,50 +317,18 @@ fn lines(alloc: Global, address: SocketAddr) -> Result<String, AllocError> {
     Ok(lines)
 }
 
-/// Whether the server wrote these lines, and no others.
-fn is_written(
-    alloc: Global,
-    address: SocketAddr,
-    written: Result<Vec<u8>, Finish>,
-) -> Option<bool> {
-    let written = written.ok()?;
-    let wanted = lines(alloc, address).ok()?;
-    let is_same = written.as_slice() == wanted.as_bytes();
-    drop(wanted);
-    drop(written);
-    Some(is_same)
-}
-
 /// Two hundred sessions and a pending one lose their connections on a server of 64 callers.
-fn two_hundred<
-    R: Threads
-        + Wait
-        + Clock
-        + Net<Listener = TcpListener, Stream = TcpStream>
-        + Copy
-        + Send
-        + Sync
-        + 'static,
->(rt: &R, alloc: Global, (reader, writer): (PipeReader, PipeWriter)) -> Option<bool> {
-    let size = Size {
-        callers: CALLERS,
-        limit: 1,
-        keep: 1,
-    };
-    let (listener, address) = bound(rt)?;
-    let (written, answered) = thread::join(
-        rt,
-        || stayed(rt, alloc, &listener, size, reader),
-        || begins_and_resumes(rt, alloc, address, writer),
-    );
-    drop(listener);
-    let is_written = is_written(alloc, address, written)?;
-    Some(answered.is_ok() && is_written)
-}
-
 #[test]
 fn old_sessions_are_dropped_in_order(rt: HostRuntime) -> Result<(), Fail> {
-    let is_served = two_hundred(&rt, rt.alloc(), io::pipe(&rt)?);
-    assert!(rt; is_served == Some(true));
+    let lines = lines(rt.alloc())?;
+    let size = Size {
+        callers: CALLERS,
+        room: 1,
+        ..SMALL
+    };
+    let player = Player::with_end(Deed::Resume, keeping(1), io::pipe(&rt)?);
+    let played = serve_player(&rt, rt.alloc(), size, &Discard, player);
+    assert!(rt; look_at(rt.alloc(), played, lines.as_str()) == Some(GOOD));
+    drop(lines);
     Ok(())
 }

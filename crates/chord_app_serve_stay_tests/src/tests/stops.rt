@@ -1,7 +1,7 @@
 //! A server that stays is stopped while a client asks for much and does not read.
 
-use crate::players::{Deed, Player, serve_player};
-use crate::stays::WAITS;
+use crate::tests::players::{Deed, Player, serve_player};
+use crate::tests::stays::WAITS;
 use chord_app_serve_testkit::{GOOD, SMALL, Size, expect, fill, look_at, request_frame, retrieve};
 use log::sink::Discard;
 use std::alloc::Global;

@@ -1,7 +1,7 @@
 //! Redis's clients over loopback, alone and beside clients that speak in frames.
 
-use crate::players::{Deed, Player, serve_player};
-use crate::stays::WAITS;
+use crate::tests::players::{Deed, Player, follow, serve_player};
+use crate::tests::stays::WAITS;
 use chord_app_serve_testkit::{Act, Ending, GOOD, NOTHING, SMALL, Script, Size, Speech, look_at};
 use log::sink::Discard;
 use std::io;
@@ -52,9 +52,9 @@ const IN_TURN: Script = Script {
 #[test]
 fn clients_of_both_protocols_ask_one_ring(rt: HostRuntime) -> Result<(), Fail> {
     let lines = "connection 0 ended\nconnection 1 ended\n";
-    let player = Player::with_end(Deed::Script(IN_TURN), WAITS, io::pipe(&rt)?);
-    let played = serve_player(&rt, rt.alloc(), BOTH, &Discard, player);
-    assert!(rt; look_at(rt.alloc(), played, lines) == Some(GOOD));
+    let server = (BOTH, WAITS);
+    let found = follow(&rt, rt.alloc(), server, IN_TURN, io::pipe(&rt)?, lines);
+    assert!(rt; found == Some(GOOD), "{found:?}");
     Ok(())
 }
 

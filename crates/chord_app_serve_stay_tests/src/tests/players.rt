@@ -1,14 +1,18 @@
 //! A server and who asks it, each on a thread of its own.
 
-use crate::joins::{Joined, join_and_ask};
-use crate::operators::operate;
-use crate::redis_hostile::{each_in_turn, redis_reads_no_more};
-use crate::stops::reads_no_more;
+use crate::tests::joins::{Joined, join_and_ask};
+use crate::tests::operators::operate;
+use crate::tests::redis_hostile::{each_in_turn, redis_reads_no_more};
+use crate::tests::resumes::{Loaded, begins_and_resumes, loads};
+use crate::tests::stops::reads_no_more;
+use chord_app_ask::Tokens;
 use chord_app_serve_testkit::{
-    Actors, Addresses, Ending, Script, Size, Written, all_bound, end_waiting, plan_with, serve_at,
+    Actors, Addresses, Ending, Found, Script, Size, Written, all_bound, end_waiting, look_at,
+    plan_with, serve_at,
 };
-use chord_app_sockets::ClientSeconds;
+use chord_app_sockets::{ClientSeconds, Host};
 use log::Log;
+use log::sink::Discard;
 use std::alloc::Global;
 use std::io::{self, PipeReader, PipeWriter};
 use std::net::{Net, TcpListener, TcpStream};
@@ -31,6 +35,10 @@ pub enum Deed {
     Operate,
     /// An operator lets nodes join, leave and crash while clients ask.
     Join,
+    /// A load loses its connections, and goes on in sessions of these tokens.
+    Load(Tokens),
+    /// More sessions than callers begin, and are resumed.
+    Resume,
 }
 
 /// What they tell when they are done.
@@ -41,6 +49,7 @@ pub enum Told {
     /// So it was, and this connection is still open.
     Open(TcpStream),
     Joined(Joined),
+    Loaded(Loaded),
 }
 
 /// Who does a deed, and the end of the server's input, if it has one.
@@ -69,16 +78,7 @@ impl Player {
         (player, Ending::Input(input, seconds))
     }
 
-    fn play<
-        R: Threads
-            + Wait
-            + Clock
-            + Net<Listener = TcpListener, Stream = TcpStream>
-            + Copy
-            + Send
-            + Sync
-            + 'static,
-    >(self, rt: &R, alloc: Global, at: Addresses) -> io::Result<Told> {
+    fn play<R: Host>(self, rt: &R, alloc: Global, at: Addresses) -> io::Result<Told> {
         let Player { deed, input } = self;
         let told = match deed {
             Deed::Script(script) => {
@@ -90,22 +90,21 @@ impl Player {
             Deed::RedisReadsNoMore => redis_reads_no_more(rt, alloc, at.redis).map(Told::Open),
             Deed::Operate => operate(rt, alloc, at).map(|()| Told::Answered),
             Deed::Join => Ok(Told::Joined(join_and_ask(rt, alloc, at))),
+            Deed::Load(tokens) => Ok(Told::Loaded(loads(rt, alloc, at.frames, tokens))),
+            Deed::Resume => begins_and_resumes(rt, alloc, at.frames).map(|()| Told::Answered),
         };
         drop(input);
         told
     }
 
     /// Plays, and then ends a server that still waits for clients, of which it takes this many.
-    fn play_and_end<
-        R: Threads
-            + Wait
-            + Clock
-            + Net<Listener = TcpListener, Stream = TcpStream>
-            + Copy
-            + Send
-            + Sync
-            + 'static,
-    >(self, rt: &R, alloc: Global, at: Addresses, connections: usize) -> io::Result<Told> {
+    fn play_and_end<R: Host>(
+        self,
+        rt: &R,
+        alloc: Global,
+        at: Addresses,
+        connections: usize,
+    ) -> io::Result<Told> {
         let told = self.play(rt, alloc, at);
         end_waiting(rt, at, connections);
         told
@@ -137,4 +136,28 @@ pub fn serve_player<
     );
     drop(plan);
     Some((Written::of(size, at, written), told))
+}
+
+/// What is found at a server of this size and with these waits, whose clients follow a script until
+/// its input ends, and which is to write these lines.
+pub fn follow<
+    R: Threads
+        + Wait
+        + Clock
+        + Net<Listener = TcpListener, Stream = TcpStream>
+        + Copy
+        + Send
+        + Sync
+        + 'static,
+>(
+    rt: &R,
+    alloc: Global,
+    (size, seconds): (Size, ClientSeconds),
+    script: Script,
+    pipe: (PipeReader, PipeWriter),
+    lines: &str,
+) -> Option<Found> {
+    let player = Player::with_end(Deed::Script(script), seconds, pipe);
+    let played = serve_player(rt, alloc, size, &Discard, player);
+    look_at(alloc, played, lines)
 }

@@ -1,6 +1,6 @@
 //! The command `serve --stay` over loopback.
 
-use crate::players::{Deed, Player, serve_player};
+use crate::tests::players::{Deed, Player, follow, serve_player};
 use chord_app_plan::Plan;
 use chord_app_serve::{ServerStores, stay};
 use chord_app_serve_testkit::{
@@ -82,10 +82,9 @@ const IN_TURN: Script = Script {
 #[test]
 fn one_caller_for_all(rt: HostRuntime) -> Result<(), Fail> {
     let wanted = "connection 0 ended\nconnection 1 ended\nconnection 2 ended\nconnection 3 ended\n";
-    let deed = Deed::Script(IN_TURN);
-    let player = Player::with_end(deed, WAITS, io::pipe(&rt)?);
-    let played = serve_player(&rt, rt.alloc(), SMALL, &Discard, player);
-    assert!(rt; look_at(rt.alloc(), played, wanted) == Some(GOOD));
+    let server = (SMALL, WAITS);
+    let found = follow(&rt, rt.alloc(), server, IN_TURN, io::pipe(&rt)?, wanted);
+    assert!(rt; found == Some(GOOD), "{found:?}");
     Ok(())
 }
 
@@ -169,10 +168,16 @@ fn a_pending_request(rt: HostRuntime) -> Result<(), Fail> {
         room: 1,
         ..SMALL
     };
-    let deed = Deed::Script(FULL_AND_AGAIN);
-    let player = Player::with_end(deed, WAITS, io::pipe(&rt)?);
-    let played = serve_player(&rt, rt.alloc(), size, &Discard, player);
-    assert!(rt; look_at(rt.alloc(), played, wanted) == Some(GOOD));
+    let server = (size, WAITS);
+    let found = follow(
+        &rt,
+        rt.alloc(),
+        server,
+        FULL_AND_AGAIN,
+        io::pipe(&rt)?,
+        wanted,
+    );
+    assert!(rt; found == Some(GOOD), "{found:?}");
     Ok(())
 }
 
@@ -194,10 +199,9 @@ const ONE_IS_IDLE: Script = Script {
 fn an_idle_client_is_left(rt: HostRuntime) -> Result<(), Fail> {
     let wanted = "connection 0 idle\nconnection 1 ended\n";
     let seconds = ClientSeconds { idle: 1, ..WAITS };
-    let deed = Deed::Script(ONE_IS_IDLE);
-    let player = Player::with_end(deed, seconds, io::pipe(&rt)?);
-    let played = serve_player(&rt, rt.alloc(), SMALL, &Discard, player);
-    assert!(rt; look_at(rt.alloc(), played, wanted) == Some(GOOD));
+    let server = (SMALL, seconds);
+    let found = follow(&rt, rt.alloc(), server, ONE_IS_IDLE, io::pipe(&rt)?, wanted);
+    assert!(rt; found == Some(GOOD), "{found:?}");
     Ok(())
 }
 

@@ -1,17 +1,16 @@
 //! Nodes that an operator makes join, leave and crash while clients ask.
 
-use crate::operators::{Call, PLAIN, unanswered};
-use crate::players::{Deed, Played, Player, Told, serve_player};
-use crate::stays::WAITS;
+use crate::tests::operators::{Call, NO_SLOT, PLAIN, unanswered};
+use crate::tests::players::{Deed, Played, Player, Told, serve_player};
+use crate::tests::stays::WAITS;
 use chord_app_serve_testkit::{Act, Addresses, Answer, Ask, SMALL, Size, do_acts};
+use chord_app_sockets::Host;
 use log::sink::Discard;
 use std::alloc::Global;
 use std::hash::RandomState;
-use std::net::{Net, SocketAddr, TcpListener, TcpStream};
-use std::sync::Wait;
+use std::net::{Net, SocketAddr};
 use std::sync::atomic::{AtomicBool, Ordering};
 use std::test::Fail;
-use std::thread::Threads;
 use std::time::Clock;
 use std::{io, thread};
 
@@ -117,12 +116,7 @@ const FILLS: &[Call] = &[
         has: "{\"node\":4}",
         ..PLAIN
     },
-    Call {
-        line: "POST /nodes",
-        status: "409 Conflict",
-        has: "{\"refused\":\"NoSlot\"}",
-        ..PLAIN
-    },
+    NO_SLOT,
     Call {
         line: "GET /metrics",
         status: "200 OK",
@@ -249,16 +243,7 @@ pub struct Joined {
 }
 
 /// Two clients ask while the operator does its scripts. Then the operator stops the server.
-pub fn join_and_ask<
-    R: Threads
-        + Wait
-        + Clock
-        + Net<Listener = TcpListener, Stream = TcpStream>
-        + Copy
-        + Send
-        + Sync
-        + 'static,
->(rt: &R, alloc: Global, at: Addresses) -> Joined {
+pub fn join_and_ask<R: Host>(rt: &R, alloc: Global, at: Addresses) -> Joined {
     let is_over = AtomicBool::new(false);
     let is_over = &is_over;
     let (x, (y, operated)) = thread::join(

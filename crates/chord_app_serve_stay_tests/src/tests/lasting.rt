@@ -1,18 +1,11 @@
 //! Sessions of a server that stays: each has a caller of its own while it is kept.
 
-use crate::players::{Deed, Player, serve_player};
-use crate::stays::WAITS;
-use chord_app_serve_testkit::{Act, Acts, Answer, Ask, GOOD, NOTHING, SMALL, Script, look_at};
-use chord_app_sockets::ClientSeconds;
+use crate::tests::players::follow;
+use crate::tests::resumes::keeping;
+use chord_app_serve_testkit::{Act, Acts, Answer, Ask, GOOD, NOTHING, SMALL, Script};
 use chord_wire::FaultCode;
-use log::sink::Discard;
 use std::io;
 use std::test::Fail;
-
-/// A server that keeps sessions for `keep` seconds.
-fn keeping(keep: u64) -> ClientSeconds {
-    ClientSeconds { keep, ..WAITS }
-}
 
 /// A session without a connection keeps the one caller, so that another client finds none. The
 /// session is resumed all the same; once it is closed, its caller serves the next client.
@@ -41,10 +34,16 @@ const HAS_A_CALLER: Script = Script {
 fn a_kept_session_has_a_caller(rt: HostRuntime) -> Result<(), Fail> {
     let wanted =
         "connection 0 ended\nconnection 1 callersspent\nconnection 2 ended\nconnection 3 ended\n";
-    let deed = Deed::Script(HAS_A_CALLER);
-    let player = Player::with_end(deed, keeping(600), io::pipe(&rt)?);
-    let played = serve_player(&rt, rt.alloc(), SMALL, &Discard, player);
-    assert!(rt; look_at(rt.alloc(), played, wanted) == Some(GOOD));
+    let server = (SMALL, keeping(600));
+    let found = follow(
+        &rt,
+        rt.alloc(),
+        server,
+        HAS_A_CALLER,
+        io::pipe(&rt)?,
+        wanted,
+    );
+    assert!(rt; found == Some(GOOD), "{found:?}");
     Ok(())
 }
 
@@ -65,10 +64,9 @@ const NOT_KEPT: Script = Script {
 #[test]
 fn no_session_is_kept_for_0_seconds(rt: HostRuntime) -> Result<(), Fail> {
     let wanted = "connection 0 ended\nconnection 1 malformed 14\nconnection 2 ended\n";
-    let deed = Deed::Script(NOT_KEPT);
-    let player = Player::with_end(deed, keeping(0), io::pipe(&rt)?);
-    let played = serve_player(&rt, rt.alloc(), SMALL, &Discard, player);
-    assert!(rt; look_at(rt.alloc(), played, wanted) == Some(GOOD));
+    let server = (SMALL, keeping(0));
+    let found = follow(&rt, rt.alloc(), server, NOT_KEPT, io::pipe(&rt)?, wanted);
+    assert!(rt; found == Some(GOOD), "{found:?}");
     Ok(())
 }
 
@@ -96,10 +94,9 @@ const NEEDED: Script = Script {
 #[test]
 fn an_old_session_is_dropped_for_its_caller(rt: HostRuntime) -> Result<(), Fail> {
     let wanted = "connection 0 ended\nconnection 1 ended\nconnection 2 malformed 14\n";
-    let deed = Deed::Script(NEEDED);
-    let player = Player::with_end(deed, keeping(1), io::pipe(&rt)?);
-    let played = serve_player(&rt, rt.alloc(), SMALL, &Discard, player);
-    assert!(rt; look_at(rt.alloc(), played, wanted) == Some(GOOD));
+    let server = (SMALL, keeping(1));
+    let found = follow(&rt, rt.alloc(), server, NEEDED, io::pipe(&rt)?, wanted);
+    assert!(rt; found == Some(GOOD), "{found:?}");
     Ok(())
 }
 
@@ -118,9 +115,8 @@ const NOT_NEEDED: Script = Script {
 #[test]
 fn an_old_session_is_kept_while_nobody_needs_its_caller(rt: HostRuntime) -> Result<(), Fail> {
     let wanted = "connection 0 ended\nconnection 1 ended\n";
-    let deed = Deed::Script(NOT_NEEDED);
-    let player = Player::with_end(deed, keeping(1), io::pipe(&rt)?);
-    let played = serve_player(&rt, rt.alloc(), SMALL, &Discard, player);
-    assert!(rt; look_at(rt.alloc(), played, wanted) == Some(GOOD));
+    let server = (SMALL, keeping(1));
+    let found = follow(&rt, rt.alloc(), server, NOT_NEEDED, io::pipe(&rt)?, wanted);
+    assert!(rt; found == Some(GOOD), "{found:?}");
     Ok(())
 }

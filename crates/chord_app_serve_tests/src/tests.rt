@@ -1,0 +1,7 @@
+//! Tests, by what they look at.
+
+mod commands;
+mod plan_runs;
+mod servers;
+mod sessions;
+mod upkeep;
