@@ -5,7 +5,7 @@ use Rattle.chord_serve.specs.declared.asker.Asked.{Asked}
 use Rattle.chord_serve.specs.declared.served.Served.{Served}
 use Rattle.chord_serve.specs.declared.served.Served.TheVariants as served
 use Rattle.chord_serve.specs.Question.{Question}
-use Rattle.chord_serve.specs.Conversing.{Talks, IsStopped, Waits, LosesPiece, Conversed}
+use Rattle.chord_serve.specs.Conversing.{Talks, IsStopped, Waits, LosesPiece, LacksBuffer, Conversed, Converses}
 use Rattle.chord_serve.specs.Conversing.Talks.{Begins, Hears, Says}
 use Rattle.chord_resp.specs.declared.reading.word.Word.{Word}
 use Rattle.chord_resp.specs.Machine.{start}
@@ -166,7 +166,7 @@ module _ {A D H : Type 0} (answers : A → Question → Asked → A → Type 0) 
     at_start : (d : D) (b : Bool) → Rest d → is_between (reader d) ≡ b → is_at_start (reader d).state.phase ≡ b
     at_start d b quiet e = ap (λ (xs : List ℕ). (length xs == 0) && is_at_start (reader d).state.phase) (sym quiet) ∙ e
 
-    pub conversed : (end : Served) (d : D) (i o : List ℕ) → Conversed Hear Step End Rest (λ x. is_between (reader x)) end c i o d → IsAnswered answers Told (number (host c)) end (numbers c) (asker c) i o (asker d)
+    conversed : (end : Served) (d : D) (i o : List ℕ) → Conversed Hear Step End Rest (λ x. is_between (reader x)) end c i o d → IsAnswered answers Told (number (host c)) end (numbers c) (asker c) i o (asker d)
     conversed served.Ended d i o p = ((reader d).state, at_start d true p.0.quiet p.1, whole d i o p.0)
     conversed served.Truncated d i o p = ((reader d).state, at_start d false p.0.quiet p.1, whole d i o p.0)
     conversed served.Read d i o p = ((reader d).state, whole d i o p)
@@ -177,3 +177,11 @@ module _ {A D H : Type 0} (answers : A → Question → Asked → A → Type 0) 
     conversed served.Protocol d i o p = stopped served.Protocol d i o p
     conversed served.Quit d i o p = stopped served.Quit d i o p
     conversed (served.Malformed code) d i o p = stopped (served.Malformed code) d i o p
+
+    -- nothing was read
+    unread : (d : D) (i o : List ℕ) → LacksBuffer Hear Step End Rest c i o d → RunsOut answers Told (number (host c)) (numbers c) (asker c) i o (asker d)
+    unread d i o p = record { next = reading_of (reader d); between = numbers d; asker = asker d; some = some d i o p.answered.talked; last = inl refl }
+
+    pub converses : (end : Served) (d : D) (i o : List ℕ) → Converses Hear Step End Rest (λ x. is_between (reader x)) end c i o d → IsAnswered answers Told (number (host c)) end (numbers c) (asker c) i o (asker d)
+    converses end d i o (inl p) = conversed end d i o p
+    converses end d i o (inr (e, p)) = subst (λ (x : Served). IsAnswered answers Told (number (host c)) x (numbers c) (asker c) i o (asker d)) (sym e) (unread d i o p)

@@ -1,6 +1,6 @@
 -- How many bytes one read after another takes.
-use Rattle.std.proofs.Common.{ℕ, ◌+◌, ◌*◌, ◌≤◌, ◌<◌, ◌≡◌, refl, true, ◌==◌, List, [], ◌∷◌, length, length-append, Option, Some, None, ap, sym, subst, arith}
-use Rattle.std.proofs.lemmas.Bool.{eqb-true}
+use Rattle.std.proofs.Common.{◌≢◌, false, ℕ, ◌+◌, ◌*◌, ◌≤◌, ◌<◌, ◌≡◌, refl, true, ◌==◌, List, [], ◌∷◌, length, length-append, Option, Some, None, ap, sym, subst, arith}
+use Rattle.std.proofs.lemmas.Bool.{eqb-true, false≢true}
 use Rattle.std.proofs.lemmas.List.{nil_from_length}
 use Rattle.std.specs.Io.KnownBytes.{Consumes, Keeps}
 use Rattle.chord_serve.specs.BytesRead.{ReadsBetween, most_bytes}
@@ -67,3 +67,7 @@ took_none a b piece none taken = subst (λ bytes. Consumes a b bytes) (empty_if 
 pub reads_some : (most : ℕ) (a b : Option (List ℕ)) (bytes : List ℕ) → Consumes a b bytes → (bytes ≡ [] → ⊥) → length bytes ≤ most → ReadsBetween 1 most a b
 reads_some most a b [] taken some high = absurd (some refl)
 reads_some most a b (x ∷ bytes) taken some high = reads_taken 1 most a b (x ∷ bytes) taken (omega arith) high
+
+-- a read that took some bytes
+pub took_some : (piece : List ℕ) → false ≡ (length piece == 0) → piece ≢ []
+took_some piece some none = let e : false ≡ true = subst (λ (bytes : List ℕ). false ≡ (length bytes == 0)) none some in false≢true e

@@ -1,5 +1,5 @@
 -- Steps of a dialogue one after another.
-use Rattle.std.proofs.Common.{◌≡◌, ◌⊎◌, ℕ, List, [], ◌++◌, Bool, true, false, Option, Result, Ok, Err, refl, sym, ap, subst, ◌∙◌, append_assoc, inl, inr}
+use Rattle.std.proofs.Common.{◌≢◌, ◌≡◌, ◌⊎◌, ℕ, List, [], ◌++◌, Bool, true, false, Option, Result, Ok, Err, refl, sym, ap, subst, ◌∙◌, append_assoc, inl, inr}
 use Rattle.std.specs.Prelude.{IfErr}
 use Rattle.std.specs.Io.KnownBytes.{Appends, Consumes, Keeps}
 use Rattle.std.proofs.KnownBytes.{Appends-nil, Appends-trans, Consumes-nil, Consumes-kept, Consumes-trans}
@@ -8,7 +8,7 @@ use Rattle.chord_serve.specs.declared.served.Served.{Served}
 use Rattle.chord_serve.specs.declared.served.Served.TheVariants as served
 use Rattle.chord_serve.specs.Ends.{IsStop, EndsInput}
 use Rattle.chord_serve.specs.Writes.{WritesPrefix}
-use Rattle.chord_serve.specs.Conversing.{Talks, IsStopped, Waits, LosesPiece, WritesPart, Conversed, AnswersNext, AnswersPart, EndsWritten, SendsPart, AnswersAll, TakesTurn}
+use Rattle.chord_serve.specs.Conversing.{Talks, IsStopped, Waits, LosesPiece, LacksBuffer, WritesPart, Conversed, Converses, AnswersNext, AnswersPart, EndsWritten, SendsPart, AnswersAll, TakesTurn}
 use Rattle.chord_serve.specs.Conversing.Talks.{Begins, Hears, Says}
 
 -- an end caused by a request says nothing of the input
@@ -89,6 +89,7 @@ module _ {D : Type 0} (hears says : D → List ℕ → D → Type 0) (stops : Se
   loses_then a b c i o i' o' p q = record {
     heard = i ++ q.heard;
     piece = q.piece;
+    some = q.some;
     input_is = ap (λ (x : List ℕ). i ++ x) q.input_is ∙ sym (append_assoc i q.heard q.piece);
     talked = talks_then hears says a b c i o q.heard o' p q.talked;
   }
@@ -115,6 +116,11 @@ module _ {D : Type 0} (hears says : D → List ℕ → D → Type 0) (stops : Se
   conversed_then between (served.Malformed code) a b c i o i' o' p q = stopped_then (served.Malformed code) a b c i o i' o' p q
   conversed_then between served.Protocol a b c i o i' o' p q = stopped_then served.Protocol a b c i o i' o' p q
   conversed_then between served.Quit a b c i o i' o' p q = stopped_then served.Quit a b c i o i' o' p q
+
+  -- the requests that had come before are answered first
+  pub converses_further : (between : D → Bool) (end : Served) (a b c : D) (o i' o' : List ℕ) → Talks hears says a [] o b → Converses hears says stops waits between end b i' o' c → Converses hears says stops waits between end a i' (o ++ o') c
+  converses_further between end a b c o i' o' p (inl q) = inl (conversed_then between end a b c [] o i' o' p q)
+  converses_further between end a b c o i' o' p (inr (e, q)) = inr (e, record { unread = q.unread; answered = waits_then a b c [] o i' o' p q.answered })
 
   -- an end that a request caused, as one of a dialogue
   pub written_conversed : (between : D → Bool) (end : Served) (a b : D) (i o : List ℕ) → IsStop end → EndsWritten hears says stops waits end a i o b → Conversed hears says stops waits between end a i o b
@@ -188,8 +194,12 @@ module _ {D : Type 0} (hears says : D → List ℕ → D → Type 0) (stops : Se
     pub input_stops : (a : D) (left left' old : Option (List ℕ)) → waits a → Consumes left left' [] → between a ≡ false → Turn (Err served.Truncated) a left left' old old a
     input_stops a left left' old w taken is = ([], [], taken, (now a w, is), Appends-nil old)
 
-    pub piece_lost : (a : D) (piece : List ℕ) (left left' old : Option (List ℕ)) → Consumes left left' piece → Turn (Err served.Memory) a left left' old old a
-    piece_lost a piece left left' old taken = (piece, [], taken, inr (record { heard = []; piece = piece; input_is = refl; talked = Begins }), Appends-nil old)
+    pub piece_lost : (a : D) (piece : List ℕ) (left left' old : Option (List ℕ)) → piece ≢ [] → Consumes left left' piece → Turn (Err served.Memory) a left left' old old a
+    piece_lost a piece left left' old some taken = (piece, [], taken, inr (record { heard = []; piece = piece; some = some; input_is = refl; talked = Begins }), Appends-nil old)
+
+    -- there was no buffer for the first read
+    pub nothing_read : (a : D) → waits a → Converses hears says stops waits between served.Memory a [] [] a
+    nothing_read a w = inr (refl, record { unread = refl; answered = now a w })
 
     pub all_turns : (result : Result (Unit {0}) Served) (a b c : D) (piece : List ℕ) (left left' old new : Option (List ℕ)) → IfErr result IsStop
         → Consumes left left' piece → hears a piece b → AnswersAll hears says stops waits result b old new c → Turn result a left left' old new c

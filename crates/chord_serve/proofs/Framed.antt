@@ -10,7 +10,7 @@ use Rattle.chord_serve.specs.declared.client_session.ClientSession.{ClientSessio
 use Rattle.chord_serve.specs.declared.parted.Parted.{Parted}
 use Rattle.chord_serve.specs.Parting.{parted_as, KeptAs}
 use Rattle.chord_serve.specs.Served.{Dealt, DealsWithAll, StopsAfter, IsParted}
-use Rattle.chord_serve.specs.Conversing.{Talks, IsStopped, Waits, LosesPiece, Conversed}
+use Rattle.chord_serve.specs.Conversing.{Talks, IsStopped, Waits, LosesPiece, LacksBuffer, Conversed, Converses}
 use Rattle.chord_serve.specs.Conversing.Talks.{Begins, Hears, Says}
 use Rattle.chord_serve.proofs.BytesRead.{empty_if}
 use Rattle.chord_serve.proofs.BatchLaws.{nothing, Dealt-then, Dealt-fed, served_after, prefix_served}
@@ -100,7 +100,7 @@ module _ {A D : Type 0} (answers : A → Question → Asked → A → Type 0) (f
       let bytes : (frames c ++ p.heard) ++ p.piece ≡ frames c ++ i = append_assoc (frames c) p.heard p.piece ∙ ap (λ (x : List ℕ). frames c ++ x) (sym p.input_is) in
       some_done c d i o (frames d ++ p.piece) going all.2 (subst (λ (x : List ℕ). Gave c x o (frames d ++ p.piece) (held d)) bytes more)
 
-  pub conversed_serves : (end : Served) (c d : D) (i o : List ℕ) → over c ≡ false → Conversed Fed One Stop Quiet Between end c i o d → Ends end c (frames c ++ i) o (left_of d)
+  conversed_serves : (end : Served) (c d : D) (i o : List ℕ) → over c ≡ false → Conversed Fed One Stop Quiet Between end c i o d → Ends end c (frames c ++ i) o (left_of d)
   conversed_serves served.Ended c d i o going p = subst (λ (x : List ℕ). KeptAs (left_of d) (DealsWithAll answers (held c).version (held c).numbers (held c).asker (frames c ++ i) o x)) (empty_if (frames d) p.1) (waits_all c d i o going p.0)
   conversed_serves served.Truncated c d i o going p = (frames d, some_left (frames d) p.1, waits_all c d i o going p.0)
   conversed_serves served.Read c d i o going p = (frames d, waits_all c d i o going p)
@@ -111,3 +111,11 @@ module _ {A D : Type 0} (answers : A → Question → Asked → A → Type 0) (f
   conversed_serves (served.Malformed code) c d i o going p = stopped_serves (served.Malformed code) c d i o going p
   conversed_serves served.Protocol c d i o going p = stopped_serves served.Protocol c d i o going p
   conversed_serves served.Quit c d i o going p = stopped_serves served.Quit c d i o going p
+
+  -- nothing was read, and the requests that had come before are answered
+  unread_serves : (c d : D) (i o : List ℕ) → over c ≡ false → LacksBuffer Fed One Stop Quiet c i o d → StopsAfter answers (opened c) (held c).version (held c).numbers (held c).asker (frames c ++ i) o (left_of d)
+  unread_serves c d i o going p = let all = dealt_all c d i o p.answered.talked in some_done c d i o (frames d) going all.2 all.0
+
+  pub converses_serves : (end : Served) (c d : D) (i o : List ℕ) → over c ≡ false → Converses Fed One Stop Quiet Between end c i o d → Ends end c (frames c ++ i) o (left_of d)
+  converses_serves end c d i o going (inl p) = conversed_serves end c d i o going p
+  converses_serves end c d i o going (inr (e, p)) = subst (λ (x : Served). Ends x c (frames c ++ i) o (left_of d)) (sym e) (unread_serves c d i o going p)

@@ -1,5 +1,5 @@
 -- What a dialogue took in and wrote, in any protocol. Source: our own.
-use Rattle.std.specs.Prelude.{◌≡◌, ◌⊎◌, ℕ, List, [], ◌++◌, Bool, true, false, Option, Result, Ok, Err}
+use Rattle.std.specs.Prelude.{◌≡◌, ◌≢◌, ◌⊎◌, ℕ, List, [], ◌++◌, Bool, true, false, Option, Result, Ok, Err}
 use Rattle.std.specs.Io.KnownBytes.{Appends, Consumes}
 use Rattle.chord_serve.specs.declared.served.Served.{Served}
 use Rattle.chord_serve.specs.declared.served.Served.TheVariants as served
@@ -32,10 +32,11 @@ module _ {D : Type 0} (hears says : D → List ℕ → D → Type 0) (stops : Se
     pub talked : Talks hears says first input output last
     pub quiet : waits last
 
-  -- the last piece of the input was not taken in
+  -- the last piece of the input, which has some bytes, was not taken in
   pub record LosesPiece (first : D) (input output : List ℕ) (last : D) : Type 0 where
     pub heard : List ℕ
     pub piece : List ℕ
+    pub some : piece ≢ []
     pub input_is : input ≡ heard ++ piece
     pub talked : Talks hears says first heard output last
 
@@ -55,6 +56,16 @@ module _ {D : Type 0} (hears says : D → List ℕ → D → Type 0) (stops : Se
   Conversed is_between served.Write first input output last = WritesPart first input output last
   Conversed is_between served.Memory first input output last = IsStopped served.Memory first input output last ⊎ LosesPiece first input output last
   Conversed is_between end first input output last = IsStopped end first input output last
+
+  -- there was no buffer for the first read, so nothing was read; what had come before is answered
+  pub record LacksBuffer (first : D) (input output : List ℕ) (last : D) : Type 0 where
+    pub unread : input ≡ []
+    pub answered : Waits first input output last
+
+  -- what a dialogue took in and wrote when it ended in this way, be it before its first read
+  abbrev pub Converses : (D → Bool) → Served → D → List ℕ → List ℕ → D → Type 0
+  Converses is_between end first input output last =
+      Conversed is_between end first input output last ⊎ ((end ≡ served.Memory) × LacksBuffer first input output last)
 
   -- ---- some requests
 

@@ -2,7 +2,7 @@
 ghost use Rattle.std.specs.Prelude.{◌≡◌, ◌≢◌, ◌<◌, ◌*◌, [], List, ℕ, Ok, Err, true, IfErr, OnOk};
 ghost use Rattle.std.specs.Io.KnownBytes.{Appends, Consumes};
 ghost use Rattle.chord_serve.specs.BytesRead.{ReadsBetween, most_bytes};
-ghost use Rattle.chord_serve.specs.Conversing.{AnswersPart, SendsPart, AnswersAll, TakesTurn, Conversed};
+ghost use Rattle.chord_serve.specs.Conversing.{AnswersPart, SendsPart, AnswersAll, TakesTurn, Converses};
 ghost use Rattle.chord_serve.specs.Ends.{IsStop, EndsInput};
 
 use crate::dialogue::Dialogue;
@@ -110,7 +110,7 @@ pub fn converse<D: Dialogue, R: Read, W: Write>(
     ensures bytes { ReadsBetween 0 (most_bytes size * turns) (R.remaining reader.old) (R.remaining reader.new) }
     ensures spent { result ≡ Served.TurnsSpent → ReadsBetween turns (most_bytes size * turns) (R.remaining reader.old) (R.remaining reader.new) }
     ensures conversed { (input : List ℕ) × (output : List ℕ) × Consumes (R.remaining reader.old) (R.remaining reader.new) input
-        × Conversed D.hears D.says D.stops D.waits D.between result dialogue.old input output dialogue.new
+        × Converses D.hears D.says D.stops D.waits D.between result dialogue.old input output dialogue.new
         × Appends (W.contents writer.old) (W.contents writer.new) output }
 {
     let Ok(mut intake) = Intake::new(alloc, size) else {
@@ -137,7 +137,7 @@ pub fn converse_further<D: Dialogue, R: Read, W: Write>(
     ensures bytes { ReadsBetween 0 (most_bytes size * turns) (R.remaining reader.old) (R.remaining reader.new) }
     ensures spent { result ≡ Served.TurnsSpent → ReadsBetween turns (most_bytes size * turns) (R.remaining reader.old) (R.remaining reader.new) }
     ensures conversed { (input : List ℕ) × (output : List ℕ) × Consumes (R.remaining reader.old) (R.remaining reader.new) input
-        × Conversed D.hears D.says D.stops D.waits D.between result dialogue.old input output dialogue.new
+        × Converses D.hears D.says D.stops D.waits D.between result dialogue.old input output dialogue.new
         × Appends (W.contents writer.old) (W.contents writer.new) output }
 {
     if let Err(end) = answer_all(alloc, dialogue, writer) {

@@ -1,5 +1,5 @@
 use Rattle.std.proofs.Common.{sym}
-use Rattle.chord_serve.proofs.Framed.{conversed_serves}
+use Rattle.chord_serve.proofs.Framed.{converses_serves}
 use Rattle.chord_serve.proofs.server.serve_plain.Goals as goal
 
 pub returns-clause-served : goal.returns-clause-served
@@ -8,5 +8,5 @@ returns-clause-served g c =
     let p = c.converse_further-served.ensures.conversed in
     let made = c.new-connection.ensures in
     let client = c.of_connection-client.ensures in
-    let served = conversed_serves g.A.Asker.answers (λ d. d.frames) (λ d. d.client) (λ d. d.is_opened) (λ d. d.is_over) c.converse_further-served.result c.new-connection.result new p.0 p.1 made.over p.3 in
+    let served = converses_serves g.A.Asker.answers (λ d. d.frames) (λ d. d.client) (λ d. d.is_opened) (λ d. d.is_over) c.converse_further-served.result c.new-connection.result new p.0 p.1 made.over p.3 in
     (p.0, p.1, p.2, (c.into_parted.result, rw (made.frames, made.client, made.opened, client.version, client.numbers, client.asker, sym c.into_parted.ensures) at served, sym c.into_asker.ensures), p.4)

@@ -1,5 +1,5 @@
 use Rattle.std.proofs.Common.{sym}
-use Rattle.chord_serve.proofs.Framed.{conversed_serves}
+use Rattle.chord_serve.proofs.Framed.{converses_serves}
 use Rattle.chord_serve.proofs.server.serve_session.Goals as goal
 
 pub returns-clause-served : goal.returns-clause-served
@@ -7,5 +7,5 @@ returns-clause-served g c =
     let new = c.converse_further-served.new.dialogue in
     let p = c.converse_further-served.ensures.conversed in
     let made = c.new-connection.ensures in
-    let served = conversed_serves g.A.Asker.answers (λ d. d.frames) (λ d. d.client) (λ d. d.is_opened) (λ d. d.is_over) c.converse_further-served.result c.new-connection.result new p.0 p.1 made.over p.3 in
+    let served = converses_serves g.A.Asker.answers (λ d. d.frames) (λ d. d.client) (λ d. d.is_opened) (λ d. d.is_over) c.converse_further-served.result c.new-connection.result new p.0 p.1 made.over p.3 in
     (p.0, p.1, p.2, rw (made.frames, made.client, made.opened, sym c.into_parted.ensures) at served, p.4)

@@ -1,8 +1,8 @@
-use Rattle.std.proofs.Common.{[], ap, arith, ◌*◌, Err, Ok, ◌∙◌}
+use Rattle.std.proofs.Common.{[], inl, ap, arith, ◌*◌, Err, Ok, ◌∙◌}
 use Rattle.chord_serve.specs.BytesRead.{most_bytes}
 use Rattle.chord_serve.specs.declared.served.Served.{Served}
-use Rattle.std.proofs.KnownBytes.{Consumes-nil}
-use Rattle.chord_serve.proofs.Conversing.{no_turn, turn_then, piece_lost}
+use Rattle.std.proofs.KnownBytes.{Appends-nil, Consumes-nil}
+use Rattle.chord_serve.proofs.Conversing.{no_turn, turn_then, nothing_read}
 use Rattle.chord_serve.proofs.BytesRead.{reads_none, reads_more, reads_last, reads_done}
 use Rattle.chord_serve.proofs.turns.converse.Goals as goal
 
@@ -33,7 +33,8 @@ returns-in-Err-clause-conversed g c =
     let left = g.R.Read.remaining in
     let held = g.W.Write.contents in
     let new = c.take_turn.new in
-    turn_then d.hears d.says d.stops d.waits d.between (Err c.in-Err.end) c.args.dialogue.now c.loop.dialogue new.dialogue (left c.args.reader.now) (left c.loop.reader) (left new.reader) (held c.args.writer.now) (held c.loop.writer) (held new.writer) c.loop.invariant.so c.in-Err.ensures.turn
+    let turn = turn_then d.hears d.says d.stops d.waits d.between (Err c.in-Err.end) c.args.dialogue.now c.loop.dialogue new.dialogue (left c.args.reader.now) (left c.loop.reader) (left new.reader) (held c.args.writer.now) (held c.loop.writer) (held new.writer) c.loop.invariant.so c.in-Err.ensures.turn in
+    (turn.0, turn.1, turn.2, inl turn.3, turn.4)
 
 pub returns-in-Err-clause-bytes : goal.returns-in-Err-clause-bytes
 returns-in-Err-clause-bytes g c =
@@ -57,5 +58,4 @@ returns-clause-spent g c = λ e.
 pub returns-in_default-clause-conversed : goal.returns-in_default-clause-conversed
 returns-in_default-clause-conversed g c =
     let d = g.D.Dialogue in
-    let left = g.R.Read.remaining c.args.reader.now in
-    piece_lost d.hears d.says d.stops d.waits d.between c.args.dialogue.now [] left left (g.W.Write.contents c.args.writer.now) (Consumes-nil left)
+    ([], [], Consumes-nil (g.R.Read.remaining c.args.reader.now), nothing_read d.hears d.says d.stops d.waits d.between c.args.dialogue.now c.requires, Appends-nil (g.W.Write.contents c.args.writer.now))

@@ -1,13 +1,13 @@
-use Rattle.std.proofs.Common.{[], ◌++◌}
+use Rattle.std.proofs.Common.{[], ◌++◌, inl}
 use Rattle.std.proofs.KnownBytes.{Appends-trans, Consumes-nil}
-use Rattle.chord_serve.proofs.Conversing.{conversed_then, written_conversed}
+use Rattle.chord_serve.proofs.Conversing.{converses_further, written_conversed}
 use Rattle.chord_serve.proofs.turns.converse_further.Goals as goal
 
 pub returns-in-Err-clause-conversed : goal.returns-in-Err-clause-conversed
 returns-in-Err-clause-conversed g c =
     let d = g.D.Dialogue in
     let all = c.in-Err.ensures.all in
-    ([], all.0, Consumes-nil (g.R.Read.remaining c.args.reader.now), written_conversed d.hears d.says d.stops d.waits d.between c.in-Err.end c.args.dialogue.now c.answer_all.new.dialogue [] all.0 c.in-Err.ensures.stop all.1, all.2)
+    ([], all.0, Consumes-nil (g.R.Read.remaining c.args.reader.now), inl (written_conversed d.hears d.says d.stops d.waits d.between c.in-Err.end c.args.dialogue.now c.answer_all.new.dialogue [] all.0 c.in-Err.ensures.stop all.1), all.2)
 
 pub returns-clause-conversed : goal.returns-clause-conversed
 returns-clause-conversed g c =
@@ -18,6 +18,6 @@ returns-clause-conversed g c =
       more.0,
       all.0 ++ more.1,
       more.2,
-      conversed_then d.hears d.says d.stops d.waits d.between c.converse.result c.args.dialogue.now c.answer_all.new.dialogue c.converse.new.dialogue [] all.0 more.0 more.1 all.1.talked more.3,
+      converses_further d.hears d.says d.stops d.waits d.between c.converse.result c.args.dialogue.now c.answer_all.new.dialogue c.converse.new.dialogue all.0 more.0 more.1 all.1.talked more.3,
       Appends-trans (held c.args.writer.now) (held c.answer_all.new.writer) (held c.converse.new.writer) all.0 more.1 all.2 more.4,
     )

@@ -1,6 +1,6 @@
 use Rattle.std.proofs.Common.{subst, sym}
 use Rattle.std.specs.Io.KnownBytes.{Consumes}
-use Rattle.chord_serve.proofs.BytesRead.{took_none}
+use Rattle.chord_serve.proofs.BytesRead.{took_none, took_some}
 use Rattle.chord_serve.proofs.Conversing.{read_fails, input_ends, input_stops, piece_lost, all_turns}
 use Rattle.chord_serve.proofs.turns.take_turn.Goals as goal
 
@@ -43,4 +43,4 @@ returns-in-Err-feed-clause-turn g c =
     let left' = g.R.Read.remaining c.read_from.new.reader in
     let piece = c.bytes-piece.result.now in
     let taken = subst (λ bytes. Consumes left left' bytes) (sym c.bytes-piece.ensures) c.in-Ok.ensures.ok in
-    rw c.in-Err-feed.ensures.err (piece_lost d.hears d.says d.stops d.waits d.between c.args.dialogue.now piece left left' (g.W.Write.contents c.args.writer.now) taken)
+    rw c.in-Err-feed.ensures.err (piece_lost d.hears d.says d.stops d.waits d.between c.args.dialogue.now piece left left' (g.W.Write.contents c.args.writer.now) (took_some piece c.if-is_empty.ensures) taken)
