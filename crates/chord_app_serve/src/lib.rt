@@ -13,5 +13,5 @@ mod serving;
 
 pub use gap::{Gap, free_id};
 pub use pace::Pace;
-pub use plan_run::run;
+pub use plan_run::{AskResult, run};
 pub use serving::commands::{ServerStores, serve, stay};

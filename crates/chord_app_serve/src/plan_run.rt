@@ -5,11 +5,10 @@ ghost use Rattle.chord_app_serve.specs.Together.{AreGroups, StandTogether, calle
 mod asking;
 
 use crate::nodes::{start_nodes, tick_in_turn};
-use crate::plan_run::asking::{
-    Answers, AskResult, AskResults, CallerAnswers, FreshClient, ask_in_turn,
-};
+use crate::plan_run::asking::{Answers, AskResults, CallerAnswers, FreshClient, ask_in_turn};
+pub use asking::AskResult;
 use chord_app_plan::Plan;
-use chord_app_text::{Finish, ReplyText};
+use chord_app_text::Finish;
 use chord_live_ring::{NewFault, ReturnedCaller, Ring, RingParts};
 use chord_live_types::Settings;
 use chord_store::EntryStore;
@@ -126,28 +125,12 @@ fn ask_at_once<
     join_callers(rt, alloc, callers)
 }
 
-/// Writes how an ask ended.
-fn write_answer<W: Write>(
-    caller: usize,
-    number: usize,
-    answer: &AskResult,
-    writer: &mut W,
-) -> io::Result<()> {
-    match answer {
-        AskResult::Reply(reply) => {
-            let reply = ReplyText(reply);
-            writeln!(writer, "{caller} {number} {reply}")
-        }
-        AskResult::Full => writeln!(writer, "{caller} {number} full"),
-        AskResult::NoAnswer => writeln!(writer, "{caller} {number} noanswer"),
-    }
-}
-
 /// Writes a line for each ask that was made, by caller and number.
 fn write_answers<W: Write>(all: &[AskResults], writer: &mut W) -> io::Result<()> {
     for (caller, answers) in all.iter().enumerate() {
         for (place, answer) in answers.as_slice().iter().enumerate() {
-            write_answer(caller, place.saturating_add(1), answer, writer)?;
+            let number = place.saturating_add(1);
+            writeln!(writer, "{caller} {number} {answer}")?;
         }
     }
     writer.flush()

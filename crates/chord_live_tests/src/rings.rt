@@ -23,6 +23,7 @@ mod growths;
 mod handing;
 mod kinds;
 mod notes;
+mod pairs_of_nodes;
 mod pieces;
 mod refusals;
 mod resting;

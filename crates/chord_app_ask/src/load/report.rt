@@ -15,6 +15,8 @@ pub struct Report {
     pub times: Histogram,
     /// How many got no reply.
     pub faults: u64,
+    /// How many retrieves were answered by an empty set.
+    pub empty: u64,
     /// How long after the load began the last reply came.
     pub milliseconds: u64,
     /// How many connections went on with the session of one before, if there were sessions.
@@ -37,6 +39,7 @@ impl Report {
         Ok(Report {
             times: Histogram::new(alloc)?,
             faults: 0,
+            empty: 0,
             milliseconds: 0,
             resumed: None,
             doubled: None,
@@ -52,9 +55,15 @@ impl Report {
             self.times.record(bucket.bound, bucket.count);
         }
         self.faults = self.faults.saturating_add(other.faults);
+        self.empty = self.empty.saturating_add(other.empty);
         self.milliseconds = milliseconds;
         self.resumed = sum(self.resumed, other.resumed);
         self.doubled = sum(self.doubled, other.doubled);
+    }
+
+    /// Counts one more retrieve that was answered by an empty set.
+    pub fn note_empty(&mut self) {
+        self.empty = self.empty.saturating_add(1);
     }
 
     /// Counts one more connection that went on.
@@ -87,6 +96,7 @@ impl fmt::Display for Report {
             write_percentile(f, name, self.times.percentile(thousandths))?;
         }
         write!(f, "faults       {faults:>12}")?;
+        write_count(f, "empty sets", (self.empty > 0).then_some(self.empty))?;
         write_count(f, "resumed", self.resumed)?;
         write_count(f, "doubled", self.doubled)
     }

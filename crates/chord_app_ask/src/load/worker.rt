@@ -52,6 +52,8 @@ enum Heard {
     Reply,
     /// The value that was to be inserted was there.
     Present,
+    /// A set of no values.
+    Empty,
     Fault(FaultCode),
 }
 
@@ -76,6 +78,10 @@ fn heard_of(answer: Answer) -> Heard {
             reply: Reply::Present,
             ..
         } => Heard::Present,
+        Answer::Reply {
+            reply: Reply::Values(values),
+            ..
+        } if values.as_slice().is_empty() => Heard::Empty,
         Answer::Reply { .. } => Heard::Reply,
         Answer::Fault { code, .. } => Heard::Fault(*code),
     };
@@ -224,6 +230,9 @@ impl<'a, R: Net<Stream = TcpStream> + Clock> Worker<'a, R> {
         self.link.note_answer();
         if let Heard::Fault(code) = heard {
             return self.retry(number, code);
+        }
+        if heard == Heard::Empty {
+            self.report.note_empty();
         }
         if heard == Heard::Present && self.load.has_unique_values() {
             self.report.note_doubled();

@@ -88,6 +88,7 @@ fn report_of_thousand(alloc: Global) -> Option<Report> {
     Some(Report {
         times,
         faults: 0,
+        empty: 0,
         milliseconds: 500,
         resumed: None,
         doubled: Some(0),
@@ -98,6 +99,8 @@ fn report_of_thousand(alloc: Global) -> Option<Report> {
 fn report_of_one(alloc: Global) -> Option<Report> {
     let mut report = Report::new(alloc).ok()?;
     report.faults = 3;
+    report.note_empty();
+    report.note_empty();
     report.milliseconds = 400;
     report.note_resumed();
     report.note_resumed();
@@ -130,7 +133,7 @@ fn joined(alloc: Global) -> Option<Report> {
 #[test]
 fn tables(rt: HostRuntime) {
     let wanted =
-        "requests             2000\nmilliseconds          500\na second             4000\np50                    71 us\np90                   799 us\np99                   991 us\np99.9                1023 us\nfaults                  3\nresumed                 2\ndoubled                 1";
+        "requests             2000\nmilliseconds          500\na second             4000\np50                    71 us\np90                   799 us\np99                   991 us\np99.9                1023 us\nfaults                  3\nempty sets              2\nresumed                 2\ndoubled                 1";
     let alloc = rt.alloc();
     assert!(rt; is_shown(alloc, joined(alloc), wanted) == Some(true));
 }

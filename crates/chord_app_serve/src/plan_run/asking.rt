@@ -3,7 +3,7 @@ ghost use Rattle.std.specs.Prelude.{◌≡◌, ◌++◌, [], ◌∷◌, IfOk, On
 ghost use Rattle.chord_app_serve.specs.Together.{AreAnswers, AreOf, AskedIs, NextIs, TookFirst, callers_in, requests_of};
 
 use chord_app_plan::PlanAsk;
-use chord_app_text::Finish;
+use chord_app_text::{Finish, ReplyText};
 use chord_caller::SubmitFault;
 use chord_live::{OpenCaller, RingClient};
 use chord_live_ring::{OpenClientFault, ReturnedCaller, Ring};
@@ -12,6 +12,7 @@ use chord_map::Reply;
 use chord_store::EntryStore;
 use chord_table::Naming;
 use std::alloc::Global;
+use std::fmt;
 use std::marker::Model;
 use std::sync::Wait;
 use std::time::Clock;
@@ -22,6 +23,20 @@ pub enum AskResult {
     Reply(Reply),
     Full,
     NoAnswer,
+}
+
+/// The words of a line of `run`: the reply, `full` or `noanswer`.
+impl fmt::Display for AskResult {
+    fn fmt<W: fmt::Write>(&self, f: &mut fmt::Formatter<W>) -> fmt::Result {
+        match self {
+            AskResult::Reply(reply) => {
+                let reply = ReplyText(reply);
+                write!(f, "{reply}")
+            }
+            AskResult::Full => f.write_str("full"),
+            AskResult::NoAnswer => f.write_str("noanswer"),
+        }
+    }
 }
 
 /// How the asks of one caller ended, in order.

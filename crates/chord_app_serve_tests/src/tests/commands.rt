@@ -180,24 +180,36 @@ fn has_line(table: &str, word: &str, number: &str) -> bool {
     table.lines().any(|line| line.starts_with(word) && line.trim_end().ends_with(number))
 }
 
-/// Checks that it is a table with these counts of answers and faults.
-fn is_table(table: &[u8], answered: &str, faults: &str) -> bool {
-    match str::from_utf8(table) {
-        Ok(table) => {
-            has_line(table, "requests", answered)
-                && has_line(table, "faults", faults)
-                && table.lines().count() == 8
-        }
-        Err(_) => false,
+/// The ends of lines that a load's table is to have. A last line, of empty sets, may be missing.
+#[derive(Clone, Copy)]
+struct Counts<'a> {
+    answered: &'a str,
+    faults: &'a str,
+    empty: Option<&'a str>,
+}
+
+impl Counts<'_> {
+    /// Checks that it is a table with these counts.
+    fn are_in(self, table: &[u8]) -> bool {
+        let Ok(table) = str::from_utf8(table) else {
+            return false;
+        };
+        let (has_empty, lines) = match self.empty {
+            Some(empty) => (has_line(table, "empty sets", empty), 9),
+            None => (true, 8),
+        };
+        has_empty
+            && has_line(table, "requests", self.answered)
+            && has_line(table, "faults", self.faults)
+            && table.lines().count() == lines
     }
 }
 
-/// The command `load` with 21 requests, whose table is to have these counts of answers and faults.
+/// The command `load` with 21 requests, and what its table is to have.
 #[derive(Clone, Copy)]
 struct LoadOf<'a> {
     kind: Kind,
-    answered: &'a str,
-    faults: &'a str,
+    counts: Counts<'a>,
 }
 
 impl LoadOf<'_> {
@@ -221,25 +233,27 @@ impl LoadOf<'_> {
         let mut table: Vec<u8> = Vec::new(alloc);
         let lines: Vec<u8> = Vec::new(alloc);
         let finish = run_load(rt, alloc, load, Some(lines), &mut table);
-        let is_told = is_table(&table, self.answered, self.faults);
+        let is_told = self.counts.are_in(&table);
         drop(table);
         (finish, is_told)
     }
 }
 
+/// Retrieves of keys that nobody inserted are counted as empty sets.
 #[test]
 fn loads_of_a_ring(rt: HostRuntime) {
     let unanswered = Finish::Fault(Fault::Unanswered(21));
-    for (room, kind, answered, faults, finish) in [
-        (4, Kind::Insert, " 21", " 0", Finish::Done),
-        (0, Kind::Retrieve, " 21", " 0", Finish::Done),
-        (0, Kind::Insert, " 0", " 21", unanswered),
+    for (room, kind, answered, faults, empty, finish) in [
+        (4, Kind::Insert, " 21", " 0", None, Finish::Done),
+        (0, Kind::Retrieve, " 21", " 0", Some(" 21"), Finish::Done),
+        (0, Kind::Insert, " 0", " 21", None, unanswered),
     ] {
-        let load = LoadOf {
-            kind,
+        let counts = Counts {
             answered,
             faults,
+            empty,
         };
+        let load = LoadOf { kind, counts };
         let ended = ran(&rt, rt.alloc(), room, 2, Command::Load(load));
         assert!(rt; ended == Some((Ok(finish), true)));
     }

@@ -1,8 +1,9 @@
 //! The command `run`.
 
-use chord_app_serve::run;
+use chord_app_serve::{AskResult, run};
 use chord_app_serve_testkit::{TWO_NODES, changed, plan_of, two_stores};
 use chord_app_text::{Fault, Finish};
+use chord_map::Reply;
 use std::alloc::Global;
 use std::sync::Wait;
 use std::thread::Threads;
@@ -35,6 +36,24 @@ fn plan_run(rt: HostRuntime) {
     }
 }
 
+/// A plan in which the second caller asks twice, for another key.
+const TWO_CALLERS: &str = concat!(
+    "slots = 2\ncallers = 2\nsuccessors = 3\ntries = 100\nwait = 100\n[[node]]\n",
+    "id = \"40000000000000000000000000000000\"\nstore = \"tree\"\n[[node]]\n",
+    "id = \"c0000000000000000000000000000000\"\nstore = \"list\"\n",
+    "[[ask]]\ncaller = 1\nvia = 0\ndo = \"insert\"\nkey = \"b\"\nvalue = \"y\"\n",
+    "[[ask]]\ncaller = 0\nvia = 0\ndo = \"insert\"\nkey = \"a\"\nvalue = \"x\"\n",
+    "[[ask]]\ncaller = 1\nvia = 0\ndo = \"retrieve\"\nkey = \"b\"\n",
+);
+
+/// Each caller asks what the plan has for it, in the plan's order.
+#[test]
+fn callers_ask_their_own(rt: HostRuntime) {
+    let wanted = "0 1 added\n1 1 added\n1 2 values 1 79\n";
+    let ran = runs(&rt, rt.alloc(), TWO_CALLERS, 4, wanted);
+    assert!(rt; ran == Some((Finish::Done, true)));
+}
+
 /// How a plan ended whose second node the ring refuses, and whether it wrote nothing.
 fn runs_refused<R: Threads + Wait + Clock + Sync>(rt: &R, alloc: Global) -> Option<(Finish, bool)> {
     let twice = changed(alloc, "id = \"c0", "id = \"40").ok()?;
@@ -48,4 +67,28 @@ fn refused_node(rt: HostRuntime) {
         first: 0,
     });
     assert!(rt; runs_refused(&rt, rt.alloc()) == Some((fault, true)));
+}
+
+/// Checks the words that a line has for this end of an ask.
+fn is_told(alloc: Global, ended: AskResult, wanted: &str) -> bool {
+    let text = format!(in alloc; "{ended}");
+    drop(ended);
+    let is_wanted = matches!(&text, Ok(text) if text.as_str() == wanted);
+    drop(text);
+    is_wanted
+}
+
+#[test]
+fn words_of_a_line(rt: HostRuntime) {
+    let alloc = rt.alloc();
+    let set_full = AskResult::Reply(Reply::SetFull);
+    assert!(rt;
+        is_told(alloc, set_full, "setfull"),
+        "a reply by its own words"
+    );
+    assert!(rt; is_told(alloc, AskResult::Full, "full"), "a full store");
+    assert!(rt;
+        is_told(alloc, AskResult::NoAnswer, "noanswer"),
+        "no answer"
+    );
 }

@@ -1,6 +1,6 @@
 //! Workers of one or two nodes, and what is done beside them.
 
-use super::{callers, growths, kinds, pieces, settling, sights};
+use super::{callers, growths, kinds, pairs_of_nodes, pieces, settling, sights};
 use chord_live_ring::{NoProbe, Ring};
 use chord_store::EntryStore;
 use chord_table::Naming;
@@ -26,6 +26,10 @@ pub enum Deed {
     GoOver,
     /// Node 1 takes what node 0 gave, and crashes.
     TakeAndCrash,
+    /// Node 0 leaves while node 1 has no room for its pairs.
+    LeaveToFull,
+    /// A request begins at node 1.
+    BeginAtOne,
 }
 
 impl Deed {
@@ -42,12 +46,14 @@ impl Deed {
             Deed::LeaveAndRetire => settling::leave_and_retire(rt, ring),
             Deed::GoOver => pieces::goes_over(rt, alloc, ring),
             Deed::TakeAndCrash => sights::takes_and_crashes(rt, alloc, ring),
+            Deed::LeaveToFull => pairs_of_nodes::leaves_to_full(rt, alloc, ring),
+            Deed::BeginAtOne => pairs_of_nodes::begins_at_one(rt, alloc, ring),
         }
     }
 }
 
 /// Does this while a node has a worker, and then stops the ring.
-fn with_worker_of<
+pub fn with_worker_of<
     J: Naming + Send + Sync,
     S: EntryStore + Send,
     R: Abort + Threads + Wait + Clock + Sync,
