@@ -5,7 +5,7 @@ use Rattle.std.proofs.lemmas.List.{length_push}
 use Rattle.chord_caller.specs.Answers.{new_caller}
 use Rattle.chord_caller.specs.Caller.{Caller}
 use Rattle.chord_live_ring.specs.Counts.{numbers_below}
-use Rattle.chord_table.specs.Views.{MayOpen}
+use Rattle.chord_table.specs.Views.{MayOpen, Register}
 
 -- a caller under the next number may be admitted
 pub open_may : (callers : List ℕ) (number window : ℕ) (core : Caller) → All (λ n. n < number) callers → 1 ≤ window → window ≤ 16 → core ≡ new_caller number window → MayOpen callers core
@@ -35,3 +35,17 @@ pub below_next : (numbers : List ℕ) (count number : ℕ) → number ≡ count 
 unfolding numbers_below
 below_next numbers count number same are =
     ap (λ ns. ns ++ number ∷ []) are ∙ ap (λ n. numbers_below count ++ n ∷ []) same ∙ ap numbers_below (let e : suc count ≡ count + 1 = omega arith in e)
+
+-- with the next caller admitted, the callers are those below the number after it, and the nodes are as before
+pub caller_counted : (old new : Register) (nodes callers : ℕ) → new ≡ record old { callers = old.callers ++ callers ∷ [] }
+    → length old.nodes ≡ nodes → All (λ no. no < nodes) old.nodes → All (λ no. no < callers) old.callers → old.nodes ≡ numbers_below nodes → old.callers ≡ numbers_below callers
+    → (length new.nodes ≡ nodes) × All (λ no. no < nodes) new.nodes × All (λ no. no < callers + 1) new.callers × (new.nodes ≡ numbers_below nodes) × (new.callers ≡ numbers_below (callers + 1))
+caller_counted old new nodes callers is long low below nodes_are callers_are =
+    let same = ap (λ (r : Register). r.nodes) is in
+    let more = ap (λ (r : Register). r.callers) is in (
+      ap length same ∙ long,
+      subst (All (λ no. no < nodes)) (sym same) low,
+      subst (All (λ no. no < callers + 1)) (sym more) (next_above old.callers callers below),
+      same ∙ nodes_are,
+      more ∙ below_next old.callers callers callers refl callers_are,
+    )

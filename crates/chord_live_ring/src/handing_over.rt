@@ -14,6 +14,19 @@ use std::alloc::AllocError;
 use std::sync::Wait;
 use std::sync::atomic::Ordering;
 
+/// A piece of a held segment that a node is to hand over.
+#[derive(Clone, Copy)]
+struct Handing {
+    /// The number of the node that gives it.
+    from: u64,
+    /// The index of the segment there.
+    place: usize,
+    /// Where the segment ends.
+    end: Id,
+    /// The number of the node that gets it.
+    to: u64,
+}
+
 /// The pairs of a handover: more than half as many and at most as many, but for more of one
 /// identifier. A node's lock is held for one of them at a time, at its giver and at its receiver.
 const PIECE_PAIRS: u64 = 1024;
@@ -38,23 +51,22 @@ impl<J: Naming, S: EntryStore> Ring<J, S> {
         if peer.number == number || self.phase_of(rt, peer.number) != Some(Phase::Staying) {
             return Ok(Round::Quiet);
         }
-        self.give(rt, number, place, end, peer.number)
+        let handing = Handing {
+            from: number,
+            place,
+            end,
+            to: peer.number,
+        };
+        self.give(rt, handing)
     }
 
-    /// Gives a piece of the held segment at this index, if it still ends here, and sends all its
-    /// parts.
-    fn give(
-        &self,
-        rt: &impl Wait,
-        number: u64,
-        place: usize,
-        end: Id,
-        to: u64,
-    ) -> Result<Round, AllocError> {
-        match self.give_first(rt, number, place, end, to) {
+    /// Gives the piece, if the segment still ends there, and sends all its parts.
+    fn give(&self, rt: &impl Wait, handing: Handing) -> Result<Round, AllocError> {
+        match self.give_first(rt, handing) {
             Ok((item, envelope)) => {
+                let Handing { from, to, .. } = handing;
                 self.post(rt, Target::Node(to), envelope);
-                self.send_parts(rt, number, to, item, 2, u64::MAX)?;
+                self.send_parts(rt, from, to, item, 2, u64::MAX)?;
                 Ok(Round::Busy)
             }
             Err(GiveFault::Memory) => Err(AllocError),
@@ -67,12 +79,15 @@ impl<J: Naming, S: EntryStore> Ring<J, S> {
     fn give_first(
         &self,
         rt: &impl Wait,
-        number: u64,
-        place: usize,
-        end: Id,
-        to: u64,
+        handing: Handing,
     ) -> Result<(u64, Envelope<J>), GiveFault> {
-        let Some(slot) = self.slots.get(number as usize) else {
+        let Handing {
+            from,
+            place,
+            end,
+            to,
+        } = handing;
+        let Some(slot) = self.slots.get(from as usize) else {
             return Err(GiveFault::NoSegment);
         };
         match &mut *slot.state.lock(rt) {
@@ -163,7 +178,15 @@ impl<J: Naming, S: EntryStore> Ring<J, S> {
             return Ok(Round::Quiet);
         };
         match self.heir(rt, &links) {
-            Some(to) => self.give(rt, number, 0, end, to),
+            Some(to) => {
+                let handing = Handing {
+                    from: number,
+                    place: 0,
+                    end,
+                    to,
+                };
+                self.give(rt, handing)
+            }
             None => Ok(Round::Quiet),
         }
     }

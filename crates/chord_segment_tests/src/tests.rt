@@ -393,39 +393,28 @@ struct Call {
     key: &'static [u8],
 }
 
-const FIRST_OF_3: Call = Call {
-    caller: 3,
-    number: 1,
-    key: b"b",
-};
+// The call of this caller, with this number and under this key.
+macro_rules! call_of {
+    ($caller:expr, $number:expr, $key:expr) => {
+        Call {
+            caller: $caller,
+            number: $number,
+            key: $key,
+        }
+    };
+}
 
-const THIRD_OF_3: Call = Call {
-    caller: 3,
-    number: 3,
-    key: b"abc",
-};
+const FIRST_OF_3: Call = call_of!(3, 1, b"b");
 
-const FIRST_OF_5: Call = Call {
-    caller: 5,
-    number: 1,
-    key: b"abc",
-};
+const THIRD_OF_3: Call = call_of!(3, 3, b"abc");
 
-const SECOND_OF_5: Call = Call {
-    caller: 5,
-    number: 2,
-    key: b"f",
-};
+const FIRST_OF_4: Call = call_of!(4, 1, b"abc");
 
-const FIRST_OF_9: Call = Call {
-    caller: 9,
-    ..FIRST_OF_5
-};
+const FIRST_OF_5: Call = call_of!(5, 1, b"abc");
 
-const FIRST_OF_4: Call = Call {
-    caller: 4,
-    ..FIRST_OF_5
-};
+const SECOND_OF_5: Call = call_of!(5, 2, b"f");
+
+const FIRST_OF_9: Call = call_of!(9, 1, b"abc");
 
 /// Calls of three callers under three keys, each with floor 0.
 const CALLS: &[Call] = &[FIRST_OF_5, FIRST_OF_3, FIRST_OF_9, SECOND_OF_5, THIRD_OF_3];

@@ -181,12 +181,17 @@ spends other w views shows = record {
       (at_set views other seat Spent u e);
 }
 
+-- what is allowed of the views that two seats show is allowed of the seats
+pub joins_as : (id other : ℕ) (me you : Me ℕ View) (v u : View) (both : View → View → View) → me ≡ (v, []) → you ≡ (u, []) → Joins IsKept id v other u (both v u) Spent
+    → Joins IsKept id me.0 other you.0 (both me.0 you.0) Spent
+joins_as id other me you v u both is came allowed =
+    subst (λ (m : Me ℕ View). Joins IsKept id m.0 other you.0 (both m.0 you.0) Spent) (sym is)
+    (subst (λ (y : Me ℕ View). Joins IsKept id v other y.0 (both v y.0) Spent) (sym came) allowed)
+
 -- an actor takes in a message that was sent
 pub receive_as : (id other : ℕ) (me you : Me ℕ View) (s : Sight) (message : Message) → me ≡ (view_of s, []) → you ≡ (Sent message, [])
     → Joins IsKept id me.0 other you.0 (with_message me.0 you.0) Spent
-receive_as id other me you s message is came =
-    subst (λ (m : Me ℕ View). Joins IsKept id m.0 other you.0 (with_message m.0 you.0) Spent) (sym is)
-    (subst (λ (y : Me ℕ View). Joins IsKept id (view_of s) other y.0 (with_message (view_of s) y.0) Spent) (sym came) allowed)
+receive_as id other me you s message is came = joins_as id other me you (view_of s) (Sent message) with_message is came allowed
   where
     itself : (actor : Actor) → AreOne actor actor
     itself (OfNode node) = refl
@@ -248,9 +253,7 @@ testify_as id me s caller is calls =
 -- one witness takes in another
 pub gather_as : (id other : ℕ) (me you : Me ℕ View) (callers more : List Caller) → me ≡ (Witnessed callers, []) → you ≡ (Witnessed more, [])
     → Joins IsKept id me.0 other you.0 (joined_witnesses me.0 you.0) Spent
-gather_as id other me you callers more is came =
-    subst (λ (m : Me ℕ View). Joins IsKept id m.0 other you.0 (joined_witnesses m.0 you.0) Spent) (sym is)
-    (subst (λ (y : Me ℕ View). Joins IsKept id (Witnessed callers) other y.0 (joined_witnesses (Witnessed callers) y.0) Spent) (sym came) allowed)
+gather_as id other me you callers more is came = joins_as id other me you (Witnessed callers) (Witnessed more) joined_witnesses is came allowed
   where
     heir : IsHeir (Witnessed callers) (Witnessed (callers ++ more))
     heir = record { left = λ u h. h; right = λ u h. absurd (witness_has_none (callers ++ more) u h) }

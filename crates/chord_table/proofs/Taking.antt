@@ -6,7 +6,7 @@ use lib.ListN.{get_elem?}
 use Rattle.atomic_table.specs.Table.{Me, Joins}
 use Rattle.atomic_table.proofs.Lists.{at_set}
 use Rattle.chord_model.specs.World.{World}
-use Rattle.chord_table.proofs.Keeping.{spent_has_none}
+use Rattle.chord_table.proofs.Keeping.{joins_as, spent_has_none}
 use Rattle.chord_table.specs.Actors.{AreOne}
 use Rattle.chord_table.specs.Seen.{Actor, OfNode, OfCaller, Sight, View, Admitted, Shown, Witnessed, Sent, Spent}
 use Rattle.chord_table.specs.Views.{OneIs, AllDiffer, IsSeen, IsTrueOf, HaveOneOwner, Shows, IsKept, view_of, Assembled, view_of_assembled, with_seat}
@@ -92,9 +92,7 @@ shows_joined world views id other v w both shows at there heir true = record {
 -- the registrar's seat takes in an actor's
 pub take_as : (id other : ℕ) (me you : Me ℕ View) (a : Assembled) (s : Sight) → me ≡ (view_of_assembled a, []) → you ≡ (view_of s, [])
     → Joins IsKept id me.0 other you.0 (with_seat me.0 you.0) Spent
-take_as id other me you a s is came =
-    subst (λ (m : Me ℕ View). Joins IsKept id m.0 other you.0 (with_seat m.0 you.0) Spent) (sym is)
-    (subst (λ (y : Me ℕ View). Joins IsKept id (view_of_assembled a) other y.0 (with_seat (view_of_assembled a) y.0) Spent) (sym came) allowed)
+take_as id other me you a s is came = joins_as id other me you (view_of_assembled a) (view_of s) with_seat is came allowed
   where
     both : View
     both = Admitted a.register.nodes a.register.callers (a.taken ++ s ∷ [])

@@ -14,7 +14,7 @@ use Rattle.chord_table.specs.Shown.{IsShown, NodeShown, CallerShown, IsIn, Witne
 use Rattle.chord_table.specs.Views.{IsTrueOfSome, Sight, NodeSight, CallerSight, node_in, caller_in}
 
 -- the headline is true of every reachable world
-abbrev HasHeadline : Type 0
+abbrev pub HasHeadline : Type 0
 HasHeadline = (world : World) → ∥ Reached world ∥₁ → Headline world
 
 pub node_told : (s : Sight) (v : NodeSight) → s.actor ≡ OfNode (node_in s.actor) → record { node = node_in s.actor; messages = s.messages } ≡ v
@@ -48,7 +48,7 @@ caller_told s v is shows seen headline =
       one_holder = all.one_holder;
     })
 
-pub witness_told : (callers : List Caller) → IsTrueOfSome (Witnessed callers) → HasHeadline → WitnessShown callers
+abbrev pub witness_told : (callers : List Caller) → IsTrueOfSome (Witnessed callers) → HasHeadline → WitnessShown callers
 witness_told callers (world, reached, there) headline =
     let all : Headline world = headline world ∣ reached ∣₁ in
     let stand : All (IsIn world.history) callers = All-weaker (WasThere world) (IsIn world.history) (λ c. was_in world all.history c) callers there in

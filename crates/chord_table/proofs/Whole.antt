@@ -9,12 +9,12 @@ use Rattle.chord_map.specs.History.{EachOnce}
 use Rattle.chord_model.specs.Headline.{Headline}
 use Rattle.chord_model.specs.Node.{Node}
 use Rattle.chord_model.specs.World.{World, Reached, node_at, caller_at}
-use Rattle.chord_table.proofs.Histories.{was_in, once_in_all}
 use Rattle.chord_table.proofs.Later.{later_itself}
+use Rattle.chord_table.proofs.Telling.{HasHeadline, witness_told}
 use Rattle.chord_table.specs.Actors.{IsThere, AreOne}
 use Rattle.chord_table.specs.Later.{WasThere}
 use Rattle.chord_table.specs.Seen.{Actor, OfNode, OfCaller, Sight}
-use Rattle.chord_table.specs.Shown.{IsIn, latest_callers, taken_by_all, AssemblyShown, WholeShown, world_of}
+use Rattle.chord_table.specs.Shown.{latest_callers, taken_by_all, AssemblyShown, WholeShown, world_of}
 use Rattle.chord_table.specs.Views.{OneIs, AllDiffer, IsSeen, IsTrueOfSome, Assembled, view_of_assembled, with_node, with_caller, among, nodes_among, callers_among, IsWhole}
 
 -- the first number, and the others
@@ -102,19 +102,22 @@ caller_or_not : (actor : Actor) → IsKind OfCaller with_caller actor
 caller_or_not (OfNode node) = Is_other (λ callers. refl)
 caller_or_not (OfCaller caller) = Is_one caller refl (λ callers. refl)
 
+-- each of these actors that is of this kind is there
+there_of : {A : Type 0} (of : A → Actor) (world : World) (taken : List Sight) → All (IsSeen world) taken → All (λ (s : Sight). (x : A) → s.actor ≡ of x → IsThere world (of x)) taken
+there_of {A = A} of world taken seen =
+    All-weaker (IsSeen world) (λ (s : Sight). (x : A) → s.actor ≡ of x → IsThere world (of x)) (λ (s : Sight) (h : IsSeen world s) x is. subst (IsThere world) is h.0) taken seen
+
 whole_nodes : (world : World) (taken : List Sight) → map (λ (n : Node). n.number) world.nodes ≡ map (λ (n : Node). n.number) (nodes_among taken) → AllDiffer taken
     → All (IsSeen world) taken → world.nodes ≡ nodes_among taken
 unfolding node_at
 whole_nodes world taken e differ seen =
-    whole (λ (n : Node). n.number) OfNode with_node (λ x y same. same) node_or_not world.nodes taken e differ
-    (All-weaker (IsSeen world) (λ (s : Sight). (node : Node) → s.actor ≡ OfNode node → node_at node.number world.nodes ≡ Some node) (λ (s : Sight) (h : IsSeen world s) node is. subst (IsThere world) is h.0) taken seen)
+    whole (λ (n : Node). n.number) OfNode with_node (λ x y same. same) node_or_not world.nodes taken e differ (there_of OfNode world taken seen)
 
 whole_callers : (world : World) (taken : List Sight) → map (λ (c : Caller). c.number) world.callers ≡ map (λ (c : Caller). c.number) (callers_among taken) → AllDiffer taken
     → All (IsSeen world) taken → world.callers ≡ callers_among taken
 unfolding caller_at
 whole_callers world taken e differ seen =
-    whole (λ (c : Caller). c.number) OfCaller with_caller (λ x y same. same) caller_or_not world.callers taken e differ
-    (All-weaker (IsSeen world) (λ (s : Sight). (caller : Caller) → s.actor ≡ OfCaller caller → caller_at caller.number world.callers ≡ Some caller) (λ (s : Sight) (h : IsSeen world s) caller is. subst (IsThere world) is h.0) taken seen)
+    whole (λ (c : Caller). c.number) OfCaller with_caller (λ x y same. same) caller_or_not world.callers taken e differ (there_of OfCaller world taken seen)
 
 -- ---- what a look proves
 
@@ -150,11 +153,9 @@ all_latest : (taken : List Sight) → AllDiffer taken → latest_callers (caller
 all_latest [] differ = refl
 all_latest (sight ∷ rest) differ = latest_step sight.actor rest differ.0 (all_latest rest differ.1)
 
-pub assembly_told : (a : Assembled) → IsTrueOfSome (view_of_assembled a) → ((world : World) → ∥ Reached world ∥₁ → Headline world) → AssemblyShown a
+pub assembly_told : (a : Assembled) → IsTrueOfSome (view_of_assembled a) → HasHeadline → AssemblyShown a
 assembly_told a (world, reached, (nodes, callers, differ, there)) headline =
-    let all : Headline world = headline world ∣ reached ∣₁ in
-    let stand : All (IsIn world.history) (callers_among a.taken) =
-    All-weaker (WasThere world) (IsIn world.history) (λ c. was_in world all.history c) (callers_among a.taken) (callers_seen world a.taken there) in
+    let told = witness_told (callers_among a.taken) (world, reached, callers_seen world a.taken there) headline in
     record {
       world = world;
       reached = reached;
@@ -162,11 +163,11 @@ assembly_told a (world, reached, (nodes, callers, differ, there)) headline =
       callers = callers;
       differ = differ;
       there = there;
-      headline = all;
-      legal = all.history.legal;
-      stand = stand;
-      once = subst (λ (cs : List Caller). EachOnce (taken_by_all cs)) (all_latest a.taken differ) (once_in_all world.history (callers_among a.taken) stand);
-      one_holder = all.one_holder;
+      headline = told.headline;
+      legal = told.legal;
+      stand = told.stand;
+      once = subst (λ (cs : List Caller). EachOnce (taken_by_all cs)) (all_latest a.taken differ) told.once;
+      one_holder = told.one_holder;
     }
 
 pub whole_told : (a : Assembled) → AssemblyShown a → IsWhole a → WholeShown a

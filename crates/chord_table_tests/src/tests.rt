@@ -1,5 +1,5 @@
 //! Seats of one table.
-ghost use Rattle.std.specs.Prelude.{◌≡◌, [], IfOk, Ok};
+ghost use Rattle.std.specs.Prelude.{◌≡◌, ◌<◌, [], IfOk, Ok};
 ghost use Rattle.chord_links.specs.NodeLinks.{alone};
 ghost use Rattle.chord_model.specs.Node.{founder};
 ghost use Rattle.chord_model.specs.declared.message.Message.TheVariants.{Ask as AskMessage};
@@ -20,6 +20,34 @@ use std::test::Fail;
 mod assemblies;
 mod clients;
 mod witnesses;
+
+#[test]
+fn a_caller_is_answered(rt: HostRuntime) -> Result<(), Fail> {
+    let alloc = rt.alloc();
+    let parts = Registrar::open(alloc, 2, 1)?;
+    let store: Box<dyn EntryStore + Send> = Box::new(alloc, CappedStore::new(alloc, 4))?;
+    let heard = is_answered_from_a_box::<Brand>(alloc, parts, store)?;
+    assert!(rt; heard == FRESH_AND_ADDED);
+    Ok(())
+}
+
+#[test]
+fn a_call_comes_as_it_was_sent(rt: HostRuntime) -> Result<(), Fail> {
+    let parts = Registrar::open(rt.alloc(), 2, 1)?;
+    assert!(rt; comes_as_it_was_sent::<Brand>(rt.alloc(), parts)?);
+    Ok(())
+}
+
+#[test]
+fn a_node_enters_later(rt: HostRuntime) -> Result<(), Fail> {
+    let parts = Registrar::open(rt.alloc(), 2, 1)?;
+    let comes = enters_later::<Brand>(rt.alloc(), parts)?;
+    assert!(rt;
+        comes,
+        "a call comes to a node that was admitted beside another"
+    );
+    Ok(())
+}
 
 /// Insert `x` under `abc`.
 fn insert(alloc: Global) -> Result<Request, AllocError> {
@@ -139,8 +167,23 @@ fn added_replies(core: &CallerCore) -> usize {
         .count()
 }
 
-/// A caller's call goes to a node, and its reply to the caller. Gives whether the call was the
-/// first one, what the caller heard, and how many replies Added it has.
+/// How the first call of a caller went.
+#[derive(Clone, Copy, Debug, PartialEq, Eq)]
+struct Exchange {
+    /// The call that was sent is the first one, to insert `x` under `abc`.
+    is_first: bool,
+    heard: Heard,
+    /// How many replies Added the caller has.
+    added: usize,
+}
+
+const FRESH_AND_ADDED: Exchange = Exchange {
+    is_first: true,
+    heard: Heard::Fresh,
+    added: 1,
+};
+
+/// A caller's call goes to a node, and its reply to the caller.
 fn hears<J: Naming, S: EntryStore>(
     alloc: Global,
     table: &Shared<J>,
@@ -148,7 +191,7 @@ fn hears<J: Naming, S: EntryStore>(
     seat: &mut NodeSeat<J>,
     core: &mut CallerCore,
     caller: &mut CallerSeat<J>,
-) -> Result<(bool, Heard, usize), Fail>
+) -> Result<Exchange, Fail>
     requires node { seat.old.node ≡ node.old }
     requires caller { caller.old.caller ≡ core.old }
 {
@@ -158,15 +201,32 @@ fn hears<J: Naming, S: EntryStore>(
     let heard = take(table, core, caller, told)?;
     seat.look(table);
     caller.look(table);
-    Ok((is_first, heard, added_replies(core)))
+    Ok(Exchange {
+        is_first,
+        heard,
+        added: added_replies(core),
+    })
 }
 
-/// Admits a node with this store and a caller for that, and gives the same three results.
+/// Lets a table go, with a node and its seat.
+fn let_go<J: Naming, S: EntryStore>(
+    table: Shared<J>,
+    registrar: Registrar<J>,
+    node: Node<S>,
+    seat: NodeSeat<J>,
+) {
+    drop(seat);
+    drop(node);
+    drop(registrar);
+    drop(table);
+}
+
+/// Admits a node with this store and a caller for that, and gives what `hears` gives.
 fn is_answered<J: Naming, S: EntryStore>(
     alloc: Global,
     parts: TableParts,
     store: S,
-) -> Result<(bool, Heard, usize), Fail>
+) -> Result<Exchange, Fail>
     requires name { parts ≡ J.name }
     requires slots { parts.slots ≡ 2 }
     requires callers { parts.callers ≡ 1 }
@@ -180,10 +240,7 @@ fn is_answered<J: Naming, S: EntryStore>(
     let heard = hears(alloc, &table, &mut node, &mut seat, &mut core, &mut caller);
     drop(caller);
     drop(core);
-    drop(seat);
-    drop(node);
-    drop(registrar);
-    drop(table);
+    let_go(table, registrar, node, seat);
     heard
 }
 
@@ -192,7 +249,7 @@ fn is_answered_from_a_box<J: Naming>(
     alloc: Global,
     parts: TableParts,
     store: Box<dyn EntryStore + Send>,
-) -> Result<(bool, Heard, usize), Fail>
+) -> Result<Exchange, Fail>
     requires name { parts ≡ J.name }
     requires slots { parts.slots ≡ 2 }
     requires callers { parts.callers ≡ 1 }
@@ -201,34 +258,27 @@ fn is_answered_from_a_box<J: Naming>(
     is_answered::<J, Box<dyn EntryStore + Send>>(alloc, parts, store)
 }
 
-#[test]
-fn a_caller_is_answered(rt: HostRuntime) -> Result<(), Fail> {
-    let alloc = rt.alloc();
-    let parts = Registrar::open(alloc, 2, 1)?;
-    let store: Box<dyn EntryStore + Send> = Box::new(alloc, CappedStore::new(alloc, 4))?;
-    let heard = is_answered_from_a_box::<Brand>(alloc, parts, store)?;
-    assert!(rt; heard == (true, Heard::Fresh, 1));
-    Ok(())
-}
-
-/// Checks that the message that a node takes in is the call that was sent.
+/// Admits a caller, and checks that the message that the node takes in is the call that it sent.
 fn comes<J: Naming>(
     alloc: Global,
     table: &Shared<J>,
+    registrar: &mut Registrar<J>,
     seat: &mut NodeSeat<J>,
-    core: &mut CallerCore,
-    caller: &mut CallerSeat<J>,
 ) -> Result<bool, Fail>
-    requires { caller.old.caller ≡ core.old }
+    requires callers { registrar.old.callers ≡ [] }
+    requires place { 0 < J.name.callers }
 {
-    let call = ask(table, core, caller, insert(alloc)?)?;
+    let request = insert(alloc)?;
+    let mut core = CallerCore::new(alloc, 0, 1);
+    let mut caller = registrar.admit_caller(table, 0, &core);
+    let call = ask(table, &mut core, &mut caller, request)?;
     let message = seat.receive(table, call);
     let is_first = is_first_call(&message);
     drop(message);
     Ok(is_first)
 }
 
-/// Admits a node and a caller for that check, and gives its result.
+/// Admits a node for that check, and gives its result.
 fn comes_as_it_was_sent<J: Naming>(alloc: Global, parts: TableParts) -> Result<bool, Fail>
     requires name { parts ≡ J.name }
     requires slots { parts.slots ≡ 2 }
@@ -237,23 +287,9 @@ fn comes_as_it_was_sent<J: Naming>(alloc: Global, parts: TableParts) -> Result<b
     let node = founded(alloc, 0, CappedStore::new(alloc, 4))?;
     let (table, mut registrar) = parts.assemble::<J>();
     let mut seat = registrar.admit_node(&table, 0, &node);
-    let mut core = CallerCore::new(alloc, 0, 1);
-    let mut caller = registrar.admit_caller(&table, 0, &core);
-    let comes = comes(alloc, &table, &mut seat, &mut core, &mut caller);
-    drop(caller);
-    drop(core);
-    drop(seat);
-    drop(node);
-    drop(registrar);
-    drop(table);
-    comes
-}
-
-#[test]
-fn a_call_comes_as_it_was_sent(rt: HostRuntime) -> Result<(), Fail> {
-    let parts = Registrar::open(rt.alloc(), 2, 1)?;
-    assert!(rt; comes_as_it_was_sent::<Brand>(rt.alloc(), parts)?);
-    Ok(())
+    let is_first = comes(alloc, &table, &mut registrar, &mut seat);
+    let_go(table, registrar, node, seat);
+    is_first
 }
 
 /// Admits a node beside another, and records an event of it. Checks that it takes in what a caller
@@ -263,39 +299,21 @@ fn enters_later<J: Naming>(alloc: Global, parts: TableParts) -> Result<bool, Fai
     requires slots { parts.slots ≡ 2 }
     requires callers { parts.callers ≡ 1 }
 {
-    let first = founded(alloc, 1, CappedStore::new(alloc, 4))?;
-    let (table, mut registrar) = parts.assemble::<J>();
-    drop(registrar.admit_node(&table, 1, &first));
-    drop(first);
     let other = Peer {
         number: 0,
         id: Id::new(7),
     };
     let links = Links::alone(other, 3);
+    let first = founded(alloc, 1, CappedStore::new(alloc, 4))?;
+    let (table, mut registrar) = parts.assemble::<J>();
+    drop(registrar.admit_node(&table, 1, &first));
+    drop(first);
     let mut node = Node::newborn(alloc, links, CappedStore::new(alloc, 4));
     let mut seat = registrar.admit_node(&table, 0, &node);
-    let mut core = CallerCore::new(alloc, 0, 1);
-    let mut caller = registrar.admit_caller(&table, 0, &core);
     node.set_links(links);
     seat.local(&table, &node);
     seat.look(&table);
-    let comes = comes(alloc, &table, &mut seat, &mut core, &mut caller);
-    drop(caller);
-    drop(core);
-    drop(seat);
-    drop(node);
-    drop(registrar);
-    drop(table);
-    comes
-}
-
-#[test]
-fn a_node_enters_later(rt: HostRuntime) -> Result<(), Fail> {
-    let parts = Registrar::open(rt.alloc(), 2, 1)?;
-    let comes = enters_later::<Brand>(rt.alloc(), parts)?;
-    assert!(rt;
-        comes,
-        "a call comes to a node that was admitted beside another"
-    );
-    Ok(())
+    let is_first = comes(alloc, &table, &mut registrar, &mut seat);
+    let_go(table, registrar, node, seat);
+    is_first
 }

@@ -1,5 +1,5 @@
 -- A node does a step: the world keeps its rules, and so does its ring.
-use Rattle.std.proofs.Common.{◌≡◌, ◌≢◌, ℕ, ◌≤◌, ◌||◌, Bool, true, false, Option, None, Some, List, [], length, set, refl, sym, ◌∙◌, ap, subst, arith}
+use Rattle.std.proofs.Common.{◌≡◌, ◌≢◌, ℕ, ◌<◌, ◌≤◌, ◌||◌, Bool, true, false, Option, None, Some, List, [], length, map, set, refl, sym, ◌∙◌, ap, subst, arith}
 use Rattle.std.specs.Prelude.{slice_get, slice_index_or}
 use Rattle.std.proofs.lemmas.Bool.{true≢false}
 use Rattle.std.proofs.lemmas.List.{length-set}
@@ -9,16 +9,19 @@ use Rattle.chord_ring.specs.Ring.{links_of, is_member, IsPrincipal}
 use Rattle.chord_ring.specs.Sound.{IsSound}
 use Rattle.chord_ring.specs.Steps.{Ring}
 use Rattle.chord_ring.proofs.Stepping.{Kept}
+use Rattle.chord_caller.proofs.Places.{got_set_other}
 use Rattle.chord_map.specs.declared.done.Done.{Done}
 use Rattle.chord_model.specs.declared.message.Message.{Message}
 use Rattle.chord_model.specs.Node.{Node, NodeStep}
 use Rattle.chord_model.specs.World.{WorldStep, WasSent, put_node, node_at, with_one}
 use Rattle.chord_model.specs.World.WorldStep.{Acts}
+use Rattle.chord_world.specs.declared.refusal.Refusal.TheVariants.{Memory as NoMemory}
 use Rattle.chord_world.specs.Members.{is_gone, links_unless, member_links, members_of, ring_with}
 use Rattle.chord_world.specs.State.{WorldState, NodesFrom, IsKnown, AreKnown, AreAimed, IsWorld, ring_of, is_crashed, KeepsRing}
+use Rattle.chord_world.specs.Steps.{RefusesCreate}
 use Rattle.chord_world.proofs.Placing.{nodes_by, calls_pushed}
-use Rattle.chord_world.proofs.RingLemmas.{get_other, ids_same, members_same, members_length, member_past, member_at}
-use Rattle.chord_world.proofs.Keeping.{further}
+use Rattle.chord_world.proofs.RingLemmas.{ids_same, members_same, members_length, member_past, member_at}
+use Rattle.chord_world.proofs.Keeping.{further, with_more, none_in, no_room, map_some}
 
 -- ---- what holds after a step
 
@@ -36,6 +39,22 @@ keeps_same view old new same nodes crashed =
       principals = λ node principal still. subst (λ ms. IsPrincipal ms node) (λ i. members_of (sym nodes i) (sym crashed i)) principal;
       crashed = λ number out. (ap (λ cs. slice_index_or cs number false) crashed ∙ out, ap (λ ns. slice_get ns number) nodes);
     })
+
+-- memory ran out before a first node was there: nothing changed
+pub record NotFounded (limits : List ℕ) (old new : WorldState) : Type 0 where
+  pub answer : RefusesCreate limits old NoMemory × (new ≡ old)
+  pub step : new ≡ old
+  pub ring : KeepsRing old new
+
+pub not_founded : {S : Type 0} (limit : S → ℕ) (stores : List S) (view old : WorldState) (nodes : List Node) (flags : List Bool) → view ≡ old → length view.world.nodes ≡ 0 → 0 < length stores
+    → nodes ≡ view.world.nodes → flags ≡ view.crashed → NotFounded (map limit stores) old (with_more nodes flags view)
+not_founded limit stores view old nodes flags viewed none some n f =
+    let same = no_room view old nodes flags viewed n f in
+    record {
+      answer = ((ap (λ (w : WorldState). w.world.nodes) (sym viewed) ∙ none_in view.world.nodes none, map_some limit stores some), same);
+      step = same;
+      ring = keeps_same view old (with_more nodes flags view) viewed n f;
+    }
 
 pub keeps_all : (old : WorldState) → KeepsRing old old
 keeps_all old = keeps_same old old old refl refl refl
@@ -121,7 +140,7 @@ acts place node after taken sent target done view kept acting =
             crashed = λ number out. (
               out,
               ap (λ ns. slice_get ns number) put
-                  ∙ get_other view.world.nodes place number after (λ same. true≢false (sym out ∙ ap (λ n. is_crashed n view) same ∙ acting.running)),
+                  ∙ got_set_other view.world.nodes place number after (λ same. true≢false (sym out ∙ ap (λ n. is_crashed n view) same ∙ acting.running)),
             );
           };
     }

@@ -36,8 +36,9 @@ use Rattle.chord_world.specs.Delivered.Delivers.{To_node, To_caller, Full_to_cal
 use Rattle.chord_world.specs.Delivered.IsFor.{Ask_for}
 use Rattle.chord_world.specs.declared.outcome.Outcome.{Outcome}
 use Rattle.chord_world.specs.declared.outcome.Outcome.TheVariants as did
-use Rattle.chord_world.specs.Delivering.{Answers, AnswersAt, CallAnswered, Hears, IsOwed, IsReceiver, message_by}
+use Rattle.chord_world.specs.Delivering.{Answers, AnswersAt, CallAnswered, HearsAt, IsOwed, IsReceiver, message_by}
 use Rattle.chord_world.proofs.Placing.{nodes_by, callers_by, call_at, aimed_pushed, aimed_at}
+use Rattle.chord_world.proofs.Keeping.{with_callers}
 use Rattle.chord_world.proofs.Acting.{After, SendsCall, ring_stays, acts_at}
 use Rattle.chord_world.proofs.Posting.{got, got_of, set_same, slice_get_there}
 use Rattle.chord_world.proofs.Speaking.{heard_is_world}
@@ -173,15 +174,11 @@ told_delivers place told view old heard core after same kept to =
     subst (λ (w : WorldState). Delivers place w (outcome_heard heard told.caller) (with_heard after view)) same
     (To_caller told core after heard to.sent (callers_by.found 0 told.caller told.caller view.world.callers kept.callers (omega arith) ∙ to.here) to.hears)
 
--- restated in the terms of the code
-abbrev pub after_hearing : List Caller → WorldState → WorldState
-after_hearing callers view = record view { world = record view.world { callers = callers } }
-
-pub heard_is : (told : Told) (view : WorldState) (heard : Heard) (callers : List Caller) → IsWorld view → (did : Hears told.caller told view.world.callers heard callers)
-    → after_hearing callers view ≡ with_heard did.after view
+pub heard_is : (told : Told) (view : WorldState) (heard : Heard) (callers : List Caller) → IsWorld view → (did : HearsAt told.caller told view.world.callers (Ok heard) callers)
+    → with_callers callers view ≡ with_heard did.after view
 heard_is told view heard callers kept did =
-    let at = heard_number told heard did.core did.after did.hears ∙ callers_by.number 0 told.caller did.core view.world.callers kept.callers did.here in
-    ap (λ (cs : List Caller). after_hearing cs view) (did.new_is ∙ sym (callers_by.put_is 0 told.caller did.after view.world.callers kept.callers at))
+    let at = heard_number told heard did.core did.after did.does ∙ callers_by.number 0 told.caller did.core view.world.callers kept.callers did.here in
+    ap (λ (cs : List Caller). with_callers cs view) (did.new_is ∙ sym (callers_by.put_is 0 told.caller did.after view.world.callers kept.callers at))
 
 -- a reply that was sent answers a request of its caller's own
 foreign_none : (told : Told) (core : Caller) → told.caller ≡ core.number → answers told.reply (submitted_by (Some core) told.number) ≡ true → IsForeign told core → ⊥
@@ -302,6 +299,10 @@ asked_of place to ask view answered did nodes sent target done = record { sent =
 pub world_after : (view new next : WorldState) → new ≡ next → IsWorld next → IsWorld new
 world_after view new next e h = subst IsWorld (sym e) h
 
+-- the callers are as they were
+pub callers_stay : (view : WorldState) (callers : List Caller) → callers ≡ view.world.callers → IsWorld view → IsWorld (with_callers callers view)
+callers_stay view callers same kept = subst IsWorld (sym (ap (λ cs. with_callers cs view) same)) kept
+
 pub step_after : (view old new next : WorldState) → view ≡ old → new ≡ next → WorldStep view.world next.world → WorldStep old.world new.world
 step_after view old new next same e h =
     subst (λ (w : WorldState). WorldStep w.world new.world) same (subst (λ (w : WorldState). WorldStep view.world w.world) (sym e) h)
@@ -328,8 +329,8 @@ ask_takes place to ask view old same kept sent target within running =
     Ask_takes ask to found.0 sent target (nodes_by.found 0 to to view.world.nodes kept.nodes (omega arith) ∙ found.1) (ap (is_crashed to) same ∙ running)
 
 pub told_to : (place : ℕ) (told : Told) (view : WorldState) (heard : Heard) (callers : List Caller) → slice_get view.world.sent place ≡ Some (ToldMessage told)
-    → (did : Hears told.caller told view.world.callers heard callers) → ToldTo place told view heard did.core did.after
-told_to place told view heard callers sent did = record { sent = sent; here = did.here; hears = did.hears }
+    → (did : HearsAt told.caller told view.world.callers (Ok heard) callers) → ToldTo place told view heard did.core did.after
+told_to place told view heard callers sent did = record { sent = sent; here = did.here; hears = did.does }
 
 -- ---- a call, from its receiver's answer
 

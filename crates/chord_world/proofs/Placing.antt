@@ -2,6 +2,7 @@
 -- a look-up reads an index, and a put writes it.
 use Rattle.std.proofs.Common.{◌≡◌, ◌≢◌, ℕ, zero, suc, ◌+◌, ◌≤◌, Option, None, Some, List, [], ◌∷◌, ◌++◌, length, set, find, eqb, refl, ◌∙◌, ap, subst, arith}
 use Rattle.std.specs.Prelude.{slice_get}
+use Rattle.std.proofs.lemmas.Option.{slice_get_past}
 use Rattle.chord_map.proofs.Equal.{eqb_same, eqb_other}
 use Rattle.chord_caller.specs.declared.ask.Ask.{Ask}
 use Rattle.chord_caller.specs.Caller.{Caller}
@@ -9,7 +10,7 @@ use Rattle.chord_model.specs.declared.message.Message.{Message}
 use Rattle.chord_model.specs.declared.message.Message.TheVariants.{Ask as AskMessage, Told as ToldMessage, Full as FullMessage, Part as PartMessage, Got as GotMessage, Declined as DeclinedMessage, Note as NoteMessage}
 use Rattle.chord_model.specs.Node.{Node}
 use Rattle.chord_model.specs.World.{put_in_place, node_at, put_node, caller_at, put_caller}
-use Rattle.chord_world.specs.State.{NumberedFrom, IsKnown, AreKnown, IsAimed, AreAimed}
+use Rattle.chord_world.specs.State.{WorldState, NumberedFrom, IsKnown, AreKnown, IsAimed, AreAimed}
 
 -- ---- elements whose numbers are their indices
 
@@ -74,6 +75,18 @@ nodes_by = by_index (λ (n : Node). n.number)
 pub callers_by : ByIndex (λ (c : Caller). c.number) caller_at put_caller
 unfolding caller_at put_caller
 callers_by = by_index (λ (c : Caller). c.number)
+
+-- ---- in a world whose fields these are
+
+pub stands_at : {A : Type 0} {number_of : A → ℕ} {at : ℕ → List A → Option A} {put : A → List A → List A} → ByIndex number_of at put → (of : WorldState → List A) (place : ℕ) (view old : WorldState) (x : A)
+    → view ≡ old → NumberedFrom number_of 0 (of view) → slice_get (of view) place ≡ Some x → at place (of old) ≡ Some x
+stands_at {at = at} numbers of place view old x same numbered here =
+    subst (λ (w : WorldState). at place (of w) ≡ Some x) same (numbers.found 0 place place (of view) numbered (omega arith) ∙ here)
+
+pub missing_at : {A : Type 0} {number_of : A → ℕ} {at : ℕ → List A → Option A} {put : A → List A → List A} → ByIndex number_of at put → (of : WorldState → List A) (place : ℕ) (view old : WorldState)
+    → view ≡ old → NumberedFrom number_of 0 (of view) → length (of view) ≤ place → at place (of old) ≡ None
+missing_at {at = at} numbers of place view old same numbered past =
+    subst (λ (w : WorldState). at place (of w) ≡ None) same (numbers.found 0 place place (of view) numbered (omega arith) ∙ slice_get_past (of view) place past)
 
 -- ---- messages
 

@@ -1,8 +1,7 @@
 -- Nodes whose links change.
-use Rattle.std.proofs.Common.{◌≡◌, ℕ, ◌<◌, ◌≤◌, ◌||◌, Bool, true, false, inl, inr, None, Some, List, length, set, refl, sym, ◌∙◌, ap, subst, arith}
+use Rattle.std.proofs.Common.{◌≡◌, ℕ, ◌<◌, ◌≤◌, ◌||◌, Bool, true, false, inl, inr, None, Some, List, length, get_or, set, refl, sym, ◌∙◌, ap, subst}
 use Rattle.std.specs.Prelude.{slice_get}
 use Rattle.std.proofs.lemmas.Bool.{cases_Bool}
-use Rattle.std.proofs.lemmas.Option.{slice_get_past}
 use Rattle.chord_links.specs.declared.peer.Peer.{Peer}
 use Rattle.chord_model.specs.Node.{Node}
 use Rattle.chord_model.specs.Node.NodeStep.{Links_change}
@@ -12,20 +11,21 @@ use Rattle.chord_ring.proofs.Stepping.{Kept, Kept-fingers}
 use Rattle.chord_world.specs.Members.{is_gone, links_unless, member_links, ring_with}
 use Rattle.chord_world.specs.State.{WorldState, IsWorld, ring_of, is_crashed}
 use Rattle.chord_world.specs.Linking.{IsFinger, with_finger_at, with_node, Points, PointsAt}
-use Rattle.chord_world.proofs.Placing.{nodes_by}
+use Rattle.chord_world.proofs.Placing.{nodes_by, stands_at, missing_at}
 use Rattle.chord_world.proofs.RingLemmas.{member_at, ring_relinked}
 use Rattle.chord_world.proofs.Keeping.{with_nodes}
 use Rattle.chord_world.proofs.Acting.{After, node_there, ring_is, acts_at}
-use Rattle.chord_world.proofs.Posting.{slice_get_there}
+use Rattle.chord_world.proofs.Posting.{got, slice_get_there}
 
 pub node_stands : (place : ℕ) (view old : WorldState) (node : Node) → view ≡ old → IsWorld view → slice_get view.world.nodes place ≡ Some node → node_at place old.world.nodes ≡ Some node
-node_stands place view old node same kept here =
-    subst (λ (w : WorldState). node_at place w.world.nodes ≡ Some node) same (nodes_by.found 0 place place view.world.nodes kept.nodes (omega arith) ∙ here)
+node_stands place view old node same kept here = stands_at nodes_by (λ (w : WorldState). w.world.nodes) place view old node same kept.nodes here
 
 pub node_missing : (place : ℕ) (view old : WorldState) → view ≡ old → IsWorld view → length view.world.nodes ≤ place → node_at place old.world.nodes ≡ None
-node_missing place view old same kept past =
-    subst (λ (w : WorldState). node_at place w.world.nodes ≡ None) same
-    (nodes_by.found 0 place place view.world.nodes kept.nodes (omega arith) ∙ slice_get_past view.world.nodes place past)
+node_missing place view old same kept past = missing_at nodes_by (λ (w : WorldState). w.world.nodes) place view old same kept.nodes past
+
+-- the node that was read at an index has that number
+pub node_found : (place : ℕ) (view old : WorldState) (node : Node) → view ≡ old → IsWorld view → place < length view.world.nodes → node ≡ get_or view.world.nodes place node → node_at place old.world.nodes ≡ Some node
+node_found place view old node same kept within is = node_stands place view old node same kept (got view.world.nodes place node within is)
 
 -- the ring after it: unchanged except for the fingers
 pointed_ring : (place finger : ℕ) (peer : Peer) (node : Node) (view : WorldState) → IsWorld view → slice_get view.world.nodes place ≡ Some node → is_crashed place view ≡ false

@@ -1,6 +1,6 @@
 -- Calls that are submitted.
 use Rattle.std.proofs.Common.{◌≡◌, ◌≢◌, ℕ, zero, suc, false, ◌<◌, ◌≤◌, Option, None, Some, Ok, Err, List, [], ◌∷◌, ◌++◌, length, map, set, get_or, refl, sym, ◌∙◌, ap, subst, arith}
-use Rattle.std.proofs.lemmas.Option.{slice_get_past, slice_get_within}
+use Rattle.std.proofs.lemmas.Option.{slice_get_within}
 use Rattle.std.proofs.lemmas.List.{length-set}
 use Rattle.std.specs.Prelude.{◌==◌, slice_get}
 use Rattle.chord_map.specs.declared.request.Request.{Request}
@@ -21,8 +21,8 @@ use Rattle.chord_world.specs.State.{WorldState, IsThere, CallersFrom, AreKnown, 
 use Rattle.chord_world.specs.declared.refusal.Refusal.{Refusal}
 use Rattle.chord_world.specs.Refusals.{refusal_of}
 use Rattle.chord_world.specs.Steps.{with_ask, Sends, RefusesCall, RefusesSubmit}
-use Rattle.chord_world.specs.Sending.{CanSubmit, Submitted}
-use Rattle.chord_world.proofs.Placing.{callers_by, calls_pushed, aimed_pushed}
+use Rattle.chord_world.specs.Sending.{CanSubmit, SubmitsAt}
+use Rattle.chord_world.proofs.Placing.{callers_by, stands_at, missing_at, calls_pushed, aimed_pushed}
 use Rattle.chord_world.proofs.Keeping.{further}
 
 -- the submission can fail for memory only
@@ -59,13 +59,15 @@ set_same (y ∷ xs) (suc place) x e = ap (λ zs. y ∷ zs) (set_same xs place x 
 
 -- the caller of a number is at its index
 pub caller_stands : (caller : ℕ) (view old : WorldState) (core : Caller) → view ≡ old → IsWorld view → slice_get view.world.callers caller ≡ Some core → caller_at caller old.world.callers ≡ Some core
-caller_stands caller view old core same kept here =
-    subst (λ (w : WorldState). caller_at caller w.world.callers ≡ Some core) same (callers_by.found 0 caller caller view.world.callers kept.callers (omega arith) ∙ here)
+caller_stands caller view old core same kept here = stands_at callers_by (λ (w : WorldState). w.world.callers) caller view old core same kept.callers here
 
 pub caller_missing : (caller : ℕ) (view old : WorldState) → view ≡ old → IsWorld view → length view.world.callers ≤ caller → caller_at caller old.world.callers ≡ None
-caller_missing caller view old same kept past =
-    subst (λ (w : WorldState). caller_at caller w.world.callers ≡ None) same
-    (callers_by.found 0 caller caller view.world.callers kept.callers (omega arith) ∙ slice_get_past view.world.callers caller past)
+caller_missing caller view old same kept past = missing_at callers_by (λ (w : WorldState). w.world.callers) caller view old same kept.callers past
+
+-- the caller that was read at an index has that number
+pub caller_found : (caller : ℕ) (view old : WorldState) (core : Caller) → view ≡ old → IsWorld view → caller < length view.world.callers → core ≡ get_or view.world.callers caller core
+    → caller_at caller old.world.callers ≡ Some core
+caller_found caller view old core same kept within is = caller_stands caller view old core same kept (got view.world.callers caller core within is)
 
 pub caller_within : (caller : ℕ) (view old : WorldState) → view ≡ old → IsWorld view → caller < length view.world.callers → (core : Caller) × (caller_at caller old.world.callers ≡ Some core)
 caller_within caller view old same kept within =
@@ -125,10 +127,10 @@ abbrev pub posted : List Caller → List Message → List (Option ℕ) → World
 posted callers sent targets view = record view { world = record view.world { callers = callers; sent = sent }; targets = targets }
 
 pub posted_is : (caller via : ℕ) (request : Request) (view : WorldState) (callers : List Caller) (sent before : List Message) (targets earlier : List (Option ℕ)) (ask : Ask) → IsWorld view
-    → (did : Submitted caller request view.world.callers ask callers) → sent ≡ before ++ AskMessage ask ∷ [] → before ≡ view.world.sent → targets ≡ earlier ++ Some via ∷ [] → earlier ≡ view.targets
+    → (did : SubmitsAt caller request view.world.callers (Ok ask) callers) → sent ≡ before ++ AskMessage ask ∷ [] → before ≡ view.world.sent → targets ≡ earlier ++ Some via ∷ [] → earlier ≡ view.targets
     → posted callers sent targets view ≡ with_ask did.after ask via view
 posted_is caller via request view callers sent before targets earlier ask kept did s s' t t' =
-    let at = sent_number request did.core did.after ask did.submits ∙ callers_by.number 0 caller did.core view.world.callers kept.callers did.here in
+    let at = sent_number request did.core did.after ask did.does ∙ callers_by.number 0 caller did.core view.world.callers kept.callers did.here in
     let number : did.after.number ≡ caller = omega arith in
     let put : callers ≡ put_caller did.after view.world.callers = did.new_is ∙ sym (callers_by.put_is 0 caller did.after view.world.callers kept.callers (omega arith)) in
     let messages : sent ≡ view.world.sent ++ AskMessage ask ∷ [] = s ∙ ap (λ (xs : List Message). xs ++ AskMessage ask ∷ []) s' in
@@ -136,14 +138,14 @@ posted_is caller via request view callers sent before targets earlier ask kept d
     λ i. posted (put i) (messages i) (nodes i) view
 
 pub there_of : (caller via : ℕ) (request : Request) (view : WorldState) (ask : Ask) (callers : List Caller) → IsWorld view → via < length view.world.nodes
-    → (did : Submitted caller request view.world.callers ask callers) → IsThere caller via view did.core
+    → (did : SubmitsAt caller request view.world.callers (Ok ask) callers) → IsThere caller via view did.core
 there_of caller via request view ask callers kept node did = (node, callers_by.found 0 caller caller view.world.callers kept.callers (omega arith) ∙ did.here)
 
 pub posted_sends : (caller via number : ℕ) (request : Request) (view old : WorldState) (callers : List Caller) (ask : Ask) (new : WorldState) → view ≡ old → IsWorld view → via < length view.world.nodes
-    → (did : Submitted caller request view.world.callers ask callers) → number ≡ length view.world.sent → new ≡ with_ask did.after ask via view → Sends caller via request old number new
+    → (did : SubmitsAt caller request view.world.callers (Ok ask) callers) → number ≡ length view.world.sent → new ≡ with_ask did.after ask via view → Sends caller via request old number new
 posted_sends caller via number request view old callers ask new same kept node did at is =
     subst (λ w. Sends caller via request w number new) same
-    (record { core = did.core; after = did.after; ask = ask; there = there_of caller via request view ask callers kept node did; submits = did.submits; numbered = at; new_is = is })
+    (record { core = did.core; after = did.after; ask = ask; there = there_of caller via request view ask callers kept node did; submits = did.does; numbered = at; new_is = is })
 
 -- the caller's refusal is that of the step
 refused_by : (caller via : ℕ) (request : Request) (old : WorldState) (fault : SubmitFault) → RefusesCall caller via request old fault → RefusesSubmit caller via request old (refusal_of fault)
@@ -161,12 +163,12 @@ pub node_there : (caller via : ℕ) (request : Request) (view old : WorldState) 
 node_there caller via request view old same may = subst (λ (w : WorldState). via < length w.world.nodes) (sym same) may.there.0
 
 pub posted_is_world : (caller via : ℕ) (request : Request) (view : WorldState) (callers : List Caller) (ask : Ask) (new : WorldState) → IsWorld view → via < length view.world.nodes
-    → (did : Submitted caller request view.world.callers ask callers) → new ≡ with_ask did.after ask via view → IsWorld new
+    → (did : SubmitsAt caller request view.world.callers (Ok ask) callers) → new ≡ with_ask did.after ask via view → IsWorld new
 posted_is_world caller via request view callers ask new kept node did is =
-    subst IsWorld (sym is) (sent_is_world caller via request view did.core did.after ask (there_of caller via request view ask callers kept node did) did.submits kept)
+    subst IsWorld (sym is) (sent_is_world caller via request view did.core did.after ask (there_of caller via request view ask callers kept node did) did.does kept)
 
 pub posted_step : (caller via : ℕ) (request : Request) (view old : WorldState) (callers : List Caller) (ask : Ask) (new : WorldState) → view ≡ old → IsWorld view → via < length view.world.nodes
-    → (did : Submitted caller request view.world.callers ask callers) → new ≡ with_ask did.after ask via view → WorldStep old.world new.world
+    → (did : SubmitsAt caller request view.world.callers (Ok ask) callers) → new ≡ with_ask did.after ask via view → WorldStep old.world new.world
 posted_step caller via request view old callers ask new same kept node did is =
     subst (λ (w : WorldState). WorldStep w.world new.world) same
-    (subst (λ (w : WorldState). WorldStep view.world w.world) (sym is) (sends_step caller via request view did.core did.after ask (there_of caller via request view ask callers kept node did) did.submits))
+    (subst (λ (w : WorldState). WorldStep view.world w.world) (sym is) (sends_step caller via request view did.core did.after ask (there_of caller via request view ask callers kept node did) did.does))

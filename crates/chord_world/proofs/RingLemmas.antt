@@ -1,5 +1,5 @@
 -- The ring formed by the nodes, after a node changes, joins or crashes.
-use Rattle.std.proofs.Common.{◌≡◌, ◌≢◌, ℕ, zero, suc, ◌<◌, ◌≤◌, ◌||◌, Bool, true, false, None, Some, List, [], ◌∷◌, ◌++◌, length, map, set, refl, sym, ◌∙◌, ap, arith}
+use Rattle.std.proofs.Common.{◌≡◌, ℕ, zero, suc, ◌<◌, ◌≤◌, ◌||◌, Bool, true, false, None, Some, List, [], ◌∷◌, ◌++◌, length, map, set, refl, sym, ◌∙◌, ap, arith}
 use Rattle.std.specs.Prelude.{slice_get, slice_index_or}
 use Rattle.std.proofs.lemmas.List.{get_or_past, length-map}
 use Rattle.chord_links.specs.NodeLinks.{NodeLinks}
@@ -10,14 +10,6 @@ use Rattle.chord_world.specs.State.{WorldState, is_crashed}
 use Rattle.chord_world.specs.Members.{is_gone, links_unless, member_links, members_of, id_of_node, ids_of, ring_with}
 
 -- ---- lists
-
-pub get_other : {A : Type 0} (xs : List A) (place other : ℕ) (x : A) → other ≢ place → slice_get (set xs place x) other ≡ slice_get xs other
-get_other [] zero other x apart = refl
-get_other [] (suc place) other x apart = refl
-get_other (y ∷ xs) zero zero x apart = absurd (apart refl)
-get_other (y ∷ xs) zero (suc other) x apart = refl
-get_other (y ∷ xs) (suc place) zero x apart = refl
-get_other (y ∷ xs) (suc place) (suc other) x apart = get_other xs place other x (λ same. apart (ap suc same))
 
 pub get_pushed : {A : Type 0} (xs : List A) (place : ℕ) (x : A) → place < length xs → slice_get (xs ++ x ∷ []) place ≡ slice_get xs place
 get_pushed [] place x within = absurd (omega arith)

@@ -17,7 +17,7 @@ use Rattle.chord_world.specs.declared.outcome.Outcome.{Outcome}
 use Rattle.chord_world.specs.Handing.{DoesAt}
 use Rattle.chord_world.specs.Linking.{with_node}
 use Rattle.chord_world.specs.declared.sent.Sent.{Sent}
-use Rattle.chord_world.specs.State.{WorldState, messages_of, AreAimed, IsWorld, is_crashed}
+use Rattle.chord_world.specs.State.{WorldState, messages_of, targets_of, IsKnown, AreAimed, IsWorld, is_crashed}
 use Rattle.chord_world.specs.Delivered.{IsFor, IsForCrashed, TakesMemory, Delivers}
 use Rattle.chord_world.specs.Delivered.TakesMemory.{Part_takes, Declined_takes}
 use Rattle.chord_world.specs.Delivered.Delivers.{Part_to_node, Got_to_node, Declined_to_node}
@@ -78,6 +78,14 @@ pub for_out : (place to : ℕ) (view old : WorldState) → view ≡ old → IsWo
 for_out place to view old same kept within is_for out =
     let found = node_within to view old same kept within in
     record { to = to; node = found.0; is_for = subst (λ w. IsFor place w to) same is_for; here = found.1; crashed = out }
+
+-- the giver that a message was sent to crashed
+pub giver_out : (place : ℕ) (message : Message) (giver : ℕ) (view old : WorldState) → view ≡ old → IsWorld view → slice_get old.world.sent place ≡ Some message
+    → (IsKnown (length view.world.nodes) (length view.world.callers) message → giver < length view.world.nodes) → (slice_get view.world.sent place ≡ Some message → IsFor place view giver)
+    → is_crashed giver old ≡ true → IsForCrashed place old
+giver_out place message giver view old same kept here within is_for out =
+    let sent = sent_here view old place message same here in
+    for_out place giver view old same kept (within (call_at (length view.world.nodes) (length view.world.callers) view.world.sent place message kept.calls sent)) (is_for sent) out
 
 -- ---- a part
 
@@ -161,6 +169,26 @@ came place to view old asked part items before read_as same messages here own is
     let sent : slice_get view.world.sent place ≡ Some (PartMessage part) =
     ap (λ ms. slice_get ms place) (sym messages) ∙ read items before place read_as (PartMessage part) is_sent within is_read is_part in
     record { sent = sent; own = ap (λ (p : Part). p.to) (same_part view place part asked sent asked_here) ∙ own }
+
+-- what the delivery of a part did, after its receiver took it in and its answer was sent
+pub record PartDelivered (place to : ℕ) (answer : PartAnswer) (count : ℕ) (old new : WorldState) : Type 0 where
+  pub after : After old new
+  pub delivers : (outcome : Outcome) → outcome_of_given answer count ≡ Some outcome → Delivers place old outcome new
+
+pub part_delivered : (place to : ℕ) (part : Part) (answer : PartAnswer) (ticket : Ticket) (view old : WorldState) (nodes : List Node) (room sent : List Sent) → view ≡ old → IsWorld view → is_crashed to old ≡ false
+    → Came place to part view → DoesAt (PartIs part) (PartSteps part) to view.world.nodes (Ok answer) nodes → ticket ≡ ticket_of_part part
+    → messages_of room ≡ view.world.sent → targets_of room ≡ view.targets
+    → messages_of sent ≡ with_one (messages_of room) (confirmation ticket answer) → targets_of sent ≡ with_one (targets_of room) (no_target (confirmation ticket answer))
+    → PartDelivered place to answer (length (messages_of room)) old (after_part nodes (messages_of sent) (targets_of sent) view)
+part_delivered place to part answer ticket view old nodes room sent same kept running it does named s t s' t' =
+    let took : TookPart place to part answer view nodes = record { sent = it.sent; own = it.own; does = does } in
+    let is = part_is place to part answer ticket view nodes (messages_of sent) (messages_of room) (targets_of sent) (targets_of room) kept took named s' s t' t in
+    record {
+      after = part_after place to part answer view old (after_part nodes (messages_of sent) (targets_of sent) view) nodes same kept running took is;
+      delivers = λ outcome told.
+          part_delivers place to part answer view old (after_part nodes (messages_of sent) (targets_of sent) view) nodes outcome same kept running took is
+          (ap (λ (ms : List Message). outcome_of_given answer (length ms)) (sym s) ∙ told);
+    }
 
 -- no answer to a part that was sent is a clash
 pub part_fits : (place to : ℕ) (part : Part) (answer : PartAnswer) (view : WorldState) (nodes : List Node) → IsWorld view → Came place to part view

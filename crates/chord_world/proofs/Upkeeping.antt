@@ -21,7 +21,7 @@ use Rattle.chord_model.specs.Node.NodeStep.{Links_change, Retires}
 use Rattle.chord_model.specs.World.{WorldStep, node_at, put_node}
 use Rattle.chord_model.specs.World.WorldStep.{Joins as JoinsWorld}
 use Rattle.chord_world.specs.Members.{is_gone, members_of, id_of_node, ids_of, ring_with}
-use Rattle.chord_world.specs.State.{WorldState, NodesFrom, IsWorld, ring_of, is_crashed, KeepsRing}
+use Rattle.chord_world.specs.State.{WorldState, IsWorld, ring_of, is_crashed, KeepsRing}
 use Rattle.chord_world.specs.declared.outcome.Outcome.{Outcome}
 use Rattle.chord_world.specs.declared.refusal.Refusal.{Refusal}
 use Rattle.chord_world.specs.Joining.{with_newborn, CanJoin, JoinIs, JoinsBehind, MayJoin, RefusesJoin}

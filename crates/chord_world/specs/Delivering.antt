@@ -17,6 +17,7 @@ use Rattle.chord_model.specs.World.{with_one}
 use Rattle.chord_world.specs.declared.outcome.Outcome.{Outcome}
 use Rattle.chord_world.specs.declared.refusal.Refusal.{Refusal}
 use Rattle.chord_world.specs.State.{WorldState, is_crashed}
+use Rattle.chord_world.specs.Sending.{CallerDoes}
 use Rattle.chord_world.specs.Delivered.{RefusesDeliver, outcome_of, target_of}
 
 -- the node at this index answered the call; the list has the node afterwards
@@ -32,18 +33,9 @@ abbrev pub AnswersAt : ℕ → Ask → List Node → Result (Answered × Option 
 AnswersAt place ask old (Ok both) new = Answers place ask old both.0 both.1 new
 AnswersAt place ask old (Err refused) new = new ≡ old
 
--- the caller at this index heard the reply; the list has the caller afterwards
-pub record Hears (place : ℕ) (told : Told) (old : List Caller) (heard : Heard) (new : List Caller) : Type 0 where
-  pub core : Caller
-  pub after : Caller
-  pub here : slice_get old place ≡ Some core
-  pub hears : TakeIs told core (Ok heard) after
-  pub new_is : new ≡ slice_set old place after
-
--- it heard, or memory ran out and nothing changed
+-- the caller at this index hears the reply
 abbrev pub HearsAt : ℕ → Told → List Caller → Result Heard AllocError → List Caller → Type 0
-HearsAt place told old (Ok heard) new = Hears place told old heard new
-HearsAt place told old (Err refused) new = new ≡ old
+HearsAt place told old result new = CallerDoes place (λ (heard : Heard) core after. TakeIs told core (Ok heard) after) old result new
 
 -- the reply answers a request of the caller at this index
 abbrev pub IsOwed : ℕ → Told → List Caller → Type 0

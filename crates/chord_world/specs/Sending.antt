@@ -21,15 +21,19 @@ pub record CanSubmit (place : ℕ) (request : Request) (callers : List Caller) :
   pub here : slice_get callers place ≡ Some core
   pub can : SubmitIs request core (Err Memory) core
 
--- the caller at this index submitted the request; the list has the caller afterwards
-pub record Submitted (place : ℕ) (request : Request) (old : List Caller) (ask : Ask) (new : List Caller) : Type 0 where
+-- the caller at this index did this; the list has the caller afterwards
+pub record CallerDid (place : ℕ) (Did : Caller → Caller → Type 0) (old new : List Caller) : Type 0 where
   pub core : Caller
   pub after : Caller
   pub here : slice_get old place ≡ Some core
-  pub submits : SubmitIs request core (Ok ask) after
+  pub does : Did core after
   pub new_is : new ≡ slice_set old place after
 
--- it submitted, or memory ran out and nothing changed
+-- it did this, or memory ran out and nothing changed
+abbrev pub CallerDoes : {A : Type 0} → ℕ → (A → Caller → Caller → Type 0) → List Caller → Result A AllocError → List Caller → Type 0
+CallerDoes place Does old (Ok answer) new = CallerDid place (Does answer) old new
+CallerDoes place Does old (Err refused) new = new ≡ old
+
+-- the caller at this index submits the request
 abbrev pub SubmitsAt : ℕ → Request → List Caller → Result Ask AllocError → List Caller → Type 0
-SubmitsAt place request old (Ok ask) new = Submitted place request old ask new
-SubmitsAt place request old (Err refused) new = new ≡ old
+SubmitsAt place request old result new = CallerDoes place (λ (ask : Ask) core after. SubmitIs request core (Ok ask) after) old result new

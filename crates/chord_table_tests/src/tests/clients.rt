@@ -2,7 +2,7 @@
 ghost use Rattle.std.specs.Prelude.{◌≡◌, IfOk, OnOk};
 ghost use Rattle.chord_caller.specs.Client.{IsCoreOf};
 
-use super::{founded, insert, is_first_call, reply};
+use super::{founded, insert, is_first_call, let_go, reply};
 use chord_caller::{ClientCore, TakeOutcome};
 use chord_map::{Reply, Request};
 use chord_node::{Message, Node};
@@ -11,6 +11,13 @@ use chord_table::{CallerSeat, Envelope, Naming, NodeSeat, Registrar, Shared, Tab
 use std::alloc::Global;
 use std::marker::Brand;
 use std::test::Fail;
+
+#[test]
+fn a_reply_is_handed_out(rt: HostRuntime) -> Result<(), Fail> {
+    let parts = Registrar::open(rt.alloc(), 2, 1)?;
+    assert!(rt; hands_out::<Brand>(rt.alloc(), parts)?);
+    Ok(())
+}
 
 /// The client submits the request, and the seat sends its call.
 fn submits<J: Naming>(
@@ -121,16 +128,6 @@ fn hands_out<J: Naming>(alloc: Global, parts: TableParts) -> Result<bool, Fail>
     let heard = hears_once(alloc, &table, &mut node, &mut seat, &mut core, &mut caller);
     drop(caller);
     drop(core);
-    drop(seat);
-    drop(node);
-    drop(registrar);
-    drop(table);
+    let_go(table, registrar, node, seat);
     heard
-}
-
-#[test]
-fn a_reply_is_handed_out(rt: HostRuntime) -> Result<(), Fail> {
-    let parts = Registrar::open(rt.alloc(), 2, 1)?;
-    assert!(rt; hands_out::<Brand>(rt.alloc(), parts)?);
-    Ok(())
 }

@@ -2,13 +2,21 @@
 ghost use Rattle.std.specs.Prelude.{◌≡◌, [], ◌∷◌};
 ghost use Rattle.chord_table.specs.Shown.{WitnessShown};
 
-use super::{founded, hears};
-use chord_caller::{CallerCore, Heard};
+use super::{Exchange, FRESH_AND_ADDED, founded, hears, let_go};
+use chord_caller::CallerCore;
 use chord_store::CappedStore;
 use chord_table::{CallerSeat, Naming, Registrar, Shared, TableParts, Witness};
 use std::alloc::Global;
 use std::marker::Brand;
 use std::test::Fail;
+
+#[test]
+fn two_callers_share_a_world(rt: HostRuntime) -> Result<(), Fail> {
+    let parts = Registrar::open(rt.alloc(), 2, 2)?;
+    let heard = two_share_a_world::<Brand>(rt.alloc(), parts)?;
+    assert!(rt; heard == FRESH_AND_ADDED);
+    Ok(())
+}
 
 /// Proves that what two callers took is in one history of one world, each call once.
 fn share_a_world<J: Naming>(
@@ -28,10 +36,7 @@ fn share_a_world<J: Naming>(
 
 /// A node answers the first of two callers, and then one look proves something of both. Gives what
 /// `hears` gives.
-fn two_share_a_world<J: Naming>(
-    alloc: Global,
-    parts: TableParts,
-) -> Result<(bool, Heard, usize), Fail>
+fn two_share_a_world<J: Naming>(alloc: Global, parts: TableParts) -> Result<Exchange, Fail>
     requires name { parts ≡ J.name }
     requires slots { parts.slots ≡ 2 }
     requires callers { parts.callers ≡ 2 }
@@ -47,17 +52,6 @@ fn two_share_a_world<J: Naming>(
     drop(second);
     drop(first);
     drop(core);
-    drop(seat);
-    drop(node);
-    drop(registrar);
-    drop(table);
+    let_go(table, registrar, node, seat);
     heard
-}
-
-#[test]
-fn two_callers_share_a_world(rt: HostRuntime) -> Result<(), Fail> {
-    let parts = Registrar::open(rt.alloc(), 2, 2)?;
-    let heard = two_share_a_world::<Brand>(rt.alloc(), parts)?;
-    assert!(rt; heard == (true, Heard::Fresh, 1));
-    Ok(())
 }

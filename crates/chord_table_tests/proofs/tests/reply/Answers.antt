@@ -1,4 +1,4 @@
-use Rattle.std.proofs.Common.{◌≡◌, ◌∙◌, Option, Some, Ok, [], ◌∷◌, ◌++◌, sym, subst, Contains}
+use Rattle.std.proofs.Common.{◌≡◌, ◌∙◌, Option, Some, [], ◌∷◌, ◌++◌, sym, subst, Contains}
 use Rattle.std.proofs.lemmas.List.Elements.{Contains-push}
 use Rattle.chord_caller.specs.declared.ask.Ask.{Ask}
 use Rattle.chord_node.specs.Asked.{ask_done}

@@ -1,6 +1,4 @@
-use Rattle.std.proofs.Common.{◌<◌, ◌+◌, ◌∙◌, length, All, subst, sym, ap, refl}
-use Rattle.chord_live_ring.proofs.Counting.{open_may, next_above, below_next}
-use Rattle.chord_table.specs.Views.{Register}
+use Rattle.chord_live_ring.proofs.Counting.{open_may, caller_counted}
 use Rattle.chord_live_ring.proofs.numbers.Numbers.admit_caller.Goals as goal
 
 pub admit_caller-seat-requires-clause-may : goal.admit_caller-seat-requires-clause-may
@@ -10,13 +8,5 @@ admit_caller-seat-requires-clause-may g c =
 pub invariant_of-self : goal.invariant_of-self
 invariant_of-self g c =
     let i = c.self.invariant in
-    let nodes = ap (λ (r : Register). r.nodes) c.admit_caller-seat.ensures.admitted in
-    let callers = ap (λ (r : Register). r.callers) c.admit_caller-seat.ensures.admitted in (
-      i.0,
-      i.1,
-      ap length nodes ∙ i.2,
-      subst (All (λ no. no < c.self.inside.nodes)) (sym nodes) i.3,
-      subst (All (λ no. no < c.self.inside.callers + 1)) (sym callers) (next_above c.self.inside.registrar.callers c.self.inside.callers i.4),
-      nodes ∙ i.5,
-      callers ∙ below_next c.self.inside.registrar.callers c.self.inside.callers c.self.inside.callers refl i.6,
-    )
+    let now = caller_counted c.self.inside.registrar _ c.self.inside.nodes c.self.inside.callers c.admit_caller-seat.ensures.admitted i.2 i.3 i.4 i.5 i.6 in
+    (i.0, i.1, now.0, now.1, now.2, now.3, now.4)

@@ -15,6 +15,6 @@ returns-in-Ok c = record {
   core = c.index_mut-core.result.now;
   after = c.take.new.self;
   here = got c.args.callers.now.items c.args.place c.index_mut-core.result.now c.requires.place c.index_mut-core.ensures.value;
-  hears = subst (λ (t : Told). TakeIs t c.index_mut-core.result.now (Ok c.in-Ok.heard) c.take.new.self) (told_copy c.args.told.now c.in_ok-reply.reply c.in_ok-reply.ensures.copy) c.in-Ok.ensures.answer;
+  does = subst (λ (t : Told). TakeIs t c.index_mut-core.result.now (Ok c.in-Ok.heard) c.take.new.self) (told_copy c.args.told.now c.in_ok-reply.reply c.in_ok-reply.ensures.copy) c.in-Ok.ensures.answer;
   new_is = refl;
 }

@@ -3,8 +3,8 @@ use Rattle.chord_world.specs.View.{state_of}
 use Rattle.chord_world.specs.State.{WorldState}
 use Rattle.chord_world.proofs.Handing.{is_zero}
 use Rattle.chord_world.proofs.Posting.{not_zero}
-use Rattle.chord_world.proofs.Keeping.{none_in, founded_items, founded_flags, founded_at, founded_answer, founded_step, founded_keeps, limit_first, map_some, no_room}
-use Rattle.chord_world.proofs.Acting.{keeps_same}
+use Rattle.chord_world.proofs.Keeping.{none_in, founded_items, founded_flags, founded_at, founded_answer, founded_step, founded_keeps, limit_first}
+use Rattle.chord_world.proofs.Acting.{not_founded}
 use Rattle.chord_world.proofs.world.World.create.Goals as goal
 
 pub invariant_of-self-in-Ok : goal.invariant_of-self-in-Ok
@@ -30,27 +30,15 @@ returns-in-Ok g c =
 
 pub returns-then-is_err : goal.returns-then-is_err
 returns-then-is_err g c =
-    let view : WorldState = state_of c.self.inside in
-    let same = no_room view c.args.self.now _ _ c.self.view_is c.room_for_node.ensures.nodes c.room_for_node.ensures.crashed in
-    let none = none_in view.world.nodes (let zero = is_zero _ c.if-not-is_empty.ensures in omega arith) in
-    let some : 0 < length c.args.stores.now.items = (let many = not_zero _ c.if-is_empty.ensures in omega arith) in record {
-      answer = ((ap (λ (w : WorldState). w.world.nodes) (sym c.self.view_is) ∙ none, map_some g.S.EntryStore.limit c.args.stores.now.items some), same);
-      step = same;
-      ring = keeps_same _ c.args.self.now _ c.self.view_is c.room_for_node.ensures.nodes c.room_for_node.ensures.crashed;
-      stores = search rules;
-    }
+    let kept = not_founded g.S.EntryStore.limit c.args.stores.now.items (state_of c.self.inside) c.args.self.now _ _ c.self.view_is
+    (let zero = is_zero _ c.if-not-is_empty.ensures in omega arith) (let many = not_zero _ c.if-is_empty.ensures in omega arith) c.room_for_node.ensures.nodes c.room_for_node.ensures.crashed in
+    record { answer = kept.answer; step = kept.step; ring = kept.ring; stores = search rules }
 
 pub returns-in-Err : goal.returns-in-Err
 returns-in-Err g c =
-    let view : WorldState = state_of c.self.inside in
-    let same = no_room view c.args.self.now _ _ c.self.view_is c.room_for_node.ensures.nodes c.room_for_node.ensures.crashed in
-    let none = none_in view.world.nodes (let zero = is_zero _ c.if-not-is_empty.ensures in omega arith) in
-    let some : 0 < length c.args.stores.now.items = (let many = not_zero _ c.if-is_empty.ensures in omega arith) in record {
-      answer = ((ap (λ (w : WorldState). w.world.nodes) (sym c.self.view_is) ∙ none, map_some g.S.EntryStore.limit c.args.stores.now.items some), same);
-      step = same;
-      ring = keeps_same _ c.args.self.now _ c.self.view_is c.room_for_node.ensures.nodes c.room_for_node.ensures.crashed;
-      stores = search rules;
-    }
+    let kept = not_founded g.S.EntryStore.limit c.args.stores.now.items (state_of c.self.inside) c.args.self.now _ _ c.self.view_is
+    (let zero = is_zero _ c.if-not-is_empty.ensures in omega arith) (let many = not_zero _ c.if-is_empty.ensures in omega arith) c.room_for_node.ensures.nodes c.room_for_node.ensures.crashed in
+    record { answer = kept.answer; step = kept.step; ring = kept.ring; stores = search rules }
 
 pub returns-then-is_empty-clause-answer : goal.returns-then-is_empty-clause-answer
 returns-then-is_empty-clause-answer g c =

@@ -1,6 +1,7 @@
 use Rattle.std.proofs.Common.{Ok, Err, refl, ◌∙◌, ap}
 use Rattle.chord_node.specs.Received.{BackIs, BackSteps}
 use Rattle.chord_world.specs.Handing.{DoesAt}
+use Rattle.chord_model.specs.declared.message.Message.TheVariants.{Declined as DeclinedMessage}
 use Rattle.chord_world.specs.View.{state_of}
 use Rattle.chord_world.specs.State.{WorldState}
 use Rattle.chord_world.specs.Delivered.IsFor.{Declined_for}
@@ -9,15 +10,15 @@ use Rattle.chord_world.proofs.Answering.{sent_here, stays}
 use Rattle.chord_world.proofs.Handing.{nodes_stay, left_world}
 use Rattle.chord_world.proofs.Keeping.{with_nodes}
 use Rattle.chord_world.proofs.RingLemmas.{flag_old}
-use Rattle.chord_world.proofs.Taking.{numbered, declined_ends, for_out, back_stays, back_takes, back_fits, back_after, back_delivers}
+use Rattle.chord_world.proofs.Taking.{numbered, declined_ends, giver_out, back_stays, back_takes, back_fits, back_after, back_delivers}
 use Rattle.chord_world.proofs.world.World.deliver_declined.Goals as goal
 
 pub returns-then-is_out-clause-answer : goal.returns-then-is_out-clause-answer
-returns-then-is_out-clause-answer g c =
-    let view : WorldState = state_of c.self.inside in
-    let sent = sent_here view c.args.self.now c.args.place _ c.self.view_is c.requires.declined in
-    let ends = declined_ends view c.args.place c.args.declined c.self.invariant sent in
-    (for_out c.args.place c.args.declined.from view c.args.self.now c.self.view_is c.self.invariant ends.0 (Declined_for c.args.declined sent) (flag_old c.args.declined.from view c.args.self.now _ _ c.self.view_is c.deref.ensures.value c.is_out.ensures c.if-is_out.true), refl)
+returns-then-is_out-clause-answer g c = (
+  giver_out c.args.place (DeclinedMessage c.args.declined) c.args.declined.from _ c.args.self.now c.self.view_is c.self.invariant c.requires.declined (λ ends. ends.0) (λ sent. Declined_for c.args.declined sent)
+      (flag_old c.args.declined.from _ c.args.self.now _ _ c.self.view_is c.deref.ensures.value c.is_out.ensures c.if-is_out.true),
+  refl,
+)
 
 pub take_back_in-requires-clause-place : goal.take_back_in-requires-clause-place
 take_back_in-requires-clause-place g c =

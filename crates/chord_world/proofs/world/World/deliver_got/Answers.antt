@@ -1,18 +1,19 @@
 use Rattle.std.proofs.Common.{refl}
+use Rattle.chord_model.specs.declared.message.Message.TheVariants.{Got as GotMessage}
 use Rattle.chord_world.specs.View.{state_of}
 use Rattle.chord_world.specs.State.{WorldState}
 use Rattle.chord_world.specs.Delivered.IsFor.{Got_for}
 use Rattle.chord_world.proofs.Answering.{sent_here}
 use Rattle.chord_world.proofs.RingLemmas.{flag_old}
-use Rattle.chord_world.proofs.Taking.{numbered, got_ends, for_out, got_after, got_delivers}
+use Rattle.chord_world.proofs.Taking.{numbered, got_ends, giver_out, got_after, got_delivers}
 use Rattle.chord_world.proofs.world.World.deliver_got.Goals as goal
 
 pub returns-then-is_out-clause-answer : goal.returns-then-is_out-clause-answer
-returns-then-is_out-clause-answer g c =
-    let view : WorldState = state_of c.self.inside in
-    let sent = sent_here view c.args.self.now c.args.place _ c.self.view_is c.requires.got in
-    let ends = got_ends view c.args.place c.args.got c.self.invariant sent in
-    (for_out c.args.place c.args.got.from view c.args.self.now c.self.view_is c.self.invariant ends.0 (Got_for c.args.got sent) (flag_old c.args.got.from view c.args.self.now _ _ c.self.view_is c.deref.ensures.value c.is_out.ensures c.if-is_out.true), refl)
+returns-then-is_out-clause-answer g c = (
+  giver_out c.args.place (GotMessage c.args.got) c.args.got.from _ c.args.self.now c.self.view_is c.self.invariant c.requires.got (λ ends. ends.0) (λ sent. Got_for c.args.got sent)
+      (flag_old c.args.got.from _ c.args.self.now _ _ c.self.view_is c.deref.ensures.value c.is_out.ensures c.if-is_out.true),
+  refl,
+)
 
 pub free_in-freed-requires-clause-place : goal.free_in-freed-requires-clause-place
 free_in-freed-requires-clause-place g c =

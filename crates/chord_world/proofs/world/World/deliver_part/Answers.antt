@@ -1,17 +1,15 @@
-use Rattle.std.proofs.Common.{Ok, Err, List, length, refl, sym, ◌∙◌, ap, subst, arith}
-use Rattle.chord_model.specs.declared.message.Message.{Message}
+use Rattle.std.proofs.Common.{Ok, Err, refl, sym, ◌∙◌, ap, subst, arith}
 use Rattle.chord_node.specs.Received.{PartIs, PartSteps}
 use Rattle.chord_world.specs.Handing.{DoesAt}
 use Rattle.chord_world.specs.View.{state_of}
 use Rattle.chord_world.specs.State.{WorldState, IsWorld, messages_of, targets_of}
 use Rattle.chord_world.specs.Delivered.{IsFor}
 use Rattle.chord_world.specs.Delivered.IsFor.{Part_for}
-use Rattle.chord_world.specs.Taking.{outcome_of_given}
 use Rattle.chord_world.proofs.Acting.{keeps_same}
 use Rattle.chord_world.proofs.Answering.{place_within, read_is, sent_here, stays, same_fields}
 use Rattle.chord_world.proofs.Handing.{nodes_stay}
 use Rattle.chord_world.proofs.RingLemmas.{flag_old}
-use Rattle.chord_world.proofs.Taking.{TookPart, Came, came, numbered, receiver_place, for_out, part_fits, part_is, part_after, part_delivers, part_stays, part_takes}
+use Rattle.chord_world.proofs.Taking.{Came, came, numbered, receiver_place, for_out, part_fits, part_delivered, part_stays, part_takes}
 use Rattle.chord_world.proofs.world.World.deliver_part.Goals as goal
 
 pub returns-then-is_out-clause-answer : goal.returns-then-is_out-clause-answer
@@ -92,29 +90,15 @@ confirm-requires-clause-fits g c =
 
 pub invariant_of-self-2 : goal.invariant_of-self-2
 invariant_of-self-2 g c =
-    let view : WorldState = state_of c.self.inside in
-    let running = flag_old c.args.to view c.args.self.now _ _ c.self.view_is c.deref.ensures.value c.is_out.ensures c.if-is_out.false in
-    let it : Came c.args.place c.args.to c.in-Part.part view = came c.args.place c.args.to view c.args.self.now c.requires.part.0 c.in-Part.part c.reserve.new.self.items c.self.inside.sent.items c.index.result.now
-    c.self.view_is refl c.requires.part.1 c.requires.part.2 c.reserve.ensures.items c.index.ensures c.in-Part.is in
-    let does : DoesAt (PartIs c.in-Part.part) (PartSteps c.in-Part.part) c.args.to view.world.nodes (Ok c.in-Ok.given) c.take_in.new.nodes.items = c.in-Ok.ensures in
-    let took : TookPart c.args.place c.args.to c.in-Part.part c.in-Ok.given view c.take_in.new.nodes.items = record { sent = it.sent; own = it.own; does = does } in
-    let is = part_is c.args.place c.args.to c.in-Part.part c.in-Ok.given c.of-ticket.result view c.take_in.new.nodes.items (messages_of c.confirm.new.sent.items) (messages_of c.reserve.new.self.items) (targets_of c.confirm.new.sent.items) (targets_of c.reserve.new.self.items)
-    c.self.invariant took c.of-ticket.ensures c.confirm.ensures.sent (ap messages_of c.reserve.ensures.items) c.confirm.ensures.targets (ap targets_of c.reserve.ensures.items) in
-    (part_after c.args.place c.args.to c.in-Part.part c.in-Ok.given view c.args.self.now _ c.take_in.new.nodes.items c.self.view_is c.self.invariant running took is).world
+    let it : Came c.args.place c.args.to c.in-Part.part (state_of c.self.inside) = came c.args.place c.args.to (state_of c.self.inside) c.args.self.now c.requires.part.0 c.in-Part.part c.reserve.new.self.items c.self.inside.sent.items c.index.result.now c.self.view_is refl c.requires.part.1 c.requires.part.2 c.reserve.ensures.items c.index.ensures c.in-Part.is in
+    (part_delivered c.args.place c.args.to c.in-Part.part c.in-Ok.given c.of-ticket.result (state_of c.self.inside) c.args.self.now c.take_in.new.nodes.items c.reserve.new.self.items c.confirm.new.sent.items
+    c.self.view_is c.self.invariant (flag_old c.args.to _ c.args.self.now _ _ c.self.view_is c.deref.ensures.value c.is_out.ensures c.if-is_out.false) it c.in-Ok.ensures
+    c.of-ticket.ensures (ap messages_of c.reserve.ensures.items) (ap targets_of c.reserve.ensures.items) c.confirm.ensures.sent c.confirm.ensures.targets).after.world
 
 pub returns : goal.returns
 returns g c =
-    let view : WorldState = state_of c.self.inside in
-    let running = flag_old c.args.to view c.args.self.now _ _ c.self.view_is c.deref.ensures.value c.is_out.ensures c.if-is_out.false in
-    let it : Came c.args.place c.args.to c.in-Part.part view = came c.args.place c.args.to view c.args.self.now c.requires.part.0 c.in-Part.part c.reserve.new.self.items c.self.inside.sent.items c.index.result.now
-    c.self.view_is refl c.requires.part.1 c.requires.part.2 c.reserve.ensures.items c.index.ensures c.in-Part.is in
-    let does : DoesAt (PartIs c.in-Part.part) (PartSteps c.in-Part.part) c.args.to view.world.nodes (Ok c.in-Ok.given) c.take_in.new.nodes.items = c.in-Ok.ensures in
-    let took : TookPart c.args.place c.args.to c.in-Part.part c.in-Ok.given view c.take_in.new.nodes.items = record { sent = it.sent; own = it.own; does = does } in
-    let is = part_is c.args.place c.args.to c.in-Part.part c.in-Ok.given c.of-ticket.result view c.take_in.new.nodes.items (messages_of c.confirm.new.sent.items) (messages_of c.reserve.new.self.items) (targets_of c.confirm.new.sent.items) (targets_of c.reserve.new.self.items)
-    c.self.invariant took c.of-ticket.ensures c.confirm.ensures.sent (ap messages_of c.reserve.ensures.items) c.confirm.ensures.targets (ap targets_of c.reserve.ensures.items) in
-    let after = part_after c.args.place c.args.to c.in-Part.part c.in-Ok.given view c.args.self.now _ c.take_in.new.nodes.items c.self.view_is c.self.invariant running took is in record {
-      answer = part_delivers c.args.place c.args.to c.in-Part.part c.in-Ok.given view c.args.self.now _ c.take_in.new.nodes.items c.confirm.result c.self.view_is c.self.invariant running took is
-          (ap (λ (xs : List Message). outcome_of_given c.in-Ok.given (length xs)) (sym (ap messages_of c.reserve.ensures.items)) ∙ c.confirm.ensures.outcome);
-      step = after.step;
-      ring = after.ring;
-    }
+    let it : Came c.args.place c.args.to c.in-Part.part (state_of c.self.inside) = came c.args.place c.args.to (state_of c.self.inside) c.args.self.now c.requires.part.0 c.in-Part.part c.reserve.new.self.items c.self.inside.sent.items c.index.result.now c.self.view_is refl c.requires.part.1 c.requires.part.2 c.reserve.ensures.items c.index.ensures c.in-Part.is in
+    let did = part_delivered c.args.place c.args.to c.in-Part.part c.in-Ok.given c.of-ticket.result (state_of c.self.inside) c.args.self.now c.take_in.new.nodes.items c.reserve.new.self.items c.confirm.new.sent.items
+    c.self.view_is c.self.invariant (flag_old c.args.to _ c.args.self.now _ _ c.self.view_is c.deref.ensures.value c.is_out.ensures c.if-is_out.false) it c.in-Ok.ensures
+    c.of-ticket.ensures (ap messages_of c.reserve.ensures.items) (ap targets_of c.reserve.ensures.items) c.confirm.ensures.sent c.confirm.ensures.targets in
+    record { answer = did.delivers c.confirm.result c.confirm.ensures.outcome; step = did.after.step; ring = did.after.ring }

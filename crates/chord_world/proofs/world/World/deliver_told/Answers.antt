@@ -1,13 +1,13 @@
-use Rattle.std.proofs.Common.{◌≡◌, Some, List, length, refl, ap, ◌∙◌}
+use Rattle.std.proofs.Common.{◌≡◌, Some, Ok, List, length, refl, ap, ◌∙◌}
 use Rattle.std.specs.Prelude.{slice_get}
 use Rattle.chord_model.specs.declared.message.Message.TheVariants.{Told as ToldMessage}
 use Rattle.chord_world.specs.View.{state_of}
 use Rattle.chord_world.specs.State.{WorldState}
 use Rattle.chord_world.proofs.Placing.{call_at}
-use Rattle.chord_world.specs.Delivering.{Hears}
+use Rattle.chord_world.specs.Delivering.{HearsAt}
 use Rattle.chord_world.specs.Delivered.TakesMemory.{Told_takes}
 use Rattle.chord_caller.specs.Caller.{Caller}
-use Rattle.chord_world.proofs.Answering.{place_within, read, sent_here, stays, told_owed, told_to, told_step, told_is_world, told_delivers, heard_is, world_after, step_after, delivers_after}
+use Rattle.chord_world.proofs.Answering.{place_within, read, sent_here, stays, told_owed, told_to, told_step, told_is_world, told_delivers, heard_is, callers_stay, world_after, step_after, delivers_after}
 use Rattle.chord_world.proofs.Acting.{keeps_same}
 use Rattle.chord_world.proofs.Keeping.{with_callers}
 use Rattle.chord_world.proofs.world.World.deliver_told.Goals as goal
@@ -31,7 +31,7 @@ invariant_of-self-2 g c =
     let view : WorldState = state_of c.self.inside in
     let within = place_within c.self.inside.sent.items c.self.inside.sent.items c.args.place _ refl (sent_here view c.args.self.now c.args.place _ c.self.view_is c.requires.told.1) in
     let sent : slice_get view.world.sent c.args.place ≡ Some (ToldMessage c.in-Told.told) = read c.self.inside.sent.items c.self.inside.sent.items c.args.place c.index.result.now _ refl within c.index.ensures c.in-Told.is in
-    let did : Hears c.in-Told.told.caller c.in-Told.told view.world.callers c.in-Ok.heard c.hear_at.new.callers.items = c.in-Ok.ensures in
+    let did : HearsAt c.in-Told.told.caller c.in-Told.told view.world.callers (Ok c.in-Ok.heard) c.hear_at.new.callers.items = c.in-Ok.ensures in
     let to = told_to c.args.place c.in-Told.told view c.in-Ok.heard c.hear_at.new.callers.items sent did in
     let is = heard_is c.in-Told.told view c.in-Ok.heard c.hear_at.new.callers.items c.self.invariant did in
     world_after view _ _ is (told_is_world c.args.place c.in-Told.told view c.in-Ok.heard did.core did.after c.self.invariant to)
@@ -41,7 +41,7 @@ returns g c =
     let view : WorldState = state_of c.self.inside in
     let within = place_within c.self.inside.sent.items c.self.inside.sent.items c.args.place _ refl (sent_here view c.args.self.now c.args.place _ c.self.view_is c.requires.told.1) in
     let sent : slice_get view.world.sent c.args.place ≡ Some (ToldMessage c.in-Told.told) = read c.self.inside.sent.items c.self.inside.sent.items c.args.place c.index.result.now _ refl within c.index.ensures c.in-Told.is in
-    let did : Hears c.in-Told.told.caller c.in-Told.told view.world.callers c.in-Ok.heard c.hear_at.new.callers.items = c.in-Ok.ensures in
+    let did : HearsAt c.in-Told.told.caller c.in-Told.told view.world.callers (Ok c.in-Ok.heard) c.hear_at.new.callers.items = c.in-Ok.ensures in
     let to = told_to c.args.place c.in-Told.told view c.in-Ok.heard c.hear_at.new.callers.items sent did in
     let is = heard_is c.in-Told.told view c.in-Ok.heard c.hear_at.new.callers.items c.self.invariant did in record {
       answer = delivers_after c.args.place c.args.self.now _ _ c.outcome_of_heard.result _ is c.outcome_of_heard.ensures
@@ -61,9 +61,7 @@ pub returns-in_default-hear_at-clause-ring : goal.returns-in_default-hear_at-cla
 returns-in_default-hear_at-clause-ring g c = keeps_same (state_of c.self.inside) c.args.self.now _ c.self.view_is refl refl
 
 pub invariant_of-self : goal.invariant_of-self
-invariant_of-self g c =
-    let view : WorldState = state_of c.self.inside in
-    world_after view _ view (ap (λ cs. with_callers cs view) c.in_default-hear_at.ensures) c.self.invariant
+invariant_of-self g c = callers_stay (state_of c.self.inside) _ c.in_default-hear_at.ensures c.self.invariant
 
 pub returns-in_default-hear_at-clause-step : goal.returns-in_default-hear_at-clause-step
 returns-in_default-hear_at-clause-step g c = ap (λ cs. with_callers cs (state_of c.self.inside)) c.in_default-hear_at.ensures ∙ c.self.view_is

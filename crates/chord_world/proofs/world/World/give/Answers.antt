@@ -1,4 +1,4 @@
-use Rattle.std.proofs.Common.{Ok, Err, length, refl, sym, ◌∙◌, ap, subst, arith}
+use Rattle.std.proofs.Common.{Ok, Err, length, refl, sym, ◌∙◌, ap, subst}
 use Rattle.chord_node.specs.declared.fault.GiveFault.TheVariants.{Memory}
 use Rattle.chord_node.specs.Moves.{SendSteps, GiveIs}
 use Rattle.chord_world.specs.Handing.{DoesAt}

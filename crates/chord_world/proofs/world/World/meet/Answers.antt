@@ -4,7 +4,7 @@ use Rattle.chord_model.specs.declared.message.Message.TheVariants.{Note as NoteM
 use Rattle.chord_world.specs.View.{state_of}
 use Rattle.chord_world.specs.State.{WorldState}
 use Rattle.chord_world.specs.Calling.{Met}
-use Rattle.chord_world.proofs.Answering.{read, sent_there, was_sent, world_after, step_after}
+use Rattle.chord_world.proofs.Answering.{read, sent_there, was_sent, callers_stay, world_after, step_after}
 use Rattle.chord_world.proofs.Speaking.{caller_in, heard_is_world, met_step, met_is, meets_after, meets_not}
 use Rattle.chord_world.proofs.Acting.{keeps_same, keeps_all}
 use Rattle.chord_world.proofs.Handing.{advances_not}
@@ -67,6 +67,4 @@ pub returns-in_err-meet_at-clause-ring : goal.returns-in_err-meet_at-clause-ring
 returns-in_err-meet_at-clause-ring g c = keeps_same (state_of c.self.inside) c.args.self.now _ c.self.view_is refl refl
 
 pub invariant_of-self : goal.invariant_of-self
-invariant_of-self g c =
-    let view : WorldState = state_of c.self.inside in
-    world_after view _ view (ap (λ cs. with_callers cs view) c.in_err-meet_at.ensures) c.self.invariant
+invariant_of-self g c = callers_stay (state_of c.self.inside) _ c.in_err-meet_at.ensures c.self.invariant

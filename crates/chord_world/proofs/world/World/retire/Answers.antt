@@ -1,4 +1,4 @@
-use Rattle.std.proofs.Common.{false, Ok, Err, refl, subst, arith}
+use Rattle.std.proofs.Common.{false, Ok, Err, refl, subst}
 use Rattle.chord_node.specs.Moves.{MoveSteps, RetireIs}
 use Rattle.chord_world.specs.Handing.{NeededIs, DoesAt}
 use Rattle.chord_world.specs.Handing.CannotAct.{Is_missing}
