@@ -2,3 +2,4 @@ pub mod Ended
 pub mod Patience
 pub mod Until
 pub mod Doors
+pub mod Polling

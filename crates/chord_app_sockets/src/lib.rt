@@ -1,8 +1,9 @@
 //! What a server needs besides its ring: where it listens ([`ServerSetup`], [`Doors`],
 //! [`OperatorPort`]), the open connections ([`Clients`]), how long it waits for each
-//! ([`PatientReader`], [`PatientWriter`], [`PollingReader`]), how each ends ([`Ended`]) and is closed
-//! ([`close_slowly`]), the lines that it writes ([`Lines`]), when it ends ([`Until`], [`Stop`]), and
-//! what its handle may do ([`Host`]).
+//! ([`PatientReader`], [`PatientWriter`]), when a read polls and beside how many others
+//! ([`PollingReader`], [`Pollers`]), how each ends ([`Ended`]) and is closed ([`close_slowly`]),
+//! the lines that it writes ([`Lines`]), when it ends ([`Until`], [`Stop`]), and what its handle may
+//! do ([`Host`]).
 #![tactic(auto)]
 
 mod clients;
@@ -12,6 +13,8 @@ mod ended;
 mod host;
 mod lines;
 mod patience;
+mod poll_habit;
+mod pollers;
 mod polling;
 mod setup;
 mod stop;
@@ -24,6 +27,7 @@ pub use ended::Ended;
 pub use host::Host;
 pub use lines::Lines;
 pub use patience::{PatientReader, PatientWriter, prepare};
+pub use pollers::Pollers;
 pub use polling::{Pollable, PollingReader};
 pub use setup::{OperatorPort, ServerSetup, listen};
 pub use stop::Stop;

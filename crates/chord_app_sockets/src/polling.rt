@@ -1,15 +1,15 @@
 //! Reads that poll before they sleep.
 ghost use Rattle.std.specs.Io.{ReadsAtMost};
 ghost use Rattle.std.specs.Prelude.{◌≡◌, IfOk, IfSome};
+ghost use Rattle.chord_app_sockets.specs.Polling.{first_habit};
 
+use crate::poll_habit::PollHabit;
+use crate::pollers::Pollers;
 use std::io::{self, ErrorKind, Read};
 use std::net::TcpStream;
 
 /// How often a read polls, yielding in between, before it sleeps.
 const POLLS: u64 = 64;
-
-/// How many reads at most sleep without polling after polls that found nothing.
-const MOST_SKIPS: u32 = 8;
 
 /// A reader that sleeps until bytes come, or until it gives `WouldBlock`, and that can be told to
 /// give `WouldBlock` at once instead.
@@ -25,29 +25,34 @@ impl Pollable for &TcpStream {
 }
 
 /// Reads what a client sends. A busy client sends more as soon as it is answered, and to wake a
-/// thread that sleeps takes longer than that. So a read polls briefly before it sleeps. The first
-/// read sleeps at once, and so do some reads after a poll that found nothing: one, then two, four
-/// and eight, so that a client which takes its time costs little.
+/// thread that sleeps takes longer than that. So a read polls briefly before it sleeps, as
+/// [`PollHabit`] says, if there is a place among those that poll.
 #[derive(Drop)]
-pub struct PollingReader<R> {
+pub struct PollingReader<'p, R> {
     inner: R,
-    /// How many reads sleep at once, before one polls.
-    to_skip: u32,
-    /// How many do so after the next poll that finds nothing.
-    next_skips: u32,
+    pollers: &'p Pollers,
+    habit: PollHabit,
 }
 
-impl<R> PollingReader<R> {
-    pub fn new(inner: R) -> PollingReader<R>
+impl<'p, R> PollingReader<'p, R> {
+    /// `inner` gives `WouldBlock` after each sleep in which no byte comes.
+    pub fn new(inner: R, pollers: &'p Pollers) -> PollingReader<'p, R>
         ensures inner { result.inner ≡ inner }
-        ensures first { result.to_skip ≡ 1 }
-        ensures next { result.next_skips ≡ 1 }
+        ensures habit { result.habit ≡ first_habit }
     {
         PollingReader {
             inner,
-            to_skip: 1,
-            next_skips: 1,
+            pollers,
+            habit: PollHabit::new(),
         }
+    }
+}
+
+/// Whether a read found no byte, so that the client is still waited for.
+fn found_none(read: &io::Result<usize>) -> bool {
+    match read {
+        Ok(_) => false,
+        Err(error) => error.kind() == ErrorKind::WouldBlock,
     }
 }
 
@@ -56,39 +61,53 @@ fn poll<R: Read>(reader: &mut R, buf: &mut [u8]) -> Option<io::Result<usize>>
     ensures { IfSome result (λ read. ReadsAtMost read buf.new) }
 {
     for _ in 0..POLLS {
-        match reader.read(buf) {
-            Err(error) if error.kind() == ErrorKind::WouldBlock => std::thread::yield_now(),
-            read => return Some(read),
+        let read = reader.read(buf);
+        if !found_none(&read) {
+            return Some(read);
         }
+        std::thread::yield_now();
     }
     None
 }
 
-impl<R: Pollable> PollingReader<R> {
-    /// Polls, and sets how many of the next reads do not.
+impl<R: Pollable> PollingReader<'_, R> {
+    /// Polls. The stream sleeps again afterwards.
     fn poll(&mut self, buf: &mut [u8]) -> io::Result<Option<io::Result<usize>>>
         ensures { IfOk result (λ polled. IfSome polled (λ read. ReadsAtMost read buf.new)) }
     {
         self.inner.set_nonblocking(true)?;
         let polled = poll(&mut self.inner, buf);
         self.inner.set_nonblocking(false)?;
-        if polled.is_some() {
-            self.next_skips = 1;
-        } else {
-            self.to_skip = self.next_skips;
-            self.next_skips = self.next_skips.saturating_mul(2).min(MOST_SKIPS);
-        }
+        self.habit = match polled {
+            Some(_) => self.habit.after_find(),
+            None => self.habit.after_miss(),
+        };
         Ok(polled)
+    }
+
+    /// Polls, if there is a place among those that do.
+    fn poll_among_others(&mut self, buf: &mut [u8]) -> io::Result<Option<io::Result<usize>>>
+        ensures { IfOk result (λ polled. IfSome polled (λ read. ReadsAtMost read buf.new)) }
+    {
+        if !self.pollers.enter() {
+            self.habit = self.habit.without_place();
+            return Ok(None);
+        }
+        let polled = self.poll(buf);
+        self.pollers.leave();
+        polled
     }
 }
 
-impl<R: Pollable> Read for PollingReader<R> {
+impl<R: Pollable> Read for PollingReader<'_, R> {
     fn read(&mut self, buf: &mut [u8]) -> io::Result<usize> {
-        if self.to_skip > 0 {
-            self.to_skip -= 1;
-        } else if let Some(read) = self.poll(buf)? {
-            return read;
+        if self.habit.polls() {
+            if let Some(read) = self.poll_among_others(buf)? {
+                return read;
+            }
         }
-        self.inner.read(buf)
+        let read = self.inner.read(buf);
+        self.habit = self.habit.after_sleep(!found_none(&read));
+        read
     }
 }

@@ -1,29 +1,56 @@
-//! Reads that poll before they sleep, over a reader of the test's own.
+//! Reads that poll before they sleep, over readers of the test's own.
 
-use chord_app_sockets::{Pollable, PollingReader};
+use chord_app_sockets::{Pollable, Pollers, PollingReader};
 use std::cell::Cell;
 use std::io::{self, ErrorKind, Read};
 
-/// A client from which a byte comes at each read that sleeps, and at one that polls after `empty`
-/// polls without one.
+/// A client from which a byte comes at each read that sleeps, but for some first ones, and at one
+/// that polls after `empty` polls without one.
 #[derive(Drop)]
 struct Client<'a> {
     nonblocking: &'a Cell<bool>,
     /// How many polls have no byte.
     empty: u64,
+    /// How many sleeps in a row have no byte.
+    ticks: u64,
+    /// How many more have none.
+    ticks_left: u64,
     /// How many reads polled, and how many slept.
     polls: u64,
     sleeps: u64,
 }
 
+impl<'a> Client<'a> {
+    /// A client whose first `empty` polls have no byte, and of whose sleeps `ticks` before each
+    /// byte.
+    fn new(nonblocking: &'a Cell<bool>, empty: u64, ticks: u64) -> Client<'a> {
+        Client {
+            nonblocking,
+            empty,
+            ticks,
+            ticks_left: ticks,
+            polls: 0,
+            sleeps: 0,
+        }
+    }
+}
+
 impl Read for Client<'_> {
     fn read(&mut self, buf: &mut [u8]) -> io::Result<usize> {
-        if !self.nonblocking.get() {
+        let none = if self.nonblocking.get() {
+            self.polls = self.polls.saturating_add(1);
+            self.polls <= self.empty
+        } else {
             self.sleeps = self.sleeps.saturating_add(1);
-            return Ok(buf.len().min(1));
-        }
-        self.polls = self.polls.saturating_add(1);
-        if self.polls <= self.empty {
+            let none = self.ticks_left > 0;
+            self.ticks_left = if none {
+                self.ticks_left.saturating_sub(1)
+            } else {
+                self.ticks
+            };
+            none
+        };
+        if none {
             return Err(io::Error::from(ErrorKind::WouldBlock));
         }
         Ok(buf.len().min(1))
@@ -37,7 +64,7 @@ impl Pollable for &mut Client<'_> {
     }
 }
 
-/// How many reads gave a byte, how often they polled and slept, and whether writes would not sleep
+/// How many waits gave a byte, how often they polled and slept, and whether writes would not sleep
 /// afterwards.
 #[derive(Clone, Copy, Debug, PartialEq, Eq)]
 struct Reads {
@@ -47,20 +74,32 @@ struct Reads {
     is_nonblocking: bool,
 }
 
-/// Reads this often from a client whose first polls have no byte.
-fn reads_of(reads: u64, empty: u64) -> Reads {
+/// Whether a read gives a byte.
+fn gives_byte<R: Read>(reader: &mut R) -> bool {
+    let mut byte = [0u8; 1];
+    reader.read(&mut byte).is_ok_and(|count| count == 1)
+}
+
+/// Whether a byte comes at one of so many reads and one more.
+fn waits_for_byte<R: Read>(reader: &mut R, ticks: u64) -> bool {
+    for _ in 0..=ticks {
+        if gives_byte(reader) {
+            return true;
+        }
+    }
+    false
+}
+
+/// Waits for this many bytes of a client whose first polls have no byte, and of whose sleeps so
+/// many before each byte have none.
+fn waits_of(waits: u64, empty: u64, ticks: u64) -> Reads {
     let nonblocking = Cell::new(false);
-    let mut client = Client {
-        nonblocking: &nonblocking,
-        empty,
-        polls: 0,
-        sleeps: 0,
-    };
-    let mut reader = PollingReader::new(&mut client);
+    let pollers = Pollers::new(1);
+    let mut client = Client::new(&nonblocking, empty, ticks);
+    let mut reader = PollingReader::new(&mut client, &pollers);
     let mut bytes = 0u64;
-    for _ in 0..reads {
-        let mut byte = [0u8; 1];
-        if reader.read(&mut byte).is_ok_and(|count| count == 1) {
+    for _ in 0..waits {
+        if waits_for_byte(&mut reader, ticks) {
             bytes = bytes.saturating_add(1);
         }
     }
@@ -73,10 +112,10 @@ fn reads_of(reads: u64, empty: u64) -> Reads {
     }
 }
 
-/// Whether these reads polled and slept as often as said, and each gave a byte.
-fn is_seen(seen: Reads, reads: u64, polls: u64, sleeps: u64) -> bool {
+/// Whether these waits polled and slept as often as said, and each gave a byte.
+fn is_seen(seen: Reads, waits: u64, polls: u64, sleeps: u64) -> bool {
     let wanted = Reads {
-        bytes: reads,
+        bytes: waits,
         polls,
         sleeps,
         is_nonblocking: false,
@@ -86,19 +125,19 @@ fn is_seen(seen: Reads, reads: u64, polls: u64, sleeps: u64) -> bool {
 
 #[test]
 fn a_read_polls_before_it_sleeps(rt: HostRuntime) {
-    let seen = reads_of(1, 0);
+    let seen = waits_of(1, 0, 0);
     assert!(rt; is_seen(seen, 1, 0, 1), "the first read sleeps: {seen:?}");
-    let seen = reads_of(3, 0);
+    let seen = waits_of(3, 0, 0);
     assert!(rt;
         is_seen(seen, 3, 2, 1),
         "later ones find a byte at once: {seen:?}"
     );
-    let seen = reads_of(2, 63);
+    let seen = waits_of(2, 63, 0);
     assert!(rt;
         is_seen(seen, 2, 64, 1),
         "one finds a byte at its 64th poll: {seen:?}"
     );
-    let seen = reads_of(2, 64);
+    let seen = waits_of(2, 64, 0);
     assert!(rt;
         is_seen(seen, 2, 64, 2),
         "after 64 polls it sleeps: {seen:?}"
@@ -121,7 +160,7 @@ fn reads_after_a_poll_in_vain_sleep_at_once(rt: HostRuntime) {
         (29, 320),
         (30, 384),
     ] {
-        let seen = reads_of(reads, u64::MAX);
+        let seen = waits_of(reads, u64::MAX, 0);
         assert!(rt;
             is_seen(seen, reads, polls, reads),
             "{polls} polls of {reads} reads: {seen:?}"
@@ -130,12 +169,192 @@ fn reads_after_a_poll_in_vain_sleep_at_once(rt: HostRuntime) {
 }
 
 #[test]
+fn a_sleep_without_a_byte_is_no_read(rt: HostRuntime) {
+    // Each byte comes at the 20th sleep. It is one read, which polls once at most, before its first
+    // sleep, so the reads 2, 4 and 7 poll as they do where each byte comes at the first sleep.
+    for (reads, polls, sleeps) in [
+        (1, 0, 20),
+        (2, 64, 40),
+        (3, 64, 60),
+        (4, 128, 80),
+        (6, 128, 120),
+        (7, 192, 140),
+    ] {
+        let seen = waits_of(reads, u64::MAX, 19);
+        assert!(rt;
+            is_seen(seen, reads, polls, sleeps),
+            "{polls} polls and {sleeps} sleeps of {reads} reads: {seen:?}"
+        );
+    }
+}
+
+#[test]
 fn a_poll_that_finds_a_byte_begins_anew(rt: HostRuntime) {
     // Of the first three reads that poll two find nothing; so the 5th and the 6th read do not poll,
     // and from the 7th on each finds a byte.
-    let seen = reads_of(10, 128);
+    let seen = waits_of(10, 128, 0);
     assert!(rt;
         is_seen(seen, 10, 132, 6),
         "four reads poll with success: {seen:?}"
     );
+}
+
+/// A client whose connection reads once from another client at each read, so that it reads while
+/// this one polls, or while it sleeps.
+#[derive(Drop)]
+struct Beside<'a, 'c, R> {
+    client: Client<'c>,
+    /// Whether the stream cannot be set back.
+    fails: bool,
+    other: &'a mut R,
+}
+
+impl<R: Read> Read for Beside<'_, '_, R> {
+    fn read(&mut self, buf: &mut [u8]) -> io::Result<usize> {
+        if !gives_byte(self.other) {
+            return Err(io::Error::from(ErrorKind::UnexpectedEof));
+        }
+        self.client.read(buf)
+    }
+}
+
+impl<R: Read> Pollable for Beside<'_, '_, R> {
+    fn set_nonblocking(&self, nonblocking: bool) -> io::Result<()> {
+        self.client.nonblocking.set(nonblocking);
+        if self.fails && !nonblocking {
+            return Err(io::Error::from(ErrorKind::Other));
+        }
+        Ok(())
+    }
+}
+
+/// What is set up for two connections: how many may poll at once, how many polls of the busy one
+/// have no byte, and whether its stream cannot be set back.
+#[derive(Clone, Copy, Debug)]
+struct Setup {
+    most: u64,
+    empty: u64,
+    fails: bool,
+}
+
+/// How often the other connection polled and slept.
+#[derive(Clone, Copy, Debug, PartialEq, Eq)]
+struct Others {
+    polls: u64,
+    sleeps: u64,
+}
+
+/// Reads twice from a busy connection, of which the second read polls.
+fn read_busily<R: Read>(setup: Setup, pollers: &Pollers, other: &mut R) {
+    let nonblocking = Cell::new(false);
+    let busy = Beside {
+        client: Client::new(&nonblocking, setup.empty, 0),
+        fails: setup.fails,
+        other,
+    };
+    let mut reader = PollingReader::new(busy, pollers);
+    let _ = gives_byte(&mut reader);
+    let _ = gives_byte(&mut reader);
+    drop(reader);
+}
+
+/// Reads from both connections, and once more from the other one.
+fn others_of(setup: Setup) -> Others {
+    let nonblocking = Cell::new(false);
+    let pollers = Pollers::new(setup.most);
+    let mut client = Client::new(&nonblocking, 0, 0);
+    let mut other = PollingReader::new(&mut client, &pollers);
+    read_busily(setup, &pollers, &mut other);
+    let _ = gives_byte(&mut other);
+    drop(other);
+    Others {
+        polls: client.polls,
+        sleeps: client.sleeps,
+    }
+}
+
+const ONE_PLACE: Setup = Setup {
+    most: 1,
+    empty: 0,
+    fails: false,
+};
+
+/// The first read of the other connection is in the busy one's first sleep, and sleeps as each
+/// first read does. Its next ones are at each poll of the busy one; one is in the sleep behind these
+/// polls, if they found nothing; and the last one is when the busy one is done.
+#[test]
+fn no_more_poll_than_there_are_places(rt: HostRuntime) {
+    for (setup, others) in [
+        (
+            ONE_PLACE,
+            Others {
+                polls: 1,
+                sleeps: 2,
+            },
+        ),
+        (
+            Setup {
+                empty: 5,
+                ..ONE_PLACE
+            },
+            Others {
+                polls: 1,
+                sleeps: 7,
+            },
+        ),
+        (
+            Setup {
+                empty: 64,
+                ..ONE_PLACE
+            },
+            Others {
+                polls: 2,
+                sleeps: 65,
+            },
+        ),
+        (
+            Setup {
+                fails: true,
+                ..ONE_PLACE
+            },
+            Others {
+                polls: 1,
+                sleeps: 2,
+            },
+        ),
+        (
+            Setup {
+                most: 2,
+                ..ONE_PLACE
+            },
+            Others {
+                polls: 2,
+                sleeps: 1,
+            },
+        ),
+        (
+            Setup {
+                most: 2,
+                empty: 64,
+                ..ONE_PLACE
+            },
+            Others {
+                polls: 66,
+                sleeps: 1,
+            },
+        ),
+        (
+            Setup {
+                most: 0,
+                ..ONE_PLACE
+            },
+            Others {
+                polls: 0,
+                sleeps: 3,
+            },
+        ),
+    ] {
+        let seen = others_of(setup);
+        assert!(rt; seen == others, "of {setup:?}: {seen:?}");
+    }
 }

@@ -10,7 +10,7 @@ use crate::serving::service::{Service, node_of};
 use crate::serving::sessions::Sessions;
 use crate::serving::tally::Tally;
 use chord_app_sockets::{
-    Clients, Door, Doors, Ended, Host, Lines, PatientReader, PatientWriter, PollingReader,
+    Clients, Door, Doors, Ended, Host, Lines, PatientReader, PatientWriter, Pollers, PollingReader,
     Protocol, ServerSetup, Until, close_slowly, prepare,
 };
 use chord_app_text::Finish;
@@ -48,6 +48,7 @@ pub struct Server<'s, 'r, J: Naming, S: EntryStore, R, L, W> {
     pub sessions: Sessions<'r, J, S, R>,
     pub tally: Tally,
     pub clients: Clients,
+    pub pollers: Pollers,
     pub lines: &'s Lines<W>,
     pub until: Until<'s>,
     /// How many connections of clients got a number, at all doors.
@@ -109,7 +110,7 @@ impl<'s, 'r, J: Naming, S: EntryStore, R: Host, L: Log, W: Write> Server<'s, 'r,
             Ok(idle) => idle,
             Err(none) => return self.refuse(guest, none),
         };
-        let polling = PollingReader::new(guest.stream);
+        let polling = PollingReader::new(guest.stream, &self.pollers);
         let mut reader = PatientReader::new(polling, &self.clients, self.until.idle());
         let mut writer = PatientWriter::new(guest.stream);
         let server = ServerInfo {
@@ -345,6 +346,7 @@ fn serve_with<
         sessions: Sessions::new(setup.alloc, until.session_seconds()),
         tally: Tally::new(),
         clients: Clients::new(setup.alloc),
+        pollers: Pollers::for_processors(rt),
         lines,
         until,
         numbers: AtomicU64::new(0),

@@ -109,7 +109,7 @@ impl<'s, 'r, J: Naming, S: EntryStore, R: Host, L: Log, W: Write> Server<'s, 'r,
         guest: Guest<'_>,
         frames: SessionFrames,
     ) -> Ended {
-        let polling = PollingReader::new(guest.stream);
+        let polling = PollingReader::new(guest.stream, &self.pollers);
         let mut reader = PatientReader::new(polling, &self.clients, self.until.idle());
         let mut writer = PatientWriter::new(guest.stream);
         let (served, caller) = self.service.serve_frames(
@@ -196,7 +196,7 @@ impl<'s, 'r, J: Naming, S: EntryStore, R: Host, L: Log, W: Write> Server<'s, 'r,
         frames: SessionFrames,
     ) -> Ended {
         let alloc = self.service.alloc;
-        let polling = PollingReader::new(guest.stream);
+        let polling = PollingReader::new(guest.stream, &self.pollers);
         let mut reader = PatientReader::new(polling, &self.clients, self.until.idle());
         let mut writer = PatientWriter::new(guest.stream);
         let (served, parted) = match tell_opened(alloc, &mut writer, &client) {
