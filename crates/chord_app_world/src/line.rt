@@ -50,9 +50,7 @@ fn line_of(alloc: Global, word: &str, words: &mut Words) -> Result<Line, LineFau
 /// The step of a line that begins with this word.
 fn step_of(alloc: Global, word: &str, words: &mut Words) -> Result<Step, LineFault> {
     match word {
-        "insert" => insert(alloc, words),
-        "retrieve" => retrieve(alloc, words),
-        "remove" => remove(alloc, words),
+        "insert" | "retrieve" | "remove" => submit(alloc, word, words),
         "create" => create(words),
         "caller" => caller(words),
         "resend" => resend(words),
@@ -92,39 +90,28 @@ fn caller(words: &mut Words) -> Result<Step, LineFault> {
     Ok(Step::OpenCaller { window })
 }
 
-fn insert(alloc: Global, words: &mut Words) -> Result<Step, LineFault> {
-    let caller = words.number()?;
-    let via = words.number()?;
-    let key = words.bytes(alloc)?;
-    let value = words.bytes(alloc)?;
+/// A caller's request to a node, of the kind that the word says.
+fn submit(alloc: Global, word: &str, words: &mut Words) -> Result<Step, LineFault> {
     Ok(Step::Submit {
-        caller,
-        via,
-        request: Request::Insert { key, value },
+        caller: words.number()?,
+        via: words.number()?,
+        request: request(alloc, word, words)?,
     })
 }
 
-fn retrieve(alloc: Global, words: &mut Words) -> Result<Step, LineFault> {
-    let caller = words.number()?;
-    let via = words.number()?;
+fn request(alloc: Global, word: &str, words: &mut Words) -> Result<Request, LineFault> {
     let key = words.bytes(alloc)?;
-    Ok(Step::Submit {
-        caller,
-        via,
-        request: Request::Retrieve { key },
-    })
-}
-
-fn remove(alloc: Global, words: &mut Words) -> Result<Step, LineFault> {
-    let caller = words.number()?;
-    let via = words.number()?;
-    let key = words.bytes(alloc)?;
-    let value = words.bytes(alloc)?;
-    Ok(Step::Submit {
-        caller,
-        via,
-        request: Request::Remove { key, value },
-    })
+    match word {
+        "retrieve" => Ok(Request::Retrieve { key }),
+        "insert" => Ok(Request::Insert {
+            key,
+            value: words.bytes(alloc)?,
+        }),
+        _ => Ok(Request::Remove {
+            key,
+            value: words.bytes(alloc)?,
+        }),
+    }
 }
 
 /// Sends a request again: that of the number on the line, or else the least pending one.
@@ -144,71 +131,71 @@ fn resend(words: &mut Words) -> Result<Step, LineFault> {
 }
 
 fn meet(words: &mut Words) -> Result<Step, LineFault> {
-    let caller = words.number()?;
-    let message = words.number()?;
-    Ok(Step::Meet { caller, message })
+    Ok(Step::Meet {
+        caller: words.number()?,
+        message: words.number()?,
+    })
 }
 
 fn join(words: &mut Words) -> Result<Step, LineFault> {
-    let id = words.id()?;
-    let behind = words.number()?;
-    Ok(Step::Join { id, behind })
+    Ok(Step::Join {
+        id: words.id()?,
+        behind: words.number()?,
+    })
 }
 
 fn cut(words: &mut Words) -> Result<Step, LineFault> {
-    let node = words.number()?;
-    let place = words.number()?;
-    let at = words.id()?;
-    Ok(Step::Cut { node, place, at })
+    Ok(Step::Cut {
+        node: words.number()?,
+        place: words.number()?,
+        at: words.id()?,
+    })
 }
 
 fn merge(words: &mut Words) -> Result<Step, LineFault> {
-    let node = words.number()?;
-    let place = words.number()?;
-    let behind = words.number()?;
     Ok(Step::Merge {
-        node,
-        place,
-        behind,
+        node: words.number()?,
+        place: words.number()?,
+        behind: words.number()?,
     })
 }
 
 fn give(words: &mut Words) -> Result<Step, LineFault> {
-    let node = words.number()?;
-    let place = words.number()?;
-    let to = words.number()?;
-    Ok(Step::Give { node, place, to })
+    Ok(Step::Give {
+        node: words.number()?,
+        place: words.number()?,
+        to: words.number()?,
+    })
 }
 
 /// Sends a part of a handover again.
 fn part(words: &mut Words) -> Result<Step, LineFault> {
-    let node = words.number()?;
-    let to = words.number()?;
-    let number = words.number()?;
-    let part = words.number()?;
     Ok(Step::SendPart {
-        node,
-        to,
-        number,
-        part,
+        node: words.number()?,
+        to: words.number()?,
+        number: words.number()?,
+        part: words.number()?,
     })
 }
 
 fn candidate(words: &mut Words) -> Result<Step, LineFault> {
-    let node = words.number()?;
-    let peer = words.number()?;
-    Ok(Step::Candidate { node, peer })
+    Ok(Step::Candidate {
+        node: words.number()?,
+        peer: words.number()?,
+    })
 }
 
 fn rectify(words: &mut Words) -> Result<Step, LineFault> {
-    let node = words.number()?;
-    let notifier = words.number()?;
-    Ok(Step::Rectify { node, notifier })
+    Ok(Step::Rectify {
+        node: words.number()?,
+        notifier: words.number()?,
+    })
 }
 
 fn finger(words: &mut Words) -> Result<Step, LineFault> {
-    let node = words.number()?;
-    let finger = words.number()?;
-    let to = words.number()?;
-    Ok(Step::Finger { node, finger, to })
+    Ok(Step::Finger {
+        node: words.number()?,
+        finger: words.number()?,
+        to: words.number()?,
+    })
 }
