@@ -69,86 +69,6 @@ fn tick_round<J: Naming, S: EntryStore>(rt: &impl Wait, ring: &Ring<J, S>) -> Op
     Some(all)
 }
 
-/// Starts the workers of the nodes `first` to `nodes` - 1. A node leaves if there is no memory for
-/// its worker.
-fn start_workers<
-    's,
-    E: 's,
-    J: Naming + Send + Sync + 's,
-    S: EntryStore + Send + 's,
-    R: Threads + Wait + Clock + Sync + 's,
->(rt: &'s R, ring: &'s Ring<J, S>, workers: &'s Scope<'s, E>, first: u64, nodes: u64) {
-    for number in first..nodes {
-        if !start_worker(rt, ring, workers, number) {
-            let _ = ring.leave(rt, number).is_ok();
-        }
-    }
-}
-
-/// Ticks all nodes in rounds until the ring is stopped, and starts a worker for each that joins the
-/// first ones. It rests between rounds, the longer the quieter they are, until a node comes, leaves
-/// or crashes.
-pub fn tick_in_turn<
-    's,
-    E: 's,
-    J: Naming + Send + Sync + 's,
-    S: EntryStore + Send + 's,
-    R: Threads + Wait + Clock + Sync + 's,
->(rt: &'s R, ring: &'s Ring<J, S>, workers: &'s Scope<'s, E>, first_nodes: u64) {
-    let mut pace = Pace::new();
-    let mut working = first_nodes;
-    for _ in rt.forever() {
-        let nodes = ring.node_count();
-        start_workers(rt, ring, workers, working, nodes);
-        working = nodes;
-        let Some(round) = tick_round(rt, ring) else {
-            return;
-        };
-        pace = pace.after(round);
-        if ring.rest(rt, pace.rest()) {
-            pace = Pace::new();
-        }
-    }
-}
-
-/// Starts the worker of a node. Says false if there was no memory for that.
-pub fn start_worker<
-    's,
-    E: 's,
-    J: Naming + Send + Sync + 's,
-    S: EntryStore + Send + 's,
-    R: Threads + Wait + Clock + Sync + 's,
->(rt: &'s R, ring: &'s Ring<J, S>, workers: &'s Scope<'s, E>, number: u64) -> bool {
-    workers
-        .spawn(move || ring.work(rt, number, &NoProbe).is_ok())
-        .is_ok()
-}
-
-/// Adds a node, starts its worker, and does eight rounds of upkeep.
-fn start_node<
-    's,
-    E: 's,
-    J: Naming + Send + Sync + 's,
-    S: EntryStore + Send + 's,
-    R: Threads + Wait + Clock + Sync + 's,
->(
-    rt: &'s R,
-    ring: &'s Ring<J, S>,
-    workers: &'s Scope<'s, E>,
-    number: usize,
-    node: &PlanNode,
-    store: S,
-) -> Result<(), Finish> {
-    enter(rt, ring, number, node, store)?;
-    if !start_worker(rt, ring, workers, number as u64) {
-        return Err(Finish::OutOfMemory);
-    }
-    for _ in 0..ROUNDS {
-        tick_round(rt, ring);
-    }
-    Ok(())
-}
-
 /// Why the ring refused this node: an earlier one has its identifier, or another reason.
 fn refusal_of(nodes: &[PlanNode], number: usize) -> Finish {
     let Some(node) = nodes.get(number) else {
@@ -164,26 +84,80 @@ fn refusal_of(nodes: &[PlanNode], number: usize) -> Finish {
     }
 }
 
-/// Adds the nodes in their order.
-pub fn start_nodes<
+/// Starts the threads that work for the nodes of a ring, one for each node.
+#[derive(Drop)]
+pub struct Workers<'s, E, J: Naming, S: EntryStore, R> {
+    pub rt: &'s R,
+    pub ring: &'s Ring<J, S>,
+    pub scope: &'s Scope<'s, E>,
+}
+
+impl<
     's,
     E: 's,
     J: Naming + Send + Sync + 's,
     S: EntryStore + Send + 's,
     R: Threads + Wait + Clock + Sync + 's,
->(
-    rt: &'s R,
-    ring: &'s Ring<J, S>,
-    workers: &'s Scope<'s, E>,
-    nodes: &[PlanNode],
-    stores: Vec<S>,
-) -> Result<(), Finish> {
-    for (number, (node, store)) in nodes.iter().zip(stores).enumerate() {
-        match start_node(rt, ring, workers, number, node, store) {
-            Ok(()) => {}
-            Err(Finish::Fault(Fault::Node(number))) => return Err(refusal_of(nodes, number)),
-            Err(finish) => return Err(finish),
+> Workers<'s, E, J, S, R> {
+    /// Starts the worker of a node. Says false if there was no memory for that.
+    fn start(&self, number: u64) -> bool {
+        let (rt, ring) = (self.rt, self.ring);
+        self.scope
+            .spawn(move || ring.work(rt, number, &NoProbe).is_ok())
+            .is_ok()
+    }
+
+    /// Starts the workers of the nodes `first` to `nodes` - 1. A node leaves if there is no memory
+    /// for its worker.
+    fn start_all(&self, first: u64, nodes: u64) {
+        for number in first..nodes {
+            if !self.start(number) {
+                let _ = self.ring.leave(self.rt, number).is_ok();
+            }
         }
     }
-    Ok(())
+
+    /// Ticks all nodes in rounds until the ring is stopped, and starts a worker for each that joins
+    /// the first ones. It rests between rounds, the longer the quieter they are, until a node
+    /// comes, leaves or crashes.
+    pub fn tick_in_turn(&self, first_nodes: u64) {
+        let mut pace = Pace::new();
+        let mut working = first_nodes;
+        for _ in self.rt.forever() {
+            let nodes = self.ring.node_count();
+            self.start_all(working, nodes);
+            working = nodes;
+            let Some(round) = tick_round(self.rt, self.ring) else {
+                return;
+            };
+            pace = pace.after(round);
+            if self.ring.rest(self.rt, pace.rest()) {
+                pace = Pace::new();
+            }
+        }
+    }
+
+    /// Adds a node, starts its worker, and does eight rounds of upkeep.
+    fn start_node(&self, number: usize, node: &PlanNode, store: S) -> Result<(), Finish> {
+        enter(self.rt, self.ring, number, node, store)?;
+        if !self.start(number as u64) {
+            return Err(Finish::OutOfMemory);
+        }
+        for _ in 0..ROUNDS {
+            tick_round(self.rt, self.ring);
+        }
+        Ok(())
+    }
+
+    /// Adds the nodes in their order.
+    pub fn start_nodes(&self, nodes: &[PlanNode], stores: Vec<S>) -> Result<(), Finish> {
+        for (number, (node, store)) in nodes.iter().zip(stores).enumerate() {
+            match self.start_node(number, node, store) {
+                Ok(()) => {}
+                Err(Finish::Fault(Fault::Node(number))) => return Err(refusal_of(nodes, number)),
+                Err(finish) => return Err(finish),
+            }
+        }
+        Ok(())
+    }
 }

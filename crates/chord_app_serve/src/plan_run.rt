@@ -4,7 +4,7 @@ ghost use Rattle.chord_app_serve.specs.Together.{AreGroups, StandTogether, calle
 
 mod asking;
 
-use crate::nodes::{start_nodes, tick_in_turn};
+use crate::nodes::Workers;
 use crate::plan_run::asking::{Answers, AskResults, CallerAnswers, FreshClient, ask_in_turn};
 pub use asking::AskResult;
 use chord_app_plan::Plan;
@@ -20,32 +20,6 @@ use std::sync::Wait;
 use std::thread;
 use std::thread::{JoinHandle, Scope, Threads};
 use std::time::Clock;
-
-/// Each caller asks on a thread of its own. They are opened in the order of their numbers.
-fn start_callers<
-    's,
-    E: 's,
-    J: Naming + Send + Sync + 's,
-    S: EntryStore + Send + 's,
-    R: Threads + Wait + Clock + Sync + 's,
->(
-    rt: &'s R,
-    alloc: Global,
-    ring: &'s Ring<J, S>,
-    scope: &'s Scope<'s, E>,
-    plan: &'s Plan,
-) -> Result<Vec<JoinHandle<Answers<J>>>, Finish> {
-    let asks = plan.asks.as_slice();
-    let mut callers = Vec::new(alloc);
-    for number in 0..plan.settings.callers {
-        let client = FreshClient::open(rt, ring)?;
-        match scope.spawn(move || ask_in_turn(rt, alloc, client, number, asks)) {
-            Ok(caller) => callers.push(caller)?,
-            Err(_) => return Err(Finish::OutOfMemory),
-        }
-    }
-    Ok(callers)
-}
 
 /// How the asks of all callers ended, and these callers.
 #[derive(Drop)]
@@ -98,30 +72,34 @@ fn join_callers<J: Naming>(
     Ok(run)
 }
 
-/// All callers ask at once, while another thread ticks the nodes.
+/// Each caller asks on a thread of its own, all at once, while another thread ticks the nodes. The
+/// callers are opened in the order of their numbers.
 fn ask_at_once<
     's,
     E: 's,
     J: Naming + Send + Sync + 's,
     S: EntryStore + Send + 's,
     R: Threads + Wait + Clock + Sync + 's,
->(
-    rt: &'s R,
-    alloc: Global,
-    ring: &'s Ring<J, S>,
-    scope: &'s Scope<'s, E>,
-    plan: &'s Plan,
-) -> Result<RunAnswers<J>, Finish>
+>(alloc: Global, workers: Workers<'s, E, J, S, R>, plan: &'s Plan) -> Result<RunAnswers<J>, Finish>
     ensures { IfOk result (λ run. AreGroups (map caller_in run.callers.items) run.all.items) }
 {
+    let Workers { rt, ring, scope } = workers;
     let nodes = plan.nodes.len() as u64;
     if scope
-        .spawn(move || tick_in_turn(rt, ring, scope, nodes))
+        .spawn(move || Workers { rt, ring, scope }.tick_in_turn(nodes))
         .is_err()
     {
         return Err(Finish::OutOfMemory);
     }
-    let callers = start_callers(rt, alloc, ring, scope, plan)?;
+    let asks = plan.asks.as_slice();
+    let mut callers = Vec::new(alloc);
+    for number in 0..plan.settings.callers {
+        let client = FreshClient::open(rt, ring)?;
+        match scope.spawn(move || ask_in_turn(rt, alloc, client, number, asks)) {
+            Ok(caller) => callers.push(caller)?,
+            Err(_) => return Err(Finish::OutOfMemory),
+        }
+    }
     join_callers(rt, alloc, callers)
 }
 
@@ -149,8 +127,9 @@ fn run_ring<'x, J: Naming + Send + Sync, S: EntryStore + Send, R: Threads + Wait
     ensures { IfOk result (λ run. AreGroups (map caller_in run.callers.items) run.all.items) }
 {
     thread::scope(thread::scope_env(), starter, |scope| {
-        let all = match start_nodes(rt, ring, scope, plan.nodes.as_slice(), stores) {
-            Ok(()) => ask_at_once(rt, alloc, ring, scope, plan),
+        let workers = Workers { rt, ring, scope };
+        let all = match workers.start_nodes(plan.nodes.as_slice(), stores) {
+            Ok(()) => ask_at_once(alloc, workers, plan),
             Err(finish) => Err(finish),
         };
         ring.stop();

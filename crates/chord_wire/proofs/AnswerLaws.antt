@@ -282,13 +282,17 @@ pub fault_again : (number : ℕ) (code : FaultCode) (rest : List ℕ) → code �
 unfolding answer_at code_at
 fault_again number code rest ne = rw (code_again code ne) refl
 
+-- what holds of three kinds holds of the kind of each reply
+pub every_kind : (P : ℕ → Type 0) → P 129 → P 130 → P 131 → (reply : Reply) → P (reply_kind reply)
+every_kind P insert retrieve remove Added = insert
+every_kind P insert retrieve remove Present = insert
+every_kind P insert retrieve remove SetFull = insert
+every_kind P insert retrieve remove (Values values) = retrieve
+every_kind P insert retrieve remove Removed = remove
+every_kind P insert retrieve remove Absent = remove
+
 kind_test : (reply : Reply) → (((eqb (reply_kind reply) 129 || eqb (reply_kind reply) 130) || eqb (reply_kind reply) 131) || eqb (reply_kind reply) 255) ≡ true
-kind_test Added = refl
-kind_test Present = refl
-kind_test SetFull = refl
-kind_test (Values values) = refl
-kind_test Removed = refl
-kind_test Absent = refl
+kind_test reply = every_kind (λ kind. (((eqb kind 129 || eqb kind 130) || eqb kind 131) || eqb kind 255) ≡ true) refl refl refl reply
 
 fields_again : (kind number : ℕ) (a : Answer) (fields : List ℕ) → number < 2 ^ 64 → answer_at kind number fields ≡ Ok (a, []) → answer_fields kind (to_be_bytes w64 number ++ fields) ≡ Ok a
 unfolding answer_fields

@@ -9,7 +9,7 @@ use Rattle.chord_wire.specs.declared.fault.WireFault.{WireFault}
 use Rattle.chord_wire.specs.declared.fault.FaultCode.TheVariants.{BadLength}
 use Rattle.chord_wire.specs.Fault.{fault, out_of_memory}
 use Rattle.chord_wire.specs.Spelling.{IsBytes, frame}
-use Rattle.chord_wire.specs.Reading.{◌>>=◌, number_at, body_of_length, body_at, of_body, next_of, TakesNext, IsDecided, with_more}
+use Rattle.chord_wire.specs.Reading.{◌>>=◌, number_at, body_of_length, body_at, of_body, next_of, FindsNext, TakesNext, IsDecided, with_more}
 use Rattle.chord_wire.proofs.Steps.{IsBytes-drop, IsBytes-front, IsBytes-back, bind_ok, guard_on, Takes, Takes-then, wide32, number_takes}
 
 -- ---- a frame
@@ -57,6 +57,11 @@ rest_is_end least most bytes x fits e =
     let parts = (body_takes least most bytes x fits e).parts.parts in
     let len : length bytes ≡ length (frame x.0) + length x.1 = ap length parts ∙ length-append (frame x.0) x.1 in
     (omega (arith, len), ap (drop (length bytes - length x.1)) parts ∙ drop_at (frame x.0) x.1 (length bytes - length x.1) (omega (arith, len)))
+
+-- what is read from a body is found up to the end of its frame
+pub found_next : {X : Type 0} (least most : ℕ) (read : List ℕ → Result X WireFault) (bytes : List ℕ) (x : X) (body : List ℕ × List ℕ) → body_at least most bytes ≡ Ok (Some body) → read body.0 ≡ Ok x → IsBytes bytes
+    → FindsNext (next_of least most read) bytes (Ok (Some (x, length bytes - length body.1)))
+found_next least most read bytes x body there is fits = (rw (there, is, (rest_is_end least most bytes body fits there).1) refl, omega arith)
 
 pub body_again : (least most : ℕ) (body rest : List ℕ) → most < 2 ^ 32 → least ≤ length body → length body ≤ most → body_at least most (frame body ++ rest) ≡ Ok (Some (body, rest))
 unfolding body_at

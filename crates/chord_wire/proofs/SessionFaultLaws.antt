@@ -1,5 +1,5 @@
 -- Reading in a session gives exactly the fault of the table.
-use Rattle.std.proofs.Common.{◌≡◌, ◌≢◌, ℕ, ◌^◌, ◌<◌, ◌≤◌, ◌&&◌, true, false, cond, eqb, List, [], ◌∷◌, ◌++◌, length, Option, Some, None, Result, Ok, Err, refl, sym, ap, subst, ◌∙◌, arith, ◌⊎◌, inl, inr}
+use Rattle.std.proofs.Common.{◌≡◌, ◌≢◌, ℕ, ◌^◌, ◌<◌, ◌≤◌, ◌&&◌, Bool, true, false, cond, eqb, List, [], ◌∷◌, ◌++◌, length, Option, Some, None, Result, Ok, Err, refl, sym, ap, subst, ◌∙◌, arith, ◌⊎◌, inl, inr}
 use Rattle.std.specs.Int.{w32, w64, to_be_bytes}
 use Rattle.std.proofs.lemmas.Bool.{true≢false, eqb-true, eqb-false, ne_eqb, cases_Bool}
 use Rattle.std.proofs.lemmas.List.{nil_from_length}
@@ -13,7 +13,7 @@ use Rattle.chord_wire.specs.Fault.{fault}
 use Rattle.chord_wire.specs.Spelling.{IsBytes}
 use Rattle.chord_wire.specs.Reading.{◌>>=◌, number_at, bytes_at, request_in, body_at, of_body, next_of, next_request}
 use Rattle.chord_wire.specs.ReadingReplies.{answer_in}
-use Rattle.chord_wire.specs.SessionReading.{is_control, zeros_at, flag_at, opening_at, control_at, control_in, session_in, next_session, is_told, told_at, told_under, told_in, session_answer_in, next_session_answer}
+use Rattle.chord_wire.specs.SessionReading.{in_session, is_control, zeros_at, flag_at, opening_at, control_at, control_in, session_in, next_session, is_told, told_at, told_under, told_in, session_answer_in, next_session_answer}
 use Rattle.chord_wire.specs.FaultTable.{Head, RequestHead, AnswerHead}
 use Rattle.chord_wire.specs.FaultTable.FaultOf.{Bad_length as wrong_length}
 use Rattle.chord_wire.specs.FaultTable.AnswerFaultFrom.{Bad_length as wrong_answer_length}
@@ -26,7 +26,7 @@ use Rattle.chord_wire.proofs.FaultLaws as requests
 use Rattle.chord_wire.proofs.FaultLaws.{Fails, fails_ok, fails_err, fails_if, fails_then, fails_so, number_fails, broke, body_of, fields_fit, body_there, head_in, no_body, next_fails, ok_then, err_not, err_is, next_fault}
 use Rattle.chord_wire.proofs.FaultLaws.Broke.{First, Then}
 use Rattle.chord_wire.proofs.AnswerFaults as plain_answers
-use Rattle.chord_wire.proofs.SessionLaws.{floor_zero, zeros_head, floor_zero_takes, floor_zero_again, control_takes, control_again, control_known, control_test, sessions, told_takes, told_again, told_known, told_test, session_answers, short_answers}
+use Rattle.chord_wire.proofs.SessionLaws.{IsOneOf, known_by_test, test_by_known, floor_zero, zeros_head, floor_zero_takes, floor_zero_again, control_takes, control_again, sessions, told_takes, told_again, session_answers, short_answers}
 
 -- ---- two readers of one stream
 
@@ -78,24 +78,50 @@ module _ {X Y : Type 0} (least most : ℕ) (read : List ℕ → Result X WireFau
         | Then o there bad ↦ rw there (body_passed bytes o f fits none there bad)
       ]
 
+first_fault : {X Y : Type 0} (r : Result X WireFault) (make : X → Y) (f : WireFault) → (r >>= λ x. Ok (make x)) ≡ Err f → r ≡ Err f
+first_fault (Ok x) make f e = absurd cc
+first_fault (Err d) make f e = let same : d ≡ f = cc in ap (λ (w : WireFault). Err w) same
+
+-- a frame of a session's own, or one that is read as it is without a session
+module _ {X Y : Type 0} (is_own : ℕ → ℕ → Bool) (own_in : ℕ → List ℕ → Result Y WireFault) (plain_in : List ℕ → Result X WireFault) (of_plain : X → Y) (Own : ℕ → ℕ → Type 0)
+    (known : (version op : ℕ) → is_own version op ≡ true → Own version op)
+    (test : (version op : ℕ) → Own version op → is_own version op ≡ true) where
+  plain_reads : (version op : ℕ) (rest : List ℕ) → ¬ Own version op → in_session is_own own_in plain_in of_plain (version ∷ op ∷ rest) ≡ (plain_in (version ∷ op ∷ rest) >>= λ x. Ok (of_plain x))
+  plain_reads version op rest none = rw not_own refl
+    where
+      not_own : is_own version op ≡ false
+      not_own = elim (cases_Bool (is_own version op)) [
+        | inl so ↦ absurd (none (known version op so))
+        | inr other ↦ other
+      ]
+
+  own_reads : (version op : ℕ) (rest : List ℕ) → Own version op → in_session is_own own_in plain_in of_plain (version ∷ op ∷ rest) ≡ own_in op rest
+  own_reads version op rest own = rw (test version op own) refl
+
+  -- a fault is one of a session's own frame, or of a plain one, and then no head of the bytes is that of an own one
+  either_fault : {least most : ℕ} {bytes : List ℕ} (head : Head least most bytes) (f : WireFault) → most < 2 ^ 32 → in_session is_own own_in plain_in of_plain (body_of head) ≡ Err f
+      → (Own head.version head.op × (own_in head.op (to_be_bytes w64 head.number ++ head.fields) ≡ Err f))
+      ⊎ (((there : Head least most bytes) → ¬ Own there.version there.op) × (plain_in (body_of head) ≡ Err f))
+  either_fault {least} {most} {bytes} head f small e =
+      elim (cases_Bool (is_own head.version head.op)) [
+        | inl so ↦ let own = known head.version head.op so in inl (own, sym (own_reads head.version head.op _ own) ∙ e)
+        | inr other ↦ let none : ¬ Own head.version head.op = λ own. absurd (true≢false (sym (test head.version head.op own) ∙ other)) in
+            let bad = first_fault (plain_in (body_of head)) of_plain f (sym (plain_reads head.version head.op _ none) ∙ e) in
+            let nowhere : (there : Head least most bytes) → ¬ Own there.version there.op = λ there own.
+            let same = same_front least most bytes there head small in
+            none (subst (λ (v : ℕ). Own v head.op) same.0 (subst (λ (o : ℕ). Own there.version o) same.1 own)) in
+            inr (nowhere, bad)
+      ]
+
 -- ---- what a client sends
 
-abbrev Control : ℕ → ℕ → Type 0
-Control version op = (version ≡ 2) × ((op ≡ 4) ⊎ (op ≡ 5))
-
-not_control : (version op : ℕ) → ¬ Control version op → is_control version op ≡ false
-not_control version op none = elim (cases_Bool (is_control version op)) [
-  | inl so ↦ absurd (none (control_known version op so))
-  | inr other ↦ other
-]
-
-request_reads : (version op : ℕ) (rest : List ℕ) → ¬ Control version op → session_in (version ∷ op ∷ rest) ≡ (request_in (version ∷ op ∷ rest) >>= λ r. Ok (frames.Request r))
+request_reads : (version op : ℕ) (rest : List ℕ) → ¬ IsOneOf 2 4 5 version op → session_in (version ∷ op ∷ rest) ≡ (request_in (version ∷ op ∷ rest) >>= λ r. Ok (frames.Request r))
 unfolding session_in
-request_reads version op rest none = rw (not_control version op none) refl
+request_reads = plain_reads is_control control_in request_in (λ r. frames.Request r) (IsOneOf 2 4 5) (known_by_test 2 4 5) (test_by_known 2 4 5)
 
 control_reads : {bytes : List ℕ} (head : RequestHead bytes) → IsControl head → session_in (body_of head) ≡ control_in head.op (to_be_bytes w64 head.number ++ head.fields)
 unfolding session_in
-control_reads head known = rw (control_test head.version head.op known) refl
+control_reads head known = rw (test_by_known 2 4 5 head.version head.op known) refl
 
 floor_zero_fails : (number : ℕ) (bytes : List ℕ) → Fails (fault BadFloor number) (floor_zero number bytes)
 floor_zero_fails number bytes =
@@ -146,7 +172,7 @@ requests_is bytes = refl
 
 pub is_fault : (bytes : List ℕ) (f : WireFault) → IsBytes bytes → SessionFaultOf bytes f → next_session bytes ≡ Err f
 is_fault bytes _ fits (Of_request f none bad) =
-    sessions.is bytes ∙ passed_on 12 4372 request_in session_in (λ r. frames.Request r) Control request_reads (omega arith) bytes f fits none (sym (requests_is bytes) ∙ requests.is_fault bytes f fits bad)
+    sessions.is bytes ∙ passed_on 12 4372 request_in session_in (λ r. frames.Request r) (IsOneOf 2 4 5) request_reads (omega arith) bytes f fits none (sym (requests_is bytes) ∙ requests.is_fault bytes f fits bad)
 is_fault bytes _ fits (Bad_floor head known bad) =
     let d = fault BadFloor head.number in
     let none = fails_so d (floor_zero head.number head.fields) (floor_zero_fails head.number head.fields) (λ rest e.
@@ -180,45 +206,28 @@ control_fault {bytes} head f fits known e =
           ]
     ]
 
-first_fault : {X Y : Type 0} (r : Result X WireFault) (make : X → Y) (f : WireFault) → (r >>= λ x. Ok (make x)) ≡ Err f → r ≡ Err f
-first_fault (Ok x) make f e = absurd cc
-first_fault (Err d) make f e = let same : d ≡ f = cc in ap (λ (w : WireFault). Err w) same
-
 head_fault : (bytes : List ℕ) (head : RequestHead bytes) (f : WireFault) → IsBytes bytes → session_in (body_of head) ≡ Err f → SessionFaultOf bytes f
+unfolding session_in
 head_fault bytes head f fits e =
-    elim (cases_Bool (is_control head.version head.op)) [
-      | inl so ↦ let known = control_known head.version head.op so in control_fault head f fits known (sym (control_reads head known) ∙ e)
-      | inr other ↦ let none : ¬ Control head.version head.op = λ known. absurd (true≢false (sym (control_test head.version head.op known) ∙ other)) in
-          let bad = first_fault (request_in (body_of head)) (λ r. frames.Request r) f (sym (request_reads head.version head.op _ none) ∙ e) in
-          Of_request f (λ there known.
-          let same = same_front 12 4372 bytes there head (omega arith) in
-          none (subst (λ (v : ℕ). Control v head.op) same.0 (subst (λ (o : ℕ). Control there.version o) same.1 known))) (requests.head_fault head f fits bad)
+    elim (either_fault is_control control_in request_in (λ r. frames.Request r) (IsOneOf 2 4 5) (known_by_test 2 4 5) (test_by_known 2 4 5) head f (omega arith) e) [
+      | inl own ↦ control_fault head f fits own.0 own.1
+      | inr plain ↦ Of_request f plain.0 (requests.head_fault head f fits plain.1)
     ]
 
 pub fault_is : (bytes : List ℕ) (f : WireFault) → IsBytes bytes → next_session bytes ≡ Err f → SessionFaultOf bytes f
 unfolding next_session
 fault_is = next_fault 12 4372 session_in SessionFaultOf
-    (λ bytes count rest parts fits out. Of_request (fault BadLength 0) (λ head known. no_head 12 4372 bytes count rest (omega arith) parts fits out head) (wrong_length count rest parts fits out))
-    head_fault (omega arith)
+    (λ bytes count rest parts fits out. Of_request (fault BadLength 0) (λ head known. no_head 12 4372 bytes count rest (omega arith) parts fits out head) (wrong_length count rest parts fits out)) head_fault (omega arith)
 
 -- ---- what a server sends
 
-abbrev Told : ℕ → ℕ → Type 0
-Told version kind = (version ≡ 1) × ((kind ≡ 132) ⊎ (kind ≡ 133))
-
-not_told : (version kind : ℕ) → ¬ Told version kind → is_told version kind ≡ false
-not_told version kind none = elim (cases_Bool (is_told version kind)) [
-  | inl so ↦ absurd (none (told_known version kind so))
-  | inr other ↦ other
-]
-
-answer_reads : (version kind : ℕ) (rest : List ℕ) → ¬ Told version kind → session_answer_in (version ∷ kind ∷ rest) ≡ (answer_in (version ∷ kind ∷ rest) >>= λ a. Ok (told.Answer a))
+answer_reads : (version kind : ℕ) (rest : List ℕ) → ¬ IsOneOf 1 132 133 version kind → session_answer_in (version ∷ kind ∷ rest) ≡ (answer_in (version ∷ kind ∷ rest) >>= λ a. Ok (told.Answer a))
 unfolding session_answer_in
-answer_reads version kind rest none = rw (not_told version kind none) refl
+answer_reads = plain_reads is_told told_in answer_in (λ a. told.Answer a) (IsOneOf 1 132 133) (known_by_test 1 132 133) (test_by_known 1 132 133)
 
 told_reads : {bytes : List ℕ} (head : AnswerHead 10 bytes) → IsTold head → session_answer_in (body_of head) ≡ told_in head.op (to_be_bytes w64 head.number ++ head.fields)
 unfolding session_answer_in
-told_reads head known = rw (told_test head.version head.op known) refl
+told_reads head known = rw (test_by_known 1 132 133 head.version head.op known) refl
 
 told_fails : (kind : ℕ) (bytes : List ℕ) → Fails (fault BadValue 0) (told_at kind bytes)
 unfolding told_at
@@ -247,7 +256,7 @@ ended_late x more some = rw some refl
 
 pub is_answer_fault : (bytes : List ℕ) (f : WireFault) → IsBytes bytes → SessionAnswerFaultOf bytes f → next_session_answer bytes ≡ Err f
 is_answer_fault bytes _ fits (Of_answer f none bad) =
-    session_answers.is bytes ∙ passed_on 10 4098014 answer_in session_answer_in (λ a. told.Answer a) Told answer_reads (omega arith) bytes f fits none (plain_answers.is_fault short_answers bytes f fits bad)
+    session_answers.is bytes ∙ passed_on 10 4098014 answer_in session_answer_in (λ a. told.Answer a) (IsOneOf 1 132 133) answer_reads (omega arith) bytes f fits none (plain_answers.is_fault short_answers bytes f fits bad)
 is_answer_fault bytes _ fits (Bad_number head known bad) =
     next_fails session_answers head (fault BadValue head.number) (told_reads head known ∙ under_read head.op head.number head.fields head.number_fits ∙ ap ended (wrong_number head.op head.number head.fields bad))
 is_answer_fault bytes _ fits (wrong_told head known zero bad) =
@@ -275,18 +284,14 @@ told_fault {bytes} head f fits known e =
     ]
 
 answer_head_fault : (bytes : List ℕ) (head : AnswerHead 10 bytes) (f : WireFault) → IsBytes bytes → session_answer_in (body_of head) ≡ Err f → SessionAnswerFaultOf bytes f
+unfolding session_answer_in
 answer_head_fault bytes head f fits e =
-    elim (cases_Bool (is_told head.version head.op)) [
-      | inl so ↦ let known = told_known head.version head.op so in told_fault head f fits known (sym (told_reads head known ∙ under_read head.op head.number head.fields head.number_fits) ∙ e)
-      | inr other ↦ let none : ¬ Told head.version head.op = λ known. absurd (true≢false (sym (told_test head.version head.op known) ∙ other)) in
-          let bad = first_fault (answer_in (body_of head)) (λ a. told.Answer a) f (sym (answer_reads head.version head.op _ none) ∙ e) in
-          Of_answer f (λ there known.
-          let same = same_front 10 4098014 bytes there head (omega arith) in
-          none (subst (λ (v : ℕ). Told v head.op) same.0 (subst (λ (o : ℕ). Told there.version o) same.1 known))) (plain_answers.head_fault head f fits bad)
+    elim (either_fault is_told told_in answer_in (λ a. told.Answer a) (IsOneOf 1 132 133) (known_by_test 1 132 133) (test_by_known 1 132 133) head f (omega arith) e) [
+      | inl own ↦ told_fault head f fits own.0 (sym (under_read head.op head.number head.fields head.number_fits) ∙ own.1)
+      | inr plain ↦ Of_answer f plain.0 (plain_answers.head_fault head f fits plain.1)
     ]
 
 pub answer_fault_is : (bytes : List ℕ) (f : WireFault) → IsBytes bytes → next_session_answer bytes ≡ Err f → SessionAnswerFaultOf bytes f
 unfolding next_session_answer
 answer_fault_is = next_fault 10 4098014 session_answer_in SessionAnswerFaultOf
-    (λ bytes count rest parts fits out. Of_answer (fault BadLength 0) (λ head known. no_head 10 4098014 bytes count rest (omega arith) parts fits out head) (wrong_answer_length count rest parts fits out))
-    answer_head_fault (omega arith)
+    (λ bytes count rest parts fits out. Of_answer (fault BadLength 0) (λ head known. no_head 10 4098014 bytes count rest (omega arith) parts fits out head) (wrong_answer_length count rest parts fits out)) answer_head_fault (omega arith)

@@ -7,7 +7,6 @@ use Rattle.std.proofs.lemmas.List.{nil_from_length, append-nil, length-append}
 use Rattle.chord_map.specs.declared.request.Request.{Request}
 use Rattle.chord_map.specs.declared.request.Request.TheVariants.{Insert, Retrieve, Remove}
 use Rattle.chord_map.specs.declared.reply.Reply.{Reply}
-use Rattle.chord_map.specs.declared.reply.Reply.TheVariants.{Added, Present, SetFull, Values, Removed, Absent}
 use Rattle.chord_wire.specs.declared.answer.Answer.TheVariants as answer
 use Rattle.chord_wire.specs.declared.request.WireRequest.{WireRequest}
 use Rattle.chord_wire.specs.declared.fault.WireFault.{WireFault}
@@ -24,12 +23,12 @@ use Rattle.chord_wire.specs.Reading.{◌>>=◌, number_at, bytes_at, request_in,
 use Rattle.chord_wire.specs.Streams.{request_frame}
 use Rattle.chord_wire.specs.ReadingReplies.{answer_in}
 use Rattle.chord_wire.specs.SessionSpelling.{flag_field, opening_field, session_body, session_frame, IsSessionFrame, session_answer_body, IsSessionAnswer}
-use Rattle.chord_wire.specs.SessionReading.{is_control, zeros_at, flag_at, opening_at, control_at, control_in, session_in, next_session, begins_with_open, is_open, AsAlone, is_told, told_at, told_under, told_in, session_answer_in, next_session_answer}
+use Rattle.chord_wire.specs.SessionReading.{in_session, is_control, zeros_at, flag_at, opening_at, control_at, control_in, session_in, next_session, begins_with_open, is_open, AsAlone, is_told, told_at, told_under, told_in, session_answer_in, next_session_answer}
 use Rattle.chord_wire.specs.SessionFaults.{BeginsWithControl, BeginsWithTold}
 use Rattle.chord_wire.proofs.Steps.{IsBytes-rest, bind_ok, guard_then, ok_is, Takes, wide64, number_takes, number_again, bytes_take, bytes_again}
 use Rattle.chord_wire.proofs.NextLaws.{IsRead, next_again, taken_is_found}
 use Rattle.chord_wire.proofs.RequestLaws.{requests}
-use Rattle.chord_wire.proofs.AnswerLaws.{answers as plain_answers}
+use Rattle.chord_wire.proofs.AnswerLaws.{every_kind, answers as plain_answers}
 
 -- which way a test went
 pub chosen : {A : Type 0} (b : Bool) (r s : Result A WireFault) (y : Result A WireFault) → cond b r s ≡ y → ((b ≡ true) × (r ≡ y)) ⊎ ((b ≡ false) × (s ≡ y))
@@ -41,6 +40,47 @@ failed e = Err e
 
 fault_no : {A : Type 0} (f : WireFault) (x : A) → failed f ≡ Ok x → ⊥
 fault_no f x e = cc
+
+-- ---- a frame of a session, or one as it is without a session
+
+-- the version, and one of two kinds
+abbrev pub IsOneOf : ℕ → ℕ → ℕ → ℕ → ℕ → Type 0
+IsOneOf v a b version kind = (version ≡ v) × ((kind ≡ a) ⊎ (kind ≡ b))
+
+pub known_by_test : (v a b version kind : ℕ) → (eqb version v && (eqb kind a || eqb kind b)) ≡ true → IsOneOf v a b version kind
+known_by_test v a b version kind e =
+    let parts = and_parts (eqb version v) (eqb kind a || eqb kind b) e in (
+      eqb-true _ _ parts.0,
+      elim (or_cases (eqb kind a) (eqb kind b) parts.1) [
+        | inl first ↦ inl (eqb-true _ _ first)
+        | inr second ↦ inr (eqb-true _ _ second)
+      ],
+    )
+
+pub test_by_known : (v a b version kind : ℕ) → IsOneOf v a b version kind → (eqb version v && (eqb kind a || eqb kind b)) ≡ true
+test_by_known v a b version kind known =
+    and_from (eqb version v) (eqb kind a || eqb kind b) (eq-eqb _ _ known.0) (elim known.1 [
+      | inl first ↦ or_left (eqb kind a) (eqb kind b) (eq-eqb _ _ first)
+      | inr second ↦ or_right (eqb kind a) (eqb kind b) (eq-eqb _ _ second)
+    ])
+
+-- what holds of each frame of a session's own, and of each plain one, holds of each that is read
+module _ {X Y : Type 0} (v a b : ℕ) (is_own : ℕ → ℕ → Bool) (own_in : ℕ → List ℕ → Result Y WireFault) (plain_in : List ℕ → Result X WireFault) (of_plain : X → Y)
+    (IsTaken : List ℕ → Y → Type 0)
+    (known : (version kind : ℕ) → is_own version kind ≡ true → IsOneOf v a b version kind)
+    (own_taken : (kind : ℕ) (rest : List ℕ) (y : Y) → IsBytes rest → (kind ≡ a) ⊎ (kind ≡ b) → own_in kind rest ≡ Ok y → IsTaken (v ∷ kind ∷ rest) y)
+    (plain_taken : (body : List ℕ) (x : X) → IsBytes body → plain_in body ≡ Ok x → IsTaken body (of_plain x)) where
+  taken_in_session : (body : List ℕ) (y : Y) → IsBytes body → in_session is_own own_in plain_in of_plain body ≡ Ok y → IsTaken body y
+  taken_in_session [] y fits e = absurd cc
+  taken_in_session (version ∷ []) y fits e = absurd cc
+  taken_in_session (version ∷ kind ∷ rest) y fits e =
+      elim (chosen (is_own version kind) (own_in kind rest) (plain_in (version ∷ kind ∷ rest) >>= λ x. Ok (of_plain x)) (Ok y) e) [
+        | inl so ↦ let one = known version kind so.0 in
+            let t = own_taken kind rest y (IsBytes-rest kind rest (IsBytes-rest version (kind ∷ rest) fits)) one.1 so.1 in
+            subst (λ (w : ℕ). IsTaken (w ∷ kind ∷ rest) y) (sym one.0) t
+        | inr other ↦ let p = bind_ok (plain_in (version ∷ kind ∷ rest)) (λ x. Ok (of_plain x)) y other.1 in
+            subst (IsTaken (version ∷ kind ∷ rest)) (ok_is (of_plain p.0) y p.2) (plain_taken (version ∷ kind ∷ rest) p.0 fits p.1)
+      ]
 
 -- ---- number and floor
 
@@ -174,35 +214,9 @@ control_taken op bytes x fits known e =
     let t = control_takes op a.0 b.0 z.1 known b.1 in
     subst (SessionTaken (2 ∷ op ∷ bytes)) g.1 (control_body_is op bytes a.0 b.0.0 b.0.1 z.0 t (nil_from_length b.0.1 (eqb-true _ _ g.0)))
 
-pub control_known : (version op : ℕ) → is_control version op ≡ true → (version ≡ 2) × ((op ≡ 4) ⊎ (op ≡ 5))
-control_known version op e =
-    let parts = and_parts (eqb version 2) (eqb op 4 || eqb op 5) e in (
-      eqb-true _ _ parts.0,
-      elim (or_cases (eqb op 4) (eqb op 5) parts.1) [
-        | inl four ↦ inl (eqb-true _ _ four)
-        | inr five ↦ inr (eqb-true _ _ five)
-      ],
-    )
-
-pub control_test : (version op : ℕ) → (version ≡ 2) × ((op ≡ 4) ⊎ (op ≡ 5)) → is_control version op ≡ true
-control_test version op known =
-    and_from (eqb version 2) (eqb op 4 || eqb op 5) (eq-eqb _ _ known.0) (elim known.1 [
-      | inl four ↦ or_left (eqb op 4) (eqb op 5) (eq-eqb _ _ four)
-      | inr five ↦ or_right (eqb op 4) (eqb op 5) (eq-eqb _ _ five)
-    ])
-
 session_takes : (body : List ℕ) (x : SessionFrame) → IsBytes body → session_in body ≡ Ok x → SessionTaken body x
 unfolding session_in
-session_takes [] x fits e = absurd cc
-session_takes (version ∷ []) x fits e = absurd cc
-session_takes (version ∷ op ∷ rest) x fits e =
-    elim (chosen (is_control version op) (control_in op rest) (request_in (version ∷ op ∷ rest) >>= λ r. Ok (frames.Request r)) (Ok x) e) [
-      | inl so ↦ let known = control_known version op so.0 in
-          let t = control_taken op rest x (IsBytes-rest op rest (IsBytes-rest version (op ∷ rest) fits)) known.1 so.1 in
-          (t.0, ap (λ (v : ℕ). v ∷ op ∷ rest) known.0 ∙ t.1)
-      | inr other ↦ let b = bind_ok (request_in (version ∷ op ∷ rest)) (λ r. Ok (frames.Request r)) x other.1 in
-          subst (SessionTaken (version ∷ op ∷ rest)) (ok_is (frames.Request b.0) x b.2) (requests.takes (version ∷ op ∷ rest) b.0 fits b.1)
-    ]
+session_takes body x fits e = taken_in_session 2 4 5 is_control control_in request_in (λ r. frames.Request r) SessionTaken (known_by_test 2 4 5) control_taken requests.takes body x fits e
 
 and_never : (b : Bool) → (b && false) ≡ false
 and_never true = refl
@@ -303,43 +317,12 @@ told_taken kind bytes x fits known e =
       | inr other ↦ absurd (fault_no (fault BadValue number) x other.1)
     ]
 
-pub told_known : (version kind : ℕ) → is_told version kind ≡ true → (version ≡ 1) × ((kind ≡ 132) ⊎ (kind ≡ 133))
-told_known version kind e =
-    let parts = and_parts (eqb version 1) (eqb kind 132 || eqb kind 133) e in (
-      eqb-true _ _ parts.0,
-      elim (or_cases (eqb kind 132) (eqb kind 133) parts.1) [
-        | inl opened ↦ inl (eqb-true _ _ opened)
-        | inr closed ↦ inr (eqb-true _ _ closed)
-      ],
-    )
-
-pub told_test : (version kind : ℕ) → (version ≡ 1) × ((kind ≡ 132) ⊎ (kind ≡ 133)) → is_told version kind ≡ true
-told_test version kind known =
-    and_from (eqb version 1) (eqb kind 132 || eqb kind 133) (eq-eqb _ _ known.0) (elim known.1 [
-      | inl opened ↦ or_left (eqb kind 132) (eqb kind 133) (eq-eqb _ _ opened)
-      | inr closed ↦ or_right (eqb kind 132) (eqb kind 133) (eq-eqb _ _ closed)
-    ])
-
 session_answer_takes : (body : List ℕ) (x : SessionAnswer) → IsBytes body → session_answer_in body ≡ Ok x → ToldTaken body x
 unfolding session_answer_in
-session_answer_takes [] x fits e = absurd cc
-session_answer_takes (version ∷ []) x fits e = absurd cc
-session_answer_takes (version ∷ kind ∷ rest) x fits e =
-    elim (chosen (is_told version kind) (told_in kind rest) (answer_in (version ∷ kind ∷ rest) >>= λ a. Ok (answers.Answer a)) (Ok x) e) [
-      | inl so ↦ let known = told_known version kind so.0 in
-          let t = told_taken kind rest x (IsBytes-rest kind rest (IsBytes-rest version (kind ∷ rest) fits)) known.1 so.1 in
-          (t.0, ap (λ (v : ℕ). v ∷ kind ∷ rest) known.0 ∙ t.1)
-      | inr other ↦ let b = bind_ok (answer_in (version ∷ kind ∷ rest)) (λ a. Ok (answers.Answer a)) x other.1 in
-          subst (ToldTaken (version ∷ kind ∷ rest)) (ok_is (answers.Answer b.0) x b.2) (plain_answers.takes (version ∷ kind ∷ rest) b.0 fits b.1)
-    ]
+session_answer_takes body x fits e = taken_in_session 1 132 133 is_told told_in answer_in (λ a. answers.Answer a) ToldTaken (known_by_test 1 132 133) told_taken plain_answers.takes body x fits e
 
 no_told : (reply : Reply) → is_told 1 (reply_kind reply) ≡ false
-no_told Added = refl
-no_told Present = refl
-no_told SetFull = refl
-no_told (Values values) = refl
-no_told Removed = refl
-no_told Absent = refl
+no_told reply = every_kind (λ kind. is_told 1 kind ≡ false) refl refl refl reply
 
 told_read : (kind : ℕ) (behind : List ℕ) (x : SessionAnswer) → told_at kind behind ≡ Ok (x, []) → told_in kind (to_be_bytes w64 0 ++ behind) ≡ Ok x
 unfolding told_in

@@ -13,6 +13,16 @@ use Rattle.chord_wire.specs.Fault.{fault}
 use Rattle.chord_wire.specs.Reading.{◌>>=◌, number_at, bytes_at, request_in, next_of, next_request}
 use Rattle.chord_wire.specs.ReadingReplies.{answer_in}
 
+-- the frame of a whole body, or its first fault: one of a session's own, or one that is read as it
+-- is without a session
+abbrev pub in_session : {X Y : Type 0} → (ℕ → ℕ → Bool) → (ℕ → List ℕ → Result Y WireFault) → (List ℕ → Result X WireFault) → (X → Y) → List ℕ → Result Y WireFault
+in_session is_own own_in plain_in of_plain (version ∷ kind ∷ rest) =
+    if is_own version kind then own_in kind rest
+    else (do
+      plain ← plain_in (version ∷ kind ∷ rest)
+      Ok (of_plain plain))
+in_session is_own own_in plain_in of_plain _ = Err (fault BadLength 0)
+
 -- ---- what a client sends
 
 -- whether this is an Open or a Close
@@ -53,14 +63,9 @@ control_in operation bytes = do
   control ← control_at operation behind
   if length control.1 == 0 then Ok control.0 else Err (fault Trailing 0)
 
--- the frame of a whole body, or its first fault
+-- a client's frame of a whole body, or its first fault
 unfoldable pub session_in : List ℕ → Result SessionFrame WireFault
-session_in (version ∷ operation ∷ rest) =
-    if is_control version operation then control_in operation rest
-    else (do
-      request ← request_in (version ∷ operation ∷ rest)
-      Ok (frames.Request request))
-session_in _ = Err (fault BadLength 0)
+session_in body = in_session is_control control_in request_in (λ request. frames.Request request) body
 
 -- the client's next frame, and the bytes after it
 unfoldable pub next_session : List ℕ → Result (Option (SessionFrame × List ℕ)) WireFault
@@ -110,14 +115,9 @@ told_in kind bytes = do
   told ← told_under kind number.0 number.1
   if length told.1 == 0 then Ok told.0 else Err (fault Trailing 0)
 
--- the frame of a whole body, or its first fault
+-- what a whole body is as a server's frame, or its first fault
 unfoldable pub session_answer_in : List ℕ → Result SessionAnswer WireFault
-session_answer_in (version ∷ kind ∷ rest) =
-    if is_told version kind then told_in kind rest
-    else (do
-      answer ← answer_in (version ∷ kind ∷ rest)
-      Ok (answers.Answer answer))
-session_answer_in _ = Err (fault BadLength 0)
+session_answer_in body = in_session is_told told_in answer_in (λ answer. answers.Answer answer) body
 
 -- the server's next frame, and the bytes after it
 unfoldable pub next_session_answer : List ℕ → Result (Option (SessionAnswer × List ℕ)) WireFault

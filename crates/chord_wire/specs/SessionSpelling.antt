@@ -10,6 +10,11 @@ use Rattle.chord_wire.specs.declared.session_answer.SessionAnswer.TheVariants as
 use Rattle.chord_wire.specs.Spelling.{request_body, frame, IsWireRequest}
 use Rattle.chord_wire.specs.Replies.{answer_body, IsAnswer}
 
+-- the bytes are the frames of these, each of which has one, and then the rest
+pub record SpellsEach {X : Type 0} (HasFrame : X → Type 0) (frame_of : X → List ℕ) (bytes : List ℕ) (xs : List X) (rest : List ℕ) : Type 0 where
+  pub each : AllByRecursion HasFrame xs
+  pub parts : bytes ≡ flat_map frame_of xs ++ rest
+
 -- ---- what a client sends
 
 -- whether a session begins or is resumed
@@ -41,11 +46,6 @@ IsSessionFrame frames.Close = Unit {0}
 abbrev pub session_frame : SessionFrame → List ℕ
 session_frame x = frame (session_body x)
 
--- the bytes are these frames, and then the rest
-pub record SpellsFrames (bytes : List ℕ) (xs : List SessionFrame) (rest : List ℕ) : Type 0 where
-  pub each : AllByRecursion IsSessionFrame xs
-  pub parts : bytes ≡ flat_map session_frame xs ++ rest
-
 -- ---- what a server sends
 
 -- version 1, the kind, number 0, and what is behind them
@@ -67,11 +67,6 @@ IsSessionAnswer answers.Closed = Unit {0}
 -- a server's frame
 abbrev pub session_answer_frame : SessionAnswer → List ℕ
 session_answer_frame x = frame (session_answer_body x)
-
--- the bytes are these frames, and then the rest
-pub record SpellsTold (bytes : List ℕ) (xs : List SessionAnswer) (rest : List ℕ) : Type 0 where
-  pub each : AllByRecursion IsSessionAnswer xs
-  pub parts : bytes ≡ flat_map session_answer_frame xs ++ rest
 
 -- the frame that says that a session goes on, with its floor and its last number
 abbrev pub opened_frame : ℕ → ℕ → List ℕ

@@ -12,7 +12,7 @@ ghost use Rattle.chord_wire.specs.Replies.{AreValues, IsAnswer};
 ghost use Rattle.chord_wire.specs.declared.session_frame.SessionFrame.{SessionFrame};
 ghost use Rattle.chord_wire.specs.declared.session_answer.SessionAnswer.{SessionAnswer};
 ghost use Rattle.chord_wire.specs.SessionReading.{next_session, next_session_answer};
-ghost use Rattle.chord_wire.specs.SessionSpelling.{IsSessionFrame, IsSessionAnswer, session_frame, session_answer_frame, SpellsFrames, SpellsTold};
+ghost use Rattle.chord_wire.specs.SessionSpelling.{IsSessionFrame, IsSessionAnswer, session_frame, session_answer_frame, SpellsEach};
 ghost use Rattle.chord_wire.specs.SessionFaults.{SessionFaultOf, SessionAnswerFaultOf};
 ghost use Rattle.chord_map.specs.declared.pair.Pair.{Pair};
 ghost use Rattle.chord_map.specs.Map.{values_at};
@@ -35,8 +35,8 @@ pub fn one_reading()
     ensures same_count { (bytes : List ℕ) (rs ss : List WireRequest) (rest rest' : List ℕ) → Spells bytes rs rest → Spells bytes ss rest' → length rs ≡ length ss → (rs ≡ ss) × (rest ≡ rest') }
     ensures answers_ended { (bytes : List ℕ) (xs ys : List Answer) (rest rest' : List ℕ) → SpellsAnswers bytes xs rest → HasNoNextAnswer rest → SpellsAnswers bytes ys rest' → HasNoNextAnswer rest' → (xs ≡ ys) × (rest ≡ rest') }
     ensures answers_same_count { (bytes : List ℕ) (xs ys : List Answer) (rest rest' : List ℕ) → SpellsAnswers bytes xs rest → SpellsAnswers bytes ys rest' → length xs ≡ length ys → (xs ≡ ys) × (rest ≡ rest') }
-    ensures sessions_same_count { (bytes : List ℕ) (xs ys : List SessionFrame) (rest rest' : List ℕ) → SpellsFrames bytes xs rest → SpellsFrames bytes ys rest' → length xs ≡ length ys → (xs ≡ ys) × (rest ≡ rest') }
-    ensures session_answers_same_count { (bytes : List ℕ) (xs ys : List SessionAnswer) (rest rest' : List ℕ) → SpellsTold bytes xs rest → SpellsTold bytes ys rest' → length xs ≡ length ys → (xs ≡ ys) × (rest ≡ rest') }
+    ensures sessions_same_count { (bytes : List ℕ) (xs ys : List SessionFrame) (rest rest' : List ℕ) → SpellsEach IsSessionFrame session_frame bytes xs rest → SpellsEach IsSessionFrame session_frame bytes ys rest' → length xs ≡ length ys → (xs ≡ ys) × (rest ≡ rest') }
+    ensures session_answers_same_count { (bytes : List ℕ) (xs ys : List SessionAnswer) (rest rest' : List ℕ) → SpellsEach IsSessionAnswer session_answer_frame bytes xs rest → SpellsEach IsSessionAnswer session_answer_frame bytes ys rest' → length xs ≡ length ys → (xs ≡ ys) × (rest ≡ rest') }
 {}
 
 /// No frame is a prefix of another, and no two requests or answers have the same frame.

@@ -2,7 +2,7 @@
 ghost use Rattle.std.specs.Prelude.{◌≡◌, vec_len};
 
 use crate::plan_run::ring_parts_of;
-use crate::serving::server::serve_named;
+use crate::serving::server::Serving;
 use chord_app_sockets::{ClientSeconds, Host, Lines, ServerSetup, Stop, Until};
 use chord_app_text::Finish;
 use chord_live_ring::RingParts;
@@ -45,7 +45,14 @@ fn serve_until<S: EntryStore + Send, R: Host, L: Log + Sync, W: Write + Send + D
     lines: Lines<W>,
     parts: RingParts,
 ) -> Result<(), Finish> {
-    match serve_named::<Brand, S, R, L, W>(rt, setup, stores, until, &lines, parts) {
+    let serving = Serving {
+        rt,
+        setup,
+        stores,
+        until,
+        lines: &lines,
+    };
+    match serving.serve_named::<Brand>(parts) {
         Ok(()) => lines.finish(),
         Err(finish) => {
             drop(lines);

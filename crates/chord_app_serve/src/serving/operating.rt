@@ -97,21 +97,16 @@ impl<'s, 'r, J: Naming, S: EntryStore, R: Host, L: Log, W: Write> Server<'s, 'r,
         }
         door.open.end_all(self.service.rt);
     }
-}
 
-impl<
-    't,
-    's: 't,
-    'r: 's,
-    J: Naming + Send + Sync + 't,
-    S: EntryStore + Send + 't,
-    R: Host,
-    L: Log + Sync + 't,
-    W: Write + Send + 't,
-> Server<'s, 'r, J, S, R, L, W> {
     /// Writes the address at which operators are served, and starts threads for their connections,
     /// if there is a port for them.
-    pub fn start_operators<E: 't>(&'t self, scope: &'t Scope<'t, E>) -> Result<(), Finish> {
+    pub fn start_operators<'t, E: 't>(&'t self, scope: &'t Scope<'t, E>) -> Result<(), Finish>
+    where
+        J: Send + Sync + 't,
+        S: Send + 't,
+        L: Sync + 't,
+        W: Send + 't,
+    {
         let Some(door) = &self.desk.door else {
             return Ok(());
         };

@@ -171,13 +171,12 @@ impl<'t, 's, 'r, J: Naming, S: EntryStore, R: Host> Operator for RingOperator<'t
 
     /// Asks one node after another, each under its lock, for the pairs from the identifier on.
     fn pairs(&mut self, alloc: Global, request: PairsRequest) -> Result<PairsPage, AllocError> {
-        let first = first_of(request);
-        if let Some(page) = self.held_page(alloc, first, request.limit.max(1))? {
+        if let Some(page) = self.held_page(alloc, request)? {
             return Ok(page);
         }
         Ok(PairsPage {
             pairs: Vec::new(alloc),
-            next: self.gone_on(alloc, first)?,
+            next: self.gone_on(alloc, first_of(request))?,
         })
     }
 

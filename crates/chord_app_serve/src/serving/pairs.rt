@@ -1,5 +1,5 @@
 //! The pairs of a ring as its operator reads them.
-ghost use Rattle.std.specs.Prelude.{◌≡◌, ◌<◌, map, IfOk, IfSome};
+ghost use Rattle.std.specs.Prelude.{◌≡◌, map, max, IfOk, IfSome};
 ghost use Rattle.chord_app_serve.specs.ReadPairs.{first_of, operator_look, placed_look, IsReadAt, ShowsPage};
 
 use crate::serving::operator::RingOperator;
@@ -87,38 +87,21 @@ fn handover_with(outbox: &[OutboxSight], first: Id) -> Option<OutboxSight> {
 }
 
 impl<'t, 's, 'r, J: Naming, S: EntryStore, R: Wait + Clock> RingOperator<'t, 's, 'r, J, S, R> {
-    // The page of the node of this number, if that holds the identifier and has not crashed.
-    fn page_at(
-        &self,
-        alloc: Global,
-        number: u64,
-        first: Id,
-        limit: u64,
-    ) -> Result<Option<PairsPage>, AllocError>
-        requires { 0 < limit }
-        ensures { IfOk result (λ found. IfSome found (IsReadAt first limit)) }
-    {
-        let Some(page) = self.ring.pairs_from(self.rt, alloc, number, first, limit)? else {
-            return Ok(None);
-        };
-        let shown = page_shown(alloc, &page)?;
-        drop(page);
-        Ok(Some(shown))
-    }
-
-    /// The page of the node that holds the identifier and has not crashed, if there is one.
+    /// The page of the node that holds the first identifier and has not crashed, if there is one.
     pub fn held_page(
         &self,
         alloc: Global,
-        first: Id,
-        limit: u64,
+        request: PairsRequest,
     ) -> Result<Option<PairsPage>, AllocError>
-        requires { 0 < limit }
-        ensures { IfOk result (λ found. IfSome found (IsReadAt first limit)) }
+        ensures { IfOk result (λ found. IfSome found (IsReadAt (first_of request) (max request.limit 1))) }
     {
+        let first = first_of(request);
+        let limit = request.limit.max(1);
         for number in 0..self.ring.node_count() {
-            if let Some(page) = self.page_at(alloc, number, first, limit)? {
-                return Ok(Some(page));
+            if let Some(page) = self.ring.pairs_from(self.rt, alloc, number, first, limit)? {
+                let shown = page_shown(alloc, &page)?;
+                drop(page);
+                return Ok(Some(shown));
             }
         }
         Ok(None)

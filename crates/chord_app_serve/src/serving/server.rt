@@ -204,21 +204,8 @@ impl<
             .is_ok()
     }
 
-    /// Starts the thread of a connection, or ends it if there is no memory for that.
-    fn start_client<E: 't>(
-        &'t self,
-        scope: &'t Scope<'t, E>,
-        number: u64,
-        protocol: Protocol,
-        stream: TcpStream,
-    ) {
-        if !self.run_beside(scope, number, protocol, stream) {
-            self.tell(number, &Ended::Served(Served::Memory));
-            self.clients.forget(self.service.rt, number);
-        }
-    }
-
-    /// Serves an accepted connection, or notes that it could not be accepted.
+    /// Serves an accepted connection, or notes that it could not be accepted, or ends it if there
+    /// is no memory for its thread.
     fn meet<E: 't>(
         &'t self,
         scope: &'t Scope<'t, E>,
@@ -227,7 +214,12 @@ impl<
         accepted: io::Result<TcpStream>,
     ) {
         match accepted {
-            Ok(stream) => self.start_client(scope, number, protocol, stream),
+            Ok(stream) => {
+                if !self.run_beside(scope, number, protocol, stream) {
+                    self.tell(number, &Ended::Served(Served::Memory));
+                    self.clients.forget(self.service.rt, number);
+                }
+            }
             Err(_) => {
                 self.tell(number, &Ended::NotAccepted);
                 thread::sleep(self.service.rt, Duration::from_millis(10));
@@ -320,45 +312,6 @@ fn serve_ring<
     })
 }
 
-/// Serves with this ring, over these stores, and gives the callers that served.
-fn serve_with<
-    J: Naming + Send + Sync,
-    S: EntryStore + Send,
-    R: Host,
-    L: Log + Sync,
-    W: Write + Send,
->(
-    rt: &R,
-    setup: &ServerSetup<'_, L>,
-    stores: ServerStores<S>,
-    until: Until<'_>,
-    lines: &Lines<W>,
-    ring: &Ring<J, S>,
-) -> Result<Vec<ReturnedCaller<J>>, Finish> {
-    let service = Service::new(rt, ring, setup);
-    let kept = until.kept_callers(setup.settings.callers);
-    let pool = CallerPool::new(setup.alloc, ring, kept)?;
-    let ServerStores { nodes, spares } = stores;
-    let desk = Desk::new(rt, setup, spares)?;
-    let server = Server {
-        service: &service,
-        pool,
-        sessions: Sessions::new(setup.alloc, until.session_seconds()),
-        tally: Tally::new(),
-        clients: Clients::new(setup.alloc),
-        pollers: Pollers::for_processors(rt),
-        lines,
-        until,
-        numbers: AtomicU64::new(0),
-        desk,
-    };
-    let served = serve_ring(rt, &server, setup, nodes);
-    server.drop_sessions();
-    let callers = server.pool.into_callers();
-    served?;
-    Ok(callers)
-}
-
 /// Ends the ring. One look at all its nodes and callers proves that they are a reachable world,
 /// each as the threads held it. Only memory that ran out can keep a seat back.
 fn conclude<J: Naming, S: EntryStore>(
@@ -375,38 +328,73 @@ fn conclude<J: Naming, S: EntryStore>(
     }
 }
 
-/// Gives the ring its name, and serves. Then the ring ends by a look at the whole of it.
-pub fn serve_named<
-    J: Naming + Send + Sync,
-    S: EntryStore + Send,
-    R: Host,
-    L: Log + Sync,
-    W: Write + Send,
->(
-    rt: &R,
-    setup: &ServerSetup<'_, L>,
-    stores: ServerStores<S>,
-    until: Until<'_>,
-    lines: &Lines<W>,
-    parts: RingParts,
-) -> Result<(), Finish>
-    requires { parts.name ≡ J.name }
-{
-    let ring = match parts.assemble::<J, S>() {
-        Ok(ring) => ring,
-        Err(_) => {
-            drop(stores);
-            return Err(Finish::OutOfMemory);
-        }
-    };
-    match serve_with(rt, setup, stores, until, lines, &ring) {
-        Ok(callers) => {
-            drop(conclude(ring, callers)?);
-            Ok(())
-        }
-        Err(finish) => {
-            ring.close();
-            Err(finish)
+/// What a server serves with: its stores, until when, and where it writes how connections ended.
+#[derive(Drop)]
+pub struct Serving<'a, S: EntryStore, R, L, W> {
+    pub rt: &'a R,
+    pub setup: &'a ServerSetup<'a, L>,
+    pub stores: ServerStores<S>,
+    pub until: Until<'a>,
+    pub lines: &'a Lines<W>,
+}
+
+impl<S: EntryStore + Send, R: Host, L: Log + Sync, W: Write + Send> Serving<'_, S, R, L, W> {
+    /// Serves with this ring, and gives the callers that served.
+    fn serve_with<J: Naming + Send + Sync>(
+        self,
+        ring: &Ring<J, S>,
+    ) -> Result<Vec<ReturnedCaller<J>>, Finish> {
+        let Serving {
+            rt,
+            setup,
+            stores,
+            until,
+            lines,
+        } = self;
+        let service = Service::new(rt, ring, setup);
+        let kept = until.kept_callers(setup.settings.callers);
+        let pool = CallerPool::new(setup.alloc, ring, kept)?;
+        let ServerStores { nodes, spares } = stores;
+        let desk = Desk::new(rt, setup, spares)?;
+        let server = Server {
+            service: &service,
+            pool,
+            sessions: Sessions::new(setup.alloc, until.session_seconds()),
+            tally: Tally::new(),
+            clients: Clients::new(setup.alloc),
+            pollers: Pollers::for_processors(rt),
+            lines,
+            until,
+            numbers: AtomicU64::new(0),
+            desk,
+        };
+        let served = serve_ring(rt, &server, setup, nodes);
+        server.drop_sessions();
+        let callers = server.pool.into_callers();
+        served?;
+        Ok(callers)
+    }
+
+    /// Gives the ring its name, and serves. Then the ring ends by a look at the whole of it.
+    pub fn serve_named<J: Naming + Send + Sync>(self, parts: RingParts) -> Result<(), Finish>
+        requires { parts.name ≡ J.name }
+    {
+        let ring = match parts.assemble::<J, S>() {
+            Ok(ring) => ring,
+            Err(_) => {
+                drop(self);
+                return Err(Finish::OutOfMemory);
+            }
+        };
+        match self.serve_with(&ring) {
+            Ok(callers) => {
+                drop(conclude(ring, callers)?);
+                Ok(())
+            }
+            Err(finish) => {
+                ring.close();
+                Err(finish)
+            }
         }
     }
 }

@@ -1,7 +1,7 @@
 //! A running ring, shared by the connections of a server.
 ghost use Rattle.std.specs.Prelude.{◌≡◌, ◌%◌};
 
-use crate::nodes::{start_nodes, tick_in_turn};
+use crate::nodes::Workers;
 use crate::serving::asker::RingAsker;
 use crate::serving::idle::IdleCaller;
 use chord_app_plan::PlanNode;
@@ -65,9 +65,9 @@ impl<'r, J: Naming, S: EntryStore, R: Wait + Clock, L: Log> Service<'r, J, S, R,
         R: Threads + Sync + 's,
     {
         let (rt, ring) = (self.rt, self.ring);
-        start_nodes(rt, ring, scope, nodes, stores)?;
+        Workers { rt, ring, scope }.start_nodes(nodes, stores)?;
         let first_nodes = nodes.len() as u64;
-        match scope.spawn(move || tick_in_turn(rt, ring, scope, first_nodes)) {
+        match scope.spawn(move || Workers { rt, ring, scope }.tick_in_turn(first_nodes)) {
             Ok(_) => Ok(()),
             Err(_) => Err(Finish::OutOfMemory),
         }
@@ -86,8 +86,15 @@ impl<'r, J: Naming, S: EntryStore, R: Wait + Clock, L: Log> Service<'r, J, S, R,
         until: Until<'_>,
     ) -> (Served, RingClient<'r, J, S>) {
         let asker = RingAsker::new(self.rt, idle, via);
-        let (size, turns) = (until.read_size(), until.turns());
-        let (served, asker) = serve_plain(self.alloc, reader, writer, frames, asker, size, turns);
+        let (served, asker) = serve_plain(
+            self.alloc,
+            reader,
+            writer,
+            frames,
+            asker,
+            until.read_size(),
+            until.turns(),
+        );
         (served, asker.into_caller())
     }
 

@@ -5,6 +5,7 @@ ghost use Rattle.chord_app_serve.specs.Shown.{asks_shown, handovers_shown, item_
 use chord_app_operator::{
     AskCounts, HandoverCounts, NodeSight, OutboxSight, Phase, SegmentSight, StoreKind,
 };
+use chord_live_ring::{OutboxSight as RingItem, SegmentSight as RingSegment};
 use std::alloc::{AllocError, Global};
 
 /// The kind of a node's store. One that notes its count is a list.
@@ -31,38 +32,39 @@ fn phase_shown(crashed: bool, phase: chord_model::Phase) -> Phase
     }
 }
 
-fn segments_shown(
-    alloc: Global,
-    segments: &[chord_live_ring::SegmentSight],
-) -> Result<Vec<SegmentSight>, AllocError>
-    ensures { IfOk result (λ shown. shown.items ≡ map segment_shown segments.now) }
+fn segment_shown(segment: RingSegment) -> SegmentSight
+    ensures { result ≡ segment_shown segment }
 {
-    let mut shown = Vec::with_capacity(alloc, segments.len())?;
-    for segment in segments {
-        shown.push(SegmentSight {
-            span: segment.span,
-            kept: segment.kept,
-        })?;
+    SegmentSight {
+        span: segment.span,
+        kept: segment.kept,
     }
-    Ok(shown)
 }
 
-fn outbox_shown(
-    alloc: Global,
-    items: &[chord_live_ring::OutboxSight],
-) -> Result<Vec<OutboxSight>, AllocError>
+fn item_shown(item: RingItem) -> OutboxSight
+    ensures { result ≡ item_shown item }
+{
+    OutboxSight {
+        to: item.to,
+        number: item.number,
+        span: item.span,
+        pairs: item.pairs,
+    }
+}
+
+fn segments_shown(alloc: Global, segments: &[RingSegment]) -> Result<Vec<SegmentSight>, AllocError>
+    ensures { IfOk result (λ shown. shown.items ≡ map segment_shown segments.now) }
+{
+    segments
+        .iter()
+        .map(|segment| segment_shown(*segment))
+        .collect(alloc)
+}
+
+fn outbox_shown(alloc: Global, items: &[RingItem]) -> Result<Vec<OutboxSight>, AllocError>
     ensures { IfOk result (λ shown. shown.items ≡ map item_shown items.now) }
 {
-    let mut shown = Vec::with_capacity(alloc, items.len())?;
-    for item in items {
-        shown.push(OutboxSight {
-            to: item.to,
-            number: item.number,
-            span: item.span,
-            pairs: item.pairs,
-        })?;
-    }
-    Ok(shown)
+    items.iter().map(|item| item_shown(*item)).collect(alloc)
 }
 
 fn asks_shown(asks: chord_live_ring::AskCounts) -> AskCounts
