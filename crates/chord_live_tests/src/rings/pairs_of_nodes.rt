@@ -72,7 +72,7 @@ fn settle<J: Naming, S: EntryStore, R: Abort + Wait + Clock>(
     assert!(rt; false, "node 1 holds its segment");
 }
 
-/// A ring of two nodes; the second one, at C, has room for so few pairs.
+/// A ring of two nodes; the second one, at C, has room for this many pairs.
 fn ring_of_two<J: Naming, R: Abort + Wait>(
     rt: &R,
     alloc: Global,
@@ -87,22 +87,27 @@ fn ring_of_two<J: Naming, R: Abort + Wait>(
     ring
 }
 
-#[test]
-fn a_part_is_sent_again_until_there_is_room(rt: HostRuntime) {
-    let parts = parts_with(&rt, rt.alloc(), settings(2, 1, 20, 1_000));
-    leaves_to_a_full_store::<Brand, _>(&rt, rt.alloc(), parts);
-}
-
-fn leaves_to_a_full_store<J: Naming + Send + Sync, R: Abort + Threads + Wait + Clock + Sync>(
+/// Does this in such a ring while node 1 has a worker, and node 0 too if it is to leave.
+fn does_in_two<J: Naming + Send + Sync, R: Abort + Threads + Wait + Clock + Sync>(
     rt: &R,
     alloc: Global,
     parts: RingParts,
+    deed: Deed,
 )
     requires { parts.name ≡ J.name }
 {
     let ring = ring_of_two::<J, R>(rt, alloc, parts, 2);
-    with_two_workers(rt, alloc, &ring, Deed::LeaveToFull);
+    match deed {
+        Deed::LeaveToFull => with_two_workers(rt, alloc, &ring, deed),
+        _ => with_worker_of(rt, alloc, &ring, 1, deed),
+    }
     ring.close();
+}
+
+#[test]
+fn a_part_is_sent_again_until_there_is_room(rt: HostRuntime) {
+    let parts = parts_with(&rt, rt.alloc(), settings(2, 1, 20, 1_000));
+    does_in_two::<Brand, _>(&rt, rt.alloc(), parts, Deed::LeaveToFull);
 }
 
 /// Node 0 leaves with two pairs while node 1 has one and room for one more.
@@ -202,20 +207,7 @@ fn finds_fingers<J: Naming, R: Abort + Wait>(rt: &R, alloc: Global, parts: RingP
 #[test]
 fn a_request_begins_at_the_node_that_is_named(rt: HostRuntime) {
     let parts = parts_with(&rt, rt.alloc(), settings(2, 1, 1, 2_000));
-    begins_at_a_worker::<Brand, _>(&rt, rt.alloc(), parts);
-}
-
-/// Node 1 alone has a worker.
-fn begins_at_a_worker<J: Naming + Send + Sync, R: Abort + Threads + Wait + Clock + Sync>(
-    rt: &R,
-    alloc: Global,
-    parts: RingParts,
-)
-    requires { parts.name ≡ J.name }
-{
-    let ring = ring_of_two::<J, R>(rt, alloc, parts, 1);
-    with_worker_of(rt, alloc, &ring, 1, Deed::BeginAtOne);
-    ring.close();
+    does_in_two::<Brand, _>(&rt, rt.alloc(), parts, Deed::BeginAtOne);
 }
 
 /// A request that began at node 0 would wait in its inbox.

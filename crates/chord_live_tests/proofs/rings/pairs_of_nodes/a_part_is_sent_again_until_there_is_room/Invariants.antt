@@ -1,5 +1,5 @@
 use Rattle.chord_live_tests.proofs.rings.pairs_of_nodes.a_part_is_sent_again_until_there_is_room.Given as goal
 
 -- picks the name of the ring that was just made
-abbrev pub ghosts-leaves_to_a_full_store : goal.ghosts-leaves_to_a_full_store
-ghosts-leaves_to_a_full_store g a = record { name = a.parts.name }
+abbrev pub ghosts-does_in_two : goal.ghosts-does_in_two
+ghosts-does_in_two g a = record { name = a.parts.name }
