@@ -5,7 +5,7 @@ ghost use Rattle.std.specs.Prelude.{◌≡◌, ◌≤◌, []};
 use chord_caller::SubmitFault;
 use chord_ident::Id;
 use chord_links::Peer;
-use chord_live::{AskingCore, Caller, RingCaller};
+use chord_live::{AskingCore, Caller, OpenCaller, RingCaller};
 use chord_live_ring::{NodeSight, Ring, RingParts, Settings};
 use chord_live_types::{AskFault, BeginFault, WaitFault};
 use chord_map::{Done, Reply, Request, Values};
@@ -200,6 +200,33 @@ pub fn call<J: Naming, S: EntryStore, C: AskingCore, R: Wait + Clock>(
 ) -> Result<Said, AskFault> {
     let request = request.map_err(|_| NO_MEMORY)?;
     said_by(asker.call(rt, via, request))
+}
+
+/// How a request gets to its node.
+#[derive(Clone, Copy)]
+pub enum Way {
+    /// Through inboxes: the nodes' workers do it.
+    Sent,
+    /// The thread of the caller carries it.
+    Carried,
+}
+
+/// The answer to a new caller's insert, which begins at node `via`.
+pub fn insert_by_another<J: Naming, S: EntryStore, R: Abort + Wait + Clock>(
+    rt: &R,
+    alloc: Global,
+    ring: &Ring<J, S>,
+    (way, via): (Way, u64),
+    (key, value): (&[u8], &[u8]),
+) -> Result<Said, AskFault> {
+    let mut caller = ring.open_caller(rt, 1).expect(rt, "one more caller");
+    let request = Request::insert(alloc, key, value);
+    let said = match way {
+        Way::Sent => ask(rt, &mut caller, via, request),
+        Way::Carried => call(rt, &mut caller, via, request),
+    };
+    drop(caller);
+    said
 }
 
 /// Begins a retrieve of this key at node `via`, and gives its number.

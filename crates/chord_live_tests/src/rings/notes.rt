@@ -2,8 +2,8 @@
 ghost use Rattle.std.specs.Prelude.{◌≡◌};
 
 use super::{Known, Said, call, founded, only_call, parts_with, settings};
-use chord_live::{Caller, OpenCaller};
-use chord_live_ring::RingParts;
+use chord_live::OpenCaller;
+use chord_live_ring::{Ring, RingParts};
 use chord_map::Request;
 use chord_store::{CappedStore, EntryStore};
 use chord_table::Naming;
@@ -23,11 +23,7 @@ fn meets<J: Naming, R: Abort + Wait + Clock>(rt: &R, alloc: Global, parts: RingP
     requires { parts.name ≡ J.name }
 {
     let ring = founded::<J, CappedStore, R>(rt, parts, CappedStore::new(alloc, 1));
-    let mut zero = ring.open_caller(rt, 1).expect(rt, "a caller");
-    let mut one = ring.open_caller(rt, 1).expect(rt, "a second caller");
-    tell(rt, alloc, &mut zero, &mut one);
-    drop(one);
-    drop(zero);
+    tell(rt, alloc, &ring);
     ring.close();
 }
 
@@ -35,10 +31,11 @@ fn meets<J: Naming, R: Abort + Wait + Clock>(rt: &R, alloc: Global, parts: RingP
 fn tell<J: Naming, S: EntryStore, R: Abort + Wait + Clock>(
     rt: &R,
     alloc: Global,
-    zero: &mut Caller<'_, J, S>,
-    one: &mut Caller<'_, J, S>,
+    ring: &Ring<J, S>,
 ) {
-    let added = call(rt, one, 0, Request::insert(alloc, b"a", b"x"));
+    let mut zero = ring.open_caller(rt, 1).expect(rt, "a caller");
+    let mut one = ring.open_caller(rt, 1).expect(rt, "a second caller");
+    let added = call(rt, &mut one, 0, Request::insert(alloc, b"a", b"x"));
     assert!(rt; added == Ok(Said::Added), "x is added under `a`");
     let note = one.show().expect(rt, "memory for a note");
     let met = zero.meet(note).is_ok();
@@ -59,6 +56,8 @@ fn tell<J: Naming, S: EntryStore, R: Abort + Wait + Clock>(
         only_call(zero.told()) == Some(insert),
         "what it knows is not told twice"
     );
-    let seen = call(rt, zero, 0, Request::retrieve(alloc, b"a"));
+    let seen = call(rt, &mut zero, 0, Request::retrieve(alloc, b"a"));
     assert!(rt; seen == Ok(Said::OnlyX), "and it finds x");
+    drop(one);
+    drop(zero);
 }

@@ -2,7 +2,10 @@
 ghost use Rattle.std.specs.Prelude.{◌≡◌};
 
 use super::workers::{Deed, with_two_workers};
-use super::{A, Said, call, founded, parts_with, settings, sight_of, succeeds, tick, tick_both};
+use super::{
+    A, Said, Way, call, founded, insert_by_another, parts_with, settings, sight_of, succeeds, tick,
+    tick_both,
+};
 use chord_ident::{Id, Span};
 use chord_live::OpenCaller;
 use chord_live_ring::{
@@ -257,7 +260,7 @@ fn gives<J: Naming + Send + Sync, R: Abort + Threads + Wait + Clock + Sync>(
     requires { parts.name ≡ J.name }
 {
     let ring = founded::<J, CappedStore, R>(rt, parts, CappedStore::new(alloc, 4));
-    let added = said_to_another(rt, alloc, &ring, 0, (b"abc", b"x"));
+    let added = insert_by_another(rt, alloc, &ring, (Way::Carried, 0), (b"abc", b"x"));
     assert!(rt; added == Ok(Said::Added), "node 0 holds all keys");
     let joined = succeeds(ring.join(rt, Id::new(M), 0, CappedStore::new(alloc, 4)));
     assert!(rt; joined, "a second node joins by the first");
@@ -269,20 +272,6 @@ fn gives<J: Naming + Send + Sync, R: Abort + Threads + Wait + Clock + Sync>(
     is_under_way(rt, alloc, &ring);
     with_two_workers(rt, alloc, &ring, Deed::TakeAndCrash);
     ring.close();
-}
-
-/// What a new caller is told at node `via` to an insert.
-fn said_to_another<J: Naming, S: EntryStore, R: Abort + Wait + Clock>(
-    rt: &R,
-    alloc: Global,
-    ring: &Ring<J, S>,
-    via: u64,
-    (key, value): (&[u8], &[u8]),
-) -> Result<Said, AskFault> {
-    let mut caller = ring.open_caller(rt, 1).expect(rt, "one more caller");
-    let said = call(rt, &mut caller, via, Request::insert(alloc, key, value));
-    drop(caller);
-    said
 }
 
 /// Nobody took in what node 0 gave: it is in its outbox.
@@ -391,7 +380,7 @@ fn has_given<J: Naming, S: EntryStore, R: Abort + Wait + Clock>(
     ring: &Ring<J, S>,
 ) {
     wait_for_workers(rt, alloc, ring);
-    let added = said_to_another(rt, alloc, ring, 0, (b"abc", b"y"));
+    let added = insert_by_another(rt, alloc, ring, (Way::Carried, 0), (b"abc", b"y"));
     assert!(rt; added == Ok(Said::Added), "node 1 adds a pair");
     has_passed_on(rt, &sight_of(rt, alloc, ring, 0));
     has_taken(rt, &sight_of(rt, alloc, ring, 1));
@@ -418,16 +407,18 @@ fn has_given<J: Naming, S: EntryStore, R: Abort + Wait + Clock>(
     );
 }
 
+fn has_counted<R: Abort>(rt: &R, sight: &NodeSight, asked: AskCounts, handed: HandoverCounts) {
+    assert!(rt; sight.counts.asks == asked, "each request is counted");
+    assert!(rt;
+        sight.counts.handovers == handed,
+        "each handover is counted"
+    );
+}
+
 fn has_passed_on<R: Abort>(rt: &R, sight: &NodeSight) {
     assert!(rt; sight.outbox.is_empty(), "what was given was taken");
-    assert!(rt;
-        sight.counts.asks == asks(1, 1, 0, 0),
-        "node 0 told one reply, and passed the next request on"
-    );
-    assert!(rt;
-        sight.counts.handovers == handovers(1, 0),
-        "it gave one segment"
-    );
+    // Node 0 told one reply, passed the next request on, and gave one segment.
+    has_counted(rt, sight, asks(1, 1, 0, 0), handovers(1, 0));
 }
 
 fn has_taken<R: Abort>(rt: &R, sight: &NodeSight) {
@@ -436,14 +427,8 @@ fn has_taken<R: Abort>(rt: &R, sight: &NodeSight) {
         "node 1 holds what was given, with the replies to both callers"
     );
     assert!(rt; sight.pairs == 2, "and with both pairs");
-    assert!(rt;
-        sight.counts.asks == asks(1, 0, 0, 0),
-        "node 1 told the reply"
-    );
-    assert!(rt;
-        sight.counts.handovers == handovers(0, 1),
-        "it took one segment, however often its part came"
-    );
+    // Node 1 told the reply, and took one segment, however often its part came.
+    has_counted(rt, sight, asks(1, 0, 0, 0), handovers(0, 1));
 }
 
 /// A new caller inserts by node 1, which crashed, under `eq`, which node 0 holds.
@@ -454,7 +439,7 @@ fn asks_by_a_crashed_node<J: Naming, S: EntryStore, R: Abort + Wait + Clock>(
 ) {
     let crashed = ring.crash(rt, 1);
     assert!(rt; crashed == Ok(()), "node 1 crashes");
-    let added = said_to_another(rt, alloc, ring, 1, (b"eq", b"x"));
+    let added = insert_by_another(rt, alloc, ring, (Way::Carried, 1), (b"eq", b"x"));
     assert!(rt;
         added == Ok(Said::Added),
         "a call by a node that crashed begins at the next live one"

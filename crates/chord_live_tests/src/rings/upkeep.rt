@@ -3,7 +3,8 @@ ghost use Rattle.std.specs.Prelude.{◌≡◌, [], ◌∷◌};
 ghost use Rattle.chord_table.specs.Shown.{WitnessShown};
 
 use super::{
-    C, Said, ask, call, founded, parts_with, said_by, settings, succeeds, tick, tick_both,
+    C, Said, Way, ask, call, founded, insert_by_another, parts_with, said_by, settings, succeeds,
+    tick, tick_both,
 };
 use chord_ident::Id;
 use chord_links::Links;
@@ -180,20 +181,6 @@ fn settle_and_then<
     }
 }
 
-/// The answer to a new caller's insert.
-fn inserted_alone<J: Naming, S: EntryStore, R: Abort + Wait + Clock>(
-    rt: &R,
-    alloc: Global,
-    ring: &Ring<J, S>,
-    via: u64,
-    (key, value): (&[u8], &[u8]),
-) -> Result<Said, AskFault> {
-    let mut caller = ring.open_caller(rt, 1).expect(rt, "a caller");
-    let answer = ask(rt, &mut caller, via, Request::insert(alloc, key, value));
-    drop(caller);
-    answer
-}
-
 /// What a caller finds while worker 0 is held in its lock.
 #[derive(Clone, Copy)]
 struct WhileHeld {
@@ -217,7 +204,7 @@ fn ask_while_held<J: Naming, S: EntryStore, R: Abort + Wait + Clock>(
     let is_held_before = probe.stands.load(Ordering::SeqCst);
     let mut answer = None;
     if is_held_before {
-        answer = Some(inserted_alone(rt, alloc, ring, 1, (b"abc", b"x")));
+        answer = Some(insert_by_another(rt, alloc, ring, (Way::Sent, 1), (b"abc", b"x")));
     }
     let is_held_after = !probe.spent.load(Ordering::SeqCst);
     probe.opened.store(true, Ordering::SeqCst);
@@ -238,7 +225,7 @@ fn two_locks<
     probe.opened.store(false, Ordering::SeqCst);
     let (zero, one) = thread::join(
         rt,
-        move || inserted_alone(rt, alloc, ring, 0, (b"b", b"y")),
+        move || insert_by_another(rt, alloc, ring, (Way::Sent, 0), (b"b", b"y")),
         move || ask_while_held(rt, alloc, ring, probe),
     );
     assert!(rt;
