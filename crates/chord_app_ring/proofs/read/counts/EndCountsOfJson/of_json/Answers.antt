@@ -4,16 +4,13 @@ use Rattle.chord_app_ring.proofs.Faults.{passed_on}
 use Rattle.chord_app_ring.proofs.read.counts.EndCountsOfJson.of_json.Goals as goal
 
 pub returns-in_err-ended : goal.returns-in_err-ended
-returns-in_err-ended c x e =
-    passed_on _ c.from_residual.result (c.in_err-ended.ensures (ends_data x) x.ended x.idle e refl refl) c.from_residual.ensures.1
+returns-in_err-ended c x e = passed_on _ c.from_residual.result (c.in_err-ended.ensures (ends_data x) x.ended x.idle e refl refl) c.from_residual.ensures.1
 
 pub returns-in_err-truncated : goal.returns-in_err-truncated
-returns-in_err-truncated c x e =
-    passed_on _ c.from_residual-in_err-truncated.result (c.in_err-truncated.ensures (ends_data x) x.truncated x.malformed x.protocol x.memory e refl refl refl refl) c.from_residual-in_err-truncated.ensures.1
+returns-in_err-truncated c x e = passed_on _ c.from_residual-in_err-truncated.result (c.in_err-truncated.ensures (ends_data x) x.truncated x.malformed x.protocol x.memory e refl refl refl refl) c.from_residual-in_err-truncated.ensures.1
 
 pub returns-in_err-read : goal.returns-in_err-read
-returns-in_err-read c x e =
-    passed_on _ c.from_residual-in_err-read.result (c.in_err-read.ensures (ends_data x) x.read x.write x.turns_spent x.callers_spent e refl refl refl refl) c.from_residual-in_err-read.ensures.1
+returns-in_err-read c x e = passed_on _ c.from_residual-in_err-read.result (c.in_err-read.ensures (ends_data x) x.read x.write x.turns_spent x.callers_spent e refl refl refl refl) c.from_residual-in_err-read.ensures.1
 
 pub returns : goal.returns
 returns c x e =

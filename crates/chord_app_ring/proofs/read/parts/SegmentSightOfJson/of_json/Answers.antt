@@ -1,13 +1,10 @@
-use Rattle.std.proofs.Common.{refl, sym}
+use Rattle.std.proofs.Common.{refl}
 use Rattle.chord_app_operator.specs.Json.{segment_data}
 use Rattle.chord_app_ring.proofs.Faults.{passed_on}
 use Rattle.chord_app_ring.proofs.read.parts.SegmentSightOfJson.of_json.Goals as goal
 
 pub returns-in_err-after : goal.returns-in_err-after
-returns-in_err-after c x e =
-    passed_on _ c.from_residual.result (c.in_err-after.ensures (segment_data x) x.span.after x.span.upto x.kept e refl refl refl) c.from_residual.ensures.1
+returns-in_err-after c x e = passed_on _ c.from_residual.result (c.in_err-after.ensures (segment_data x) x.span.after x.span.upto x.kept e refl refl refl) c.from_residual.ensures.1
 
 pub returns : goal.returns
-returns c x e =
-    let after_are = c.in_ok-after.ensures (segment_data x) x.span.after x.span.upto x.kept e refl refl refl in
-    rw (after_are.0, after_are.1, after_are.2) (sym e)
+returns c x e = let after_are = c.in_ok-after.ensures (segment_data x) x.span.after x.span.upto x.kept e refl refl refl in cc
