@@ -4,6 +4,7 @@ use crate::tests::lines::{ReadLine, prints, prints_usage, read_line};
 use chord_app_options::{number_from, serve_line_of, small_number};
 use clap::ArgMatches;
 use std::alloc::Global;
+use std::process::Abort;
 
 const USAGE: &str = "chord serve --plan <FILE> <--port <N>|--redis <N>> <--connections <K>|--stay>";
 
@@ -101,17 +102,17 @@ impl ReadLine for LineOfP {
 }
 
 /// Checks that each line says this.
-fn say(rt: &HostRuntime, rows: &[(&'static str, LineOfP)]) {
+fn say(rt: &impl Abort, alloc: Global, rows: &[(&'static str, LineOfP)]) {
     for (line, wanted) in rows {
-        let said = read_line::<LineOfP>(rt.alloc(), *line);
+        let said = read_line::<LineOfP>(alloc, *line);
         assert!(rt; said == Some(*wanted), "{line}: {said:?}");
     }
 }
 
 /// Checks that each line is refused.
-fn are_refused(rt: &HostRuntime, lines: &[&'static str]) {
+fn are_refused(rt: &impl Abort, alloc: Global, lines: &[&'static str]) {
     for line in lines {
-        let said = read_line::<LineOfP>(rt.alloc(), *line);
+        let said = read_line::<LineOfP>(alloc, *line);
         assert!(rt; said == None, "{line}: {said:?}");
     }
 }
@@ -136,7 +137,7 @@ const ENDS: &[(&str, LineOfP)] = &[
 
 #[test]
 fn options_of_serve(rt: HostRuntime) {
-    say(&rt, ENDS);
+    say(&rt, rt.alloc(), ENDS);
 }
 
 /// Ports and connections are numbers from 1 to 65,535.
@@ -195,7 +196,7 @@ const IDLE: &[(&str, LineOfP)] = &[
 
 #[test]
 fn the_port_and_idle_clients_of_serve(rt: HostRuntime) {
-    say(&rt, IDLE);
+    say(&rt, rt.alloc(), IDLE);
 }
 
 /// Sessions without a connection are kept for 600 seconds unless the line says another number; for 0
@@ -216,8 +217,12 @@ const KEPT: &[(&str, LineOfP)] = &[
 
 #[test]
 fn the_kept_sessions_of_serve(rt: HostRuntime) {
-    say(&rt, KEPT);
-    are_refused(&rt, &["chord serve --plan p --port 7 --stay --keep 86401"]);
+    say(&rt, rt.alloc(), KEPT);
+    are_refused(
+        &rt,
+        rt.alloc(),
+        &["chord serve --plan p --port 7 --stay --keep 86401"],
+    );
 }
 
 /// Redis's clients have a port of their own, beside the other one or alone.
@@ -241,7 +246,7 @@ const REDIS: &[(&str, LineOfP)] = &[
 
 #[test]
 fn the_port_of_redis_clients(rt: HostRuntime) {
-    say(&rt, REDIS);
+    say(&rt, rt.alloc(), REDIS);
 }
 
 /// A server has an operator only where its line says so; at port 0 the system picks a port.
@@ -258,9 +263,10 @@ const OPERATED: &[(&str, LineOfP)] = &[
 
 #[test]
 fn the_operator_of_serve(rt: HostRuntime) {
-    say(&rt, OPERATED);
+    say(&rt, rt.alloc(), OPERATED);
     are_refused(
         &rt,
+        rt.alloc(),
         &["chord serve --plan p --port 7 --stay --operator 65536"],
     );
 }
@@ -295,9 +301,10 @@ const SIZES: &[(&str, LineOfP)] = &[
 
 #[test]
 fn the_size_of_serve(rt: HostRuntime) {
-    say(&rt, SIZES);
+    say(&rt, rt.alloc(), SIZES);
     are_refused(
         &rt,
+        rt.alloc(),
         &[
             "chord serve --plan p --port 7 --stay --slots 0",
             "chord serve --plan p --port 7 --stay --slots 4097",
