@@ -80,7 +80,7 @@ fn gives_byte<R: Read>(reader: &mut R) -> bool {
     reader.read(&mut byte).is_ok_and(|count| count == 1)
 }
 
-/// Whether a byte comes at one of so many reads and one more.
+/// Whether a byte comes behind this many reads without one at most.
 fn waits_for_byte<R: Read>(reader: &mut R, ticks: u64) -> bool {
     for _ in 0..=ticks {
         if gives_byte(reader) {
@@ -90,8 +90,8 @@ fn waits_for_byte<R: Read>(reader: &mut R, ticks: u64) -> bool {
     false
 }
 
-/// Waits for this many bytes of a client whose first polls have no byte, and of whose sleeps so
-/// many before each byte have none.
+/// Waits for this many bytes of a client whose first `empty` polls have no byte, and that sends each
+/// byte behind `ticks` sleeps without one.
 fn waits_of(waits: u64, empty: u64, ticks: u64) -> Reads {
     let nonblocking = Cell::new(false);
     let pollers = Pollers::new(1);
