@@ -118,27 +118,29 @@ or_false : (a b : Bool) → b ≡ false → (a || b) ≡ a
 or_false true b e = refl
 or_false false b e = e
 
+-- none of these pairs is in the segment
+abbrev Outside : Segment → List Pair → Type 0
+Outside segment pairs = (pair : Pair) → has_pair pair pairs ≡ true → in_span segment.span (key_id pair.key) ≡ true → ⊥
+
+none_inside : (segment : Segment) (pairs : List Pair) → Outside segment pairs → (pair : Pair) → in_span segment.span (key_id pair.key) ≡ true → has_pair pair pairs ≡ false
+none_inside segment pairs apart pair inside = by_test (has_pair pair pairs) (λ t. absurd (apart pair t inside)) (λ f. f)
+
+-- what is current of some pairs is current of others that are the same in the segment
+same_current : (history : List Done) (segment : Segment) (pairs others : List Pair) → ((pair : Pair) → in_span segment.span (key_id pair.key) ≡ true → has_pair pair others ≡ has_pair pair pairs)
+    → Current history segment pairs → Current history segment others
+same_current history segment pairs others same current = record { content = λ pair inside. same pair inside ∙ current.content pair inside; covered = current.covered }
+
 -- the values of a segment stay unchanged if the pairs that come lie elsewhere
-pub stays_current : (history : List Done) (segment : Segment) (more pairs : List Pair)
-    → ((pair : Pair) → has_pair pair more ≡ true → in_span segment.span (key_id pair.key) ≡ true → ⊥)
-    → Current history segment pairs → Current history segment (put_all more pairs)
-stays_current history segment more pairs apart current = record {
-  content = λ pair inside.
-      let none : has_pair pair more ≡ false = by_test (has_pair pair more) (λ t. absurd (apart pair t inside)) (λ f. f) in
-      has_put pair more pairs ∙ ap (λ b. b || has_pair pair pairs) none ∙ current.content pair inside;
-  covered = current.covered;
-}
+pub stays_current : (history : List Done) (segment : Segment) (more pairs : List Pair) → Outside segment more → Current history segment pairs → Current history segment (put_all more pairs)
+stays_current history segment more pairs apart current =
+    same_current history segment pairs (put_all more pairs)
+    (λ pair inside. has_put pair more pairs ∙ ap (λ b. b || has_pair pair pairs) (none_inside segment more apart pair inside)) current
 
 -- the values that come stay unchanged if no pair was in their segment before
-pub comes_current : (history : List Done) (segment : Segment) (more pairs : List Pair)
-    → ((pair : Pair) → has_pair pair pairs ≡ true → in_span segment.span (key_id pair.key) ≡ true → ⊥)
-    → Current history segment more → Current history segment (put_all more pairs)
-comes_current history segment more pairs apart current = record {
-  content = λ pair inside.
-      let none : has_pair pair pairs ≡ false = by_test (has_pair pair pairs) (λ t. absurd (apart pair t inside)) (λ f. f) in
-      has_put pair more pairs ∙ or_false (has_pair pair more) (has_pair pair pairs) none ∙ current.content pair inside;
-  covered = current.covered;
-}
+pub comes_current : (history : List Done) (segment : Segment) (more pairs : List Pair) → Outside segment pairs → Current history segment more → Current history segment (put_all more pairs)
+comes_current history segment more pairs apart current =
+    same_current history segment more (put_all more pairs)
+    (λ pair inside. has_put pair more pairs ∙ or_false (has_pair pair more) (has_pair pair pairs) (none_inside segment pairs apart pair inside)) current
 
 -- pairs that go
 

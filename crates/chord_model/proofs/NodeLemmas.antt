@@ -1,7 +1,8 @@
 -- Looking nodes up, and the last numbers taken.
 use Rattle.std.proofs.Common.{◌≡◌, ◌≢◌, ℕ, zero, suc, ◌≤◌, true, cond, not, eqb, ◌⊎◌, inl, inr, ⊎_elim, refl, sym, ◌∙◌, ap, subst, arith, List, [], ◌∷◌, ◌++◌, find, Some, slice_get}
-use Rattle.std.proofs.lemmas.Bool.{and_parts, eqb-true, eq-eqb, ne_eqb, cond-true, cond-false, cases_eq}
+use Rattle.std.proofs.lemmas.Bool.{eq-eqb, ne_eqb, cond-true, cond-false, cases_eq}
 use Rattle.std.proofs.lemmas.Option.{same_Some, none-some}
+use Rattle.chord_handover.proofs.OutboxLemmas.{is_item_parts}
 use Rattle.chord_handover.specs.Handover.{Item, is_item, item_at, outbox_without}
 use Rattle.chord_ident.specs.Circle.{in_span}
 use Rattle.chord_map.proofs.Lists.{by_test, by_option, Has, found, find_left, find_right, place_of, has_filter}
@@ -84,9 +85,8 @@ pub item_found : (to number : ℕ) (outbox : List Item) (item : Item) → item_a
     → (item.to ≡ to) × (item.number ≡ number) × Has outbox item
 unfolding item_at
 item_found to number outbox item e =
-    let r = found (is_item to number) outbox item e in
-    let tests = and_parts (eqb item.to to) (eqb item.number number) r.0 in
-    (eqb-true item.to to tests.0, eqb-true item.number number tests.1, r.1)
+    let is = found (is_item to number) outbox item e in
+    let parts = is_item_parts to number item is.0 in (parts.0, parts.1, is.1)
 
 pub without_has : (to number : ℕ) (outbox : List Item) (item : Item) → Has (outbox_without to number outbox) item → Has outbox item
 unfolding outbox_without
