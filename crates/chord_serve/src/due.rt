@@ -10,7 +10,10 @@ use std::marker::Model;
 /// Output of more bytes than these is written before more is added.
 const DUE_LIMIT: usize = 65_536;
 
-/// The answers that are to be written together.
+/// A buffer with room for more bytes than these is freed once it is written.
+const KEPT_BYTES: usize = 131_072;
+
+/// The answers that are to be written together. The buffer serves for the next ones too.
 #[derive(Debug, Drop)]
 pub struct Due {
     pub bytes: Vec<u8>,
@@ -31,6 +34,17 @@ impl Due {
     {
         Due {
             bytes: Vec::new(alloc),
+        }
+    }
+
+    /// Begins anew.
+    pub fn clear(&mut self, alloc: Global)
+        ensures { self.new ≡ [] }
+    {
+        if self.bytes.capacity() > KEPT_BYTES {
+            self.bytes = Vec::new(alloc);
+        } else {
+            self.bytes.clear();
         }
     }
 

@@ -32,14 +32,15 @@ fn answer_part<D: Dialogue>(alloc: Global, dialogue: &mut D, due: &mut Due) -> R
 fn send_part<D: Dialogue, W: Write>(
     alloc: Global,
     dialogue: &mut D,
+    due: &mut Due,
     writer: &mut W,
 ) -> Result<bool, Served>
     ensures part { SendsPart D.hears D.says D.stops D.waits result dialogue.old (W.contents writer.old) (W.contents writer.new) dialogue.new }
     ensures stop { IfErr result IsStop }
     ensures shorter { result ≡ Ok true → D.unread dialogue.new < D.unread dialogue.old }
 {
-    let mut due = Due::new(alloc);
-    let result = answer_part(alloc, dialogue, &mut due);
+    due.clear(alloc);
+    let result = answer_part(alloc, dialogue, due);
     match due.write_to(writer) {
         Ok(()) => result,
         Err(_) => Err(Served::Write),
@@ -50,12 +51,14 @@ fn send_part<D: Dialogue, W: Write>(
 fn answer_all<D: Dialogue, W: Write>(
     alloc: Global,
     dialogue: &mut D,
+    due: &mut Due,
     writer: &mut W,
 ) -> Result<(), Served>
     ensures stop { IfErr result IsStop }
     ensures all { AnswersAll D.hears D.says D.stops D.waits result dialogue.old (W.contents writer.old) (W.contents writer.new) dialogue.new }
 {
-    while send_part(alloc, dialogue, writer)? {}
+    while send_part(alloc, dialogue, due, writer)? {}
+    due.clear(alloc);
     Ok(())
 }
 
@@ -64,6 +67,7 @@ fn take_turn<D: Dialogue, R: Read, W: Write>(
     alloc: Global,
     dialogue: &mut D,
     intake: &mut Intake,
+    due: &mut Due,
     reader: &mut R,
     writer: &mut W,
 ) -> Result<(), Served>
@@ -87,7 +91,7 @@ fn take_turn<D: Dialogue, R: Read, W: Write>(
         return Err(Served::Truncated);
     }
     match dialogue.feed(piece) {
-        Ok(()) => answer_all(alloc, dialogue, writer),
+        Ok(()) => answer_all(alloc, dialogue, due, writer),
         Err(_) => Err(Served::Memory),
     }
 }
@@ -116,8 +120,9 @@ pub fn converse<D: Dialogue, R: Read, W: Write>(
     let Ok(mut intake) = Intake::new(alloc, size) else {
         return Served::Memory;
     };
+    let mut due = Due::new(alloc);
     for _ in 0..turns {
-        if let Err(end) = take_turn(alloc, dialogue, &mut intake, reader, writer) {
+        if let Err(end) = take_turn(alloc, dialogue, &mut intake, &mut due, reader, writer) {
             return end;
         }
     }
@@ -140,8 +145,10 @@ pub fn converse_further<D: Dialogue, R: Read, W: Write>(
         × Converses D.hears D.says D.stops D.waits D.between result dialogue.old input output dialogue.new
         × Appends (W.contents writer.old) (W.contents writer.new) output }
 {
-    if let Err(end) = answer_all(alloc, dialogue, writer) {
+    let mut due = Due::new(alloc);
+    if let Err(end) = answer_all(alloc, dialogue, &mut due, writer) {
         return end;
     }
+    drop(due);
     converse(alloc, dialogue, reader, writer, size, turns)
 }

@@ -6,7 +6,7 @@ returns-in-Ok-clause-part g c =
     let d = g.D.Dialogue in
     part_sent d.hears d.says d.stops d.waits c.answer_part-result.result c.args.dialogue.now c.answer_part-result.new.dialogue c.answer_part-result.new.due (g.W.Write.contents c.args.writer.now) (g.W.Write.contents c.write_to.new.writer) c.answer_part-result.ensures.stop c.answer_part-result.ensures.part c.in-Ok.ensures
 
-pub returns-clause-part : goal.returns-clause-part
-returns-clause-part g c =
+pub returns-in-Err-clause-part : goal.returns-in-Err-clause-part
+returns-in-Err-clause-part g c =
     let d = g.D.Dialogue in
     part_unsent d.hears d.says d.stops d.waits c.answer_part-result.result c.args.dialogue.now c.answer_part-result.new.dialogue c.answer_part-result.new.due (g.W.Write.contents c.args.writer.now) (g.W.Write.contents c.write_to.new.writer) c.answer_part-result.ensures.part c.in-Err.ensures
