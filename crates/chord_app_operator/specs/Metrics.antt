@@ -26,32 +26,29 @@ measured Taken n = n.handovers.taken
 measured Declined n = n.handovers.declined
 measured Ticks n = n.ticks
 
--- the name of a measure's metric, up to the node's number, and what follows the number
+-- what a line of a measure's metric has before the node's number, and behind it
+pub record NodeLabel : Type 0 where
+  pub before : List ℕ
+  pub behind : List ℕ
+
+abbrev pub label_of : Measure → NodeLabel
+label_of Pairs = record { before = codes "chord_pairs{node=\""; behind = codes "\"} " }
+label_of Segments = record { before = codes "chord_segments{node=\""; behind = codes "\"} " }
+label_of OutboxItems = record { before = codes "chord_outbox_items{node=\""; behind = codes "\"} " }
+label_of Told = record { before = codes "chord_asks_total{node=\""; behind = codes "\",answer=\"told\"} " }
+label_of Forwarded = record { before = codes "chord_asks_total{node=\""; behind = codes "\",answer=\"forwarded\"} " }
+label_of Dropped = record { before = codes "chord_asks_total{node=\""; behind = codes "\",answer=\"dropped\"} " }
+label_of Full = record { before = codes "chord_asks_total{node=\""; behind = codes "\",answer=\"full\"} " }
+label_of Given = record { before = codes "chord_handovers_total{node=\""; behind = codes "\",kind=\"given\"} " }
+label_of Taken = record { before = codes "chord_handovers_total{node=\""; behind = codes "\",kind=\"taken\"} " }
+label_of Declined = record { before = codes "chord_handovers_total{node=\""; behind = codes "\",kind=\"declined\"} " }
+label_of Ticks = record { before = codes "chord_ticks_total{node=\""; behind = codes "\"} " }
+
 abbrev pub before_node : Measure → List ℕ
-before_node Pairs = codes "chord_pairs{node=\""
-before_node Segments = codes "chord_segments{node=\""
-before_node OutboxItems = codes "chord_outbox_items{node=\""
-before_node Told = codes "chord_asks_total{node=\""
-before_node Forwarded = codes "chord_asks_total{node=\""
-before_node Dropped = codes "chord_asks_total{node=\""
-before_node Full = codes "chord_asks_total{node=\""
-before_node Given = codes "chord_handovers_total{node=\""
-before_node Taken = codes "chord_handovers_total{node=\""
-before_node Declined = codes "chord_handovers_total{node=\""
-before_node Ticks = codes "chord_ticks_total{node=\""
+before_node m = (label_of m).before
 
 abbrev pub after_node : Measure → List ℕ
-after_node Pairs = codes "\"} "
-after_node Segments = codes "\"} "
-after_node OutboxItems = codes "\"} "
-after_node Told = codes "\",answer=\"told\"} "
-after_node Forwarded = codes "\",answer=\"forwarded\"} "
-after_node Dropped = codes "\",answer=\"dropped\"} "
-after_node Full = codes "\",answer=\"full\"} "
-after_node Given = codes "\",kind=\"given\"} "
-after_node Taken = codes "\",kind=\"taken\"} "
-after_node Declined = codes "\",kind=\"declined\"} "
-after_node Ticks = codes "\"} "
+after_node m = (label_of m).behind
 
 -- a number and the end of its line
 abbrev pub value_line : ℕ → List ℕ

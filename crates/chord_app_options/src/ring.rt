@@ -3,6 +3,7 @@
 use crate::faults::{fault_of, print_fault};
 use crate::number::{NumberOption, WrongNumber, number_from, small_number};
 use crate::parts::{with_argument, with_command};
+use crate::shared;
 use chord_app_operator::{CrashRequest, JoinRequest, StoreKind};
 use chord_app_ring::{RingCommand, RingLine, RingTask, run_dump, run_restore, run_ring};
 use chord_app_text::Finish;
@@ -24,12 +25,8 @@ const OPERATOR: NumberOption = NumberOption {
 };
 
 const PORT: NumberOption = NumberOption {
-    name: "port",
-    value_name: "N",
-    least: 1,
-    most: 65_535,
-    default: None,
     help: "The port for clients of the server on 127.0.0.1, 1 to 65535: for restore alone",
+    ..shared::PORT
 };
 
 /// What `chord ring dump --help` ends with.

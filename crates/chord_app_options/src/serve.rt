@@ -18,11 +18,8 @@ const PORT: NumberOption = NumberOption {
 
 const REDIS: NumberOption = NumberOption {
     name: "redis",
-    value_name: "N",
-    least: 0,
-    most: 65_535,
-    default: None,
     help: "The port for Redis's clients, as --port",
+    ..PORT
 };
 
 const CONNECTIONS: NumberOption = NumberOption {
@@ -37,6 +34,9 @@ const CONNECTIONS: NumberOption = NumberOption {
 /// For how many seconds a client may be idle if the command line does not say.
 const IDLE_SECONDS: u64 = 300;
 
+/// For how many seconds a session without a connection is kept if the command line does not say.
+const KEEP_SECONDS: u64 = 600;
+
 const IDLE: NumberOption = NumberOption {
     name: "idle",
     value_name: "SECONDS",
@@ -46,25 +46,17 @@ const IDLE: NumberOption = NumberOption {
     help: "With --stay: how long a client may be idle, 1 to 86400, else 300",
 };
 
-/// For how many seconds a session without a connection is kept if the command line does not say.
-const KEEP_SECONDS: u64 = 600;
-
 const KEEP: NumberOption = NumberOption {
     name: "keep",
-    value_name: "SECONDS",
     least: 0,
-    most: 86_400,
-    default: None,
     help: "With --stay: how long a session without a connection is kept, 0 to 86400, else 600",
+    ..IDLE
 };
 
 const OPERATOR: NumberOption = NumberOption {
     name: "operator",
-    value_name: "N",
-    least: 0,
-    most: 65_535,
-    default: None,
     help: "With --stay: an operator's port on 127.0.0.1, 1 to 65535, or 0 for any that is free",
+    ..PORT
 };
 
 /// How many nodes and how many callers a server that stays may have at most.
@@ -81,11 +73,8 @@ const SLOTS: NumberOption = NumberOption {
 
 const CALLERS: NumberOption = NumberOption {
     name: "callers",
-    value_name: "N",
-    least: 1,
-    most: MOST_OF_EACH,
-    default: None,
     help: "With --stay: how many callers there may be, 1 to 4096, else the plan's",
+    ..SLOTS
 };
 
 fn stay_option<'a>(alloc: Global) -> Arg<'a> {

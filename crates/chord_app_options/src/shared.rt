@@ -5,7 +5,7 @@ use clap::{Arg, ArgAction, ArgMatches};
 use std::alloc::Global;
 
 /// The option for the port at which a server is asked.
-const PORT: NumberOption = NumberOption {
+pub const PORT: NumberOption = NumberOption {
     name: "port",
     value_name: "N",
     least: 1,
