@@ -1,7 +1,7 @@
 //! Clients of a server, over loopback.
 
-use crate::plans::changed;
 use chord_app_plan::Plan;
+use chord_app_plan_testkit::{changed, plan_of};
 use chord_map::{Bytes, Reply, Request, Values};
 use chord_wire::{
     FaultCode, is_writable, write_fault, write_reply, write_request, write_request_2,
@@ -9,11 +9,6 @@ use chord_wire::{
 use std::alloc::{AllocError, Global};
 use std::io::{self, Read, Write};
 use std::net::{Net, OpenStream, Shutdown, SocketAddr, TcpListener, TcpStream};
-
-/// The plan in a text.
-pub fn plan_of(alloc: Global, text: &str) -> Option<Plan> {
-    Plan::parse(alloc, text.as_bytes()).ok()
-}
 
 /// A plan of two nodes, with `callers` callers.
 pub fn plan_with(alloc: Global, callers: u64) -> Option<Plan> {

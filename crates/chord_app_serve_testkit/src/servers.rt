@@ -246,8 +246,8 @@ pub const GOOD: Found = Found {
     is_written: true,
 };
 
-/// What comes of it all, where the server is to write these lines behind those that tell where it
-/// listens.
+/// What a test finds once server and clients are done. `lines` are those that the server must write
+/// after the ones that tell where it listens.
 pub fn look_at<T: Drop>(
     alloc: Global,
     played: Option<(Written, io::Result<T>)>,

@@ -98,10 +98,11 @@ impl Asker for MapAsker {
     ghost asked = { λ a. a.requests.items };
 
     fn ask(&mut self, request: &Request) -> Asked {
-        if !note(&mut self.requests, request) {
-            return Asked::Memory;
+        if note(&mut self.requests, request) {
+            asked_of(&mut self.map, request)
+        } else {
+            Asked::Memory
         }
-        asked_of(&mut self.map, request)
     }
 
     fn retry(&mut self, _number: u64) -> Asked {

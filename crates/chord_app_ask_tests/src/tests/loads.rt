@@ -10,7 +10,8 @@ use std::sync::Wait;
 use std::thread::Threads;
 use std::time::Clock;
 
-fn load(port: u16, kind: Kind, requests: u64) -> Load {
+/// A load of this many requests over two connections.
+pub fn load_of(port: u16, kind: Kind, requests: u64) -> Load {
     Load {
         port,
         connections: 2,
@@ -30,7 +31,7 @@ fn loaded_by_nobody<
 >(rt: &R, alloc: Global) -> Option<(bool, usize)> {
     let (listener, port) = bound(rt)?;
     drop(listener);
-    let load = load(port, Kind::Retrieve, 5);
+    let load = load_of(port, Kind::Retrieve, 5);
     let mut table: Vec<u8> = Vec::new(alloc);
     let ended = run_load(rt, alloc, load, None::<Vec<u8>>, &mut table);
     let length = table.len();
@@ -49,7 +50,7 @@ fn a_load_of_nobody(rt: HostRuntime) {
 fn shares_of_connections(rt: HostRuntime) {
     let load = Load {
         connections: 4,
-        ..load(1, Kind::Insert, 10)
+        ..load_of(1, Kind::Insert, 10)
     };
     for (connection, share) in [(0, 3), (1, 3), (2, 2), (3, 2)] {
         assert!(rt; load.share(connection) == share);

@@ -1,8 +1,9 @@
 //! The commands in sessions, which go on where connections are lost.
 
+use crate::tests::loads::load_of;
 use crate::tests::loopback::{Asked, asks_and_ends, bound, end_waiting};
 use crate::tests::small_server::{SmallServer, Visit};
-use chord_app_ask::{ClientOptions, Drops, Kind, Load, Tokens, Until, run_load};
+use chord_app_ask::{ClientOptions, Drops, Kind, Load, Tokens, run_load};
 use chord_app_text::{Fault, Finish};
 use std::alloc::Global;
 use std::net::{Net, TcpListener, TcpStream};
@@ -184,15 +185,12 @@ fn loaded<R: Threads + Wait + Clock + Net<Listener = TcpListener, Stream = TcpSt
 ) -> Option<(Result<Finish, Finish>, Counts, Vec<u8>)> {
     let (listener, port) = bound(rt)?;
     let load = Load {
-        port,
         connections: 1,
-        in_flight: 4,
         keys: 7,
         value_size: 16,
-        kind,
-        until: Until::Requests(60),
         tokens: Some(tokens),
         drops: Some(Drops { every: 10, seed: 1 }),
+        ..load_of(port, kind, 60)
     };
     let visits = [Visit::Serve(usize::MAX); 64];
     let mut server = SmallServer::new(alloc);

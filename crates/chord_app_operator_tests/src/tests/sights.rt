@@ -4,6 +4,7 @@ use chord_app_operator::{
     AskCounts, CallerCounts, EndCounts, HandoverCounts, NodeSight, OutboxSight, Phase, RingSight,
     SegmentSight, SessionCounts, StoreKind,
 };
+use chord_app_operator_testkit::empty_node;
 use chord_ident::{Id, Span};
 use std::alloc::{AllocError, Global};
 
@@ -48,30 +49,10 @@ fn staying(alloc: Global) -> Result<NodeSight, AllocError> {
 }
 
 fn crashed(alloc: Global) -> NodeSight {
-    NodeSight {
-        node: 1,
-        id: Id::new(64),
-        phase: Phase::Crashed,
-        store: StoreKind::Capped,
-        predecessor: None,
-        successors: Vec::new(alloc),
-        fingers: 0,
-        segments: Vec::new(alloc),
-        pairs: 0,
-        outbox: Vec::new(alloc),
-        asks: AskCounts {
-            told: 0,
-            forwarded: 0,
-            dropped: 0,
-            full: 0,
-        },
-        handovers: HandoverCounts {
-            given: 0,
-            taken: 0,
-            declined: 0,
-        },
-        ticks: 9,
-    }
+    let mut node = empty_node(alloc, 1, 64, Phase::Crashed);
+    node.store = StoreKind::Capped;
+    node.ticks = 9;
+    node
 }
 
 /// The ring.

@@ -32,15 +32,17 @@ impl ReadLine for AskLine {
     }
 }
 
+/// What each line of `options_of_ask` says.
+const PLAIN: AskLine = AskLine {
+    port: 7001,
+    version: 2,
+    window: 1,
+    tries: 3,
+    request: 3,
+};
+
 #[test]
 fn options_of_ask(rt: HostRuntime) {
-    let wanted = AskLine {
-        port: 7001,
-        version: 2,
-        window: 1,
-        tries: 3,
-        request: 3,
-    };
     for line in [
         "chord ask --port 7001 insert a b",
         "chord ask insert a b --port 7001",
@@ -49,7 +51,7 @@ fn options_of_ask(rt: HostRuntime) {
         "chord ask --port 7001 -- insert a -b",
     ] {
         let said = read_line::<AskLine>(rt.alloc(), line);
-        assert!(rt; said == Some(wanted), "{line}: {said:?}");
+        assert!(rt; said == Some(PLAIN), "{line}: {said:?}");
     }
 }
 

@@ -44,58 +44,55 @@ const FORCED_CRASH: CrashRequest = CrashRequest {
     is_forced: true,
 };
 
-/// Command lines, what they ask for, and how often.
-const LINES: [(&str, RingCommand, u64); 10] = [
-    ("chord ring --operator 9", RingCommand::Show, 1),
-    (
-        "chord ring --operator 9 --watch",
-        RingCommand::Show,
-        u64::MAX,
-    ),
-    ("chord ring --operator 9 --times 3", RingCommand::Show, 3),
-    (
-        "chord ring --watch --times 3 --operator 9",
-        RingCommand::Show,
-        3,
-    ),
+/// Command lines, and what each asks for once.
+const LINES: [(&str, RingCommand); 7] = [
+    ("chord ring --operator 9", RingCommand::Show),
     (
         "chord ring --operator 9 join",
         RingCommand::Join(PLAIN_JOIN),
-        1,
     ),
     (
         "chord ring --operator 9 join 000000000000000000000000000000aB --store capped --limit 10 --via 2",
         RingCommand::Join(WHOLE_JOIN),
-        1,
     ),
-    (
-        "chord ring --operator 9 leave 12",
-        RingCommand::Leave(12),
-        1,
-    ),
-    (
-        "chord ring --operator 9 crash 7",
-        RingCommand::Crash(CRASH),
-        1,
-    ),
+    ("chord ring --operator 9 leave 12", RingCommand::Leave(12)),
+    ("chord ring --operator 9 crash 7", RingCommand::Crash(CRASH)),
     (
         "chord ring --operator 9 crash 7 --force",
         RingCommand::Crash(FORCED_CRASH),
-        1,
     ),
-    ("chord ring --operator 9 stop", RingCommand::Stop, 1),
+    ("chord ring --operator 9 stop", RingCommand::Stop),
 ];
+
+/// Command lines that show the ring, and how often.
+const SHOWN: [(&str, u64); 3] = [
+    ("chord ring --operator 9 --watch", u64::MAX),
+    ("chord ring --operator 9 --times 3", 3),
+    ("chord ring --watch --times 3 --operator 9", 3),
+];
+
+/// What a command line asks of the server with the operator's port 9.
+fn asked(command: RingCommand, times: u64) -> RingTask {
+    RingTask::Ask(RingLine {
+        port: 9,
+        command,
+        times,
+    })
+}
 
 #[test]
 fn lines_of_ring(rt: HostRuntime) {
-    for (line, command, times) in LINES {
-        let wanted = RingTask::Ask(RingLine {
-            port: 9,
-            command,
-            times,
-        });
+    for (line, command) in LINES {
         let task = read_line::<RingTask>(rt.alloc(), line);
-        assert!(rt; task == Some(wanted), "{line}");
+        assert!(rt; task == Some(asked(command, 1)), "{line}");
+    }
+}
+
+#[test]
+fn lines_that_show_the_ring_often(rt: HostRuntime) {
+    for (line, times) in SHOWN {
+        let task = read_line::<RingTask>(rt.alloc(), line);
+        assert!(rt; task == Some(asked(RingCommand::Show, times)), "{line}");
     }
 }
 

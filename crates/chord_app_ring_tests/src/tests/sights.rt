@@ -4,51 +4,20 @@ use chord_app_operator::{
     AskCounts, CallerCounts, EndCounts, HandoverCounts, NodeSight, OutboxSight, Phase, RingSight,
     SegmentSight, SessionCounts, StoreKind,
 };
+use chord_app_operator_testkit::empty_node;
 use chord_ident::{Id, Span};
 use std::alloc::{AllocError, Global};
 
 /// A quarter of the circle.
 pub const QUARTER: u128 = 1 << 126;
 
-const NO_ASKS: AskCounts = AskCounts {
-    told: 0,
-    forwarded: 0,
-    dropped: 0,
-    full: 0,
-};
-
-const NO_HANDOVERS: HandoverCounts = HandoverCounts {
-    given: 0,
-    taken: 0,
-    declined: 0,
-};
-
 /// A span by its ends.
 pub fn span(after: u128, upto: u128) -> Span {
     Span::new(Id::new(after), Id::new(upto))
 }
 
-/// A node that knows and holds nothing.
-fn empty(alloc: Global, node: u64, number: u128, phase: Phase) -> NodeSight {
-    NodeSight {
-        node,
-        id: Id::new(number),
-        phase,
-        store: StoreKind::Tree,
-        predecessor: None,
-        successors: Vec::new(alloc),
-        fingers: 0,
-        segments: Vec::new(alloc),
-        pairs: 0,
-        outbox: Vec::new(alloc),
-        asks: NO_ASKS,
-        handovers: NO_HANDOVERS,
-        ticks: 0,
-    }
-}
-
 fn giving(alloc: Global) -> Result<NodeSight, AllocError> {
-    let mut node = empty(alloc, 0, QUARTER, Phase::Staying);
+    let mut node = empty_node(alloc, 0, QUARTER, Phase::Staying);
     node.predecessor = Some(1);
     node.successors.push(1)?;
     node.successors.push(0)?;
@@ -82,7 +51,7 @@ fn giving(alloc: Global) -> Result<NodeSight, AllocError> {
 }
 
 fn leaving(alloc: Global) -> Result<NodeSight, AllocError> {
-    let mut node = empty(alloc, 1, 2 * QUARTER, Phase::Leaving);
+    let mut node = empty_node(alloc, 1, 2 * QUARTER, Phase::Leaving);
     node.store = StoreKind::List;
     node.segments.push(SegmentSight {
         span: span(QUARTER + 16, QUARTER + 32),
@@ -100,10 +69,10 @@ pub fn ring(alloc: Global) -> Result<RingSight, AllocError> {
     let mut nodes = Vec::new(alloc);
     nodes.push(giving(alloc)?)?;
     nodes.push(leaving(alloc)?)?;
-    let mut crashed = empty(alloc, 2, u128::MAX, Phase::Crashed);
+    let mut crashed = empty_node(alloc, 2, u128::MAX, Phase::Crashed);
     crashed.store = StoreKind::Capped;
     nodes.push(crashed)?;
-    nodes.push(empty(alloc, 3, 0, Phase::Gone))?;
+    nodes.push(empty_node(alloc, 3, 0, Phase::Gone))?;
     Ok(RingSight {
         successors: 4,
         slots: 16,

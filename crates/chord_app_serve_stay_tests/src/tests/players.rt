@@ -7,8 +7,8 @@ use crate::tests::resumes::{Loaded, begins_and_resumes, loads};
 use crate::tests::stops::reads_no_more;
 use chord_app_ask::Tokens;
 use chord_app_serve_testkit::{
-    Actors, Addresses, Ending, Found, Script, Size, Written, all_bound, end_waiting, look_at,
-    plan_with, serve_at,
+    Actors, Addresses, Ending, Found, Handle, Script, Size, Written, all_bound, end_waiting,
+    look_at, plan_with, serve_at,
 };
 use chord_app_sockets::{ClientSeconds, Host};
 use log::Log;
@@ -16,10 +16,7 @@ use log::sink::Discard;
 use std::alloc::Global;
 use std::io::{self, PipeReader, PipeWriter};
 use std::net::{Net, TcpListener, TcpStream};
-use std::sync::Wait;
 use std::thread;
-use std::thread::Threads;
-use std::time::Clock;
 
 /// What clients and operators do at a server.
 #[derive(Clone, Copy)]
@@ -115,17 +112,13 @@ impl Player {
 pub type Played = Option<(Written, io::Result<Told>)>;
 
 /// Serves who plays; none where there are no ports.
-pub fn serve_player<
-    R: Threads
-        + Wait
-        + Clock
-        + Net<Listener = TcpListener, Stream = TcpStream>
-        + Copy
-        + Send
-        + Sync
-        + 'static,
-    L: Log + Sync,
->(rt: &R, alloc: Global, size: Size, notes: &L, (player, ending): (Player, Ending)) -> Played {
+pub fn serve_player<R: Handle + Net<Listener = TcpListener, Stream = TcpStream>, L: Log + Sync>(
+    rt: &R,
+    alloc: Global,
+    size: Size,
+    notes: &L,
+    (player, ending): (Player, Ending),
+) -> Played {
     let plan = plan_with(alloc, size.callers)?;
     let (listeners, at) = all_bound(rt)?;
     let connections = ending.connections();
@@ -140,16 +133,7 @@ pub fn serve_player<
 
 /// What is found at a server of this size and with these waits, whose clients follow a script until
 /// its input ends, and which is to write these lines.
-pub fn follow<
-    R: Threads
-        + Wait
-        + Clock
-        + Net<Listener = TcpListener, Stream = TcpStream>
-        + Copy
-        + Send
-        + Sync
-        + 'static,
->(
+pub fn follow<R: Handle + Net<Listener = TcpListener, Stream = TcpStream>>(
     rt: &R,
     alloc: Global,
     (size, seconds): (Size, ClientSeconds),

@@ -4,18 +4,15 @@
 
 use crate::tests::stays::{WAITS, stay_over};
 use chord_app_plan::Plan;
-use chord_app_serve_testkit::{bound, plan_with};
+use chord_app_serve_testkit::{Handle, bound, plan_with};
 use chord_app_sockets::{Doors, Host};
 use chord_app_text::Finish;
 use log::sink::Discard;
 use std::alloc::Global;
 use std::io::{self, PipeReader, PipeWriter, Read, Write};
 use std::net::{Net, OpenStream, Shutdown, SocketAddr, TcpListener, TcpStream};
-use std::sync::Wait;
 use std::test::Fail;
 use std::thread;
-use std::thread::Threads;
-use std::time::Clock;
 
 // Inserts `x` under `a`, with number 1. Clients take no memory, so that a refused growth is the
 // server's.
@@ -85,16 +82,11 @@ fn count_of(bytes: &[u8], wanted: u8) -> usize {
 }
 
 /// Serves three clients, and gives how that ended.
-fn served<
-    R: Threads
-        + Wait
-        + Clock
-        + Net<Listener = TcpListener, Stream = TcpStream>
-        + Copy
-        + Send
-        + Sync
-        + 'static,
->(rt: &R, alloc: Global, (reader, writer): (PipeReader, PipeWriter)) -> Option<Ended> {
+fn served<R: Handle + Net<Listener = TcpListener, Stream = TcpStream>>(
+    rt: &R,
+    alloc: Global,
+    (reader, writer): (PipeReader, PipeWriter),
+) -> Option<Ended> {
     let plan = plan_with(alloc, 3)?;
     let (listener, address) = bound(rt)?;
     let mut room = [0u8; 256];

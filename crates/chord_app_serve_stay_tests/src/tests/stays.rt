@@ -4,7 +4,7 @@ use crate::tests::players::{Deed, Player, follow, serve_player};
 use chord_app_plan::Plan;
 use chord_app_serve::{ServerStores, stay};
 use chord_app_serve_testkit::{
-    Act, Answer, Ask, GOOD, NOTHING, SMALL, Script, Size, bound, leave, look_at, plan_with,
+    Act, Answer, Ask, GOOD, Handle, NOTHING, SMALL, Script, Size, bound, leave, look_at, plan_with,
     two_stores,
 };
 use chord_app_sockets::{ClientSeconds, Doors, Host, ServerSetup};
@@ -15,11 +15,8 @@ use log::sink::{Discard, Locked};
 use std::alloc::Global;
 use std::io::{self, PipeReader, PipeWriter, Write};
 use std::net::{Net, SocketAddr, TcpListener, TcpStream};
-use std::sync::Wait;
 use std::test::Fail;
 use std::thread;
-use std::thread::Threads;
-use std::time::Clock;
 
 /// For how many seconds a server waits for clients: no test leaves them idle for as long.
 pub const WAITS: ClientSeconds = ClientSeconds {
@@ -226,16 +223,7 @@ fn one_end<R: Net>(rt: &R, address: SocketAddr) -> io::Result<()> {
 }
 
 /// How a server ends whose writer has room for the address only, while its input is open.
-fn stays_without_room<
-    R: Threads
-        + Wait
-        + Clock
-        + Net<Listener = TcpListener, Stream = TcpStream>
-        + Copy
-        + Send
-        + Sync
-        + 'static,
->(
+fn stays_without_room<R: Handle + Net<Listener = TcpListener, Stream = TcpStream>>(
     rt: &R,
     alloc: Global,
     (reader, _writer): (PipeReader, PipeWriter),

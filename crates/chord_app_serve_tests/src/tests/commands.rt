@@ -2,7 +2,7 @@
 
 use chord_app_ask::{ClientOptions, Kind, Load, Tokens, Until, ask_lines, run_load};
 use chord_app_serve_testkit::{
-    Addresses, Ending, SMALL, Size, all_bound, end_waiting, plan_with, serve_at,
+    Addresses, Ending, Handle, SMALL, Size, all_bound, end_waiting, plan_with, serve_at,
 };
 use chord_app_text::{Fault, Finish, WordFault};
 use log::sink::Discard;
@@ -49,18 +49,15 @@ impl Command<'_> {
     }
 }
 
-/// What comes of the command at a ring of two nodes that ends after this many connections. Each
-/// store has room for `room` pairs.
-fn ran<
-    R: Threads
-        + Wait
-        + Clock
-        + Net<Listener = TcpListener, Stream = TcpStream>
-        + Copy
-        + Send
-        + Sync
-        + 'static,
->(rt: &R, alloc: Global, room: u64, connections: usize, command: Command<'_>) -> Option<Ran> {
+/// Runs the command at a ring of two nodes that ends after `connections` connections. Each store
+/// has room for `room` pairs.
+fn ran<R: Handle + Net<Listener = TcpListener, Stream = TcpStream>>(
+    rt: &R,
+    alloc: Global,
+    room: u64,
+    connections: usize,
+    command: Command<'_>,
+) -> Option<Ran> {
     let plan = plan_with(alloc, 3)?;
     let (listeners, at) = all_bound(rt)?;
     let size = Size { room, ..SMALL };
@@ -101,16 +98,7 @@ impl AskLines<'_> {
 
 /// Asks a ring of two nodes over `connections` connections, one after another; each store has room
 /// for `room` pairs.
-fn asks_a_ring<
-    R: Threads
-        + Wait
-        + Clock
-        + Net<Listener = TcpListener, Stream = TcpStream>
-        + Copy
-        + Send
-        + Sync
-        + 'static,
->(
+fn asks_a_ring<R: Handle + Net<Listener = TcpListener, Stream = TcpStream>>(
     rt: &R,
     alloc: Global,
     room: u64,

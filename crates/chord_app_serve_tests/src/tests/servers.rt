@@ -1,9 +1,9 @@
 //! The command `serve --connections` over loopback.
 
 use chord_app_serve_testkit::{
-    Act, Acts, Addresses, Answer, Ask, Ending, Found, GOOD, SMALL, Size, Written, all_bound, ask,
-    bound, changed, do_acts, end_waiting, expect, expect_end, fill, insert, leave, look_at,
-    plan_of, plan_with, reply_frame, request_frame, retrieve, serve_at,
+    Act, Acts, Addresses, Answer, Ask, Ending, Found, GOOD, Handle, SMALL, Size, Written,
+    all_bound, ask, bound, changed, do_acts, end_waiting, expect, expect_end, fill, insert, leave,
+    look_at, plan_of, plan_with, reply_frame, request_frame, retrieve, serve_at,
 };
 use chord_app_sockets::listen;
 use chord_app_text::{Fault, Finish};
@@ -15,10 +15,7 @@ use std::alloc::{AllocError, Global};
 use std::fmt::Write as _;
 use std::io::{self, Read, Write};
 use std::net::{Net, OpenStream, SocketAddr, TcpListener, TcpStream};
-use std::sync::Wait;
 use std::thread;
-use std::thread::Threads;
-use std::time::Clock;
 
 /// Four clients, one after another. The first three close their sending side before they read and
 /// are answered all the same. No caller is left for the fourth, which is told so.
@@ -74,19 +71,9 @@ impl Clients {
     }
 }
 
-/// What comes of a server with this many callers and connections whose clients do so: it is to
-/// write these lines.
-pub fn served<
-    R: Threads
-        + Wait
-        + Clock
-        + Net<Listener = TcpListener, Stream = TcpStream>
-        + Copy
-        + Send
-        + Sync
-        + 'static,
-    L: Log + Sync,
->(
+/// What a test finds at a server with `callers` callers that ends after `connections` connections
+/// of these clients. `lines` are those that it must write.
+pub fn served<R: Handle + Net<Listener = TcpListener, Stream = TcpStream>, L: Log + Sync>(
     rt: &R,
     alloc: Global,
     (callers, connections): (u64, usize),
@@ -409,16 +396,10 @@ fn expect_frame<S: Read>(
 
 /// Checks that a client which reads only once its server is done has lost nothing that the server
 /// wrote before it refused a frame.
-fn keeps_answers<
-    R: Threads
-        + Wait
-        + Clock
-        + Net<Listener = TcpListener, Stream = TcpStream>
-        + Copy
-        + Send
-        + Sync
-        + 'static,
->(rt: &R, alloc: Global) -> Option<Found> {
+fn keeps_answers<R: Handle + Net<Listener = TcpListener, Stream = TcpStream>>(
+    rt: &R,
+    alloc: Global,
+) -> Option<Found> {
     let plan = plan_with(alloc, 1)?;
     let (listeners, at) = all_bound(rt)?;
     let mut client = TcpStream::connect(rt, at.frames).ok()?;
@@ -442,16 +423,10 @@ fn answers_before_a_refused_frame(rt: HostRuntime) {
 }
 
 /// Why a plan is not served whose second node the ring refuses.
-fn not_served<
-    R: Threads
-        + Wait
-        + Clock
-        + Net<Listener = TcpListener, Stream = TcpStream>
-        + Copy
-        + Send
-        + Sync
-        + 'static,
->(rt: &R, alloc: Global) -> Option<Finish> {
+fn not_served<R: Handle + Net<Listener = TcpListener, Stream = TcpStream>>(
+    rt: &R,
+    alloc: Global,
+) -> Option<Finish> {
     let twice = changed(alloc, "id = \"c0", "id = \"40").ok()?;
     let plan = plan_of(alloc, twice.as_str());
     drop(twice);

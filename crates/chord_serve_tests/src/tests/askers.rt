@@ -37,12 +37,13 @@ impl Asker for LateAsker {
     ghost asked = { λ a. a.requests.items };
 
     fn ask(&mut self, request: &Request) -> Asked {
-        if !note(&mut self.requests, request) {
-            return Asked::Memory;
-        }
-        match self.at_first {
-            AtFirst::Full => Asked::Full,
-            AtFirst::NoAnswer => Asked::NoAnswer,
+        if note(&mut self.requests, request) {
+            match self.at_first {
+                AtFirst::Full => Asked::Full,
+                AtFirst::NoAnswer => Asked::NoAnswer,
+            }
+        } else {
+            Asked::Memory
         }
     }
 

@@ -24,8 +24,8 @@ struct OverTwo {
     asked: usize,
 }
 
-/// The script over two connections. The first lets so much of its requests in, and so much of its
-/// answers out. On the second the client sends again what has no whole answer.
+/// The script over two connections. The first takes `most_in` bytes of its requests and gives
+/// `most_out` bytes of the answers. On the second the client sends again what has no whole answer.
 fn resumed(alloc: Global, most_in: usize, most_out: usize) -> Option<OverTwo> {
     let script = requests(alloc).ok()?;
     let wanted = answers(alloc).ok()?;
