@@ -1,5 +1,6 @@
 pub mod ReadingLaws
 pub mod NumberLaws
+pub mod ShortLines
 pub mod SpellingLaws
 pub mod InlineLaws
 pub mod Texts

@@ -1,6 +1,6 @@
 -- One step of a reading, and a reading that goes on with more bytes.
-use Rattle.std.proofs.Common.{◌≡◌, ℕ, ◌+◌, ◌-◌, ◌<◌, ◌≤◌, take, arith, ◌≢◌, List, [], ◌∷◌, ◌++◌, length, drop, get_or, Err, refl, sym, ap, ◌∙◌, add-one, drop-cons}
-use Rattle.std.proofs.lemmas.List.{take_rest, length-drop, drop-drop}
+use Rattle.std.proofs.Common.{◌≡◌, ℕ, ◌+◌, ◌-◌, ◌<◌, take, List, [], ◌∷◌, ◌++◌, length, drop, get_or, Err, refl, sym, ap, ◌∙◌, add-one, drop-cons}
+use Rattle.std.proofs.lemmas.List.{take_rest}
 use Rattle.chord_resp.specs.declared.reading.protocol_error.ProtocolError.{ProtocolError}
 use Rattle.chord_resp.specs.declared.reading.read_error.ReadError.{ReadError}
 use Rattle.chord_resp.specs.declared.reading.read_error.ReadError.TheVariants as error
@@ -46,22 +46,6 @@ stops s s' new bytes i lt error.Memory rest h =
     let front : drop i bytes ≡ get_or bytes i 0 ∷ drop (i + 1) bytes = rw (add-one, drop-cons bytes i 0) refl in
     ((get_or bytes i 0, drop (i + 1) bytes, front, rw h.1 h.0), rw h.1 rest)
 
--- a byte is at this index, and from there on the same is read as of all bytes
-pub record ReadsOn (s s' : State) (bytes : List ℕ) (i : ℕ) : Type 0 where
-  pub there : i < length bytes
-  pub rest : reading s (drop i bytes) ≡ reading s' bytes
-
--- bytes that are read together, behind others: where they end, and what is read from there on
-module _ (s s' new : State) (bytes : List ℕ) (i n : ℕ) where
-  pub within : i ≤ length bytes → Skims s (take (length bytes - i) (drop i bytes)) n new → i + n ≤ length bytes
-  within there h =
-      let few : n ≤ length (drop i bytes) = rw (take_rest bytes i) at h.0 in
-      omega (arith, there, rw (length-drop i bytes) at few)
-
-  pub on : reading s (drop i bytes) ≡ reading s' bytes → Skims s (take (length bytes - i) (drop i bytes)) n new → reading new (drop (i + n) bytes) ≡ reading s' bytes
-  on rest h =
-      let read : reading s (drop i bytes) ≡ reading new (drop n (drop i bytes)) = rw (take_rest bytes i) at h.1 in
-      sym (rw (drop-drop n i bytes) at read) ∙ rest
-
-  pub reads_on : i ≤ length bytes → reading s (drop i bytes) ≡ reading s' bytes → Skims s (take (length bytes - i) (drop i bytes)) n new → (i + n) ≢ length bytes → ReadsOn new s' bytes (i + n)
-  reads_on there rest h more = record { there = let upto = within there h in grind (arith, upto, more); rest = on rest h }
+-- no byte was read together: the same is read from this index on
+pub still : (s s' new : State) (bytes : List ℕ) (i n : ℕ) → reading s (drop i bytes) ≡ reading s' bytes → Skims s (take (length bytes - i) (drop i bytes)) n new → n ≡ 0 → reading new (drop i bytes) ≡ reading s' bytes
+still s s' new bytes i n rest h none = sym (rw (take_rest bytes i) at (rw none at h).1) ∙ rest

@@ -1,4 +1,5 @@
 pub mod Machine
+pub mod ShortLines
 pub mod Reading
 pub mod Spelling
 pub mod Answers

@@ -5,6 +5,7 @@ mod numbers;
 mod phase;
 pub mod protocol_error;
 pub mod read_error;
+mod short_line;
 mod taken;
 pub mod word;
 pub mod words;

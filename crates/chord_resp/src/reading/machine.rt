@@ -1,6 +1,7 @@
 //! Reading a client's bytes, one at a time.
 ghost use Rattle.std.specs.Prelude.{◌≡◌, ◌<◌, true, false, nat_lt, IfOk, OnOk, OnErr};
 ghost use Rattle.chord_resp.specs.Machine.{start, step, kept, went, line_step, space_step, line_end, count_end_step, body_step, end_step, word_of_length};
+ghost use Rattle.chord_resp.specs.declared.reading.phase.Phase.TheVariants as phase;
 ghost use Rattle.chord_resp.specs.Reading.{StepIs, Skims, KeepsNext, keeps, is_at_start};
 
 use crate::limits::{LINE_BYTES, WORD_BYTES};
@@ -9,6 +10,7 @@ use crate::reading::numbers::{count_step, mark_step, size_end_step, size_step};
 use crate::reading::phase::Phase;
 use crate::reading::protocol_error::ProtocolError;
 use crate::reading::read_error::ReadError;
+use crate::reading::short_line::ShortLine;
 use crate::reading::word::Word;
 use crate::reading::words::Words;
 use chord_map::Bytes;
@@ -67,15 +69,61 @@ impl Machine {
         self.partial.extend_from_slice(bytes)
     }
 
-    /// Reads bytes of a word together, up to its end, and tells how many. None are read where no
-    /// word is being read.
+    /// Reads bytes together, and tells how many: a short line with the count of words or the length
+    /// of one, or bytes of a word up to its end. None are read where the next byte is read alone.
     pub fn skim(&mut self, bytes: &[u8]) -> Result<usize, AllocError>
         ensures read { IfOk result (λ count. Skims self.old bytes.now count self.new) }
         ensures err { OnErr result (KeepsNext (record { state = self.old; bytes = bytes.now }) × (self.new ≡ self.old)) }
     {
-        let Phase::Body { length, left } = self.phase else {
-            return Ok(0);
+        match self.phase {
+            Phase::Start => Ok(self.skim_count(bytes)),
+            Phase::Mark => Ok(self.skim_size(bytes)),
+            Phase::Body { length, left } => self.skim_word(length, left, bytes),
+            _ => Ok(0),
+        }
+    }
+
+    /// Reads the line of a count, `*3\r\n`, if it has one digit or two and is not 0.
+    fn skim_count(&mut self, bytes: &[u8]) -> usize
+        requires { self.old.phase ≡ phase.Start }
+        ensures { Skims self.old bytes.now result self.new }
+    {
+        let Some(line) = ShortLine::begin(bytes) else {
+            return 0;
         };
+        if bytes[0] != b'*' || line.number == 0 {
+            return 0;
+        }
+        self.restart();
+        self.wanted = line.number;
+        self.phase = Phase::Mark;
+        line.length
+    }
+
+    /// Reads the line of a word's length, `$9\r\n`, if it has one digit or two.
+    fn skim_size(&mut self, bytes: &[u8]) -> usize
+        requires { self.old.phase ≡ phase.Mark }
+        ensures { Skims self.old bytes.now result self.new }
+    {
+        let Some(line) = ShortLine::begin(bytes) else {
+            return 0;
+        };
+        if bytes[0] != b'$' {
+            return 0;
+        }
+        self.phase = Phase::Body {
+            length: line.number,
+            left: line.number,
+        };
+        line.length
+    }
+
+    /// Reads bytes of a word, up to its end.
+    fn skim_word(&mut self, length: u32, left: u32, bytes: &[u8]) -> Result<usize, AllocError>
+        requires { self.old.phase ≡ phase.Body length left }
+        ensures read { IfOk result (λ count. Skims self.old bytes.now count self.new) }
+        ensures err { OnErr result (KeepsNext (record { state = self.old; bytes = bytes.now }) × (self.new ≡ self.old)) }
+    {
         let count = bytes.len().min(left as usize);
         if count == 0 {
             return Ok(0);

@@ -21,16 +21,17 @@ pub fn take_from(machine: &mut Machine, bytes: &[u8]) -> Taken
     let mut count = 0;
     while count < bytes.len() {
         match machine.skim(&bytes[count..]) {
-            Ok(skimmed) => count += skimmed,
+            Ok(0) => {}
+            Ok(skimmed) => {
+                count += skimmed;
+                continue;
+            }
             Err(_) => {
                 return Taken {
                     count,
                     found: Err(ReadError::Memory),
                 };
             }
-        }
-        if count == bytes.len() {
-            break;
         }
         match machine.step(bytes[count]) {
             Ok(None) => count += 1,

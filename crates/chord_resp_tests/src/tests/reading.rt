@@ -1,6 +1,6 @@
 //! Streams and the commands that they spell.
 use super::shown::{Stop, show_commands, show_pieces};
-use chord_resp::{Commands, ProtocolError, laws};
+use chord_resp::{Commands, ProtocolError, Word, laws};
 use std::alloc::Global;
 use std::process::Abort;
 
@@ -12,7 +12,7 @@ struct Row {
 }
 
 // What clients write.
-const COMMANDS: [Row; 13] = [
+const COMMANDS: [Row; 15] = [
     Row {
         bytes: b"",
         commands: b"",
@@ -36,6 +36,16 @@ const COMMANDS: [Row; 13] = [
     Row {
         bytes: b"*0\r\n*1\r\n$1\r\na\r\n",
         commands: b"a,;",
+        stop: Stop::Between,
+    },
+    Row {
+        bytes: b"*1\r\n$10\r\nabcdefghij\r\n",
+        commands: b"abcdefghij,;",
+        stop: Stop::Between,
+    },
+    Row {
+        bytes: b"*10\r\n$1\r\na\r\n$1\r\nb\r\n$1\r\nc\r\n$1\r\nd\r\n$1\r\ne\r\n$1\r\nf\r\n$1\r\ng\r\n$1\r\nh\r\n$1\r\ni\r\n$1\r\nj\r\n",
+        commands: b"a,b,c,d,e,f,g,h,i,j,;",
         stop: Stop::Between,
     },
     Row {
@@ -299,4 +309,28 @@ fn laws_can_be_called(_rt: HostRuntime) {
     laws::cuts_do_not_matter();
     laws::arrays_are_read();
     laws::inline_commands_are_read();
+}
+
+/// Whether the words of a command are these two, taken out of it.
+fn takes_out(alloc: Global, bytes: &[u8]) -> Option<bool> {
+    let mut commands = Commands::new(alloc);
+    let fed = commands.feed(bytes);
+    let next = commands.next();
+    drop(commands);
+    fed.ok()?;
+    let words = next.ok()??.into_vec();
+    let are_these = match words.as_slice() {
+        [Word::Whole(one), Word::Whole(other)] => {
+            one.as_slice() == b"get".as_slice() && other.as_slice() == b"k".as_slice()
+        }
+        _ => false,
+    };
+    drop(words);
+    Some(are_these)
+}
+
+#[test]
+fn words_are_taken_out(rt: HostRuntime) {
+    let are_these = takes_out(rt.alloc(), b"*2\r\n$3\r\nget\r\n$1\r\nk\r\n");
+    assert!(rt; are_these == Some(true), "the words as they were written");
 }
