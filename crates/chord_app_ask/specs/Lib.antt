@@ -1,3 +1,4 @@
+pub mod Counts
 pub mod Questions
 pub mod Recorded
 pub mod Histogram

@@ -1,6 +1,8 @@
 //! The results of a load.
 
-ghost use Rattle.std.specs.Prelude.{◌≡◌, max};
+ghost use Rattle.std.specs.Prelude.{◌≡◌, max, Some, None, IfOk};
+ghost use Rattle.chord_app_ask.specs.Counts.{added, sum};
+ghost use Rattle.chord_app_ask.specs.Histogram.{IsNew};
 
 use crate::load::histogram::Histogram;
 use std::alloc::{AllocError, Global};
@@ -26,7 +28,9 @@ pub struct Report {
 }
 
 /// The sum of two counts; one that is not kept counts nothing.
-fn sum(one: Option<u64>, other: Option<u64>) -> Option<u64> {
+fn sum(one: Option<u64>, other: Option<u64>) -> Option<u64>
+    ensures { result ≡ sum one other }
+{
     match (one, other) {
         (Some(one), Some(other)) => Some(one.saturating_add(other)),
         (Some(count), None) | (None, Some(count)) => Some(count),
@@ -34,8 +38,20 @@ fn sum(one: Option<u64>, other: Option<u64>) -> Option<u64> {
     }
 }
 
+/// Records the times of another connection too.
+fn add_times(times: &mut Histogram, more: &Histogram) {
+    for bucket in more.buckets() {
+        times.record(bucket.bound, bucket.count);
+    }
+}
+
 impl Report {
-    pub fn new(alloc: Global) -> Result<Report, AllocError> {
+    /// A report of nothing.
+    pub fn new(alloc: Global) -> Result<Report, AllocError>
+        ensures times { IfOk result (λ report. IsNew report.times) }
+        ensures counts { IfOk result (λ report. (report.faults ≡ 0) × (report.empty ≡ 0) × (report.milliseconds ≡ 0)) }
+        ensures kept { IfOk result (λ report. (report.resumed ≡ None) × (report.doubled ≡ None)) }
+    {
         Ok(Report {
             times: Histogram::new(alloc)?,
             faults: 0,
@@ -48,31 +64,38 @@ impl Report {
 
     /// Adds the results of another connection that ran at the same time.
     pub fn join(&mut self, other: &Report)
-        ensures { self.new.milliseconds ≡ max self.old.milliseconds other.now.milliseconds }
+        ensures faults { self.new.faults ≡ added self.old.faults other.now.faults }
+        ensures empty { self.new.empty ≡ added self.old.empty other.now.empty }
+        ensures milliseconds { self.new.milliseconds ≡ max self.old.milliseconds other.now.milliseconds }
+        ensures resumed { self.new.resumed ≡ sum self.old.resumed other.now.resumed }
+        ensures doubled { self.new.doubled ≡ sum self.old.doubled other.now.doubled }
     {
-        let milliseconds = self.milliseconds.max(other.milliseconds);
-        for bucket in other.times.buckets() {
-            self.times.record(bucket.bound, bucket.count);
-        }
+        add_times(&mut self.times, &other.times);
         self.faults = self.faults.saturating_add(other.faults);
         self.empty = self.empty.saturating_add(other.empty);
-        self.milliseconds = milliseconds;
+        self.milliseconds = self.milliseconds.max(other.milliseconds);
         self.resumed = sum(self.resumed, other.resumed);
         self.doubled = sum(self.doubled, other.doubled);
     }
 
     /// Counts one more retrieve that was answered by an empty set.
-    pub fn note_empty(&mut self) {
+    pub fn note_empty(&mut self)
+        ensures { self.new ≡ record { times = self.old.times; faults = self.old.faults; empty = added self.old.empty 1; milliseconds = self.old.milliseconds; resumed = self.old.resumed; doubled = self.old.doubled } }
+    {
         self.empty = self.empty.saturating_add(1);
     }
 
     /// Counts one more connection that went on.
-    pub fn note_resumed(&mut self) {
+    pub fn note_resumed(&mut self)
+        ensures { self.new ≡ record { times = self.old.times; faults = self.old.faults; empty = self.old.empty; milliseconds = self.old.milliseconds; resumed = sum self.old.resumed (Some 1); doubled = self.old.doubled } }
+    {
         self.resumed = sum(self.resumed, Some(1));
     }
 
     /// Counts one more insert that acted twice.
-    pub fn note_doubled(&mut self) {
+    pub fn note_doubled(&mut self)
+        ensures { self.new ≡ record { times = self.old.times; faults = self.old.faults; empty = self.old.empty; milliseconds = self.old.milliseconds; resumed = self.old.resumed; doubled = sum self.old.doubled (Some 1) } }
+    {
         self.doubled = sum(self.doubled, Some(1));
     }
 
