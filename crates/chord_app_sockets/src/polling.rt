@@ -8,7 +8,7 @@ use crate::pollers::Pollers;
 use std::io::{self, ErrorKind, Read};
 use std::net::TcpStream;
 
-/// How often a read polls, yielding in between, before it sleeps.
+/// How often a read polls before it sleeps.
 const POLLS: u64 = 64;
 
 /// A reader that sleeps until bytes come, or until it gives `WouldBlock`, and that can be told to
@@ -65,7 +65,7 @@ fn poll<R: Read>(reader: &mut R, buf: &mut [u8]) -> Option<io::Result<usize>>
         if !found_none(&read) {
             return Some(read);
         }
-        std::thread::yield_now();
+        std::hint::spin_loop();
     }
     None
 }

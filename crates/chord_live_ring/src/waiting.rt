@@ -22,8 +22,12 @@ const POLLS_SKIPPED: u64 = 5_000;
 /// The most rounds of one poll.
 const MAX_POLLS: u64 = 200;
 
-/// How often a thread tries a lock, yielding in between, before it sleeps.
+/// How often a thread tries a lock, with pauses in between, before it sleeps.
 const LOCK_TRIES: u64 = 64;
+
+/// How many pauses of the processor there are between two tries: in all some 150 nanoseconds on
+/// processors whose pause takes 12 cycles, and two microseconds on those where it takes 140.
+const LOCK_PAUSES: u64 = 32;
 
 /// How a wait for an envelope begins.
 #[derive(Clone, Copy, Debug, PartialEq, Eq)]
@@ -45,13 +49,21 @@ impl Wakes {
     }
 }
 
+/// Waits between two tries of a lock. It keeps the processor: a thread that yields it while others
+/// are ready may come back only milliseconds later.
+fn pause() {
+    for _ in 0..LOCK_PAUSES {
+        std::hint::spin_loop();
+    }
+}
+
 /// Takes a lock that others hold only briefly.
 pub(crate) fn lock_soon<'l, T>(rt: &impl Wait, lock: &'l Mutex<T>) -> MutexGuard<'l, T> {
     for _ in 0..LOCK_TRIES {
         if let Some(guard) = lock.try_lock() {
             return guard;
         }
-        std::thread::yield_now();
+        pause();
     }
     lock.lock(rt)
 }
