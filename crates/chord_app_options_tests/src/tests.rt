@@ -1,7 +1,8 @@
 //! The command lines.
 
-use crate::tests::lines::{names_stores_on, prints, prints_usage};
+use crate::tests::lines::{finish_of, has_plan, names_stores_on, prints, prints_usage};
 use chord_app_options::names_stores;
+use chord_app_text::Finish;
 
 mod ask_lines;
 mod command;
@@ -60,4 +61,26 @@ fn stores_of_a_world(rt: HostRuntime) {
         named == Some(true),
         "a line that names none has four trees and four lists in turn"
     );
+}
+
+#[test]
+fn the_path_of_a_plan(rt: HostRuntime) {
+    for line in [
+        "chord run --plan p.toml",
+        "chord serve --plan p.toml --port 0 --stay",
+    ] {
+        let is_its = has_plan(rt.alloc(), line, "p.toml");
+        assert!(rt; is_its == Some(true), "{line}");
+    }
+}
+
+#[test]
+fn faults_and_help_are_printed(rt: HostRuntime) {
+    let refused = finish_of(&rt, "chord serve");
+    assert!(rt;
+        refused == Some(Ok(Finish::BadCommandLine)),
+        "a plan is wanted"
+    );
+    let help = finish_of(&rt, "chord serve --help");
+    assert!(rt; help == Some(Ok(Finish::Done)), "help is no fault");
 }

@@ -155,3 +155,50 @@ fn open_connections_are_shut_down(rt: HostRuntime) {
     let wanted = Some((Err(ErrorKind::WouldBlock), Ok(0)));
     assert!(rt; reads == wanted, "a connection that stays open is ended");
 }
+
+/// What two clients read once the connection of the second is ended, and whether all are told to
+/// end before and after that is asked for.
+#[derive(Clone, Copy, Debug, PartialEq, Eq)]
+struct OneEnded {
+    others: Result<usize, ErrorKind>,
+    its: Result<usize, ErrorKind>,
+    told: (bool, bool),
+}
+
+fn one_ended<R: Net<Listener = TcpListener, Stream = TcpStream> + Wait + Clock>(
+    rt: &R,
+    alloc: Global,
+) -> io::Result<OneEnded> {
+    let mut one = connect(rt)?;
+    let mut other = connect(rt)?;
+    one.client
+        .set_read_timeout(Some(Duration::from_millis(10)))?;
+    let clients = Clients::new(alloc);
+    let servers = [Arc::new(alloc, one.server)?, Arc::new(alloc, other.server)?];
+    clients.add(rt, 0, &servers[0])?;
+    clients.add(rt, 1, &servers[1])?;
+    clients.end_one(rt, 1);
+    let others = read_once(&mut one.client);
+    let its = read_once(&mut other.client);
+    let before = clients.are_told_to_end();
+    clients.forget(rt, 0);
+    clients.forget(rt, 1);
+    clients.end_all(rt);
+    let told = (before, clients.are_told_to_end());
+    drop(clients);
+    drop(servers);
+    drop(one.client);
+    drop(other.client);
+    Ok(OneEnded { others, its, told })
+}
+
+#[test]
+fn one_connection_is_shut_down(rt: HostRuntime) {
+    let wanted = OneEnded {
+        others: Err(ErrorKind::WouldBlock),
+        its: Ok(0),
+        told: (false, true),
+    };
+    let seen = one_ended(&rt, rt.alloc()).map_err(|error| error.kind());
+    assert!(rt; seen == Ok(wanted), "one of two is ended: {seen:?}");
+}

@@ -4,6 +4,8 @@
 #[cfg(test)]
 mod closing;
 #[cfg(test)]
+mod doors;
+#[cfg(test)]
 mod ends;
 #[cfg(test)]
 mod patience;

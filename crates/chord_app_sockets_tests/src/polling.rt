@@ -3,6 +3,7 @@
 use chord_app_sockets::{Pollable, Pollers, PollingReader};
 use std::cell::Cell;
 use std::io::{self, ErrorKind, Read};
+use std::thread::Threads;
 
 /// A client from which a byte comes at each read that sleeps, but for some first ones, and at one
 /// that polls after `empty` polls without one.
@@ -357,4 +358,22 @@ fn no_more_poll_than_there_are_places(rt: HostRuntime) {
         let seen = others_of(setup);
         assert!(rt; seen == others, "of {setup:?}: {seen:?}");
     }
+}
+
+/// How often the second read of a client polls, beside as many places as there are processors.
+fn polls_for_processors(rt: &impl Threads) -> u64 {
+    let nonblocking = Cell::new(false);
+    let pollers = Pollers::for_processors(rt);
+    let mut client = Client::new(&nonblocking, 5, 0);
+    let mut reader = PollingReader::new(&mut client, &pollers);
+    let _ = gives_byte(&mut reader);
+    let _ = gives_byte(&mut reader);
+    drop(reader);
+    client.polls
+}
+
+#[test]
+fn there_is_a_place_for_a_processor(rt: HostRuntime) {
+    let polls = polls_for_processors(&rt);
+    assert!(rt; polls == 6, "a byte comes at the sixth poll: {polls}");
 }

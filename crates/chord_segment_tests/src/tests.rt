@@ -564,3 +564,59 @@ fn marks_are_raised(rt: HostRuntime) -> Result<(), Fail> {
     );
     Ok(())
 }
+
+/// The number of the call that a copy of an entry keeps inside a span, if it is one call, and
+/// whether the entry and the copy keep a call in common before and after the others were dropped.
+#[derive(Clone, Copy, Debug, PartialEq, Eq)]
+struct Inside {
+    number: Option<u64>,
+    before: bool,
+    after: bool,
+    apart: bool,
+}
+
+/// What the entry of caller 0 keeps inside (A, B].
+fn kept_inside(segment: &Segment) -> Option<Inside> {
+    let own = segment.callers().first()?;
+    let mut copy = own.try_copy().ok()?;
+    let before = own.any_twice(&copy);
+    copy.keep_inside(span(A, B));
+    let number = match copy.kept() {
+        [one] => Some(one.number),
+        _ => None,
+    };
+    let after = own.any_twice(&copy);
+    let Ok(mut other) = own.try_copy() else {
+        drop(copy);
+        return None;
+    };
+    other.keep_inside(span(B, A));
+    let apart = !other.any_twice(&copy);
+    drop(other);
+    drop(copy);
+    Some(Inside {
+        number,
+        before,
+        after,
+        apart,
+    })
+}
+
+/// Caller 0 keeps its call 3 under `abc` and its call 4 under `f`, which is in (A, B].
+#[test]
+fn a_callers_calls_go_by_key(rt: HostRuntime) -> Result<(), Fail> {
+    let segment = with_floors(rt.alloc())?;
+    let inside = kept_inside(&segment);
+    drop(segment);
+    let wanted = Inside {
+        number: Some(4),
+        before: true,
+        after: true,
+        apart: true,
+    };
+    assert!(rt;
+        inside == Some(wanted),
+        "its call under f alone: {inside:?}"
+    );
+    Ok(())
+}

@@ -1,8 +1,10 @@
 //! What command lines say, and what is printed of those that are refused.
 
 use chord_app_options::{
-    client_options_of, commands, load_of, ring_task_of, serve_line_of, stores_of,
+    client_options_of, commands, load_of, plan_path_of, print_fault, ring_task_of, serve_line_of,
+    stores_of,
 };
+use chord_app_text::Finish;
 use clap::ArgMatches;
 use std::alloc::{AllocError, Global};
 
@@ -115,4 +117,33 @@ pub fn prints_usage(
         "{fault}\n\nUsage: {usage}\n\nFor more information, try '--help'.\n"
     );
     prints(alloc, line, wanted.ok()?.as_str())
+}
+
+/// The path of a plan, as it is on a line of `run` or of `serve`.
+#[derive(Drop)]
+struct PlanPath {
+    path: String,
+}
+
+impl ReadLine for PlanPath {
+    fn read(alloc: Global, name: &str, found: &ArgMatches) -> Option<PlanPath> {
+        let path = match name {
+            "run" | "serve" => String::from_str(alloc, plan_path_of(found)).ok()?,
+            _ => return None,
+        };
+        Some(PlanPath { path })
+    }
+}
+
+/// Whether the line has this path of a plan.
+pub fn has_plan(alloc: Global, line: &'static str, wanted: &str) -> Option<bool> {
+    let PlanPath { path } = read_line(alloc, line)?;
+    let is_its = path.as_str() == wanted;
+    drop(path);
+    Some(is_its)
+}
+
+/// How a command ends whose line is refused, or asks for help, once that is printed.
+pub fn finish_of(rt: &HostRuntime, line: &'static str) -> Option<Result<Finish, Finish>> {
+    Some(print_fault(rt, fault_of(rt.alloc(), line)?))
 }

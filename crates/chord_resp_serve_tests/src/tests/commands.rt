@@ -1,8 +1,8 @@
 //! Commands, the questions that they ask, and their answers.
 use super::askers::{Script, Scripted, Trouble};
-use chord_map::Request;
-use chord_resp::Commands;
-use chord_resp_serve::{About, Flow, Numbers, answer_words};
+use chord_map::{Bytes, Request};
+use chord_resp::{Command, Commands};
+use chord_resp_serve::{About, Flow, Numbers, answer_command, answer_words};
 use std::alloc::{AllocError, Global};
 use std::process::Abort;
 
@@ -139,5 +139,41 @@ fn memory_ends_the_connection(rt: HostRuntime) {
     assert!(rt;
         is_so == Some(true),
         "nothing is answered, and nothing more is asked"
+    );
+}
+
+/// What is written for a command that is told whole, and how many requests it asked.
+fn told(alloc: Global, command: Command, want: &[u8]) -> Option<(bool, u64)> {
+    let mut asker = Scripted::new(alloc, NO_TROUBLE);
+    let mut numbers = Numbers {
+        asked: 0,
+        pending: None,
+    };
+    let about = About {
+        number: 7,
+        info: b"a:b\n",
+    };
+    let mut out = Vec::new(alloc);
+    let result = answer_command(alloc, &mut asker, &mut numbers, &mut out, about, &command);
+    let is_told = result.is_ok() && out.as_slice() == want;
+    drop(out);
+    drop(asker);
+    drop(command);
+    Some((is_told, numbers.asked))
+}
+
+#[test]
+fn one_command_is_answered(rt: HostRuntime) {
+    let alloc = rt.alloc();
+    let number = told(alloc, Command::Number, b":7\r\n");
+    assert!(rt;
+        number == Some((true, 0)),
+        "the connection's number, without a request"
+    );
+    let key = Bytes::from_slice(alloc, b"k").expect(&rt, "memory");
+    let count = told(alloc, Command::Count { key }, b":0\r\n");
+    assert!(rt;
+        count == Some((true, 1)),
+        "the members of a key that has none"
     );
 }

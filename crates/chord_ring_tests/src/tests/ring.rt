@@ -1,11 +1,13 @@
 //! Rings of two and of three nodes.
+ghost use Rattle.std.specs.Prelude.{[]};
 
 use chord_ident::Id;
 use chord_links::{Links, Peer};
 use chord_ring::{
-    CandidateFault, DropFault, NotBetween, RingCore, RingDid, RingFault, RingStep, StabiliseFault,
-    can_depart_among, drop_dead, join_behind, principals_stand_on_one_ring, rectify, stabilise,
-    take_candidate,
+    CandidateFault, DropFault, MemberReader, NotBetween, RingCore, RingDid, RingFault, RingStep,
+    StabiliseFault, can_depart_among, can_depart_in, drop_dead, drop_dead_in, join_behind,
+    principals_stand_on_one_ring, rectify, rectify_in, stabilise, stabilise_in, take_candidate,
+    take_candidate_in,
 };
 use std::alloc::Global;
 use std::process::Abort;
@@ -114,4 +116,82 @@ fn steps_change_links(rt: HostRuntime) {
     assert!(rt; drop_dead(&mut mine, false) == Ok(()));
     assert!(rt; mine.list().entries() == [a].as_slice());
     assert!(rt; drop_dead(&mut mine, false) == Err(DropFault::Empty));
+}
+
+/// Members whose links are in a list of the test's own.
+#[derive(Clone, Copy)]
+struct Members<'a> {
+    links: &'a [Option<Links>],
+}
+
+impl MemberReader for Members<'_> {
+    ghost ring = { λ members. record { ids = []; members = members.links.now } };
+
+    fn member(&self, number: u64) -> Option<&Links> {
+        match self.links.get(number as usize) {
+            Some(Some(links)) => Some(links),
+            _ => None,
+        }
+    }
+
+    fn count(&self) -> u64 {
+        self.links.len() as u64
+    }
+}
+
+/// A node that heard of no other, and C that joined behind it.
+fn joined() -> Option<[Option<Links>; 2]> {
+    let alone = Links::alone(Peer { number: 0, id: A }, 3);
+    let behind = join_behind(Peer { number: 1, id: C }, &alone).ok()?;
+    Some([Some(alone), Some(behind)])
+}
+
+#[test]
+fn upkeep_reads_any_list_of_links(rt: HostRuntime) {
+    let a = Peer { number: 0, id: A };
+    let c = Peer { number: 1, id: C };
+    let [mine, theirs] = joined().expect(&rt, "C is between A and A");
+    let links = [mine, theirs];
+    let members = Members { links: &links };
+    let (mine, is_new) = rectify_in(&members, 0, 1).expect(&rt, "two members");
+    assert!(rt; is_new && mine.predecessor() == Some(c), "A hears of C");
+    assert!(rt;
+        rectify_in(&members, 0, 2) == Err(RingFault::NoSuchNode),
+        "there is no third member"
+    );
+    let links = [Some(mine), theirs];
+    let members = Members { links: &links };
+    let stabilised = stabilise_in(&members, 0, 0);
+    assert!(rt;
+        stabilised == Ok((mine, Some(c))),
+        "A learns of C from itself"
+    );
+    assert!(rt;
+        stabilise_in(&members, 0, 1) == Err(RingFault::Stabilise(StabiliseFault::NotHead)),
+        "C is not A's first entry yet"
+    );
+    let mine = take_candidate_in(&members, 0, 1).expect(&rt, "C is nearer");
+    assert!(rt;
+        mine.list().entries() == [c, a].as_slice(),
+        "C is A's first entry now"
+    );
+    let links = [Some(mine), theirs];
+    let members = Members { links: &links };
+    assert!(rt;
+        take_candidate_in(&members, 0, 1) == Err(RingFault::Candidate(CandidateFault::NotCloser)),
+        "C is no nearer than itself"
+    );
+    assert!(rt;
+        drop_dead_in(&members, 0) == Err(RingFault::Drop(DropFault::HeadLive)),
+        "C is live"
+    );
+    assert!(rt; can_depart_in(&members, 1), "A stays a principal without C");
+    assert!(rt; !can_depart_in(&members, 0), "C's list has A alone");
+    let links = [Some(mine), None];
+    let members = Members { links: &links };
+    let mine = drop_dead_in(&members, 0).expect(&rt, "C departed");
+    assert!(rt;
+        mine.list().entries() == [a].as_slice(),
+        "A's list has A alone"
+    );
 }

@@ -6,7 +6,7 @@ use super::sessions::{
     joined, limited, three_frames,
 };
 use chord_map::Request;
-use chord_serve::{ReadSize, Served};
+use chord_serve::{Due, ReadSize, Served};
 use chord_serve_testkit::{FREE, Limits, MapAsker};
 use chord_wire::FaultCode;
 use std::alloc::{AllocError, Global};
@@ -273,4 +273,30 @@ fn a_second_write_that_fails_leaves_the_first(rt: HostRuntime) {
     assert!(rt; talk.seen.len == 65_586, "the first reply was written");
     assert!(rt; talk.seen.writes == 1, "the second was not");
     assert!(rt; talk.asked == 2, "the third retrieve was not asked");
+}
+
+#[test]
+fn sizes_of_reads(rt: HostRuntime) {
+    assert!(rt; ReadSize::Small.most_bytes() == 4_096, "a small read");
+    assert!(rt; ReadSize::Large.most_bytes() == 65_536, "a large read");
+}
+
+/// Whether all of an output is written, and nothing of it once it is cleared.
+fn writes_what_is_due(alloc: Global) -> Option<(bool, bool)> {
+    let mut due = Due::new(alloc);
+    let added = due.add(b"abc").and_then(|()| due.add(b"de"));
+    let mut written: Vec<u8> = Vec::new(alloc);
+    let first = due.write_to(&mut written).is_ok() && written.as_slice() == b"abcde".as_slice();
+    due.clear(alloc);
+    let second = due.write_to(&mut written).is_ok() && written.as_slice() == b"abcde".as_slice();
+    drop(written);
+    drop(due);
+    added.ok()?;
+    Some((first, second))
+}
+
+#[test]
+fn output_that_is_due_is_written(rt: HostRuntime) {
+    let seen = writes_what_is_due(rt.alloc());
+    assert!(rt; seen == Some((true, true)), "all of it, and once: {seen:?}");
 }
