@@ -138,6 +138,24 @@ fn fill_both<J: Naming, S: EntryStore, R: Abort + Wait + Clock>(
     }
 }
 
+/// Ticks node 0 until it is seen so. Its worker takes in when node 1 took something, which may be
+/// late, and until then it gives node 1 nothing more.
+fn comes_to<J: Naming, S: EntryStore, R: Abort + Wait + Clock>(
+    rt: &R,
+    alloc: Global,
+    ring: &Ring<J, S>,
+    wanted: Holding,
+) -> bool {
+    for _ in 0..1_000u64 {
+        if holding_of(rt, alloc, ring, 0) == wanted {
+            return true;
+        }
+        tick(rt, ring, 0);
+        thread::sleep(rt, Duration::from_millis(1));
+    }
+    false
+}
+
 /// The worker of node 1 takes in what comes in its order, so it is done with the part once it
 /// answers a request that came later.
 fn is_refused<J: Naming, S: EntryStore, R: Abort + Wait + Clock>(
@@ -146,12 +164,13 @@ fn is_refused<J: Naming, S: EntryStore, R: Abort + Wait + Clock>(
     ring: &Ring<J, S>,
     caller: &mut Caller<'_, J, S>,
 ) {
-    tick(rt, ring, 0);
+    let gives = Holding { pairs: 0, given: 1 };
+    let gave = comes_to(rt, alloc, ring, gives);
+    assert!(rt; gave, "node 0 gives all it held");
     let seen = ask(rt, caller, 1, Request::retrieve(alloc, b"a"));
     assert!(rt; seen == Ok(Said::OnlyX), "node 1 answers behind the part");
     let giver = holding_of(rt, alloc, ring, 0);
-    let gives = Holding { pairs: 0, given: 1 };
-    assert!(rt; giver == gives, "node 0 gave all it held");
+    assert!(rt; giver == gives, "node 0 goes on giving it");
     let receiver = holding_of(rt, alloc, ring, 1);
     let is_full = Holding { pairs: 1, given: 0 };
     assert!(rt; receiver == is_full, "node 1 has no room for it");
@@ -166,16 +185,8 @@ fn is_taken_with_room<J: Naming, S: EntryStore, R: Abort + Wait + Clock>(
 ) {
     let removed = ask(rt, caller, 1, Request::remove(alloc, b"a", b"x"));
     assert!(rt; removed == Ok(Said::Removed), "node 1 gets room");
-    for _ in 0..1_000u64 {
-        if holding_of(rt, alloc, ring, 0).given == 0 {
-            break;
-        }
-        tick(rt, ring, 0);
-        thread::sleep(rt, Duration::from_millis(1));
-    }
-    let giver = holding_of(rt, alloc, ring, 0);
-    let is_empty = Holding { pairs: 0, given: 0 };
-    assert!(rt; giver == is_empty, "a part is sent again until it is taken");
+    let gave = comes_to(rt, alloc, ring, Holding { pairs: 0, given: 0 });
+    assert!(rt; gave, "a part is sent again until it is taken");
     let receiver = holding_of(rt, alloc, ring, 1);
     let has_both = Holding { pairs: 2, given: 0 };
     assert!(rt; receiver == has_both, "node 1 has both pairs");
