@@ -55,7 +55,8 @@ fn retire_if_empty<J: Naming, S: EntryStore>(
 }
 
 /// One round of upkeep of all nodes that there are. Out of memory leaves the rest of a node's round
-/// for the next one. None if the ring was stopped.
+/// for the next one. None if the ring was stopped. While the round is quiet, whoever else wants the
+/// processor has it between two nodes, so that no request waits for a whole round.
 fn tick_round<J: Naming, S: EntryStore>(rt: &impl Wait, ring: &Ring<J, S>) -> Option<Round> {
     let mut all = Round::Quiet;
     for number in 0..ring.node_count() {
@@ -65,6 +66,9 @@ fn tick_round<J: Naming, S: EntryStore>(rt: &impl Wait, ring: &Ring<J, S>) -> Op
             Err(_) => Round::Busy,
         };
         all = all.with(round).with(retire_if_empty(rt, ring, number));
+        if all == Round::Quiet {
+            std::thread::yield_now();
+        }
     }
     Some(all)
 }
