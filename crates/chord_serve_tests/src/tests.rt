@@ -2,6 +2,7 @@
 
 mod askers;
 mod client_sessions;
+mod conversing;
 mod faults;
 mod going_on;
 mod greetings;
