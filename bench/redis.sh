@@ -4,7 +4,9 @@
 # Needs the toolchain and redis-cli. What also needs redis-server with redis-benchmark, or python3
 # with its module redis, is skipped with a word where they are missing; it installs nothing. Rows of
 # the last part are medians of requests a second as multiples of Redis's in the same round, over 16
-# nodes. It ends with a status other than 0 where a client was answered otherwise than it says.
+# nodes. A ring does 1,000 rounds of upkeep once its nodes are there, so its clients begin REST
+# seconds later (3). It ends with a status other than 0 where a client was answered otherwise than it
+# says.
 set -euo pipefail
 cd "$(dirname "$0")/.."
 requests=${1-100000} rounds=${2-3} port=17600
@@ -44,6 +46,7 @@ start() {
     esac
     server=$!
     await
+    [ -z "$hold" ] || sleep "${REST-3}"
 }
 stop() {
     [ -z "$hold" ] || exec {hold}>&-

@@ -4,9 +4,10 @@
 #     bench/serve.sh [REQUESTS [ROUNDS [SIZES]]]
 # REQUESTS a cell (200,000), ROUNDS (3), and the bytes of keys and values of each table ("12x8
 # 41x200"). Needs redis-server, redis-cli, rustc and the toolchain; it installs nothing. Each cell
-# starts its server anew, and every other round has the servers in the other order. Rows are medians:
-# requests a second of one node, of 16 nodes and of the echo server as multiples of Redis's in the
-# same round, and in brackets the microseconds of the 50th, 99th and 99.9th percentile.
+# starts its server anew, and every other round has the servers in the other order. A ring does 1,000
+# rounds of upkeep once its nodes are there, so its clients begin REST seconds later (3). Rows are
+# medians: requests a second of one node, of 16 nodes and of the echo server as multiples of Redis's
+# in the same round, and in brackets the microseconds of the 50th, 99th and 99.9th percentile.
 set -euo pipefail
 cd "$(dirname "$0")/.."
 requests=${1-200000} rounds=${2-3} sizes=${3-12x8 41x200} port=17400
@@ -53,6 +54,7 @@ cell() {
     esac
     server=$!
     await
+    [ -z "$hold" ] || sleep "${REST-3}"
     case $2 in
     retrieve) "$room/client" load $client $port fill 4 16 100000 "$5" "$6" > /dev/null ;;
     retrieve100) "$room/client" load $client $port fill100 4 16 100000 "$5" "$6" > /dev/null ;;
