@@ -54,6 +54,10 @@ impl<'s, 'r, J: Naming, S: EntryStore, R: Host, L: Log, W: Write> Server<'s, 'r,
         let mut reader = PatientReader::new(stream, &door.open, Some(IDLE_SECONDS));
         let mut writer = PatientWriter::new(stream);
         let _ = http_server::serve(&mut connection, &mut service, &mut reader, &mut writer).is_ok();
+        drop(writer);
+        drop(reader);
+        drop(connection);
+        drop(service);
     }
 
     /// Serves a connection of an operator, and closes it.
