@@ -325,7 +325,9 @@ fn kept_of_two(alloc: Global) -> Result<usize, Fail> {
     let mut second = CappedStore::new(alloc, 1);
     let key = Bytes::from_slice(alloc, b"a")?;
     let id = Id::of_bytes(key.as_slice());
-    let added = second.insert(id, &key, b"x").is_ok();
+    let value = Bytes::from_slice(alloc, b"x")?;
+    let added = second.insert(id, &key, &value).is_ok();
+    drop(value);
     drop(key);
     stores.push(second)?;
     let kept = empty_ones(alloc, stores)?;

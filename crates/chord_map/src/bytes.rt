@@ -5,13 +5,17 @@ ghost use Rattle.std.specs.Ordering.{nat_cmp};
 ghost use Rattle.std.specs.Cmp.{partial_equiv_from_equiv};
 ghost use Rattle.std.specs.Cmp.Lexicographic.{slice_cmp, nat_list_eq_equiv, nat_list_cmp_total, texts_po, texts_ties};
 
-use crate::short::{LIMIT, Short};
+use crate::long::Long;
+use crate::medium::{self, Medium};
+use crate::short::{self, Short};
 use std::alloc::{AllocError, Global};
 use std::cmp::Ordering;
 use std::marker::Model;
+use std::sync::Arc;
 
-/// A key or a value. Up to 16 bytes are stored inline, more are allocated.
-#[derive(Debug, Drop)]
+/// A key or a value, whose bytes never change. Up to 16 of them are stored inline, more are
+/// allocated. Copies of what `from_slice` made share its allocation.
+#[derive(Debug)]
 pub struct Bytes {
     storage: Storage,
 }
@@ -19,7 +23,9 @@ pub struct Bytes {
 #[derive(Debug, Drop)]
 enum Storage {
     Inline(Short),
-    Heap(Vec<u8>),
+    Owned(Vec<u8>),
+    Medium(Arc<Medium>),
+    Long(Arc<Long>),
 }
 
 impl Model for Bytes {
@@ -31,13 +37,21 @@ impl Model for Bytes {
     ghost view = { λ bytes. bytes_of bytes.storage };
 }
 
+// Written out, so that a proof about code that drops one does not go through the kinds of storage.
+impl Drop for Bytes {
+    fn drop(self) {
+        let Bytes { storage } = self;
+        drop(storage);
+    }
+}
+
 impl Bytes {
     /// The bytes of a vector, whose allocation is reused.
     pub fn from_vec(items: Vec<u8>) -> Bytes
         ensures { result ≡ items.items }
     {
         Bytes {
-            storage: Storage::Heap(items),
+            storage: Storage::Owned(items),
         }
     }
 
@@ -46,10 +60,12 @@ impl Bytes {
         ensures copy { IfOk result (λ copy. copy ≡ bytes.now) }
         ensures short { length bytes.now ≤ 16 → IsOk result }
     {
-        let storage = if bytes.len() <= LIMIT {
+        let storage = if bytes.len() <= short::LIMIT {
             Storage::Inline(Short::from_slice(bytes))
+        } else if bytes.len() <= medium::LIMIT {
+            Storage::Medium(Arc::new(alloc, Medium::from_slice(bytes))?)
         } else {
-            Storage::Heap(bytes.to_vec(alloc)?)
+            Storage::Long(Arc::new(alloc, Long::from_slice(alloc, bytes)?)?)
         };
         Ok(Bytes { storage })
     }
@@ -59,7 +75,9 @@ impl Bytes {
     {
         match &self.storage {
             Storage::Inline(short) => short.as_slice(),
-            Storage::Heap(bytes) => bytes.as_slice(),
+            Storage::Owned(bytes) => bytes.as_slice(),
+            Storage::Medium(bytes) => bytes.as_slice(),
+            Storage::Long(bytes) => bytes.as_slice(),
         }
     }
 
@@ -68,12 +86,21 @@ impl Bytes {
         ensures copy { IfOk result (λ copy. copy ≡ self.now) }
         ensures short { length self.now ≤ 16 → IsOk result }
     {
-        match &self.storage {
-            Storage::Inline(short) => Ok(Bytes {
-                storage: Storage::Inline(short.copied()),
-            }),
-            Storage::Heap(bytes) => Bytes::from_slice(*bytes.allocator(), bytes.as_slice()),
-        }
+        let storage = match &self.storage {
+            Storage::Inline(short) => Storage::Inline(short.copied()),
+            Storage::Owned(bytes) => {
+                return Bytes::from_slice(*bytes.allocator(), bytes.as_slice());
+            }
+            Storage::Medium(bytes) => {
+                bytes.look();
+                Storage::Medium(Arc::try_clone(bytes)?)
+            }
+            Storage::Long(bytes) => {
+                bytes.look();
+                Storage::Long(Arc::try_clone(bytes)?)
+            }
+        };
+        Ok(Bytes { storage })
     }
 }
 

@@ -10,6 +10,8 @@
 mod bytes;
 mod done;
 pub mod limits;
+mod long;
+mod medium;
 mod pair;
 mod pair_list;
 mod plain_map;

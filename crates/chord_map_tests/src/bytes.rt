@@ -31,7 +31,7 @@ fn bytes_compare_one_by_one(rt: HostRuntime) {
     assert!(rt; found == [same, less, Some((Ordering::Greater, false)), less]);
 }
 
-// Sixteen bytes are stored inline, seventeen are allocated.
+// Sixteen bytes are stored inline, seventeen to 63 in one block, and more in a vector of their own.
 #[test]
 fn short_and_long_bytes_compare(rt: HostRuntime) {
     let alloc = rt.alloc();
@@ -39,9 +39,13 @@ fn short_and_long_bytes_compare(rt: HostRuntime) {
     let found = [
         compared(alloc, &[7; 16], &[7; 17]),
         compared(alloc, &[7; 17], &[8; 16]),
+        compared(alloc, &[7; 63], &[7; 64]),
+        compared(alloc, &[7; 64], &[8; 63]),
         compared(alloc, &[7; 17], &[7; 17]),
+        compared(alloc, &[7; 64], &[7; 64]),
     ];
-    assert!(rt; found == [less, less, Some((Ordering::Equal, true))]);
+    let same = Some((Ordering::Equal, true));
+    assert!(rt; found == [less, less, less, less, same, same]);
 }
 
 // Whether the copy was made and has these bytes.
@@ -66,6 +70,36 @@ fn are_all_equal(alloc: Global, bytes: &[u8]) -> Option<bool> {
 #[test]
 fn bytes_are_the_same_wherever_they_stand(rt: HostRuntime) {
     let alloc = rt.alloc();
-    let are_equal = [are_all_equal(alloc, b"x"), are_all_equal(alloc, &[7; 17])];
-    assert!(rt; are_equal == [Some(true); 2]);
+    let are_equal = [
+        are_all_equal(alloc, b"x"),
+        are_all_equal(alloc, &[7; 16]),
+        are_all_equal(alloc, &[7; 17]),
+        are_all_equal(alloc, &[7; 63]),
+        are_all_equal(alloc, &[7; 64]),
+        are_all_equal(alloc, &[7; 4096]),
+    ];
+    assert!(rt; are_equal == [Some(true); 6]);
+}
+
+// Whether a copy of a copy has these bytes once both that it was made of are dropped.
+fn outlives(alloc: Global, bytes: &[u8]) -> Option<bool> {
+    let first = Bytes::from_slice(alloc, bytes).ok()?;
+    let second = first.try_copy().ok();
+    drop(first);
+    let second = second?;
+    let third = second.try_copy().ok();
+    drop(second);
+    is_copy(third, bytes)
+}
+
+#[test]
+fn a_copy_outlives_what_it_was_made_of(rt: HostRuntime) {
+    let alloc = rt.alloc();
+    let found = [
+        outlives(alloc, &[7; 16]),
+        outlives(alloc, &[7; 17]),
+        outlives(alloc, &[7; 63]),
+        outlives(alloc, &[7; 64]),
+    ];
+    assert!(rt; found == [Some(true); 4]);
 }

@@ -10,7 +10,7 @@ impl EntryStore for Box<dyn EntryStore + Send> {
 
     ghost limit = { λ b. (EntryStore-box b).limit b.value };
 
-    fn insert(&mut self, id: Id, key: &Bytes, value: &[u8]) -> Result<Inserted, StoreFault> {
+    fn insert(&mut self, id: Id, key: &Bytes, value: &Bytes) -> Result<Inserted, StoreFault> {
         (**self).insert(id, key, value)
     }
 

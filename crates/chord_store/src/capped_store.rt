@@ -47,8 +47,13 @@ impl EntryStore for CappedStore {
 
     ghost limit = { λ store. store.limit };
 
-    fn insert(&mut self, _id: Id, key: &Bytes, value: &[u8]) -> Result<Inserted, StoreFault> {
-        insert_within(&mut self.pairs, self.limit, key.as_slice(), value)
+    fn insert(&mut self, _id: Id, key: &Bytes, value: &Bytes) -> Result<Inserted, StoreFault> {
+        insert_within(
+            &mut self.pairs,
+            self.limit,
+            key.as_slice(),
+            value.as_slice(),
+        )
     }
 
     fn remove(&mut self, _id: Id, key: &Bytes, value: &[u8]) -> bool {

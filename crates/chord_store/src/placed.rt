@@ -85,7 +85,7 @@ impl Placed {
     }
 
     /// Adds the pair, unless it is there or its set is full.
-    pub fn insert(&mut self, id: Id, key: &Bytes, value: &[u8]) -> Result<Inserted, AllocError>
+    pub fn insert(&mut self, id: Id, key: &Bytes, value: &Bytes) -> Result<Inserted, AllocError>
         requires id { id.number ≡ key_id key.now }
         requires room { length self.old < 2 ^ 64 - 1 }
         ensures answer { AddIs (record { key = key.now; value = value.now }) self.old result self.new }
@@ -108,7 +108,7 @@ impl Placed {
         ensures ok { OnOk result (self.new ≡ insert_pair pair.now self.old) }
         ensures err { OnErr result (self.new ≡ self.old) }
     {
-        self.insert(id_of(&pair.key), &pair.key, pair.value.as_slice())?;
+        self.insert(id_of(&pair.key), &pair.key, &pair.value)?;
         Ok(())
     }
 
@@ -218,7 +218,7 @@ fn add(
     others: &mut Tree,
     id: Id,
     key: &Bytes,
-    value: &[u8],
+    value: &Bytes,
 ) -> Result<Inserted, AllocError>
     requires id { id.number ≡ key_id key.now }
     requires parts { AreParts slots.old others.old }

@@ -27,13 +27,13 @@ pub fn place_in(
     alloc: Global,
     id: u128,
     key: &Bytes,
-    value: &[u8],
+    value: &Bytes,
 ) -> Result<Option<Inserted>, AllocError>
     ensures here { OpensIs key.now value.now (hash.get eqb slots.old id) result (hash.get eqb slots.new id) }
     ensures others { (q : ℕ) → eqb id q ≡ false → hash.get eqb slots.new q ≡ hash.get eqb slots.old q }
 {
     match slots.get_mut(&id) {
-        Some(slot) => slot.insert(alloc, key, value),
+        Some(slot) => slot.insert(key, value),
         None => {
             let set = ValueSet::one(alloc, value)?;
             let key = key.try_copy()?;

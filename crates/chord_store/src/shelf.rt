@@ -74,7 +74,7 @@ impl Shelf {
         alloc: Global,
         id: u128,
         key: &Bytes,
-        value: &[u8],
+        value: &Bytes,
     ) -> Result<Option<Inserted>, AllocError>
         ensures here { OpensIs key.now value.now (map.get self.old id) result (map.get self.new id) }
         ensures others { (q : ℕ) → eqb id q ≡ false → map.get self.new q ≡ map.get self.old q }
@@ -168,7 +168,7 @@ fn place_among(
     alloc: Global,
     id: u128,
     key: &Bytes,
-    value: &[u8],
+    value: &Bytes,
 ) -> Result<Option<Inserted>, AllocError>
     requires { InPlace shards.old.items }
     ensures in_place { InPlace shards.new.items }

@@ -19,18 +19,13 @@ pub struct Slot {
 
 impl Slot {
     /// Adds the value, where the slot has this key.
-    pub fn insert(
-        &mut self,
-        alloc: Global,
-        key: &Bytes,
-        value: &[u8],
-    ) -> Result<Option<Inserted>, AllocError>
+    pub fn insert(&mut self, key: &Bytes, value: &Bytes) -> Result<Option<Inserted>, AllocError>
         ensures { SlotInsertIs key.now value.now self.old result self.new }
     {
         if key != &self.key {
             return Ok(None);
         }
-        match self.set.insert(alloc, value) {
+        match self.set.insert(value) {
             Ok(did) => Ok(Some(did)),
             Err(fault) => Err(fault),
         }

@@ -80,7 +80,7 @@ impl Slots {
         &mut self,
         id: u128,
         key: &Bytes,
-        value: &[u8],
+        value: &Bytes,
     ) -> Result<Option<Inserted>, AllocError>
         requires { id ≡ key_id key.now }
         ensures { PlaceIs (record { key = key.now; value = value.now }) self.old result self.new }
@@ -176,7 +176,7 @@ fn put(
     alloc: Global,
     id: u128,
     key: &Bytes,
-    value: &[u8],
+    value: &Bytes,
 ) -> Result<Option<Inserted>, AllocError>
     requires id { id ≡ key_id key.now }
     requires placed { ArePlaced (map.entries shelf.old) }

@@ -24,7 +24,7 @@ pub trait EntryStore: Drop {
 
     /// Adds the value to the set under the key. Present and SetFull are answered before the limit
     /// is checked, and memory comes last.
-    fn insert(&mut self, id: Id, key: &Bytes, value: &[u8]) -> Result<Inserted, StoreFault>
+    fn insert(&mut self, id: Id, key: &Bytes, value: &Bytes) -> Result<Inserted, StoreFault>
         requires { id.number ≡ key_id key.now }
         ensures answer { InsertIs (record { key = key.now; value = value.now }) (content self.old) (limit self.old) result (content self.new) }
         ensures limit { limit self.new ≡ limit self.old };

@@ -92,7 +92,7 @@ impl Tree {
 
     /// Adds the pair, unless it is there or its set is full.
     /// A known key is looked up once, a new one twice.
-    pub fn insert(&mut self, key: &Bytes, value: &[u8]) -> Result<Inserted, AllocError>
+    pub fn insert(&mut self, key: &Bytes, value: &Bytes) -> Result<Inserted, AllocError>
         requires { length self.old < 2 ^ 64 - 1 }
         ensures answer { AddIs (record { key = key.now; value = value.now }) self.old result self.new }
         ensures rising { IsRising self.old }
@@ -153,14 +153,14 @@ fn add(
     sets: &mut BTreeMap<Bytes, ValueSet>,
     alloc: Global,
     key: &Bytes,
-    value: &[u8],
+    value: &Bytes,
 ) -> Result<Inserted, AllocError>
     requires { IsStrictlySortedBy key_cmp (keys sets.old) }
     ensures ordered { IsStrictlySortedBy key_cmp (keys sets.new) }
     ensures answer { AddIs (record { key = key.now; value = value.now }) (pairs_of_sets sets.old.entries) result (pairs_of_sets sets.new.entries) }
 {
     match sets.get_mut(key) {
-        Some(set) => set.insert(alloc, value),
+        Some(set) => set.insert(value),
         None => {
             let set = ValueSet::one(alloc, value)?;
             sets.insert(key.try_copy()?, set)?;

@@ -58,7 +58,7 @@ impl EntryStore for TreeStore {
 
     ghost limit = { λ _. 2 ^ 64 - 1 };
 
-    fn insert(&mut self, id: Id, key: &Bytes, value: &[u8]) -> Result<Inserted, StoreFault> {
+    fn insert(&mut self, id: Id, key: &Bytes, value: &Bytes) -> Result<Inserted, StoreFault> {
         insert_new(&mut self.placed, id, key, value)
     }
 
@@ -100,13 +100,13 @@ fn insert_new(
     placed: &mut Placed,
     id: Id,
     key: &Bytes,
-    value: &[u8],
+    value: &Bytes,
 ) -> Result<Inserted, StoreFault>
     requires { id.number ≡ key_id key.now }
     ensures { InsertIs (record { key = key.now; value = value.now }) placed.old (2 ^ 64 - 1) result placed.new }
 {
     if placed.len() == LIMIT {
-        return insert_into_full(placed, id, key, value);
+        return insert_into_full(placed, id, key, value.as_slice());
     }
     match placed.insert(id, key, value) {
         Ok(did) => Ok(did),

@@ -34,13 +34,22 @@ fn place_of(values: &[Bytes], value: &[u8]) -> Result<usize, usize>
     )
 }
 
+// The index of the value of a request, or the index at which to insert it.
+fn place_for(values: &[Bytes], value: &Bytes) -> Result<usize, usize>
+    requires { IsStrictlySortedBy (slice_cmp nat_cmp) values.now }
+    ensures found { IfOk result (IsAt values.now value.now) }
+    ensures absent { IfErr result (IsGapFor (slice_cmp nat_cmp) values.now value.now) }
+{
+    place_of(values, value.as_slice())
+}
+
 impl ValueSet {
     /// A set of one value.
-    pub fn one(alloc: Global, value: &[u8]) -> Result<ValueSet, AllocError>
+    pub fn one(alloc: Global, value: &Bytes) -> Result<ValueSet, AllocError>
         ensures { IfOk result (λ set. set.values ≡ value.now ∷ []) }
     {
         let mut values = Values::new(alloc);
-        values.push(Bytes::from_slice(alloc, value)?)?;
+        values.push(value.try_copy()?)?;
         Ok(ValueSet { values })
     }
 
@@ -67,14 +76,14 @@ impl ValueSet {
     }
 
     /// Adds the value, unless it is there or the set has 1,000.
-    pub fn insert(&mut self, alloc: Global, value: &[u8]) -> Result<Inserted, AllocError>
+    pub fn insert(&mut self, value: &Bytes) -> Result<Inserted, AllocError>
         ensures { SetInsertIs value.now self.old.values result self.new.values }
     {
-        match place_of(self.values.as_slice(), value) {
+        match place_for(self.values.as_slice(), value) {
             Ok(_) => Ok(Inserted::Present),
             Err(_) if self.len() >= SET_VALUES => Ok(Inserted::SetFull),
             Err(place) => {
-                let value = Bytes::from_slice(alloc, value)?;
+                let value = value.try_copy()?;
                 self.values.insert(place, value)?;
                 Ok(Inserted::Added)
             }

@@ -31,9 +31,11 @@ fn insert<S: EntryStore>(
     value: &[u8],
     expected: Result<Inserted, StoreFault>,
 ) {
-    let key = key(alloc, bytes);
-    let answer = store.insert(Id::of_bytes(key.as_slice()), &key, value);
-    drop(key);
+    let key_bytes = key(alloc, bytes);
+    let value_bytes = key(alloc, value);
+    let answer = store.insert(Id::of_bytes(key_bytes.as_slice()), &key_bytes, &value_bytes);
+    drop(key_bytes);
+    drop(value_bytes);
     assert!(rt; answer == expected);
 }
 

@@ -84,9 +84,11 @@ fn show_store(rt: &impl Abort, alloc: Global, mut store: CappedStore) -> StoreSh
     let key = Bytes::from_slice(alloc, b"a").expect(rt, "memory for a key");
     let count = store.count();
     let id = Id::of_bytes(key.as_slice());
-    let first = store.insert(id, &key, b"x".as_slice());
-    let second = store.insert(id, &key, b"y".as_slice());
+    let other = Bytes::from_slice(alloc, b"x").expect(rt, "memory for a value");
+    let first = store.insert(id, &key, &key);
+    let second = store.insert(id, &key, &other);
     drop(key);
+    drop(other);
     drop(store);
     StoreShown {
         count,

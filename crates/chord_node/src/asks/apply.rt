@@ -38,7 +38,7 @@ fn apply_insert<S: EntryStore>(
     ensures applied { Applied (Request.Insert key.now value.now) (S.content store.old) (S.limit store.old) result (S.content store.new) }
     ensures limit { S.limit store.new ≡ S.limit store.old }
 {
-    match store.insert(id, key, value.as_slice()) {
+    match store.insert(id, key, value) {
         Ok(did) => Ok(reply_to_insert(did)),
         Err(fault) => Err(fault),
     }
@@ -93,7 +93,7 @@ fn is_full_for_pair<S: EntryStore>(store: &mut S, id: Id, key: &Bytes, value: &B
     ensures same { S.content store.new ≡ S.content store.old }
     ensures limit { S.limit store.new ≡ S.limit store.old }
 {
-    match store.insert(id, key, value.as_slice()) {
+    match store.insert(id, key, value) {
         Ok(Inserted::Added) => {
             store.remove(id, key, value.as_slice());
             false

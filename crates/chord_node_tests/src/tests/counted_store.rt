@@ -50,7 +50,7 @@ impl<'a> EntryStore for CountedStore<'a> {
 
     ghost limit = { λ _. 2 ^ 64 - 1 };
 
-    fn insert(&mut self, id: Id, key: &Bytes, value: &[u8]) -> Result<Inserted, StoreFault> {
+    fn insert(&mut self, id: Id, key: &Bytes, value: &Bytes) -> Result<Inserted, StoreFault> {
         self.list.insert(id, key, value)
     }
 

@@ -436,13 +436,14 @@ struct GivenBack {
     second: Result<Inserted, StoreFault>,
 }
 
-fn use_store(mut store: CappedStore, key: Bytes) -> GivenBack {
+fn use_store(mut store: CappedStore, key: Bytes, value: Bytes) -> GivenBack {
     let count = store.count();
     let id = Id::of_bytes(key.as_slice());
-    let first = store.insert(id, &key, b"x");
-    let second = store.insert(id, &key, b"y");
+    let first = store.insert(id, &key, &key);
+    let second = store.insert(id, &key, &value);
     drop(store);
     drop(key);
+    drop(value);
     GivenBack {
         count,
         first,
@@ -453,11 +454,12 @@ fn use_store(mut store: CappedStore, key: Bytes) -> GivenBack {
 /// The store that a node gives back which was not admitted.
 fn give_back(rt: &impl Abort, alloc: Global, node: Node<CappedStore>) -> GivenBack {
     let key = Bytes::from_slice(alloc, b"a").expect(rt, "memory for a key");
+    let value = Bytes::from_slice(alloc, b"x").expect(rt, "memory for a value");
     assert!(rt;
         node.phase() != Phase::Gone,
         "a node that is not gone has a store"
     );
-    use_store(node.into_store(), key)
+    use_store(node.into_store(), key, value)
 }
 
 #[test]

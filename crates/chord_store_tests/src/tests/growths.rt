@@ -79,14 +79,14 @@ fn has_these<S: EntryStore>(alloc: Global, store: &S, there: There) -> bool {
 
 // Whether the pair is added. If memory was refused, the
 // store must be unchanged, and a second try adds it.
-fn is_put<S: EntryStore>(alloc: Global, store: &mut S, key: &Bytes, n: u8, there: There) -> bool {
-    let id = Id::of_bytes(key.as_slice());
-    match store.insert(id, key, &[n; LONG]) {
+fn is_put<S: EntryStore>(alloc: Global, store: &mut S, pair: &Pair, there: There) -> bool {
+    let id = Id::of_bytes(pair.key.as_slice());
+    match store.insert(id, &pair.key, &pair.value) {
         Ok(_) => true,
         Err(StoreFault::Full) => false,
         Err(StoreFault::Memory) => {
             has_these(alloc, store, there)
-                && store.insert(id, key, &[n; LONG]) == Ok(Inserted::Added)
+                && store.insert(id, &pair.key, &pair.value) == Ok(Inserted::Added)
         }
     }
 }
@@ -99,9 +99,12 @@ fn put<S: EntryStore>(
     n: u8,
     there: There,
 ) -> Result<(), AllocError> {
-    let key = long(alloc, n / 3)?;
-    let is_put = is_put(alloc, store, &key, n, there);
-    drop(key);
+    let pair = Pair {
+        key: long(alloc, n / 3)?,
+        value: long(alloc, n)?,
+    };
+    let is_put = is_put(alloc, store, &pair, there);
+    drop(pair);
     assert!(rt; is_put, "at {n}");
     Ok(())
 }

@@ -37,20 +37,25 @@ fn keys_inside(span: Span) -> usize {
 }
 
 // Adds the values x and y under the key.
-fn add_key<S: EntryStore>(store: &mut S, key: &Bytes) -> bool {
+fn add_key<S: EntryStore>(store: &mut S, key: &Bytes, values: &[Bytes; 2]) -> bool {
     let added: Result<Inserted, StoreFault> = Ok(Inserted::Added);
     let id = Id::of_bytes(key.as_slice());
-    store.insert(id, key, b"x") == added && store.insert(id, key, b"y") == added
+    store.insert(id, key, &values[0]) == added && store.insert(id, key, &values[1]) == added
 }
 
 // Adds all keys.
 fn fill<S: EntryStore>(alloc: Global, store: &mut S) -> Result<bool, AllocError> {
+    let values = [
+        Bytes::from_slice(alloc, b"x")?,
+        Bytes::from_slice(alloc, b"y")?,
+    ];
     let mut are_added = true;
     for n in 0..KEYS {
         let key = Bytes::from_slice(alloc, &[n])?;
-        are_added = add_key(store, &key) && are_added;
+        are_added = add_key(store, &key, &values) && are_added;
         drop(key);
     }
+    drop(values);
     Ok(are_added)
 }
 

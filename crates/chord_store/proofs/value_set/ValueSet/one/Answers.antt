@@ -6,7 +6,7 @@ use Rattle.chord_store.proofs.value_set.ValueSet.one.Goals as goal
 pub invariant_of-result : goal.invariant_of-result
 unfolding IsStrictlySortedBy
 invariant_of-result c =
-    let value = c.in_ok-from_slice.field-0 in
+    let value = c.in_ok-try_copy.field-0 in
     let is : c.push.new.self ≡ value ∷ [] = c.in_ok-push.ensures.ok ∙ ap (λ (vs : List (List ℕ)). vs ++ value ∷ []) c.new-values.ensures in
     record {
       rises = subst (λ (vs : List (List ℕ)). IsStrictlySortedBy (slice_cmp nat_cmp) vs) (sym is) (tt, tt);
