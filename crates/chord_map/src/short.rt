@@ -6,10 +6,11 @@ use std::marker::Model;
 /// The most bytes of a short string.
 pub const LIMIT: usize = 16;
 
-/// Up to 16 bytes, stored inline.
+/// Up to 16 bytes, stored inline. The number is a whole word, so that the bytes begin at a word's
+/// start and are moved a word at a time.
 #[derive(Debug, Drop)]
 pub struct Short {
-    len: u8,
+    len: usize,
     bytes: [u8; 16],
 }
 
@@ -31,7 +32,7 @@ impl Short {
         let mut bytes = [0; 16];
         bytes[..slice.len()].copy_from_slice(slice);
         Short {
-            len: slice.len() as u8,
+            len: slice.len(),
             bytes,
         }
     }
@@ -49,6 +50,6 @@ impl Short {
     pub fn as_slice(&self) -> &[u8]
         ensures { result.now ≡ self.now }
     {
-        &self.bytes[..self.len as usize]
+        &self.bytes[..self.len]
     }
 }
