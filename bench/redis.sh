@@ -18,7 +18,7 @@ cleanup() { kill $(jobs -p) 2> /dev/null || true; rm -rf "$room"; }
 trap cleanup EXIT
 (cd crates/chord_app && rt run -- --version) > "$room/log" 2>&1 || { cat "$room/log" >&2 && exit 1; }
 {
-    printf 'slots = 16\ncallers = 128\nsuccessors = 4\ntries = 3\nwait = 100\n'
+    printf 'slots = 16\ncallers = 64\nsuccessors = 4\ntries = 3\nwait = 100\n'
     for place in $(seq 0 15); do
         printf '[[node]]\nid = "%x0000000000000000000000000000000"\nstore = "tree"\n' "$place"
     done
@@ -40,7 +40,7 @@ start() {
     redis) redis-server --port $port --save '' --appendonly no > /dev/null & ;;
     chord)
         mkfifo "$room/input.$port"
-        crates/chord_app/out/chord_app serve --plan "$room/plan.toml" --redis $port --stay < "$room/input.$port" > /dev/null &
+        crates/chord_app/out/chord_app serve --plan "$room/plan.toml" --redis $port --stay --callers 128 < "$room/input.$port" > /dev/null &
         exec {hold}> "$room/input.$port"
         ;;
     esac

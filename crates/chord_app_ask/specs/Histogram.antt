@@ -1,5 +1,5 @@
 -- Which bucket a value is in, and percentiles. Source: our own.
-use Rattle.std.specs.Prelude.{◌≡◌, ◌⊎◌, ℕ, ◌+◌, ◌-◌, ◌*◌, ◌/◌, ◌%◌, ◌^◌, ◌<◌, ◌≤◌, nat_lt, nat_le, if◌then◌else◌, Bool, true, false, List, length, take, Option, Some, None}
+use Rattle.std.specs.Prelude.{◌≡◌, ◌⊎◌, ℕ, ◌+◌, ◌-◌, ◌*◌, ◌/◌, ◌%◌, ◌^◌, ◌<◌, ◌≤◌, nat_lt, nat_le, if◌then◌else◌, Bool, true, false, List, [], ◌∷◌, length, take, map, Option, Some, None}
 use Rattle.std.specs.List.{position, slice_get, slice_set}
 use Rattle.chord_app_ask.specs.declared.load.histogram.Bucket.{Bucket}
 use Rattle.chord_app_ask.specs.Recorded.{value_count}
@@ -8,6 +8,15 @@ use Rattle.chord_app_ask.specs.Recorded.{value_count}
 -- has 16 buckets
 abbrev pub bound : ℕ → ℕ
 bound place = if nat_lt place 32 then place else ((place % 16 + 17) * 2 ^ (place / 16 - 1) - 1)
+
+-- the bounds of the buckets
+abbrev pub bounds_of : List Bucket → List ℕ
+bounds_of buckets = map (λ (b : Bucket). b.bound) buckets
+
+-- there are 976 buckets, and each has the bound of its place
+pub record HasBounds (buckets : List Bucket) : Type 0 where
+  pub count : length buckets ≡ 976
+  pub each : (place : ℕ) → place < 976 → slice_get (bounds_of buckets) place ≡ Some (bound place)
 
 -- all 976 buckets are empty, and the last one's bound is 2^64 - 1
 pub record IsNew (buckets : List Bucket) : Type 0 where
@@ -46,3 +55,13 @@ pub record IsLeast (many found : ℕ) (buckets : List Bucket) : Type 0 where
 abbrev pub PercentileIs : Option ℕ → ℕ → List Bucket → Type 0
 PercentileIs None thousandths buckets = value_count buckets ≡ 0
 PercentileIs (Some found) thousandths buckets = IsLeast (rank_of thousandths (value_count buckets)) found buckets
+
+-- each bucket with the count of the other histogram's bucket at its place too
+abbrev pub with_counts : List Bucket → List Bucket → List Bucket
+with_counts [] more = []
+with_counts (b ∷ buckets) [] = b ∷ buckets
+with_counts (b ∷ buckets) (m ∷ more) = with_more m.count b ∷ with_counts buckets more
+
+-- the values of both, or of the first alone if both together have 2^64 or more
+abbrev pub joined : List Bucket → List Bucket → List Bucket
+joined one other = if nat_lt (value_count one + value_count other) (2 ^ 64) then with_counts one other else one

@@ -1,7 +1,7 @@
 //! How long requests took, counted in a fixed number of buckets.
 ghost use Rattle.std.specs.Prelude.{◌≡◌, ◌≤◌, ◌<◌, ◌+◌, ◌*◌, ◌/◌, ◌%◌, ◌^◌, IfOk, IfSome, None, length};
 ghost use Rattle.chord_app_ask.specs.Recorded.{value_count};
-ghost use Rattle.chord_app_ask.specs.Histogram.{bound, bucket_of, IsNew, IsLeast, RecordIs, PercentileIs};
+ghost use Rattle.chord_app_ask.specs.Histogram.{bound, bucket_of, joined, with_counts, IsNew, IsLeast, RecordIs, PercentileIs};
 
 use std::alloc::{AllocError, Global};
 use std::marker::Model;
@@ -26,12 +26,13 @@ impl Model for Histogram {
     ghost use Rattle.std.specs.Prelude.{◌≡◌, List};
     ghost use Rattle.chord_app_ask.specs.declared.load.histogram.Bucket.{Bucket};
     ghost use Rattle.chord_app_ask.specs.Recorded.{value_count};
+    ghost use Rattle.chord_app_ask.specs.Histogram.{HasBounds};
 
     ghost Value = { List Bucket };
 
     ghost view = { λ h. h.buckets.items };
 
-    ghost invariant = { λ h. h.total ≡ value_count h.buckets.items };
+    ghost invariant = { λ h. (h.total ≡ value_count h.buckets.items) × HasBounds h.buckets.items };
 }
 
 // The greatest value in a bucket.
@@ -71,8 +72,20 @@ fn least_with(buckets: &[Bucket], wanted: u64) -> Option<u64>
     None
 }
 
+// Adds to each bucket the count of the one at its place.
+fn add_counts(buckets: &mut Vec<Bucket>, more: &[Bucket])
+    requires count { length more.now ≤ length buckets.old.items }
+    requires fits { value_count buckets.old.items + value_count more.now < 2 ^ 64 }
+    ensures { buckets.new.items ≡ with_counts buckets.old.items more.now }
+{
+    for place in 0..more.len() {
+        buckets[place].count += more[place].count;
+    }
+}
+
 impl Histogram {
     /// A histogram of no values.
+    #[tactic(auto, using(crate::proofs::Joined::new_shape))]
     pub fn new(alloc: Global) -> Result<Histogram, AllocError>
         ensures { IfOk result (λ histogram. IsNew histogram) }
     {
@@ -111,6 +124,16 @@ impl Histogram {
         self.buckets[place].count += times;
         self.total = total;
         true
+    }
+
+    /// Adds the values of another histogram, unless the total would be 2^64 or more.
+    pub fn join(&mut self, other: &Histogram)
+        ensures { self.new ≡ joined self.old other.now }
+    {
+        if let Some(total) = self.total.checked_add(other.total) {
+            add_counts(&mut self.buckets, &other.buckets);
+            self.total = total;
+        }
     }
 
     /// The least bound with at least this many thousandths of all values at or below it.

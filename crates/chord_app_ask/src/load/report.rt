@@ -2,7 +2,7 @@
 
 ghost use Rattle.std.specs.Prelude.{◌≡◌, max, Some, None, IfOk};
 ghost use Rattle.chord_app_ask.specs.Counts.{added, sum};
-ghost use Rattle.chord_app_ask.specs.Histogram.{IsNew};
+ghost use Rattle.chord_app_ask.specs.Histogram.{joined, IsNew};
 
 use crate::load::histogram::Histogram;
 use std::alloc::{AllocError, Global};
@@ -38,13 +38,6 @@ fn sum(one: Option<u64>, other: Option<u64>) -> Option<u64>
     }
 }
 
-/// Records the times of another connection too.
-fn add_times(times: &mut Histogram, more: &Histogram) {
-    for bucket in more.buckets() {
-        times.record(bucket.bound, bucket.count);
-    }
-}
-
 impl Report {
     /// A report of nothing.
     pub fn new(alloc: Global) -> Result<Report, AllocError>
@@ -64,13 +57,14 @@ impl Report {
 
     /// Adds the results of another connection that ran at the same time.
     pub fn join(&mut self, other: &Report)
+        ensures times { self.new.times ≡ joined self.old.times other.now.times }
         ensures faults { self.new.faults ≡ added self.old.faults other.now.faults }
         ensures empty { self.new.empty ≡ added self.old.empty other.now.empty }
         ensures milliseconds { self.new.milliseconds ≡ max self.old.milliseconds other.now.milliseconds }
         ensures resumed { self.new.resumed ≡ sum self.old.resumed other.now.resumed }
         ensures doubled { self.new.doubled ≡ sum self.old.doubled other.now.doubled }
     {
-        add_times(&mut self.times, &other.times);
+        self.times.join(&other.times);
         self.faults = self.faults.saturating_add(other.faults);
         self.empty = self.empty.saturating_add(other.empty);
         self.milliseconds = self.milliseconds.max(other.milliseconds);

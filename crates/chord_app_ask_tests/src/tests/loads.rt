@@ -256,3 +256,45 @@ fn the_most_values(rt: HostRuntime) {
     let recorded = [(false, 1000), (true, u64::MAX), (false, u64::MAX)];
     assert!(rt; filled(rt.alloc()) == Some((1000, recorded, 976)));
 }
+
+/// A histogram with the value 5 `times` times.
+fn fives(alloc: Global, times: u64) -> Option<Histogram> {
+    let mut histogram = Histogram::new(alloc).ok()?;
+    if histogram.record(5, times) {
+        Some(histogram)
+    } else {
+        drop(histogram);
+        None
+    }
+}
+
+/// Joins fives to the values below 1,000. Gives how many values there are then, and the 50th
+/// percentile.
+fn joined_fives(alloc: Global, times: u64) -> Option<(u64, Option<u64>)> {
+    let mut histogram = first_thousand(alloc)?;
+    let Some(other) = fives(alloc, times) else {
+        drop(histogram);
+        return None;
+    };
+    histogram.join(&other);
+    let seen = (histogram.total(), histogram.percentile(500));
+    drop(other);
+    drop(histogram);
+    Some(seen)
+}
+
+#[test]
+fn joined_histograms(rt: HostRuntime) {
+    let alloc = rt.alloc();
+    let seen = [
+        joined_fives(alloc, 2000),
+        joined_fives(alloc, u64::MAX - 1000),
+        joined_fives(alloc, u64::MAX - 999),
+    ];
+    let wanted = [
+        Some((3000, Some(5))),
+        Some((u64::MAX, Some(5))),
+        Some((1000, Some(511))),
+    ];
+    assert!(rt; seen == wanted, "what makes 2^64 is not added");
+}
