@@ -129,7 +129,7 @@ pub fn values_of(alloc: Global, all: &[&[u8]]) -> Result<Reply, AllocError> {
     for value in all {
         values.push(Bytes::from_slice(alloc, value)?)?;
     }
-    Ok(Reply::Values(values))
+    Ok(Reply::Values(values.share()?))
 }
 
 /// Closes the client's sending side, and expects the server to close the connection.

@@ -2,7 +2,7 @@
 ghost use Rattle.std.specs.Prelude.{◌≤◌};
 
 use chord_caller::{Ask, CallerCore, Heard, Note, ResendFault, SubmitFault, TakeFault, Told};
-use chord_map::{Done, Reply, Request, RequestFault, Values};
+use chord_map::{Done, Reply, Request, RequestFault, SharedValues};
 use std::alloc::{AllocError, Global};
 use std::process::Abort;
 
@@ -223,7 +223,7 @@ fn hears_values(alloc: Global) -> Option<(Option<TakeFault>, bool)> {
     let unfit = Told {
         caller: 0,
         number: 1,
-        reply: Reply::Values(Values::new(alloc)),
+        reply: Reply::Values(SharedValues::empty()),
     };
     let fault = core.take(unfit).err();
     let waits = core.is_pending(1);

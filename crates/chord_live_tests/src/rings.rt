@@ -8,7 +8,7 @@ use chord_links::Peer;
 use chord_live::{AskingCore, Caller, OpenCaller, RingCaller};
 use chord_live_ring::{NodeSight, Ring, RingParts, Settings};
 use chord_live_types::{AskFault, BeginFault, WaitFault};
-use chord_map::{Done, Reply, Request, Values};
+use chord_map::{Done, Reply, Request, SharedValues};
 use chord_store::EntryStore;
 use chord_table::Naming;
 use std::alloc::{AllocError, Global};
@@ -69,7 +69,7 @@ pub enum Said {
     Absent,
 }
 
-fn values_in(values: &Values) -> Said {
+fn values_in(values: &SharedValues) -> Said {
     match values.as_slice() {
         [one] if one.as_slice() == b"x".as_slice() => Said::OnlyX,
         [one] if one.as_slice() == b"y".as_slice() => Said::OnlyY,

@@ -5,9 +5,9 @@ ghost use Rattle.std.specs.Ordering.{nat_cmp};
 ghost use Rattle.std.specs.Cmp.{partial_equiv_from_equiv};
 ghost use Rattle.std.specs.Cmp.Lexicographic.{slice_cmp, nat_list_eq_equiv, nat_list_cmp_total, texts_po, texts_ties};
 
+use crate::block::Block;
 use crate::long::Long;
-use crate::medium::{self, Medium};
-use crate::short::{self, Short};
+use crate::short::Short;
 use std::alloc::{AllocError, Global};
 use std::cmp::Ordering;
 use std::marker::Model;
@@ -24,7 +24,9 @@ pub struct Bytes {
 enum Storage {
     Inline(Short),
     Owned(Vec<u8>),
-    Medium(Arc<Medium>),
+    Small(Arc<Block<63>>),
+    Middle(Arc<Block<127>>),
+    Large(Arc<Block<255>>),
     Long(Arc<Long>),
 }
 
@@ -60,12 +62,12 @@ impl Bytes {
         ensures copy { IfOk result (λ copy. copy ≡ bytes.now) }
         ensures short { length bytes.now ≤ 16 → IsOk result }
     {
-        let storage = if bytes.len() <= short::LIMIT {
-            Storage::Inline(Short::from_slice(bytes))
-        } else if bytes.len() <= medium::LIMIT {
-            Storage::Medium(Arc::new(alloc, Medium::from_slice(bytes))?)
-        } else {
-            Storage::Long(Arc::new(alloc, Long::from_slice(alloc, bytes)?)?)
+        let storage = match bytes.len() {
+            0..=16 => Storage::Inline(Short::from_slice(bytes)),
+            17..=63 => Storage::Small(Arc::new(alloc, Block::from_slice(bytes))?),
+            64..=127 => Storage::Middle(Arc::new(alloc, Block::from_slice(bytes))?),
+            128..=255 => Storage::Large(Arc::new(alloc, Block::from_slice(bytes))?),
+            _ => Storage::Long(Arc::new(alloc, Long::from_slice(alloc, bytes)?)?),
         };
         Ok(Bytes { storage })
     }
@@ -76,7 +78,9 @@ impl Bytes {
         match &self.storage {
             Storage::Inline(short) => short.as_slice(),
             Storage::Owned(bytes) => bytes.as_slice(),
-            Storage::Medium(bytes) => bytes.as_slice(),
+            Storage::Small(bytes) => bytes.as_slice(),
+            Storage::Middle(bytes) => bytes.as_slice(),
+            Storage::Large(bytes) => bytes.as_slice(),
             Storage::Long(bytes) => bytes.as_slice(),
         }
     }
@@ -91,9 +95,17 @@ impl Bytes {
             Storage::Owned(bytes) => {
                 return Bytes::from_slice(*bytes.allocator(), bytes.as_slice());
             }
-            Storage::Medium(bytes) => {
+            Storage::Small(bytes) => {
                 bytes.look();
-                Storage::Medium(Arc::try_clone(bytes)?)
+                Storage::Small(Arc::try_clone(bytes)?)
+            }
+            Storage::Middle(bytes) => {
+                bytes.look();
+                Storage::Middle(Arc::try_clone(bytes)?)
+            }
+            Storage::Large(bytes) => {
+                bytes.look();
+                Storage::Large(Arc::try_clone(bytes)?)
             }
             Storage::Long(bytes) => {
                 bytes.look();

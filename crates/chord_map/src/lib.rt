@@ -7,16 +7,17 @@
 //! Keys have 1 to 255 bytes, values up to 4,096, and a set at most 1,000 values ([`limits`]).
 #![tactic(auto)]
 
+mod block;
 mod bytes;
 mod done;
 pub mod limits;
 mod long;
-mod medium;
 mod pair;
 mod pair_list;
 mod plain_map;
 mod reply;
 mod request;
+mod shared_values;
 mod short;
 mod values;
 
@@ -27,4 +28,5 @@ pub use pair_list::PairList;
 pub use plain_map::PlainMap;
 pub use reply::Reply;
 pub use request::{Request, RequestFault};
+pub use shared_values::SharedValues;
 pub use values::Values;

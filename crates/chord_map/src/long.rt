@@ -1,10 +1,10 @@
-//! Byte strings that are too long for a block.
+//! Byte strings that are too long for a block of 255.
 ghost use Rattle.std.specs.Prelude.{◌≡◌, ◌<◌, length, IfOk};
 
 use std::alloc::{AllocError, Global};
 use std::marker::Model;
 
-/// More than 63 bytes.
+/// More than 255 bytes.
 #[derive(Debug, Drop)]
 pub struct Long {
     bytes: Vec<u8>,
@@ -17,12 +17,12 @@ impl Model for Long {
 
     ghost view = { λ long. long.bytes.items };
 
-    ghost invariant = { λ long. 63 < length long.bytes.items };
+    ghost invariant = { λ long. 255 < length long.bytes.items };
 }
 
 impl Long {
     pub fn from_slice(alloc: Global, slice: &[u8]) -> Result<Long, AllocError>
-        requires { 63 < length slice.now }
+        requires { 255 < length slice.now }
         ensures { IfOk result (λ long. long ≡ slice.now) }
     {
         Ok(Long {

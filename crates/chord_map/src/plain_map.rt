@@ -68,7 +68,7 @@ fn retrieve(alloc: Global, pairs: &PairList, key: &Bytes) -> Result<Reply, Alloc
     ensures { ApplyIs (Request.Retrieve key.now) pairs.now result pairs.now }
 {
     let values = pairs.values(alloc, key.as_slice())?;
-    Ok(Reply::Values(values))
+    Ok(Reply::Values(values.share()?))
 }
 
 fn remove(pairs: &mut PairList, key: &Bytes, value: &Bytes) -> Reply

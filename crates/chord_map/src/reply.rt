@@ -4,7 +4,7 @@ ghost use Rattle.chord_map.specs.Copies.{IsShortReply};
 ghost use Rattle.chord_map.specs.Map.{IsValues, fits};
 
 use crate::request::Request;
-use crate::values::Values;
+use crate::shared_values::SharedValues;
 use std::alloc::AllocError;
 
 #[derive(Debug, Drop)]
@@ -12,7 +12,7 @@ pub enum Reply {
     Added,
     Present,
     SetFull,
-    Values(Values),
+    Values(SharedValues),
     Removed,
     Absent,
 }

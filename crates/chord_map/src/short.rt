@@ -6,8 +6,7 @@ use std::marker::Model;
 /// The most bytes of a short string.
 pub const LIMIT: usize = 16;
 
-/// Up to 16 bytes, stored inline. The number is a whole word, so that the bytes begin at a word's
-/// start and are moved a word at a time.
+/// Up to 16 bytes, stored inline.
 #[derive(Debug, Drop)]
 pub struct Short {
     len: usize,

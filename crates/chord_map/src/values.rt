@@ -3,6 +3,7 @@ ghost use Rattle.std.specs.Prelude.{◌≡◌, ◌≤◌, ◌<◌, ◌++◌, ◌
 ghost use Rattle.chord_map.specs.Copies.{AreFew};
 
 use crate::bytes::Bytes;
+use crate::shared_values::SharedValues;
 use std::alloc::{AllocError, Global};
 use std::marker::Model;
 use std::{mem, slice};
@@ -128,6 +129,19 @@ impl Values {
                 };
                 taken
             }
+        }
+    }
+
+    /// The same values, for a reply. No value, or a single one of up to 16 bytes, needs no memory.
+    pub fn share(self) -> Result<SharedValues, AllocError>
+        ensures same { IfOk result (λ shared. shared ≡ self) }
+        ensures few { AreFew self → IsOk result }
+    {
+        let Values { items, alloc } = self;
+        match items {
+            Items::Empty => Ok(SharedValues::empty()),
+            Items::One(value) => Ok(SharedValues::one(value)),
+            Items::Many(values) => SharedValues::many(alloc, values),
         }
     }
 

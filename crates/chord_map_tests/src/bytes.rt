@@ -31,7 +31,7 @@ fn bytes_compare_one_by_one(rt: HostRuntime) {
     assert!(rt; found == [same, less, Some((Ordering::Greater, false)), less]);
 }
 
-// Sixteen bytes are stored inline, seventeen to 63 in one block, and more in a vector of their own.
+// Sixteen bytes are stored inline, more in a block of 63, 127 or 255, and more than that in a vector.
 #[test]
 fn short_and_long_bytes_compare(rt: HostRuntime) {
     let alloc = rt.alloc();
@@ -41,11 +41,13 @@ fn short_and_long_bytes_compare(rt: HostRuntime) {
         compared(alloc, &[7; 17], &[8; 16]),
         compared(alloc, &[7; 63], &[7; 64]),
         compared(alloc, &[7; 64], &[8; 63]),
+        compared(alloc, &[7; 127], &[7; 128]),
+        compared(alloc, &[7; 255], &[7; 256]),
         compared(alloc, &[7; 17], &[7; 17]),
         compared(alloc, &[7; 64], &[7; 64]),
     ];
     let same = Some((Ordering::Equal, true));
-    assert!(rt; found == [less, less, less, less, same, same]);
+    assert!(rt; found == [less, less, less, less, less, less, same, same]);
 }
 
 // Whether the copy was made and has these bytes.
@@ -76,9 +78,12 @@ fn bytes_are_the_same_wherever_they_stand(rt: HostRuntime) {
         are_all_equal(alloc, &[7; 17]),
         are_all_equal(alloc, &[7; 63]),
         are_all_equal(alloc, &[7; 64]),
+        are_all_equal(alloc, &[7; 127]),
+        are_all_equal(alloc, &[7; 255]),
+        are_all_equal(alloc, &[7; 256]),
         are_all_equal(alloc, &[7; 4096]),
     ];
-    assert!(rt; are_equal == [Some(true); 6]);
+    assert!(rt; are_equal == [Some(true); 9]);
 }
 
 // Whether a copy of a copy has these bytes once both that it was made of are dropped.
@@ -99,7 +104,9 @@ fn a_copy_outlives_what_it_was_made_of(rt: HostRuntime) {
         outlives(alloc, &[7; 16]),
         outlives(alloc, &[7; 17]),
         outlives(alloc, &[7; 63]),
-        outlives(alloc, &[7; 64]),
+        outlives(alloc, &[7; 127]),
+        outlives(alloc, &[7; 255]),
+        outlives(alloc, &[7; 256]),
     ];
-    assert!(rt; found == [Some(true); 4]);
+    assert!(rt; found == [Some(true); 6]);
 }

@@ -1,5 +1,5 @@
 use crate::samples::{equal, one_value};
-use chord_map::{Bytes, PlainMap, Reply, Request, Values};
+use chord_map::{Bytes, PlainMap, Reply, Request, SharedValues};
 use std::alloc::{AllocError, Global};
 
 // The reply to the request, if the request is valid and memory does not run out.
@@ -24,7 +24,7 @@ fn tells(map: &mut PlainMap, request: Result<Request, AllocError>, reply: &Reply
 }
 
 // Whether the values found under `abc` are these.
-fn finds(alloc: Global, map: &mut PlainMap, values: Values) -> Option<bool> {
+fn finds(alloc: Global, map: &mut PlainMap, values: SharedValues) -> Option<bool> {
     let wanted = Reply::Values(values);
     let is_found = tells(map, Request::retrieve(alloc, b"abc"), &wanted);
     drop(wanted);
@@ -58,7 +58,7 @@ fn inserts_retrieves_and_removes(rt: HostRuntime) {
     let alloc = rt.alloc();
     let mut map = PlainMap::new(alloc);
     let are_told = [
-        finds(alloc, &mut map, Values::new(alloc)),
+        finds(alloc, &mut map, SharedValues::empty()),
         inserts(alloc, &mut map, Reply::Added),
         inserts(alloc, &mut map, Reply::Present),
         finds_x(alloc, &mut map),
@@ -123,7 +123,7 @@ fn is_number(value: &Bytes, n: u8) -> bool {
 }
 
 // Whether these are [0], [1] and so on, below `end`.
-fn are_below(values: &Values, end: u8) -> bool {
+fn are_below(values: &SharedValues, end: u8) -> bool {
     let mut rest = values.as_slice().iter();
     for n in 0..end {
         match rest.next() {

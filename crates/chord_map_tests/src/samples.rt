@@ -11,7 +11,7 @@ pub fn one_value(alloc: Global, value: &[u8]) -> Result<Reply, AllocError> {
         drop(values);
         return Err(AllocError);
     }
-    Ok(Reply::Values(values))
+    Ok(Reply::Values(values.share()?))
 }
 
 /// Whether the two are equal, if both were made.

@@ -138,6 +138,32 @@ fn a_copy_is_equal(rt: HostRuntime) {
     }
 }
 
+// Whether the values of a reply are as long as these letters, a copy of them is equal to them once
+// they are dropped, and those of the other letters are.
+fn shared_equal(
+    alloc: Global,
+    letters: &[u8],
+    others: &[u8],
+) -> Option<(usize, [Option<bool>; 2])> {
+    let shared = values_of(alloc, letters).ok()?.share().ok()?;
+    let count = shared.as_slice().len();
+    let copy = shared.try_copy().ok();
+    let again = shared.try_copy().ok();
+    drop(shared);
+    let same = equal(copy, values_of(alloc, letters).ok()?.share().ok());
+    let other = equal(again, values_of(alloc, others).ok()?.share().ok());
+    Some((count, [same, other]))
+}
+
+#[test]
+fn copies_of_a_replys_values_are_equal(rt: HostRuntime) {
+    let alloc = rt.alloc();
+    for letters in [b"".as_slice(), b"x", b"xyz"] {
+        let seen = shared_equal(alloc, letters, b"xz");
+        assert!(rt; seen == Some((letters.len(), [Some(true), Some(false)])));
+    }
+}
+
 // Whether a copy of some bytes is equal to them.
 fn bytes_are_copied(alloc: Global) -> Option<bool> {
     let bytes = Bytes::from_slice(alloc, b"x").ok()?;

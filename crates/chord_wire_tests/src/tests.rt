@@ -52,7 +52,7 @@ fn values(alloc: Global, all: &[&[u8]]) -> Result<Reply, AllocError> {
         drop(values);
         return Err(AllocError);
     }
-    Ok(Reply::Values(values))
+    Ok(Reply::Values(values.share()?))
 }
 
 /// Whether the two are equal, if both were made.

@@ -187,7 +187,7 @@ fn are_shown(alloc: Global, all: &[&[u8]], wanted: &str) -> Option<bool> {
     for value in all {
         values.push(Bytes::from_slice(alloc, value).ok()?).ok()?;
     }
-    is_shown(alloc, &Reply::Values(values), wanted)
+    is_shown(alloc, &Reply::Values(values.share().ok()?), wanted)
 }
 
 /// Checks that a reply is written so.

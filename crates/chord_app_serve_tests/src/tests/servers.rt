@@ -220,7 +220,7 @@ fn values(alloc: Global, count: u64) -> Result<Reply, AllocError> {
         let text = two_digits(alloc, number)?;
         values.push(Bytes::from_slice(alloc, text.as_bytes())?)?;
     }
-    Ok(Reply::Values(values))
+    Ok(Reply::Values(values.share()?))
 }
 
 /// The frame of request 1, which inserts this number as a value.
@@ -351,7 +351,7 @@ fn long_values(alloc: Global) -> Result<Reply, AllocError> {
         let value = vec![in alloc; number; 4_096]?;
         values.push(Bytes::from_vec(value))?;
     }
-    Ok(Reply::Values(values))
+    Ok(Reply::Values(values.share()?))
 }
 
 /// Sends requests that insert 32 values of 4,096 bytes, and two that retrieve them all; then a

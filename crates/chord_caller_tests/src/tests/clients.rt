@@ -2,7 +2,7 @@
 
 use super::{added, insert, is_ask, number_of};
 use chord_caller::{Ask, ClientCore, ResendFault, SubmitFault, TakeOutcome, Told};
-use chord_map::{Reply, RequestFault, Values};
+use chord_map::{Reply, RequestFault, SharedValues};
 use std::alloc::Global;
 
 fn is_added(outcome: TakeOutcome) -> bool {
@@ -162,7 +162,7 @@ fn foreign(alloc: Global) -> Option<(Option<SubmitFault>, (bool, bool, bool), bo
     let unfit = Told {
         caller: 0,
         number: 1,
-        reply: Reply::Values(Values::new(alloc)),
+        reply: Reply::Values(SharedValues::empty()),
     };
     let values = is_foreign(core.take(unfit));
     let waits = core.is_pending(1);

@@ -56,7 +56,10 @@ fn apply_retrieve<S: EntryStore>(
     let Ok(values) = store.values(alloc, id, key) else {
         return Err(StoreFault::Memory);
     };
-    Ok(Reply::Values(values))
+    match values.share() {
+        Ok(values) => Ok(Reply::Values(values)),
+        Err(_) => Err(StoreFault::Memory),
+    }
 }
 
 fn apply_remove<S: EntryStore>(store: &mut S, id: Id, key: &Bytes, value: &Bytes) -> Reply

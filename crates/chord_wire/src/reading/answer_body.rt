@@ -89,7 +89,7 @@ fn values_answer(alloc: Global, number: u64, bytes: &[u8]) -> Result<Answer, Wir
     let (values, _) = copied_values(alloc, number, count, rest)?;
     Ok(Answer::Reply {
         number,
-        reply: Reply::Values(values),
+        reply: Reply::Values(values.share()?),
     })
 }
 

@@ -3,35 +3,33 @@ ghost use Rattle.std.specs.Prelude.{◌≡◌, ◌≤◌, ◌<◌, length, take}
 
 use std::marker::Model;
 
-/// The most bytes of a medium string.
-pub const LIMIT: usize = 63;
-
-/// 17 to 63 bytes and their number, 64 bytes in all.
+/// 17 to N bytes and their number. N is at most 255.
 #[derive(Debug, Drop)]
-pub struct Medium {
+pub struct Block<const N: usize> {
     len: u8,
-    bytes: [u8; 63],
+    bytes: [u8; N],
 }
 
-impl Model for Medium {
+impl<const N: usize> Model for Block<N> {
     ghost use Rattle.std.specs.Prelude.{◌≤◌, ◌<◌, ℕ, List, take};
 
     ghost Value = { List ℕ };
 
-    ghost view = { λ medium. take medium.len medium.bytes };
+    ghost view = { λ block. take block.len block.bytes };
 
-    ghost invariant = { λ medium. (16 < medium.len) × (medium.len ≤ 63) };
+    ghost invariant = { λ block. (16 < block.len) × (block.len ≤ N) };
 }
 
-impl Medium {
-    pub fn from_slice(slice: &[u8]) -> Medium
+impl<const N: usize> Block<N> {
+    pub fn from_slice(slice: &[u8]) -> Block<N>
         requires more { 16 < length slice.now }
-        requires few { length slice.now ≤ 63 }
+        requires few { length slice.now ≤ N }
+        requires most { N ≤ 255 }
         ensures { result ≡ slice.now }
     {
-        let mut bytes = [0; 63];
+        let mut bytes = [0; N];
         bytes[..slice.len()].copy_from_slice(slice);
-        Medium {
+        Block {
             len: slice.len() as u8,
             bytes,
         }
