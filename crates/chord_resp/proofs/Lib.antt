@@ -5,3 +5,4 @@ pub mod SpellingLaws
 pub mod InlineLaws
 pub mod Texts
 pub mod TableLaws
+pub mod WordEnds

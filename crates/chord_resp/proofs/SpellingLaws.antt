@@ -81,7 +81,7 @@ after_size : (w : ℕ) (ws : List Word) (p : List ℕ) (n : ℕ) → step (at (p
 unfolding step
 after_size w ws p n = refl
 
-after_body : (w : ℕ) (ws : List Word) (p : List ℕ) (n : ℕ) → step (at (phase.Body n 0) w ws p) 13 ≡ Goes (at (phase.End n) w ws p)
+pub after_body : (w : ℕ) (ws : List Word) (p : List ℕ) (n : ℕ) → step (at (phase.Body n 0) w ws p) 13 ≡ Goes (at (phase.End n) w ws p)
 unfolding step
 after_body w ws p n = refl
 

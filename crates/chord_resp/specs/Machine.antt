@@ -139,6 +139,10 @@ body_step s count left byte =
       partial = if nat_lt 4096 count then s.partial else s.partial ++ byte ∷ [];
     })
 
+-- the word of this length is kept, and more words come
+abbrev pub word_kept : State → ℕ → State
+word_kept s count = record { phase = phase.Mark; wanted = s.wanted - 1; words = s.words ++ word_of_length count s.partial ∷ []; partial = [] }
+
 -- the words are all of a command, or more words come
 abbrev pub word_ended : ℕ → List Word → Outcome
 word_ended wanted words = if nat_le wanted 1 then Gives words

@@ -7,22 +7,25 @@ use chord_map::{Bytes, Request};
 use chord_resp::Command;
 use std::alloc::{AllocError, Global};
 
-fn inserts(alloc: Global, key: &[u8], members: &[Bytes]) -> Result<Vec<Request>, AllocError>
+// Keys and values share the bytes of the command.
+fn inserts(alloc: Global, key: &Bytes, members: &[Bytes]) -> Result<Vec<Request>, AllocError>
     ensures { IfOk result (λ all. all.items ≡ inserts key.now members.now) }
 {
     let mut all = Vec::with_capacity(alloc, members.len())?;
     for member in members {
-        all.push(Request::insert(alloc, key, member.as_slice())?)?;
+        let (key, value) = (key.try_copy()?, member.try_copy()?);
+        all.push(Request::Insert { key, value })?;
     }
     Ok(all)
 }
 
-fn removes(alloc: Global, key: &[u8], members: &[Bytes]) -> Result<Vec<Request>, AllocError>
+fn removes(alloc: Global, key: &Bytes, members: &[Bytes]) -> Result<Vec<Request>, AllocError>
     ensures { IfOk result (λ all. all.items ≡ removes key.now members.now) }
 {
     let mut all = Vec::with_capacity(alloc, members.len())?;
     for member in members {
-        all.push(Request::remove(alloc, key, member.as_slice())?)?;
+        let (key, value) = (key.try_copy()?, member.try_copy()?);
+        all.push(Request::Remove { key, value })?;
     }
     Ok(all)
 }
@@ -32,7 +35,8 @@ fn retrieves(alloc: Global, keys: &[Bytes]) -> Result<Vec<Request>, AllocError>
 {
     let mut all = Vec::with_capacity(alloc, keys.len())?;
     for key in keys {
-        all.push(Request::retrieve(alloc, key.as_slice())?)?;
+        let key = key.try_copy()?;
+        all.push(Request::Retrieve { key })?;
     }
     Ok(all)
 }
@@ -41,7 +45,8 @@ fn retrieve(alloc: Global, key: &Bytes) -> Result<Vec<Request>, AllocError>
     ensures { IfOk result (λ all. all.items ≡ request.Retrieve key.now ∷ []) }
 {
     let mut all = Vec::new(alloc);
-    all.push(Request::retrieve(alloc, key.as_slice())?)?;
+    let key = key.try_copy()?;
+    all.push(Request::Retrieve { key })?;
     Ok(all)
 }
 
@@ -50,8 +55,8 @@ pub fn requests_of(alloc: Global, command: &Command) -> Result<Vec<Request>, All
     ensures { IfOk result (λ all. all.items ≡ requests_of command.now) }
 {
     match command {
-        Command::Add { key, members } => inserts(alloc, key.as_slice(), members.as_slice()),
-        Command::Remove { key, members } => removes(alloc, key.as_slice(), members.as_slice()),
+        Command::Add { key, members } => inserts(alloc, key, members.as_slice()),
+        Command::Remove { key, members } => removes(alloc, key, members.as_slice()),
         Command::Exist { keys } => retrieves(alloc, keys.as_slice()),
         Command::Members { key } => retrieve(alloc, key),
         Command::Count { key } => retrieve(alloc, key),

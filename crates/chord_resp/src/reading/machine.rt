@@ -1,7 +1,8 @@
 //! Reading a client's bytes, one at a time.
-ghost use Rattle.std.specs.Prelude.{◌≡◌, ◌<◌, true, false, nat_lt, IfOk, OnOk, OnErr};
-ghost use Rattle.chord_resp.specs.Machine.{start, step, kept, went, line_step, space_step, line_end, count_end_step, body_step, end_step, word_of_length};
+ghost use Rattle.std.specs.Prelude.{◌≡◌, ◌-◌, ◌<◌, ◌≤◌, true, false, nat_lt, IfOk, OnOk, OnErr};
+ghost use Rattle.chord_resp.specs.Machine.{start, step, kept, went, line_step, space_step, line_end, count_end_step, body_step, end_step, word_kept, word_of_length};
 ghost use Rattle.chord_resp.specs.declared.reading.phase.Phase.TheVariants as phase;
+ghost use Rattle.chord_resp.specs.ShortLines.{EndsLine};
 ghost use Rattle.chord_resp.specs.Reading.{StepIs, Skims, KeepsNext, keeps, is_at_start};
 
 use crate::limits::{LINE_BYTES, WORD_BYTES};
@@ -10,7 +11,7 @@ use crate::reading::numbers::{count_step, mark_step, size_end_step, size_step};
 use crate::reading::phase::Phase;
 use crate::reading::protocol_error::ProtocolError;
 use crate::reading::read_error::ReadError;
-use crate::reading::short_line::ShortLine;
+use crate::reading::short_line::{ShortLine, ends_line};
 use crate::reading::word::Word;
 use crate::reading::words::Words;
 use chord_map::Bytes;
@@ -70,7 +71,7 @@ impl Machine {
     }
 
     /// Reads bytes together, and tells how many: a short line with the count of words or the length
-    /// of one, or bytes of a word up to its end. None are read where the next byte is read alone.
+    /// of one, or bytes of a word with its end. None are read where the next byte is read alone.
     pub fn skim(&mut self, bytes: &[u8]) -> Result<usize, AllocError>
         ensures read { IfOk result (λ count. Skims self.old bytes.now count self.new) }
         ensures err { OnErr result (KeepsNext (record { state = self.old; bytes = bytes.now }) × (self.new ≡ self.old)) }
@@ -118,10 +119,25 @@ impl Machine {
         line.length
     }
 
-    /// Reads bytes of a word, up to its end.
+    /// Reads bytes of a word, and its end behind them.
     fn skim_word(&mut self, length: u32, left: u32, bytes: &[u8]) -> Result<usize, AllocError>
         requires { self.old.phase ≡ phase.Body length left }
         ensures read { IfOk result (λ count. Skims self.old bytes.now count self.new) }
+        ensures err { OnErr result (KeepsNext (record { state = self.old; bytes = bytes.now }) × (self.new ≡ self.old)) }
+    {
+        let count = self.skim_body(length, left, bytes)?;
+        if count < left as usize {
+            return Ok(count);
+        }
+        Ok(count + self.skim_end(length, &bytes[count..]))
+    }
+
+    /// Reads bytes of a word, up to its end.
+    fn skim_body(&mut self, length: u32, left: u32, bytes: &[u8]) -> Result<usize, AllocError>
+        requires { self.old.phase ≡ phase.Body length left }
+        ensures read { IfOk result (λ count. Skims self.old bytes.now count self.new) }
+        ensures most { IfOk result (λ count. count ≤ left) }
+        ensures phase { IfOk result (λ count. self.new.phase ≡ phase.Body length (left - count)) }
         ensures err { OnErr result (KeepsNext (record { state = self.old; bytes = bytes.now }) × (self.new ≡ self.old)) }
     {
         let count = bytes.len().min(left as usize);
@@ -134,6 +150,49 @@ impl Machine {
             left: left - count as u32,
         };
         Ok(count)
+    }
+
+    /// Reads the end of a word, `\r\n`. The `\n` of the last word is read alone, since it ends the
+    /// command; so is one for whose word there is no memory.
+    fn skim_end(&mut self, length: u32, bytes: &[u8]) -> usize
+        requires { self.old.phase ≡ phase.Body length 0 }
+        ensures { Skims self.old bytes.now result self.new }
+    {
+        if !ends_line(bytes, 0) {
+            return 0;
+        }
+        if self.wanted <= 1 {
+            return self.skim_return(length, bytes);
+        }
+        match self.end_word(length) {
+            Ok(()) => 2,
+            Err(_) => self.skim_return(length, bytes),
+        }
+    }
+
+    /// Reads the `\r` behind a word.
+    fn skim_return(&mut self, length: u32, bytes: &[u8]) -> usize
+        requires phase { self.old.phase ≡ phase.Body length 0 }
+        requires line { EndsLine bytes.now 0 }
+        ensures { Skims self.old bytes.now result self.new }
+    {
+        let _line = bytes;
+        self.phase = Phase::End { length };
+        1
+    }
+
+    /// Keeps a word that has ended, behind which more words come.
+    fn end_word(&mut self, length: u32) -> Result<(), AllocError>
+        requires { 1 < self.old.wanted }
+        ensures ok { OnOk result (self.new ≡ word_kept self.old length) }
+        ensures err { OnErr result (self.new ≡ self.old) }
+    {
+        let word = self.word(length)?;
+        self.words.push(word)?;
+        self.wanted -= 1;
+        self.partial.clear();
+        self.phase = Phase::Mark;
+        Ok(())
     }
 
     /// Takes one byte, which may end a command.
@@ -291,14 +350,12 @@ impl Machine {
         if byte != b'\n' {
             return Err(ReadError::Protocol(ProtocolError::BadLength));
         }
+        if self.wanted > 1 {
+            self.end_word(length)?;
+            return Ok(None);
+        }
         let word = self.word(length)?;
         self.words.push(word)?;
-        if self.wanted <= 1 {
-            return Ok(Some(self.give()));
-        }
-        self.wanted -= 1;
-        self.partial.clear();
-        self.phase = Phase::Mark;
-        Ok(None)
+        Ok(Some(self.give()))
     }
 }

@@ -24,7 +24,7 @@ fn digit_at(bytes: &[u8], index: usize) -> Option<u32>
 }
 
 /// Whether a line ends with the two bytes from this index on.
-fn ends_line(bytes: &[u8], index: usize) -> bool
+pub fn ends_line(bytes: &[u8], index: usize) -> bool
     requires { index < 2 ^ 63 }
     ensures { IsTrue result → EndsLine bytes.now index }
 {
