@@ -16,6 +16,7 @@ mod caller_asking;
 mod client_asking;
 mod guesses;
 mod keeping;
+mod last_key;
 mod note_envelope;
 mod opening;
 mod ring_caller;

@@ -12,6 +12,7 @@ ghost use Rattle.chord_table.specs.Shown.{CallerShown};
 
 use crate::asking_core::AskingCore;
 use crate::guesses::Guesses;
+use crate::last_key::LastKey;
 use crate::route::Route;
 use crate::seated_core::SeatedCore;
 use chord_caller::ClientCore;
@@ -33,6 +34,7 @@ pub struct RingCaller<'a, J: Naming, S: EntryStore, C: AskingCore> {
     pub(crate) own: SeatedCore<J, C>,
     number: u64,
     guesses: Guesses,
+    last_key: LastKey,
 }
 
 /// A caller that holds each request until it hands out the reply, and no replies.
@@ -64,6 +66,7 @@ impl<'a, J: Naming, S: EntryStore, C: AskingCore> RingCaller<'a, J, S, C> {
             own,
             number,
             guesses: Guesses::new(),
+            last_key: LastKey::new(),
         };
         caller.look();
         caller
@@ -226,6 +229,15 @@ impl<'a, J: Naming, S: EntryStore, C: AskingCore> RingCaller<'a, J, S, C> {
         }
     }
 
+    /// The envelope with the identifier of its key.
+    fn keyed(&mut self, envelope: Envelope<J>) -> Keyed<J>
+        ensures envelope { result.envelope ≡ envelope }
+        ensures same { self.new ≡ self.old }
+    {
+        let id = self.last_key.id_in(envelope.message());
+        Keyed { envelope, id }
+    }
+
     /// Carries an envelope from node to node, each event under that node's lock, and takes the
     /// reply. It begins at the guessed node; if that leads to no answer, the next time at `via`.
     fn carry(
@@ -238,7 +250,7 @@ impl<'a, J: Naming, S: EntryStore, C: AskingCore> RingCaller<'a, J, S, C> {
         requires { IsCallOf self.old.caller number envelope }
         ensures { Ended C.ends number self.old result self.new }
     {
-        let keyed = Keyed::new(envelope);
+        let keyed = self.keyed(envelope);
         let id = keyed.id;
         match self.ring.carry_keyed(rt, self.first_node(id, via), keyed) {
             Some(carried) => {

@@ -7,7 +7,7 @@ use chord_live::{AskingCore, Caller, OpenCaller, RingCaller};
 use chord_live_ring::{Ring, RingParts};
 use chord_live_types::{AskFault, RetryFault, WaitFault};
 use chord_map::Request;
-use chord_store::{CappedStore, EntryStore};
+use chord_store::{CappedStore, EntryStore, TreeStore};
 use chord_table::Naming;
 use std::alloc::Global;
 use std::marker::Brand;
@@ -35,6 +35,50 @@ fn a_client_asks_through_inboxes(rt: HostRuntime) {
     let alloc = rt.alloc();
     let parts = parts_with(&rt, alloc, settings(1, 1, 1, 2_000));
     client_with_a_worker::<Brand, _>(&rt, alloc, parts);
+}
+
+#[test]
+fn a_client_asks_for_keys_in_turns(rt: HostRuntime) {
+    let alloc = rt.alloc();
+    let parts = parts_with(&rt, alloc, settings(1, 1, 1, 2_000));
+    client_with_keys::<Brand, _>(&rt, alloc, parts);
+}
+
+fn client_with_keys<J: Naming, R: Abort + Wait + Clock>(rt: &R, alloc: Global, parts: RingParts)
+    requires name { parts.name ≡ J.name }
+{
+    let ring = founded::<J, TreeStore, R>(rt, parts, TreeStore::new(alloc));
+    let mut client = ring.open_client(rt, 1).expect(rt, "a client");
+    let longest = [b'k'; 65];
+    ask_twice(rt, alloc, &mut client, b"a");
+    ask_twice(rt, alloc, &mut client, b"b");
+    ask_twice(rt, alloc, &mut client, &longest[..64]);
+    ask_twice(rt, alloc, &mut client, &longest);
+    let other = call(rt, &mut client, 0, Request::retrieve(alloc, b"c"));
+    assert!(rt;
+        other == Ok(Said::OtherValues),
+        "a key without values has none"
+    );
+    let first = call(rt, &mut client, 0, Request::retrieve(alloc, b"a"));
+    assert!(rt; first == Ok(Said::OnlyX), "the first key has its value");
+    drop(client);
+    ring.close();
+}
+
+/// Inserts a value under a key, and retrieves it at once. The store finds keys by identifiers.
+fn ask_twice<J: Naming, S: EntryStore, C: AskingCore, R: Abort + Wait + Clock>(
+    rt: &R,
+    alloc: Global,
+    asker: &mut RingCaller<'_, J, S, C>,
+    key: &[u8],
+) {
+    let added = call(rt, asker, 0, Request::insert(alloc, key, b"x"));
+    assert!(rt; added == Ok(Said::Added), "a new key is added");
+    let found = call(rt, asker, 0, Request::retrieve(alloc, key));
+    assert!(rt;
+        found == Ok(Said::OnlyX),
+        "it has the value that was inserted"
+    );
 }
 
 fn client_without_room<J: Naming, R: Abort + Wait + Clock>(rt: &R, alloc: Global, parts: RingParts)
