@@ -1,5 +1,5 @@
 -- Each number is asked anew once.
-use Rattle.std.proofs.Common.{◌≡◌, ◌≢◌, ℕ, zero, suc, ◌+◌, ◌-◌, ◌≤◌, ◌||◌, max, false, eqb, ltb, leb, List, [], ◌∷◌, ◌++◌, length, drop, Some, None, is_some, refl, sym, ap, ◌∙◌, append_assoc, arith, inl, inr}
+use Rattle.std.proofs.Common.{◌≡◌, ◌≢◌, ℕ, zero, suc, ◌+◌, ◌-◌, ◌≤◌, ◌||◌, false, eqb, ltb, leb, List, [], ◌∷◌, ◌++◌, length, None, is_some, refl, sym, ap, ◌∙◌, append_assoc, arith, inl, inr}
 use Rattle.std.proofs.lemmas.Bool.{ltb-false, or_parts, cases_Bool}
 use Rattle.std.proofs.lemmas.List.{length-append, length-drop, append-nil}
 use Rattle.chord_map.specs.declared.request.Request.{Request}

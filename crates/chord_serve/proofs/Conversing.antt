@@ -8,7 +8,7 @@ use Rattle.chord_serve.specs.declared.served.Served.{Served}
 use Rattle.chord_serve.specs.declared.served.Served.TheVariants as served
 use Rattle.chord_serve.specs.Ends.{IsStop, EndsInput}
 use Rattle.chord_serve.specs.Writes.{WritesPrefix}
-use Rattle.chord_serve.specs.Conversing.{Talks, IsStopped, Waits, LosesPiece, LacksBuffer, WritesPart, Conversed, Converses, AnswersNext, AnswersPart, EndsWritten, SendsPart, AnswersAll, TakesTurn}
+use Rattle.chord_serve.specs.Conversing.{Talks, IsStopped, Waits, LosesPiece, WritesPart, Conversed, Converses, AnswersNext, AnswersPart, EndsWritten, SendsPart, AnswersAll, TakesTurn}
 use Rattle.chord_serve.specs.Conversing.Talks.{Begins, Hears, Says}
 
 -- an end caused by a request says nothing of the input

@@ -1,5 +1,5 @@
 -- Connections in a row are one session.
-use Rattle.std.proofs.Common.{◌≡◌, ◌⊎◌, ℕ, List, [], ◌∷◌, ◌++◌, true, Option, refl, sym, ap, ◌∙◌, append_assoc, inl, inr}
+use Rattle.std.proofs.Common.{◌≡◌, ℕ, List, [], ◌++◌, true, refl, sym, ap, ◌∙◌, append_assoc, inl, inr}
 use Rattle.std.proofs.lemmas.List.{append-nil}
 use Rattle.chord_wire.specs.declared.request.WireRequest.{WireRequest}
 use Rattle.chord_wire.specs.declared.fault.WireFault.{WireFault}
@@ -11,7 +11,7 @@ use Rattle.chord_serve.specs.declared.served.Served.TheVariants as served
 use Rattle.chord_serve.specs.Question.{Question}
 use Rattle.chord_serve.specs.Output.{bytes_written, state_after, questions}
 use Rattle.chord_serve.specs.Served.{fault_frame, Dealt, DealsWithAll, Refuses, StopsAfter, IsParted}
-use Rattle.chord_serve.specs.Lasting.{InARow, Answered, SpellInARow, IsWritten, WrittenInARow, AreOneSession}
+use Rattle.chord_serve.specs.Lasting.{InARow, Answered, IsWritten, AreOneSession}
 use Rattle.chord_serve.specs.Lasting.InARow.{Begins, Then}
 use Rattle.chord_serve.specs.Lasting.SpellInARow.{Nothing, Spell}
 use Rattle.chord_serve.specs.Lasting.WrittenInARow.{Nothing_due, Written}

@@ -4,7 +4,6 @@ use Rattle.std.specs.List.{position, remove}
 use Rattle.std.specs.Str.{bytes_eq}
 use Rattle.chord_wire.specs.declared.token.Token.{Token}
 use Rattle.chord_serve.specs.declared.client_session.ClientSession.{ClientSession}
-use Rattle.chord_serve.specs.declared.kept_sessions.KeptSession.{KeptSession}
 use Rattle.chord_serve.specs.declared.session_table.HeldSession.{HeldSession}
 use Rattle.chord_serve.specs.declared.session_table.BeginRefusal.{BeginRefusal}
 use Rattle.chord_serve.specs.declared.session_table.BeginRefusal.TheVariants as begins

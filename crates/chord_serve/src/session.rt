@@ -1,7 +1,7 @@
 //! The requests of a session and their reply frames.
 ghost use Rattle.chord_wire.specs.Spelling.{IsWireRequest};
-ghost use Rattle.std.specs.Prelude.{◌≡◌, ◌≢◌, IsSome, ◌≤◌, ◌^◌, slice_get, Some, ◌<◌, ◌-◌, ◌+◌, length, OnOk, OnErr};
-ghost use Rattle.chord_serve.specs.Session.{first_state, last_number, answered_of, is_out, raised, with_accepted, place_of, move_at, move_of, with_open_request, answered_at, frame_kept, frame_bytes, bytes_held};
+ghost use Rattle.std.specs.Prelude.{◌≡◌, ◌≢◌, IsSome, ◌≤◌, ◌^◌, slice_get, Some, ◌<◌, ◌-◌, ◌+◌, length, nat_lt, OnOk, OnErr};
+ghost use Rattle.chord_serve.specs.Session.{first_state, last_number, answered_floor, answered_of, is_out, raised, with_accepted, place_of, move_at, move_of, with_open_request, answered_at, frame_kept, frame_bytes, bytes_held};
 ghost use Rattle.std.specs.Option.{option_map};
 
 use crate::asked_request::AskedRequest;
@@ -121,10 +121,17 @@ impl Session {
         ensures test { result ≡ is_out self.now wire.now }
         ensures in_range { last_number self.now < 2 ^ 64 }
     {
-        let answered = self.floor + answered_of(&self.kept) as u64;
         let last = self.floor + self.kept.len() as u64;
         let number = wire.number;
-        number == 0 || answered < wire.floor || number <= self.floor || last < number - 1
+        number == 0 || self.is_floor_out(wire.floor) || number <= self.floor || last < number - 1
+    }
+
+    /// Whether a request up to the floor has no answer. Most requests have the session's own floor,
+    /// and then none is looked at.
+    fn is_floor_out(&self, floor: u64) -> bool
+        ensures { result ≡ nat_lt (answered_floor self.now) floor }
+    {
+        self.floor < floor && self.floor + (answered_of(&self.kept) as u64) < floor
     }
 
     fn raise(&mut self, floor: u64)
