@@ -1,11 +1,11 @@
 -- What is read of a file is all of it, or more than a plan may have.
-use Rattle.std.proofs.Common.{◌≡◌, ℕ, zero, suc, ◌<◌, List, [], ◌∷◌, ◌++◌, length, take, Option, Some, None, option_map, Result, Ok, Err, refl, sym, ap, subst, ◌∙◌, arith}
-use Rattle.std.specs.Prelude.{IfSome, IfOk}
+use Rattle.std.proofs.Common.{◌≡◌, ℕ, zero, suc, ◌<◌, List, [], ◌∷◌, ◌++◌, length, take, Option, Some, None, option_map, Result, Ok, Err, refl, sym, ap, subst, ◌∙◌, arith, inl}
+use Rattle.std.specs.Prelude.{IfSome, IfOk, IfErr, IsErrAnd, IsOkUnless, ◌≤◌}
 use Rattle.std.specs.Io.Take.{take_limit, take_inner, take_remaining}
 use Rattle.std.specs.declared.io.Take.{Take}
-use Rattle.chord_app_plan.specs.Plan.{IsPlanOf}
+use Rattle.chord_app_plan.specs.Plan.{IsNotRead, IsPlan, IsPlanOf, IsTooLongOrNotRead}
 use Rattle.chord_app_plan.specs.declared.fault.PlanFault.{PlanFault}
-use Rattle.chord_app_plan.specs.declared.fault.PlanFault.TheVariants.{TooLong}
+use Rattle.chord_app_plan.specs.declared.fault.PlanFault.TheVariants.{TooLong, OutOfMemory}
 use Rattle.chord_app_plan.specs.declared.plan.Plan.{Plan}
 
 all_of : (bytes : Option (List ℕ)) (l limit : ℕ) (old new : List ℕ) → l ≡ limit → old ≡ [] → IfSome (option_map (take l) bytes) (λ xs. new ≡ old ++ xs) → IfSome bytes (λ all. new ≡ take limit all)
@@ -38,3 +38,39 @@ whole n bytes document (Err fault) h value long = tt
 whole n None document (Ok plan) h value long = tt
 whole n (Some all) document (Ok plan) h value long =
     subst (λ (d : List ℕ). IsPlanOf d plan) (h ∙ take_short n all (λ more. not_long plan (long (subst (λ (d : List ℕ). n < length d) (sym h) more)))) value
+
+-- a list of at most n elements is taken whole
+take_all : (n : ℕ) (xs : List ℕ) → length xs ≤ n → take n xs ≡ xs
+take_all zero [] few = refl
+take_all zero (x ∷ xs) few = absurd (omega (arith, few))
+take_all (suc n) [] few = refl
+take_all (suc n) (x ∷ xs) few = ap (λ (l : List ℕ). x ∷ l) (take_all n xs (omega (arith, few)))
+
+-- of more than n elements, more than n are taken
+take_long : (n : ℕ) (xs : List ℕ) → n < length xs → n < length (take (suc n) xs)
+take_long zero [] more = more
+take_long zero (x ∷ xs) more = omega arith
+take_long (suc n) [] more = absurd (omega (arith, more))
+take_long (suc n) (x ∷ xs) more = omega (arith, take_long n xs (omega (arith, more)))
+
+memory_is_not_read : (result : Result Plan PlanFault) → IsOkUnless result OutOfMemory → IfErr result IsNotRead
+memory_is_not_read (Ok plan) h = tt
+memory_is_not_read (Err fault) h = subst IsNotRead (sym h) tt
+
+-- a plan of all bytes that keeps the limits is one of the first bytes, and accepted
+pub accepted : (n : ℕ) (bytes : Option (List ℕ)) (document : List ℕ) (result : Result Plan PlanFault) → IfSome bytes (λ all. document ≡ take (suc n) all)
+    → ((plan : Plan) → IsPlanOf document plan → IsPlan plan → length document ≤ n → IsOkUnless result OutOfMemory)
+    → IfSome bytes (λ all. (plan : Plan) → IsPlanOf all plan → IsPlan plan → length all ≤ n → IfErr result IsNotRead)
+accepted n None document result h accepts = tt
+accepted n (Some all) document result h accepts = λ plan is keeps short.
+    let same : document ≡ all = h ∙ take_all (suc n) all (omega (arith, short)) in
+    memory_is_not_read result (accepts plan (subst (λ (d : List ℕ). IsPlanOf d plan) (sym same) is) keeps (subst (λ (d : List ℕ). length d ≤ n) (sym same) short))
+
+too_long : (result : Result Plan PlanFault) → result ≡ Err TooLong → IsErrAnd result IsTooLongOrNotRead
+too_long result e = subst (λ (r : Result Plan PlanFault). IsErrAnd r IsTooLongOrNotRead) (sym e) (inl refl)
+
+-- bytes of which the first are too many are refused
+pub refused : (n : ℕ) (bytes : Option (List ℕ)) (document : List ℕ) (result : Result Plan PlanFault) → IfSome bytes (λ all. document ≡ take (suc n) all)
+    → (n < length document → result ≡ Err TooLong) → IfSome bytes (λ all. n < length all → IsErrAnd result IsTooLongOrNotRead)
+refused n None document result h long = tt
+refused n (Some all) document result h long = λ more. too_long result (long (subst (λ (d : List ℕ). n < length d) (sym h) (take_long n all more)))

@@ -13,6 +13,8 @@ use Rattle.chord_map.specs.declared.request.Request.TheVariants as request
 use Rattle.chord_app_plan.specs.declared.plan.Plan.{Plan}
 use Rattle.chord_app_plan.specs.declared.ask.PlanAsk.{PlanAsk}
 use Rattle.chord_app_plan.specs.declared.entries.Entries.{Entries}
+use Rattle.chord_app_plan.specs.declared.fault.PlanFault.{PlanFault}
+use Rattle.chord_app_plan.specs.declared.fault.PlanFault.TheVariants as fault
 use Rattle.chord_app_plan.specs.declared.node.PlanNode.{PlanNode}
 use Rattle.chord_app_plan.specs.declared.store_kind.StoreKind.{StoreKind}
 use Rattle.chord_app_plan.specs.declared.store_kind.StoreKind.TheVariants as store
@@ -130,3 +132,15 @@ pub record IsPlan (p : Plan) : Type 0 where
   pub some_nodes : 1 ≤ length p.nodes.items
   pub nodes : length p.nodes.items ≤ p.settings.slots
   pub asks : All (IsAskOf p.settings.callers (length p.nodes.items)) p.asks.items
+
+-- no file was read: the system did not give it, or there was no memory
+abbrev pub IsNotRead : PlanFault → Type 0
+IsNotRead (fault.Unread path reason) = Unit {0}
+IsNotRead fault.TooLong = ⊥
+IsNotRead (fault.NoToml line why) = ⊥
+IsNotRead (fault.Entry table key why) = ⊥
+IsNotRead fault.OutOfMemory = Unit {0}
+
+-- the file has more bytes than a plan may have, or it was not read
+abbrev pub IsTooLongOrNotRead : PlanFault → Type 0
+IsTooLongOrNotRead why = (why ≡ fault.TooLong) ⊎ IsNotRead why

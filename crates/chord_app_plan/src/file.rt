@@ -1,6 +1,7 @@
 //! Plans in files.
-ghost use Rattle.std.specs.Prelude.{◌≡◌, ◌+◌, take, IfOk, IfSome};
-ghost use Rattle.chord_app_plan.specs.Plan.{IsPlan, IsPlanOf};
+ghost use Rattle.std.specs.Prelude.{◌≡◌, ◌+◌, ◌<◌, ◌≤◌, length, take, IfErr, IfOk, IfSome, IsErrAnd};
+ghost use Rattle.chord_app_plan.specs.Plan.{IsNotRead, IsPlan, IsPlanOf, IsTooLongOrNotRead};
+ghost use Rattle.chord_app_plan.specs.declared.plan.Plan.{Plan};
 
 use crate::fault::PlanFault;
 use crate::plan::{PLAN_BYTES, Plan};
@@ -19,7 +20,9 @@ fn read_bytes<R: Read + Drop>(alloc: Global, reader: R) -> io::Result<Vec<u8>>
 }
 
 /// The fault of a file that the system does not give.
-fn unread(alloc: Global, path: &str, reason: io::ErrorKind) -> PlanFault {
+fn unread(alloc: Global, path: &str, reason: io::ErrorKind) -> PlanFault
+    ensures { IsNotRead result }
+{
     if reason == io::ErrorKind::OutOfMemory {
         return PlanFault::OutOfMemory;
     }
@@ -33,6 +36,10 @@ fn unread(alloc: Global, path: &str, reason: io::ErrorKind) -> PlanFault {
 pub fn plan_from<R: Read + Drop>(alloc: Global, path: &str, reader: R) -> Result<Plan, PlanFault>
     ensures value { IfOk result (λ plan. IfSome (R.remaining reader) (λ all. IsPlanOf all plan)) }
     ensures limits { IfOk result IsPlan }
+
+    // A plan that keeps the limits is refused for memory, or if the reader fails.
+    ensures accepts { IfSome (R.remaining reader) (λ all. (plan : Plan) → IsPlanOf all plan → IsPlan plan → length all ≤ PLAN_BYTES → IfErr result IsNotRead) }
+    ensures long { IfSome (R.remaining reader) (λ all. PLAN_BYTES < length all → IsErrAnd result IsTooLongOrNotRead) }
 {
     match read_bytes(alloc, reader) {
         Ok(bytes) => Plan::parse(alloc, bytes.as_slice()),

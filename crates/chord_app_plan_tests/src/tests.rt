@@ -513,3 +513,23 @@ fn longest(alloc: Global) -> Option<(bool, bool)> {
 fn lengths_of_documents(rt: HostRuntime) {
     assert!(rt; longest(rt.alloc()) == Some((true, true)));
 }
+
+/// Gives whether the two-node plan is read from a reader of the most bytes, and whether one with a
+/// byte more is refused.
+fn longest_read(alloc: Global) -> Option<(bool, bool)> {
+    let mut document = Vec::from_slice(alloc, TWO_NODES.as_bytes()).ok()?;
+    document.resize(PLAN_BYTES, b'\n').ok()?;
+    let plan = plan_from(alloc, "a/plan", document.as_slice()).ok()?;
+    let is_its = is_two_nodes(&plan);
+    drop(plan);
+    document.push(b'\n').ok()?;
+    let read = plan_from(alloc, "a/plan", document.as_slice());
+    let refused = refused_with(alloc, read, "fault plan\nmore than 1048576 bytes")?;
+    Some((is_its, refused))
+}
+
+/// A reader may give the most bytes, but not one more.
+#[test]
+fn a_file_that_is_too_long(rt: HostRuntime) {
+    assert!(rt; longest_read(rt.alloc()) == Some((true, true)));
+}
