@@ -8,11 +8,13 @@ contracts of those that it calls, never against their bodies. So edits of differ
 touch each other's proofs, and one check tries up to 16 of them: it says of each function whether it
 is proved. One that calls a function which is not proved may not be tried itself, and its edit goes
 into a later check. An edit that lies in no function, or whose function is still proved, is tried
-alone.
+alone. Where a crate has many edits, it is checked once as it stands, and what the prover keeps of
+that check begins each of the others.
 
 It prints a line for each edit: `refused` with a goal that is open, `refused alone`, `NOT REFUSED`,
-`BAD` for one that does not reach the prover, or `UNKNOWN`. With such lines in FILE it does not try
-again what they say is refused. The status is 1 unless all are refused.
+`BAD` for one that does not reach the prover, or `UNKNOWN`. A line `left` says that an edit will be
+tried alone, which can take as long as the proof of its crate. With such lines in FILE it does not
+try again what they say is refused. The status is 1 unless all are refused.
 """
 
 import argparse
@@ -35,6 +37,8 @@ import rtlib  # noqa: E402  (the toolchain's own, beside its command)
 GUARD = rtlib.guarded()
 # How many edits one check tries at most.
 MOST = 16
+# With fewer edits to try, a crate is not checked as it stands first.
+FEW = 20
 FUNCTION = re.compile(r"^(\s*)(?:pub(?:\([^)]*\))? )?(?:const )?fn (\w+)")
 TYPE = re.compile(r"(?m)^(?:pub(?:\([^)]*\))? )?(?:struct|enum|trait) (\w+)")
 VERDICT = re.compile(r"^fn (\S+): (proved|no proof|not proved)(?:[:;] (.*))?$")
@@ -180,12 +184,19 @@ def edited(crate, edits):
     return texts
 
 
-def check(crate, edits, targets):
-    """What the prover says of these functions with these edits, of all if there are none: status
-    and lines."""
-    texts = edited(crate, edits)
-    if texts is None:
-        return None, [f"{' '.join(it.name for it in edits)}: an edit does not fit"]
+def linked(folder, to):
+    """Copies what the prover kept, its files of proofs by links: it replaces such a file and changes
+    none."""
+
+    def copy(one, other):
+        return os.link(one, other) if one.endswith(".oantt") else shutil.copy2(one, other)
+
+    shutil.copytree(folder, to, symlinks=True, copy_function=copy)
+
+
+def check(crate, texts, targets, kept=None):
+    """What the prover says of these functions, of all if there are none, with these texts in place
+    of the crate's: status and lines. It begins with what it kept in a folder, and adds to it."""
     with tempfile.TemporaryDirectory(prefix="edits-") as room:
         for part in rtlib.PARTS:
             if os.path.isdir(f"{crate.folder}/{part}"):
@@ -195,6 +206,7 @@ def check(crate, edits, targets):
                 it.write(text)
         words = [*GUARD, rtlib.RATTLE, "check", *crate.words(["--jobs", "1"], keeps=False)]
         words += [word for it in sorted(targets) for word in ("--only", it)]
+        words += ["--incremental", kept] if kept else []
         how = {"stdin": subprocess.DEVNULL, "stdout": subprocess.PIPE, "stderr": subprocess.STDOUT}
         ran = subprocess.run(words, cwd=room, text=True, errors="replace", **how)
         return ran.returncode, ran.stdout.rstrip("\n").split("\n")
@@ -218,6 +230,32 @@ class Tries:
         folders = [f"{root}/edits/{name}", f"{self.crate.folder}/must-fail"]
         paths = sorted(path for it in folders for path in glob.glob(f"{it}/*.edit"))
         self.edits = [it for it in (Edit(path, self.crate) for path in paths) if it.name not in skips]
+        self.kept = None
+
+    def keep(self, room):
+        """Checks the crate as it stands, and keeps what is proved in a folder of this one. It begins
+        with what `rt check` kept."""
+        kept, before = f"{room}/{self.crate.name}", f"{self.crate.folder}/out/incremental"
+        if os.path.isdir(before):
+            linked(before, kept)
+        else:
+            os.mkdir(kept)
+        status, lines = check(self.crate, {}, [], kept)
+        if status == 0:
+            self.kept = kept
+        else:
+            self.say(f"{self.crate.name}: not proved as it stands: {lines[-1]}")
+
+    def check(self, edits, targets):
+        """What the prover says of these functions with these edits, of all if there are none."""
+        texts = edited(self.crate, edits)
+        if texts is None:
+            return None, [f"{' '.join(it.name for it in edits)}: an edit does not fit"]
+        if not self.kept:
+            return check(self.crate, texts, targets)
+        with tempfile.TemporaryDirectory(prefix="edits-") as room:
+            linked(self.kept, f"{room}/kept")
+            return check(self.crate, texts, targets, f"{room}/kept")
 
     def settle(self, edit, word, why=""):
         self.fates[edit] = word
@@ -227,7 +265,7 @@ class Tries:
         """Tries edits of different functions at once; gives those to try later, and those to try
         alone."""
         targets = {it: it.target(it.function) for it in edits}
-        status, lines = check(self.crate, edits, targets.values())
+        status, lines = self.check(edits, targets.values())
         if status not in (0, 1) and len(edits) > 1:
             half = len(edits) // 2
             first, second = self.together(edits[:half]), self.together(edits[half:])
@@ -249,9 +287,9 @@ class Tries:
     def alone(self, edit):
         known = None not in edit.functions
         targets = [edit.target(it) for it in edit.functions] if known else []
-        status, lines = check(self.crate, [edit], targets)
+        status, lines = self.check([edit], targets)
         if targets and status in (0, 2):
-            status, lines = check(self.crate, [edit], [])
+            status, lines = self.check([edit], [])
         is_open = any(it[2] != "proved" for it in map(VERDICT.match, lines) if it)
         if status == 1 and (is_open or lines[-1].startswith("logic=not-proved")):
             why = next((it for it in lines if re.match(r"(note: )?\S+:\d+:\d+:", it)), "")
@@ -263,13 +301,17 @@ class Tries:
         else:
             self.settle(edit, f"UNKNOWN (status {status})", " ".join(lines[-3:]))
 
-    def run(self, pool):
+    def run(self, pool, room):
+        if len(self.edits) >= FEW:
+            pool.submit(self.keep, room).result()
         left = [it for it in self.edits if it.is_in_one]
         alone = [it for it in self.edits if not it.is_in_one]
         while left:
             results = list(pool.map(self.together, batches(left)))
             left = [it for masked, _ in results for it in masked]
             alone += [it for _, single in results for it in single]
+        for edit in alone:
+            self.say(f"{edit.name}: left")
         list(pool.map(self.alone, alone))
 
 
@@ -291,7 +333,8 @@ def main():
     tries = [Tries(root, it, say, skips) for it in options.crates]
     with concurrent.futures.ThreadPoolExecutor(options.jobs) as pool:
         with concurrent.futures.ThreadPoolExecutor(len(tries)) as crates:
-            list(crates.map(lambda it: it.run(pool), tries))
+            with tempfile.TemporaryDirectory(prefix="kept-") as room:
+                list(crates.map(lambda it: it.run(pool, room), tries))
     fates = [it.fates.get(edit, "UNKNOWN") for it in tries for edit in it.edits]
     good = sum(it.startswith("refused") for it in fates)
     say(f"{good} of {len(fates)} edits refused")
