@@ -97,7 +97,10 @@ fn are_all_there(buffered: &[Part], part: &Part) -> bool
 fn first_segment<'a>(buffered: &'a [Part], part: &'a Part) -> Option<&'a Segment>
     ensures { segment_in (option_copied result) ≡ segment_of (part_in 1 (gathered_parts part.now buffered.now)) }
 {
-    find_part(buffered, part, 1)?.segment.as_ref()
+    match &find_part(buffered, part, 1)?.segment {
+        Some(segment) => Some(&**segment),
+        None => None,
+    }
 }
 
 /// Copies of the pairs of all parts, in order.

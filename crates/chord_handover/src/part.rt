@@ -1,7 +1,7 @@
 //! Parts of handovers.
 ghost use Rattle.std.specs.Prelude.{◌≡◌, ◌↔◌, IsTrue, IfOk};
 ghost use Rattle.chord_handover.specs.Handover.{IsFilled, parts_in, chunk};
-ghost use Rattle.chord_handover.specs.Known.{segment_in};
+ghost use Rattle.chord_handover.specs.Known.{boxed_in};
 
 use crate::payload::copy_pairs;
 use crate::ticket::Ticket;
@@ -13,7 +13,8 @@ use std::marker::Model;
 /// The most pairs in a part.
 pub const PART_PAIRS: usize = 64;
 
-/// One of the parts of a handover, counted from 1. The first has the segment.
+/// One of the parts of a handover, counted from 1. The first has the segment, in a box: messages
+/// are moved often, and only this one would be large.
 #[derive(Debug, Drop)]
 pub struct Part {
     pub from: u64,
@@ -21,19 +22,19 @@ pub struct Part {
     pub number: u64,
     pub place: u64,
     pub of: u64,
-    pub segment: Option<Segment>,
+    pub segment: Option<Box<Segment>>,
     pub pairs: Vec<Pair>,
 }
 
 impl Model for Part {
     ghost use Rattle.chord_handover.specs.Handover.{Part as PartOf, IsPart};
-    ghost use Rattle.chord_handover.specs.Known.{segment_in};
+    ghost use Rattle.chord_handover.specs.Known.{boxed_in};
 
     ghost Value = { PartOf };
 
-    ghost view = { λ part. record { from = part.from; to = part.to; number = part.number; place = part.place; of = part.of; segment = segment_in part.segment; pairs = part.pairs.items } };
+    ghost view = { λ part. record { from = part.from; to = part.to; number = part.number; place = part.place; of = part.of; segment = boxed_in part.segment; pairs = part.pairs.items } };
 
-    ghost invariant = { λ part. IsPart (record { from = part.from; to = part.to; number = part.number; place = part.place; of = part.of; segment = segment_in part.segment; pairs = part.pairs.items }) };
+    ghost invariant = { λ part. IsPart (record { from = part.from; to = part.to; number = part.number; place = part.place; of = part.of; segment = boxed_in part.segment; pairs = part.pairs.items }) };
 }
 
 impl Part {
@@ -64,8 +65,9 @@ impl Part {
     pub fn try_copy(&self) -> Result<Part, AllocError>
         ensures { IfOk result (λ copy. copy ≡ self.now) }
     {
-        let segment = copy_segment(&self.segment)?;
-        let pairs = copy_pairs(*self.pairs.allocator(), &self.pairs)?;
+        let alloc = *self.pairs.allocator();
+        let segment = copy_segment(alloc, &self.segment)?;
+        let pairs = copy_pairs(alloc, &self.pairs)?;
         Ok(Part {
             from: self.from,
             to: self.to,
@@ -79,21 +81,24 @@ impl Part {
 }
 
 /// An equal copy of a segment, if there is one.
-pub fn copy_segment(segment: &Option<Segment>) -> Result<Option<Segment>, AllocError>
-    ensures { IfOk result (λ copy. segment_in copy ≡ segment_in segment.now) }
+pub fn copy_segment(
+    alloc: Global,
+    segment: &Option<Box<Segment>>,
+) -> Result<Option<Box<Segment>>, AllocError>
+    ensures { IfOk result (λ copy. boxed_in copy ≡ boxed_in segment.now) }
 {
     match segment {
         Some(segment) => {
             let copy = segment.try_copy()?;
-            Ok(Some(copy))
+            Ok(Some(Box::new(alloc, copy)?))
         }
         None => Ok(None),
     }
 }
 
 /// Whether both segments are equal, or both are `None`.
-fn same_segments(first: &Option<Segment>, second: &Option<Segment>) -> bool
-    ensures { IsTrue result ↔ (segment_in first.now ≡ segment_in second.now) }
+fn same_segments(first: &Option<Box<Segment>>, second: &Option<Box<Segment>>) -> bool
+    ensures { IsTrue result ↔ (boxed_in first.now ≡ boxed_in second.now) }
 {
     match (first, second) {
         (Some(first), Some(second)) => first.equals(second),

@@ -1,7 +1,7 @@
 //! Payloads of handovers.
 ghost use Rattle.std.specs.Prelude.{◌≡◌, ◌≤◌, ◌==◌, if◌then◌else◌, Some, None, IfOk};
 ghost use Rattle.chord_handover.specs.Handover.{parts_in, part_at};
-ghost use Rattle.chord_handover.specs.Known.{segment_in};
+ghost use Rattle.chord_handover.specs.Known.{boxed_in};
 ghost use Rattle.chord_handover.specs.Payload.{IsPayload, handover_of_payload};
 
 use crate::part::{Part, copy_chunk, count_parts};
@@ -68,8 +68,9 @@ impl Payload {
         requires within { part ≤ parts_in self.now.pairs }
         ensures { IfOk result (λ found. found ≡ part_at (handover_of_payload ticket self.now) part) }
     {
-        let segment = self.segment_for(part)?;
-        let pairs = copy_chunk(*self.pairs.allocator(), &self.pairs, part)?;
+        let alloc = *self.pairs.allocator();
+        let segment = self.segment_for(alloc, part)?;
+        let pairs = copy_chunk(alloc, &self.pairs, part)?;
         Ok(Part {
             from: ticket.from,
             to: ticket.to,
@@ -82,14 +83,14 @@ impl Payload {
     }
 
     /// A copy of the segment for the first part; none for the others.
-    fn segment_for(&self, part: u64) -> Result<Option<Segment>, AllocError>
-        ensures { IfOk result (λ segment. segment_in segment ≡ (if part == 1 then Some self.now.segment else None)) }
+    fn segment_for(&self, alloc: Global, part: u64) -> Result<Option<Box<Segment>>, AllocError>
+        ensures { IfOk result (λ segment. boxed_in segment ≡ (if part == 1 then Some self.now.segment else None)) }
     {
         if part != 1 {
             return Ok(None);
         }
         let copy = self.segment.try_copy()?;
-        Ok(Some(copy))
+        Ok(Some(Box::new(alloc, copy)?))
     }
 
     /// An equal copy.

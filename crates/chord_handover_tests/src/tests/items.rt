@@ -56,7 +56,7 @@ fn only_part(alloc: Global) -> Option<Part> {
         number: 1,
         place: 1,
         of: 1,
-        segment: Some(segment),
+        segment: Some(Box::new(alloc, segment).ok()?),
         pairs,
     })
 }

@@ -56,13 +56,15 @@ pub fn pairs_of(alloc: Global, row: PartRow) -> Result<Vec<Pair>, AllocError> {
     Ok(pairs)
 }
 
-fn with_pairs(alloc: Global, row: PartRow, pairs: Vec<Pair>) -> Part
+/// The part of this row. Only the first has the segment.
+fn with_pairs(row: PartRow, segment: Box<Segment>, pairs: Vec<Pair>) -> Part
     requires low { 1 ≤ row.place }
     requires high { row.place ≤ row.of }
 {
     let segment = if row.place == 1 {
-        Some(Segment::empty(alloc, CIRCLE))
+        Some(segment)
     } else {
+        drop(segment);
         None
     };
     Part {
@@ -76,6 +78,14 @@ fn with_pairs(alloc: Global, row: PartRow, pairs: Vec<Pair>) -> Part
     }
 }
 
+/// An empty segment in a box, made again if memory was refused.
+fn empty_segment(rt: &impl Abort, alloc: Global) -> Box<Segment> {
+    match Box::new(alloc, Segment::empty(alloc, CIRCLE)) {
+        Ok(segment) => segment,
+        Err(_) => Box::new(alloc, Segment::empty(alloc, CIRCLE)).expect(rt, "memory for a segment"),
+    }
+}
+
 /// The part of this row, made again if memory was refused.
 pub fn part_of(rt: &impl Abort, alloc: Global, row: PartRow) -> Part {
     assert!(rt;
@@ -86,7 +96,8 @@ pub fn part_of(rt: &impl Abort, alloc: Global, row: PartRow) -> Part {
         Ok(pairs) => pairs,
         Err(_) => pairs_of(alloc, row).expect(rt, "memory for pairs"),
     };
-    with_pairs(alloc, row, pairs)
+    let segment = empty_segment(rt, alloc);
+    with_pairs(row, segment, pairs)
 }
 
 /// Whether the values of these pairs under `abc` are the numbers from 0 on.

@@ -31,7 +31,7 @@ pub(crate) fn prepare_give<S: EntryStore>(
         number: ticket.number,
         place: 1,
         of,
-        segment: Some(copy),
+        segment: Some(Box::new(alloc, copy)?),
         pairs: first,
     };
     Ok((part, pairs))

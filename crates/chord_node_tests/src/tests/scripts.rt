@@ -295,13 +295,21 @@ fn resend<S: EntryStore>(node: &Node<S>, to: u64, number: u64, place: u64) -> Ou
     }
 }
 
+/// An empty segment in a box, made again if memory was refused.
+fn empty_segment(rt: &impl Abort, alloc: Global, span: Span) -> Box<Segment> {
+    match Box::new(alloc, Segment::empty(alloc, span)) {
+        Ok(segment) => segment,
+        Err(_) => Box::new(alloc, Segment::empty(alloc, span)).expect(rt, "memory for a segment"),
+    }
+}
+
 fn empty_part(rt: &impl Abort, alloc: Global, part: EmptyPart) -> Part {
     assert!(rt;
         1 <= part.place && part.place <= part.of,
         "parts are counted from 1"
     );
     let segment = if part.place == 1 {
-        Some(Segment::empty(alloc, part.span))
+        Some(empty_segment(rt, alloc, part.span))
     } else {
         None
     };
