@@ -45,10 +45,7 @@ impl<J: Naming> ActorSeat<J> {
     {
         let _ = after;
         let word = self.word;
-        table
-            .table
-            .shared
-            .fetch_add::<Local<E>>(&mut self.seat, word, 1);
+        table.table.shared.load::<Local<E>>(&mut self.seat, word);
     }
 
     /// Records an event and sends its message. The proof names the new state by `E.actor`.
