@@ -22,7 +22,7 @@ pub use table::command::Command;
 pub use table::command_of;
 pub use table::denied::Denied;
 pub use table::refusal::{Progress, Refusal};
-pub use table::verb::Verb;
+pub use table::verb::{Verb, is_text};
 pub use writing::arrays::{put_bulks, put_integers};
 pub use writing::lines::{put_bulk, put_count, put_error, put_integer, put_null, put_simple};
 pub use writing::refusals::{put_refusal, refusal_text};

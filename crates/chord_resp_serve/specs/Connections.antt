@@ -8,13 +8,12 @@ use Rattle.chord_serve.specs.Question.{Question}
 use Rattle.chord_resp.specs.declared.reading.protocol_error.ProtocolError.{ProtocolError}
 use Rattle.chord_resp.specs.declared.reading.word.Word.{Word}
 use Rattle.chord_resp.specs.declared.table.refusal.Refusal.TheVariants as refusal
-use Rattle.chord_resp.specs.declared.table.verb.Verb.{Verb}
 use Rattle.chord_resp.specs.declared.table.verb.Verb.TheVariants as verb
 use Rattle.chord_resp.specs.Machine.{State, start}
 use Rattle.chord_resp.specs.Reading.{Reading, Open, Broken, reading, with_commands, is_at_start}
 use Rattle.chord_resp.specs.Answers.{error}
 use Rattle.chord_resp.specs.Refusals.{refusal_text}
-use Rattle.chord_resp.specs.Table.{verb_of}
+use Rattle.chord_resp.specs.Table.{is_text, verb_text}
 use Rattle.chord_resp_serve.specs.declared.about.About.{About}
 use Rattle.chord_resp_serve.specs.declared.flow.Flow.{Flow}
 use Rattle.chord_resp_serve.specs.declared.flow.Flow.TheVariants as flow
@@ -25,14 +24,10 @@ use Rattle.chord_resp_serve.specs.Words.{AnswersWords}
 abbrev pub first_numbers : Numbers
 first_numbers = record { asked = 0; pending = None }
 
-abbrev pub is_info : Option Verb → Bool
-is_info (Some verb.Info) = true
-is_info _ = false
-
 -- whether the words are those of INFO
 abbrev pub asks_info : List Word → Bool
 asks_info [] = false
-asks_info (name ∷ words) = is_info (verb_of name)
+asks_info (name ∷ words) = is_text name (verb_text verb.Info)
 
 -- nothing more was read: the next command has come so far
 abbrev pub open_at : State → Reading

@@ -11,7 +11,7 @@ use crate::flow::Flow;
 use crate::informs::Informs;
 use crate::numbers::Numbers;
 use crate::words::answer_words;
-use chord_resp::{Commands, ProtocolError, ReadError, Refusal, Verb, Words, put_refusal};
+use chord_resp::{Commands, ProtocolError, ReadError, Refusal, Verb, Words, is_text, put_refusal};
 use chord_serve::{Asker, Dialogue, Due, Served};
 use std::alloc::{AllocError, Global};
 
@@ -38,7 +38,7 @@ fn asks_info(words: &Words) -> bool
 {
     match words.as_slice() {
         [] => false,
-        [name, ..] => Verb::of_word(name) == Some(Verb::Info),
+        [name, ..] => is_text(name, Verb::Info.text()),
     }
 }
 

@@ -1,6 +1,6 @@
 //! The table of commands.
 use chord_map::{Bytes, Values};
-use chord_resp::{Command, Commands, Denied, Verb, Word, command_of, refusal_text};
+use chord_resp::{Command, Commands, Denied, Verb, Word, command_of, is_text, refusal_text};
 use std::alloc::{AllocError, Global};
 use std::process::Abort;
 
@@ -366,4 +366,24 @@ fn verbs_of_words(rt: HostRuntime) {
     );
     assert!(rt; Verb::Smembers.takes(1), "a key follows");
     assert!(rt; !Verb::Smembers.takes(2), "and nothing else");
+}
+
+/// Whether a word of these bytes is the text.
+fn is_the_text(alloc: Global, bytes: &[u8], text: &[u8]) -> Option<bool> {
+    let word = Word::Whole(Bytes::from_slice(alloc, bytes).ok()?);
+    let is_so = is_text(&word, text);
+    drop(word);
+    Some(is_so)
+}
+
+#[test]
+fn words_that_are_texts(rt: HostRuntime) {
+    let alloc = rt.alloc();
+    let both_cases = is_the_text(alloc, b"iNFo", b"info");
+    assert!(rt; both_cases == Some(true), "in both cases");
+    let other = is_the_text(alloc, b"ping", b"info");
+    assert!(rt; other == Some(false), "another text");
+    let part = is_the_text(alloc, b"inf", b"info");
+    assert!(rt; part == Some(false), "a part of it");
+    assert!(rt; !is_text(&Word::Long(4097), b"info"), "a long word");
 }
