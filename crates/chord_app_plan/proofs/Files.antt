@@ -1,5 +1,5 @@
 -- What is read of a file is all of it, or more than a plan may have.
-use Rattle.std.proofs.Common.{◌≡◌, ℕ, zero, suc, ◌<◌, List, [], ◌∷◌, ◌++◌, length, take, Option, Some, None, option_map, Result, Ok, Err, refl, sym, ap, subst, ◌∙◌, arith, inl}
+use Rattle.std.proofs.Common.{◌≡◌, ℕ, zero, suc, ◌<◌, List, [], ◌∷◌, ◌++◌, length, take, Option, Some, None, option_map, Result, Ok, Err, refl, sym, ap, subst, ◌∙◌, arith, inl, inr}
 use Rattle.std.specs.Prelude.{IfSome, IfOk, IfErr, IsErrAnd, IsOkUnless, ◌≤◌}
 use Rattle.std.specs.Io.Take.{take_limit, take_inner, take_remaining}
 use Rattle.std.specs.declared.io.Take.{Take}
@@ -74,3 +74,34 @@ pub refused : (n : ℕ) (bytes : Option (List ℕ)) (document : List ℕ) (resul
     → (n < length document → result ≡ Err TooLong) → IfSome bytes (λ all. n < length all → IsErrAnd result IsTooLongOrNotRead)
 refused n None document result h long = tt
 refused n (Some all) document result h long = λ more. too_long result (long (subst (λ (d : List ℕ). n < length d) (sym h) (take_long n all more)))
+
+not_read : (result : Result Plan PlanFault) → IsErrAnd result IsNotRead → IfErr result IsNotRead
+not_read (Ok plan) h = tt
+not_read (Err fault) h = h
+
+read_or_long : (result : Result Plan PlanFault) → IsErrAnd result IsNotRead → IsErrAnd result IsTooLongOrNotRead
+read_or_long (Ok plan) h = h
+read_or_long (Err fault) h = inr h
+
+-- the same of what was read, or of the fault of reading it
+module _ {V E : Type 0} (items : V → List ℕ) (n : ℕ) where
+  pub whole_read : (bytes : Option (List ℕ)) (read : Result V E) (result : Result Plan PlanFault) → IfOk read (λ v. IfSome bytes (λ all. items v ≡ take (suc n) all))
+      → IfOk read (λ v. IfOk result (IsPlanOf (items v))) → IfOk read (λ v. n < length (items v) → result ≡ Err TooLong) → IfErr read (λ e. IsErrAnd result IsNotRead)
+      → IfOk result (λ plan. IfSome bytes (λ all. IsPlanOf all plan))
+  whole_read bytes (Ok v) result h value long unread = whole n bytes (items v) result h value long
+  whole_read bytes (Err e) (Ok plan) h value long unread = absurd unread
+  whole_read bytes (Err e) (Err fault) h value long unread = tt
+
+  pub accepted_read : (bytes : Option (List ℕ)) (read : Result V E) (result : Result Plan PlanFault) → IfOk read (λ v. IfSome bytes (λ all. items v ≡ take (suc n) all))
+      → IfOk read (λ v. (plan : Plan) → IsPlanOf (items v) plan → IsPlan plan → length (items v) ≤ n → IsOkUnless result OutOfMemory) → IfErr read (λ e. IsErrAnd result IsNotRead)
+      → IfSome bytes (λ all. (plan : Plan) → IsPlanOf all plan → IsPlan plan → length all ≤ n → IfErr result IsNotRead)
+  accepted_read bytes (Ok v) result h accepts unread = accepted n bytes (items v) result h accepts
+  accepted_read None (Err e) result h accepts unread = tt
+  accepted_read (Some all) (Err e) result h accepts unread = λ plan is keeps short. not_read result unread
+
+  pub refused_read : (bytes : Option (List ℕ)) (read : Result V E) (result : Result Plan PlanFault) → IfOk read (λ v. IfSome bytes (λ all. items v ≡ take (suc n) all))
+      → IfOk read (λ v. n < length (items v) → result ≡ Err TooLong) → IfErr read (λ e. IsErrAnd result IsNotRead)
+      → IfSome bytes (λ all. n < length all → IsErrAnd result IsTooLongOrNotRead)
+  refused_read bytes (Ok v) result h long unread = refused n bytes (items v) result h long
+  refused_read None (Err e) result h long unread = tt
+  refused_read (Some all) (Err e) result h long unread = λ more. read_or_long result unread

@@ -1,5 +1,5 @@
 //! Plans in files.
-ghost use Rattle.std.specs.Prelude.{◌≡◌, ◌+◌, ◌<◌, ◌≤◌, length, take, IfErr, IfOk, IfSome, IsErrAnd};
+ghost use Rattle.std.specs.Prelude.{◌≡◌, ◌+◌, ◌<◌, ◌≤◌, length, take, Err, IfErr, IfOk, IfSome, IsErrAnd, IsOkUnless};
 ghost use Rattle.chord_app_plan.specs.Plan.{IsNotRead, IsPlan, IsPlanOf, IsTooLongOrNotRead};
 ghost use Rattle.chord_app_plan.specs.declared.plan.Plan.{Plan};
 
@@ -32,19 +32,30 @@ fn unread(alloc: Global, path: &str, reason: io::ErrorKind) -> PlanFault
     }
 }
 
+/// The plan in what was read of a file. Faults of reading name this path.
+fn plan_in(alloc: Global, path: &str, read: io::Result<Vec<u8>>) -> Result<Plan, PlanFault>
+    ensures limits { IfOk result IsPlan }
+    ensures value { IfOk read (λ bytes. IfOk result (IsPlanOf bytes.items)) }
+    ensures accepts { IfOk read (λ bytes. (plan : Plan) → IsPlanOf bytes.items plan → IsPlan plan → length bytes.items ≤ PLAN_BYTES → IsOkUnless result PlanFault.OutOfMemory) }
+    ensures long { IfOk read (λ bytes. PLAN_BYTES < length bytes.items → result ≡ Err PlanFault.TooLong) }
+    ensures unread { IfErr read (λ error. IsErrAnd result IsNotRead) }
+{
+    match read {
+        Ok(bytes) => Plan::parse(alloc, bytes.as_slice()),
+        Err(error) => Err(unread(alloc, path, error.kind())),
+    }
+}
+
 /// The plan that is all that the reader gives. Faults of reading name this path.
 pub fn plan_from<R: Read + Drop>(alloc: Global, path: &str, reader: R) -> Result<Plan, PlanFault>
     ensures value { IfOk result (λ plan. IfSome (R.remaining reader) (λ all. IsPlanOf all plan)) }
     ensures limits { IfOk result IsPlan }
 
-    // A plan that keeps the limits is refused for memory, or if the reader fails.
+    // A plan that keeps the limits is refused as not read, or for memory.
     ensures accepts { IfSome (R.remaining reader) (λ all. (plan : Plan) → IsPlanOf all plan → IsPlan plan → length all ≤ PLAN_BYTES → IfErr result IsNotRead) }
     ensures long { IfSome (R.remaining reader) (λ all. PLAN_BYTES < length all → IsErrAnd result IsTooLongOrNotRead) }
 {
-    match read_bytes(alloc, reader) {
-        Ok(bytes) => Plan::parse(alloc, bytes.as_slice()),
-        Err(error) => Err(unread(alloc, path, error.kind())),
-    }
+    plan_in(alloc, path, read_bytes(alloc, reader))
 }
 
 /// The plan in a file.

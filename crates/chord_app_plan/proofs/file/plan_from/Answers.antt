@@ -1,14 +1,14 @@
-use Rattle.chord_app_plan.proofs.Files.{accepted, refused, whole}
+use Rattle.chord_app_plan.proofs.Files.{accepted_read, refused_read, whole_read}
 use Rattle.chord_app_plan.proofs.file.plan_from.Goals as goal
 
-pub returns-in-Ok-clause-value : goal.returns-in-Ok-clause-value
-returns-in-Ok-clause-value g c =
-    whole 1048576 (g.R.Read.remaining c.args.reader) c.as_slice.result.now c.parse.result (rw c.as_slice.ensures.value c.in-Ok.ensures) c.parse.ensures.value c.parse.ensures.long
+pub returns-clause-value : goal.returns-clause-value
+returns-clause-value g c =
+    whole_read (λ v. v.items) 1048576 (g.R.Read.remaining c.args.reader) c.read_bytes.result c.plan_in.result c.read_bytes.ensures c.plan_in.ensures.value c.plan_in.ensures.long c.plan_in.ensures.unread
 
-pub returns-in-Ok-clause-accepts : goal.returns-in-Ok-clause-accepts
-returns-in-Ok-clause-accepts g c =
-    accepted 1048576 (g.R.Read.remaining c.args.reader) c.as_slice.result.now c.parse.result (rw c.as_slice.ensures.value c.in-Ok.ensures) c.parse.ensures.accepts
+pub returns-clause-accepts : goal.returns-clause-accepts
+returns-clause-accepts g c =
+    accepted_read (λ v. v.items) 1048576 (g.R.Read.remaining c.args.reader) c.read_bytes.result c.plan_in.result c.read_bytes.ensures c.plan_in.ensures.accepts c.plan_in.ensures.unread
 
-pub returns-in-Ok-clause-long : goal.returns-in-Ok-clause-long
-returns-in-Ok-clause-long g c =
-    refused 1048576 (g.R.Read.remaining c.args.reader) c.as_slice.result.now c.parse.result (rw c.as_slice.ensures.value c.in-Ok.ensures) c.parse.ensures.long
+pub returns-clause-long : goal.returns-clause-long
+returns-clause-long g c =
+    refused_read (λ v. v.items) 1048576 (g.R.Read.remaining c.args.reader) c.read_bytes.result c.plan_in.result c.read_bytes.ensures c.plan_in.ensures.long c.plan_in.ensures.unread
