@@ -74,16 +74,12 @@ impl<J: Naming> ActorSeat<J> {
         ensures message { result ≡ envelope }
         ensures seat { self.new ≡ record self.old { messages = self.old.messages ++ envelope ∷ [] } }
     {
-        let Envelope {
-            message,
-            seat,
-            of: _,
-        } = envelope;
+        // The message is moved behind the step, so that it is moved once.
         table
             .table
             .shared
-            .join_seat::<Receive>(&mut self.seat, seat);
-        message
+            .join_seat::<Receive>(&mut self.seat, envelope.seat);
+        envelope.message
     }
 
     /// A witness of the caller that the seat shows.
