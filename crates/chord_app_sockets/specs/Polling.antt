@@ -1,5 +1,5 @@
--- Which waits of a connection begin with a poll. Source: our own.
-use Rattle.std.specs.Prelude.{◌+◌, ◌*◌, ◌-◌, ◌==◌, min, Bool, true, false}
+-- Which waits of a connection begin with a poll, and how long a poll is. Source: our own.
+use Rattle.std.specs.Prelude.{ℕ, ◌+◌, ◌*◌, ◌-◌, ◌/◌, ◌^◌, ◌==◌, min, max, Bool, true, false}
 use Rattle.chord_app_sockets.specs.declared.poll_habit.PollHabit.{PollHabit}
 
 -- at first: the first wait does not poll
@@ -27,3 +27,11 @@ without_place h = record { to_sleep = 1; next_sleeps = h.next_sleeps }
 abbrev pub after_sleep : Bool → PollHabit → PollHabit
 after_sleep false h = h
 after_sleep true h = record { to_sleep = h.to_sleep - 1; next_sleeps = h.next_sleeps }
+
+-- how many polls the connections share beside this many places: 64 for each
+abbrev pub polls_of_places : ℕ → ℕ
+polls_of_places most = min (64 * most) (2 ^ 64 - 1)
+
+-- how often a read polls at most where this many connections share the polls: 64 times at least
+abbrev pub share_of_polls : ℕ → ℕ → ℕ
+share_of_polls polls connections = max (polls / max connections 1) 64

@@ -8,9 +8,6 @@ use crate::pollers::Pollers;
 use std::io::{self, ErrorKind, Read};
 use std::net::TcpStream;
 
-/// How often a read polls before it sleeps.
-const POLLS: u64 = 64;
-
 /// A reader that sleeps until bytes come, or until it gives `WouldBlock`, and that can be told to
 /// give `WouldBlock` at once instead.
 pub trait Pollable: Read {
@@ -27,7 +24,6 @@ impl Pollable for &TcpStream {
 /// Reads what a client sends. A busy client sends more as soon as it is answered, and to wake a
 /// thread that sleeps takes longer than that. So a read polls briefly before it sleeps, as
 /// [`PollHabit`] says, if there is a place among those that poll.
-#[derive(Drop)]
 pub struct PollingReader<'p, R> {
     inner: R,
     pollers: &'p Pollers,
@@ -40,11 +36,24 @@ impl<'p, R> PollingReader<'p, R> {
         ensures inner { result.inner ≡ inner }
         ensures habit { result.habit ≡ first_habit }
     {
+        pollers.join();
         PollingReader {
             inner,
             pollers,
             habit: PollHabit::new(),
         }
+    }
+}
+
+impl<R: Drop> Drop for PollingReader<'_, R> {
+    fn drop(self) {
+        let PollingReader {
+            inner,
+            pollers,
+            habit: _,
+        } = self;
+        drop(inner);
+        pollers.part();
     }
 }
 
@@ -56,11 +65,11 @@ fn found_none(read: &io::Result<usize>) -> bool {
     }
 }
 
-/// Reads without sleeping. None if no byte came.
-fn poll<R: Read>(reader: &mut R, buf: &mut [u8]) -> Option<io::Result<usize>>
+/// Reads this many times without sleeping. None if no byte came.
+fn poll<R: Read>(reader: &mut R, buf: &mut [u8], polls: u64) -> Option<io::Result<usize>>
     ensures { IfSome result (λ read. ReadsAtMost read buf.new) }
 {
-    for _ in 0..POLLS {
+    for _ in 0..polls {
         let read = reader.read(buf);
         if !found_none(&read) {
             return Some(read);
@@ -71,12 +80,12 @@ fn poll<R: Read>(reader: &mut R, buf: &mut [u8]) -> Option<io::Result<usize>>
 }
 
 impl<R: Pollable> PollingReader<'_, R> {
-    /// Polls. The stream sleeps again afterwards.
-    fn poll(&mut self, buf: &mut [u8]) -> io::Result<Option<io::Result<usize>>>
+    /// Polls this many times at most. The stream sleeps again afterwards.
+    fn poll(&mut self, buf: &mut [u8], polls: u64) -> io::Result<Option<io::Result<usize>>>
         ensures { IfOk result (λ polled. IfSome polled (λ read. ReadsAtMost read buf.new)) }
     {
         self.inner.set_nonblocking(true)?;
-        let polled = poll(&mut self.inner, buf);
+        let polled = poll(&mut self.inner, buf, polls);
         self.inner.set_nonblocking(false)?;
         self.habit = match polled {
             Some(_) => self.habit.after_find(),
@@ -93,7 +102,7 @@ impl<R: Pollable> PollingReader<'_, R> {
             self.habit = self.habit.without_place();
             return Ok(None);
         }
-        let polled = self.poll(buf);
+        let polled = self.poll(buf, self.pollers.polls());
         self.pollers.leave();
         polled
     }

@@ -230,11 +230,12 @@ impl<R: Read> Pollable for Beside<'_, '_, R> {
 }
 
 /// What is set up for two connections: how many may poll at once, how many polls of the busy one
-/// have no byte, and whether its stream cannot be set back.
+/// and of the other have no byte, and whether the busy one's stream cannot be set back.
 #[derive(Clone, Copy, Debug)]
 struct Setup {
     most: u64,
     empty: u64,
+    other_empty: u64,
     fails: bool,
 }
 
@@ -263,7 +264,7 @@ fn read_busily<R: Read>(setup: Setup, pollers: &Pollers, other: &mut R) {
 fn others_of(setup: Setup) -> Others {
     let nonblocking = Cell::new(false);
     let pollers = Pollers::new(setup.most);
-    let mut client = Client::new(&nonblocking, 0, 0);
+    let mut client = Client::new(&nonblocking, setup.other_empty, 0);
     let mut other = PollingReader::new(&mut client, &pollers);
     read_busily(setup, &pollers, &mut other);
     let _ = gives_byte(&mut other);
@@ -277,6 +278,7 @@ fn others_of(setup: Setup) -> Others {
 const ONE_PLACE: Setup = Setup {
     most: 1,
     empty: 0,
+    other_empty: 0,
     fails: false,
 };
 
@@ -346,6 +348,28 @@ fn no_more_poll_than_there_are_places(rt: HostRuntime) {
         ),
         (
             Setup {
+                most: 4,
+                empty: 127,
+                ..ONE_PLACE
+            },
+            Others {
+                polls: 129,
+                sleeps: 1,
+            },
+        ),
+        (
+            Setup {
+                most: 4,
+                empty: 128,
+                ..ONE_PLACE
+            },
+            Others {
+                polls: 130,
+                sleeps: 1,
+            },
+        ),
+        (
+            Setup {
                 most: 0,
                 ..ONE_PLACE
             },
@@ -358,6 +382,52 @@ fn no_more_poll_than_there_are_places(rt: HostRuntime) {
         let seen = others_of(setup);
         assert!(rt; seen == others, "of {setup:?}: {seen:?}");
     }
+}
+
+/// The other connection's second read comes while the busy one polls. Two share 64 polls a place,
+/// and have 64 each at least. It finds nothing, and its last read sleeps.
+#[test]
+fn connections_share_the_polls_of_all_places(rt: HostRuntime) {
+    for (most, polls) in [(1, 64), (2, 64), (3, 96), (4, 128), (8, 256)] {
+        let seen = others_of(Setup {
+            most,
+            other_empty: u64::MAX,
+            ..ONE_PLACE
+        });
+        let others = Others { polls, sleeps: 3 };
+        assert!(rt; seen == others, "of {most} places: {seen:?}");
+    }
+}
+
+/// Waits for two bytes of a client whose first 255 or 256 polls have no byte, beside four places,
+/// once another connection has come and gone.
+fn waits_alone(empty: u64) -> Reads {
+    let nonblocking = Cell::new(false);
+    let pollers = Pollers::new(4);
+    let mut gone = Client::new(&nonblocking, 0, 0);
+    drop(PollingReader::new(&mut gone, &pollers));
+    let mut client = Client::new(&nonblocking, empty, 0);
+    let mut reader = PollingReader::new(&mut client, &pollers);
+    let first = gives_byte(&mut reader);
+    let second = gives_byte(&mut reader);
+    drop(reader);
+    Reads {
+        bytes: u64::from(first).saturating_add(u64::from(second)),
+        polls: client.polls,
+        sleeps: client.sleeps,
+        is_nonblocking: nonblocking.get(),
+    }
+}
+
+#[test]
+fn a_connection_alone_has_the_polls_of_all_places(rt: HostRuntime) {
+    let seen = waits_alone(255);
+    assert!(rt;
+        is_seen(seen, 2, 256, 1),
+        "a byte at the last poll: {seen:?}"
+    );
+    let seen = waits_alone(256);
+    assert!(rt; is_seen(seen, 2, 256, 2), "256 polls in vain: {seen:?}");
 }
 
 /// How often the second read of a client polls, beside as many places as there are processors.
