@@ -2,6 +2,7 @@
 ghost use Rattle.std.specs.Prelude.{◌≡◌};
 ghost use Rattle.chord_app_ring.specs.declared.fault.ReadFault.TheVariants.{Memory};
 ghost use Rattle.chord_app_ring.specs.declared.fault.RestoreFault.TheVariants as restore;
+ghost use Rattle.chord_app_ring.specs.declared.fault.RingFault.TheVariants as ring;
 ghost use Rattle.chord_app_ring.specs.Faults.{ring_fault};
 
 use chord_app_text::{InsertFault, PairFault};
@@ -45,19 +46,23 @@ pub enum RingFault {
 }
 
 impl From<AllocError> for RingFault {
+    ghost from_gives = { λ _ fault. fault ≡ ring.Memory };
+
     fn from(_refused: AllocError) -> RingFault {
         RingFault::Memory
     }
 }
 
 impl<T: Drop> From<AllocFailed<T>> for RingFault {
+    ghost from_gives = { λ _ fault. fault ≡ ring.Memory };
+
     fn from(_refused: AllocFailed<T>) -> RingFault {
         RingFault::Memory
     }
 }
 
 impl From<ReadFault> for RingFault {
-    ghost from_gives = { λ fault ring. ring ≡ ring_fault fault };
+    ghost from_gives = { λ fault of_ring. of_ring ≡ ring_fault fault };
 
     fn from(fault: ReadFault) -> RingFault {
         match fault {

@@ -1,4 +1,8 @@
 //! How a command ends.
+ghost use Rattle.std.specs.Prelude.{◌≡◌};
+ghost use Rattle.std.specs.IoError.{error_kind};
+ghost use Rattle.chord_app_text.specs.Ends.{finish_of_kind};
+ghost use Rattle.chord_app_text.specs.declared.finish.Finish.TheVariants.{OutOfMemory};
 
 use crate::pair_fault::{InsertFault, PairFault};
 use crate::word_fault::WordFault;
@@ -123,18 +127,24 @@ impl Finish {
 }
 
 impl From<AllocError> for Finish {
+    ghost from_gives = { λ _ finish. finish ≡ OutOfMemory };
+
     fn from(_refused: AllocError) -> Finish {
         Finish::OutOfMemory
     }
 }
 
 impl<T: Drop> From<AllocFailed<T>> for Finish {
+    ghost from_gives = { λ _ finish. finish ≡ OutOfMemory };
+
     fn from(_refused: AllocFailed<T>) -> Finish {
         Finish::OutOfMemory
     }
 }
 
 impl From<io::Error> for Finish {
+    ghost from_gives = { λ error finish. finish ≡ finish_of_kind (error_kind error) };
+
     fn from(error: io::Error) -> Finish {
         if error.kind() == io::ErrorKind::OutOfMemory {
             Finish::OutOfMemory

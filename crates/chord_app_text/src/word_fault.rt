@@ -1,4 +1,6 @@
 //! Why words are no request.
+ghost use Rattle.std.specs.Prelude.{◌≡◌};
+ghost use Rattle.chord_app_text.specs.declared.word_fault.WordFault.TheVariants.{OutOfMemory};
 
 use std::alloc::{AllocError, AllocFailed};
 use std::fmt;
@@ -52,12 +54,16 @@ impl fmt::Display for WordFault {
 }
 
 impl From<AllocError> for WordFault {
+    ghost from_gives = { λ _ fault. fault ≡ OutOfMemory };
+
     fn from(_refused: AllocError) -> WordFault {
         WordFault::OutOfMemory
     }
 }
 
 impl<T: Drop> From<AllocFailed<T>> for WordFault {
+    ghost from_gives = { λ _ fault. fault ≡ OutOfMemory };
+
     fn from(_refused: AllocFailed<T>) -> WordFault {
         WordFault::OutOfMemory
     }

@@ -1,4 +1,6 @@
 //! The words of a line.
+ghost use Rattle.std.specs.Prelude.{◌≡◌};
+ghost use Rattle.chord_app_text.specs.declared.words.LineFault.TheVariants.{OutOfMemory};
 
 use chord_ident::Id;
 use chord_map::Bytes;
@@ -13,12 +15,16 @@ pub enum LineFault {
 }
 
 impl From<AllocError> for LineFault {
+    ghost from_gives = { λ _ fault. fault ≡ OutOfMemory };
+
     fn from(_refused: AllocError) -> LineFault {
         LineFault::OutOfMemory
     }
 }
 
 impl<T: Drop> From<AllocFailed<T>> for LineFault {
+    ghost from_gives = { λ _ fault. fault ≡ OutOfMemory };
+
     fn from(_refused: AllocFailed<T>) -> LineFault {
         LineFault::OutOfMemory
     }

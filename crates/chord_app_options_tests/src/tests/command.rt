@@ -1,12 +1,13 @@
 //! How commands end, the words of lines, and replies on them.
 
+use chord_app_ring::RingFault;
 use chord_app_text::{
     Fault, Finish, Hex, InsertFault, LineFault, PairFault, ReplyText, WordFault, Words,
 };
 use chord_ident::Id;
 use chord_map::{Bytes, Reply, Values};
-use std::alloc::Global;
-use std::io::ErrorKind;
+use std::alloc::{AllocError, Global};
+use std::io::{self, ErrorKind};
 
 const STATUSES: &[(Finish, u8)] = &[
     (Finish::Done, 0),
@@ -22,6 +23,29 @@ fn statuses(rt: HostRuntime) {
     for (finish, status) in STATUSES {
         assert!(rt; finish.status() == *status);
     }
+}
+
+/// Memory that was refused ends a command and the reading of words, and a failed write is told as
+/// that.
+#[test]
+fn refused_memory_is_told_as_that(rt: HostRuntime) {
+    let finish = Finish::from(AllocError);
+    assert!(rt; finish == Finish::OutOfMemory, "of a command");
+    let finish = Finish::from(io::Error::from(ErrorKind::OutOfMemory));
+    assert!(rt; finish == Finish::OutOfMemory, "of a write");
+    let finish = Finish::from(io::Error::from(ErrorKind::BrokenPipe));
+    assert!(rt;
+        finish == Finish::Fault(Fault::Write),
+        "a write that failed"
+    );
+    let fault = WordFault::from(AllocError);
+    assert!(rt; fault == WordFault::OutOfMemory, "of a request's words");
+    let fault = LineFault::from(AllocError);
+    assert!(rt; fault == LineFault::OutOfMemory, "of a line's words");
+    let fault = RingFault::from(AllocError);
+    let is_memory = matches!(&fault, RingFault::Memory);
+    drop(fault);
+    assert!(rt; is_memory, "of an answer of the operator's service");
 }
 
 /// The exit status of a fault, and whether it has this text.
