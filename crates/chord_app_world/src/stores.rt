@@ -1,5 +1,5 @@
 //! Lists of stores.
-ghost use Rattle.std.specs.Prelude.{◌≡◌, [], IfOk};
+ghost use Rattle.std.specs.Prelude.{◌≡◌, ◌++◌, ◌∷◌, [], IfOk, OnOk};
 ghost use Rattle.std.specs.List.{All};
 
 use chord_store::EntryStore;
@@ -9,15 +9,17 @@ use std::alloc::{AllocError, Global};
 pub fn add_store<S: EntryStore>(stores: &mut Vec<S>, store: S) -> Result<(), AllocError>
     requires all { All (λ s. S.content s ≡ []) stores.old.items }
     requires one { S.content store ≡ [] }
-    ensures { All (λ s. S.content s ≡ []) stores.new.items }
+    ensures empty { All (λ s. S.content s ≡ []) stores.new.items }
+    ensures added { OnOk result (stores.new.items ≡ stores.old.items ++ store ∷ []) }
 {
     stores.push(store)?;
     Ok(())
 }
 
-/// The stores that have no pair.
+/// The stores that have no pair, in order.
 pub fn empty_ones<S: EntryStore>(alloc: Global, stores: Vec<S>) -> Result<Vec<S>, AllocError>
-    ensures { IfOk result (λ kept. All (λ s. S.content s ≡ []) kept.items) }
+    ensures empty { IfOk result (λ kept. All (λ s. S.content s ≡ []) kept.items) }
+    ensures all { All (λ s. S.content s ≡ []) stores.items → IfOk result (λ kept. kept.items ≡ stores.items) }
 {
     let mut kept = Vec::new(alloc);
     for store in stores {
