@@ -4,6 +4,7 @@ ghost use Rattle.std.specs.IoError.{error_kind};
 ghost use Rattle.chord_app_text.specs.Ends.{finish_of_kind};
 ghost use Rattle.chord_app_text.specs.declared.finish.Finish.TheVariants.{OutOfMemory};
 
+use crate::grammar_fault::GrammarFault;
 use crate::pair_fault::{InsertFault, PairFault};
 use crate::word_fault::WordFault;
 use std::alloc::{AllocError, AllocFailed};
@@ -13,8 +14,8 @@ use std::{fmt, io};
 /// Why a command can't go on.
 #[derive(Clone, Copy, Debug, PartialEq, Eq)]
 pub enum Fault {
-    /// This line, from 1, is outside the grammar.
-    Line(u64),
+    /// This line of the console, from 1, is outside the grammar.
+    Line { line: u64, why: GrammarFault },
     /// This line, from 1, is no request.
     Request { line: u64, why: WordFault },
     Read,
@@ -50,7 +51,7 @@ pub enum Fault {
 impl fmt::Display for Fault {
     fn fmt<W: fmt::Write>(&self, f: &mut fmt::Formatter<W>) -> fmt::Result {
         match self {
-            Fault::Line(number) => write!(f, "fault line {number}"),
+            Fault::Line { line, why } => write!(f, "fault line {line}\n{why}"),
             Fault::Request { line, why } => write!(f, "fault line {line}\n{why}"),
             Fault::Read => write!(f, "fault read"),
             Fault::Write => write!(f, "fault write"),

@@ -1,7 +1,8 @@
 //! The words of a line.
 ghost use Rattle.std.specs.Prelude.{◌≡◌};
-ghost use Rattle.chord_app_text.specs.declared.words.LineFault.TheVariants.{OutOfMemory};
+ghost use Rattle.chord_app_text.specs.declared.words.LineFault.TheVariants.{Grammar, OutOfMemory};
 
+use crate::grammar_fault::GrammarFault;
 use chord_ident::Id;
 use chord_map::Bytes;
 use std::alloc::{AllocError, AllocFailed, Global};
@@ -10,8 +11,16 @@ use std::alloc::{AllocError, AllocFailed, Global};
 #[derive(Clone, Copy, Debug, PartialEq, Eq)]
 pub enum LineFault {
     /// It is outside the grammar.
-    Grammar,
+    Grammar(GrammarFault),
     OutOfMemory,
+}
+
+impl From<GrammarFault> for LineFault {
+    ghost from_gives = { λ why fault. fault ≡ Grammar why };
+
+    fn from(why: GrammarFault) -> LineFault {
+        LineFault::Grammar(why)
+    }
 }
 
 impl From<AllocError> for LineFault {
@@ -34,18 +43,24 @@ impl<T: Drop> From<AllocFailed<T>> for LineFault {
 #[derive(Clone, Copy, Debug)]
 pub struct Words<'a> {
     rest: Option<&'a str>,
+    /// How many words were read.
+    read: u64,
 }
 
 impl<'a> Words<'a> {
     /// The words of a line.
     pub fn new(line: &'a str) -> Words<'a> {
-        Words { rest: Some(line) }
+        Words {
+            rest: Some(line),
+            read: 0,
+        }
     }
 
     /// The next word.
     pub fn word(&mut self) -> Result<&'a str, LineFault> {
+        self.read = self.read.saturating_add(1);
         let Some(rest) = self.rest else {
-            return Err(LineFault::Grammar);
+            return Err(GrammarFault::Missing(self.read).into());
         };
         match rest.split_once(' ') {
             Some((word, rest)) => {
@@ -62,7 +77,7 @@ impl<'a> Words<'a> {
     /// Succeeds if there is no further word.
     pub fn end(&self) -> Result<(), LineFault> {
         match self.rest {
-            Some(_) => Err(LineFault::Grammar),
+            Some(_) => Err(GrammarFault::TooMany(self.read.saturating_add(1)).into()),
             None => Ok(()),
         }
     }
@@ -75,13 +90,14 @@ impl<'a> Words<'a> {
     /// A number: decimal, without leading zeros, at most 2^64 - 1.
     pub fn number(&mut self) -> Result<u64, LineFault> {
         let word = self.word()?;
+        let wrong = GrammarFault::NoNumber(self.read);
         let first = word.as_bytes().first().copied();
         if first == Some(b'+') || (first == Some(b'0') && word.len() != 1) {
-            return Err(LineFault::Grammar);
+            return Err(wrong.into());
         }
         match word.parse::<u64>() {
             Ok(number) => Ok(number),
-            Err(_) => Err(LineFault::Grammar),
+            Err(_) => Err(wrong.into()),
         }
     }
 
@@ -90,7 +106,7 @@ impl<'a> Words<'a> {
         let word = self.word()?;
         match Id::of_hex(word) {
             Ok(id) => Ok(id),
-            Err(_) => Err(LineFault::Grammar),
+            Err(_) => Err(GrammarFault::NoIdentifier(self.read).into()),
         }
     }
 
@@ -101,13 +117,16 @@ impl<'a> Words<'a> {
             return Ok(Bytes::from_vec(Vec::new(alloc)));
         }
         let digits = word.as_bytes();
+        let wrong = GrammarFault::NoBytes(self.read);
         if digits.is_empty() || digits.len() % 2 != 0 {
-            return Err(LineFault::Grammar);
+            return Err(wrong.into());
         }
         let mut bytes = Vec::with_capacity(alloc, digits.len() / 2)?;
         let mut high = None;
         for byte in digits {
-            let digit = digit_of(*byte)?;
+            let Some(digit) = digit_of(*byte) else {
+                return Err(wrong.into());
+            };
             high = match high {
                 None => Some(digit << 4),
                 Some(upper) => {
@@ -121,9 +140,7 @@ impl<'a> Words<'a> {
 }
 
 /// The value of a hexadecimal digit.
-fn digit_of(byte: u8) -> Result<u8, LineFault> {
-    match char::from(byte).to_digit(16) {
-        Some(digit) => Ok(digit as u8),
-        None => Err(LineFault::Grammar),
-    }
+fn digit_of(byte: u8) -> Option<u8> {
+    let digit = char::from(byte).to_digit(16)?;
+    Some(digit as u8)
 }

@@ -1,6 +1,6 @@
 //! Lines of the console.
 
-use chord_app_text::{LineFault, Words};
+use chord_app_text::{GrammarFault, LineFault, Words};
 use chord_ident::Id;
 use chord_map::Request;
 use chord_world::Step;
@@ -63,20 +63,32 @@ fn step_of(alloc: Global, word: &str, words: &mut Words) -> Result<Step, LineFau
         "candidate" => candidate(words),
         "rectify" => rectify(words),
         "finger" => finger(words),
-        _ => step_of_one(word, words.number()?),
+        _ => step_of_one(word, words),
     }
 }
 
 /// The step of a line that has this word and one number.
-fn step_of_one(word: &str, number: u64) -> Result<Step, LineFault> {
+fn step_of_one(word: &str, words: &mut Words) -> Result<Step, LineFault> {
     match word {
-        "deliver" => Ok(Step::Deliver { message: number }),
-        "show" => Ok(Step::Show { caller: number }),
-        "drop" => Ok(Step::DropDead { node: number }),
-        "leave" => Ok(Step::Leave { node: number }),
-        "retire" => Ok(Step::Retire { node: number }),
-        "crash" => Ok(Step::Crash { node: number }),
-        _ => Err(LineFault::Grammar),
+        "deliver" => Ok(Step::Deliver {
+            message: words.number()?,
+        }),
+        "show" => Ok(Step::Show {
+            caller: words.number()?,
+        }),
+        "drop" => Ok(Step::DropDead {
+            node: words.number()?,
+        }),
+        "leave" => Ok(Step::Leave {
+            node: words.number()?,
+        }),
+        "retire" => Ok(Step::Retire {
+            node: words.number()?,
+        }),
+        "crash" => Ok(Step::Crash {
+            node: words.number()?,
+        }),
+        _ => Err(GrammarFault::NoLine.into()),
     }
 }
 

@@ -4,7 +4,7 @@ ghost use Rattle.std.specs.List.{All};
 
 use crate::line::Line;
 use crate::refusal::name_of;
-use chord_app_text::{Fault, Finish, LineFault, ReplyText};
+use chord_app_text::{Fault, Finish, GrammarFault, LineFault, ReplyText};
 use chord_map::Done;
 use chord_node::Holder;
 use chord_store::EntryStore;
@@ -136,7 +136,7 @@ fn written(wrote: io::Result<()>) -> Result<(), Finish> {
 fn read_line(alloc: Global, line: &[u8]) -> Result<Line, LineFault> {
     match str::from_utf8(line) {
         Ok(text) => Line::read(alloc, text),
-        Err(_) => Err(LineFault::Grammar),
+        Err(_) => Err(GrammarFault::NoText.into()),
     }
 }
 
@@ -149,7 +149,10 @@ impl<S: EntryStore> WorldSession<S> {
         self.lines = self.lines.saturating_add(1);
         let line = match read_line(self.alloc, &self.line) {
             Ok(line) => line,
-            Err(LineFault::Grammar) => return Err(Finish::Fault(Fault::Line(self.lines))),
+            Err(LineFault::Grammar(why)) => {
+                let line = self.lines;
+                return Err(Finish::Fault(Fault::Line { line, why }));
+            }
             Err(LineFault::OutOfMemory) => return Err(Finish::OutOfMemory),
         };
         self.line.clear();

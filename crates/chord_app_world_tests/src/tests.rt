@@ -2,7 +2,7 @@
 ghost use Rattle.std.specs.Prelude.{◌≡◌, [], IfOk};
 ghost use Rattle.std.specs.List.{All};
 
-use chord_app_text::{Fault, Finish};
+use chord_app_text::{Fault, Finish, GrammarFault};
 use chord_app_world::{add_store, empty_ones, world};
 use chord_ident::Id;
 use chord_map::Bytes;
@@ -27,7 +27,14 @@ const DONE: Option<Ran> = Some((Finish::Done, true));
 fn runs<S: EntryStore>(alloc: Global, stores: Vec<S>, script: &str, wanted: &str) -> Ran
     requires { All (λ s. S.content s ≡ []) stores.items }
 {
-    let mut reader = script.as_bytes();
+    runs_bytes(alloc, stores, script.as_bytes(), wanted)
+}
+
+/// Runs the script of these bytes over these stores.
+fn runs_bytes<S: EntryStore>(alloc: Global, stores: Vec<S>, script: &[u8], wanted: &str) -> Ran
+    requires { All (λ s. S.content s ≡ []) stores.items }
+{
+    let mut reader = script;
     let mut written: Vec<u8> = Vec::new(alloc);
     let finish = world(alloc, stores, &mut reader, &mut written);
     (finish, written.as_slice() == wanted.as_bytes())
@@ -35,9 +42,14 @@ fn runs<S: EntryStore>(alloc: Global, stores: Vec<S>, script: &str, wanted: &str
 
 /// Runs the script over one list store.
 fn over_a_list(alloc: Global, script: &str, wanted: &str) -> Option<Ran> {
+    bytes_over_a_list(alloc, script.as_bytes(), wanted)
+}
+
+/// Runs the script of these bytes over one list store.
+fn bytes_over_a_list(alloc: Global, script: &[u8], wanted: &str) -> Option<Ran> {
     let mut stores = Vec::new(alloc);
     add_store(&mut stores, ListStore::new(alloc)).ok()?;
-    Some(runs(alloc, stores, script, wanted))
+    Some(runs_bytes(alloc, stores, script, wanted))
 }
 
 /// A list of one store with room for one pair.
@@ -156,38 +168,69 @@ fn sessions_over_one_pair(rt: HostRuntime) {
     }
 }
 
+/// The session ends at this line, from 1, which is outside the grammar, and wrote the right lines
+/// before that.
+fn stops_at(line: u64, why: GrammarFault) -> Option<Ran> {
+    Some((Finish::Fault(Fault::Line { line, why }), true))
+}
+
 #[test]
 fn bad_line(rt: HostRuntime) {
     let script =
         "create 40000000000000000000000000000000\ncreat 80000000000000000000000000000000\n";
     let ran = over_a_list(rt.alloc(), script, "node 0\n");
-    assert!(rt; ran == Some((Finish::Fault(Fault::Line(2)), true)));
+    assert!(rt; ran == stops_at(2, GrammarFault::NoLine));
 }
 
-/// Lines outside the grammar.
-const NO_LINES: &[&str] = &[
-    "\n",
-    "create\n",
-    "history \n",
-    " history\n",
-    "caller 01\n",
-    "caller +1\n",
-    "deliver 18446744073709551616\n",
-    "retrieve 0 0 6\n",
-    "retrieve 0 0 6g\n",
-    "retrieve 0 0\n",
-    "history\r\n",
-    "create 4000000000000000000000000000000\n",
+/// Lines outside the grammar, and which word is wrong in each.
+const NO_LINES: &[(&str, GrammarFault)] = &[
+    ("\n", GrammarFault::NoLine),
+    (" history\n", GrammarFault::NoLine),
+    ("history\r\n", GrammarFault::NoLine),
+    ("History\n", GrammarFault::NoLine),
+    ("deliver\t0\n", GrammarFault::NoLine),
+    ("creat 1 2 3\n", GrammarFault::NoLine),
+    ("create\n", GrammarFault::Missing(2)),
+    ("deliver\n", GrammarFault::Missing(2)),
+    ("retrieve 0 0\n", GrammarFault::Missing(4)),
+    ("insert 0 0 61\n", GrammarFault::Missing(5)),
+    ("history \n", GrammarFault::TooMany(2)),
+    ("caller 1 2\n", GrammarFault::TooMany(3)),
+    ("retrieve 0 0 61 78\n", GrammarFault::TooMany(5)),
+    ("resend 0 0 1 2\n", GrammarFault::TooMany(5)),
+    ("caller 01\n", GrammarFault::NoNumber(2)),
+    ("caller +1\n", GrammarFault::NoNumber(2)),
+    ("caller  1\n", GrammarFault::NoNumber(2)),
+    ("deliver 18446744073709551616\n", GrammarFault::NoNumber(2)),
+    ("meet 0 x\n", GrammarFault::NoNumber(3)),
+    ("part 0 1 2 -1\n", GrammarFault::NoNumber(5)),
+    (
+        "create 4000000000000000000000000000000\n",
+        GrammarFault::NoIdentifier(2),
+    ),
+    (
+        "cut 0 0 4000000000000000000000000000000g\n",
+        GrammarFault::NoIdentifier(4),
+    ),
+    ("retrieve 0 0 6\n", GrammarFault::NoBytes(4)),
+    ("retrieve 0 0 6g\n", GrammarFault::NoBytes(4)),
+    ("remove 0 0 61 --\n", GrammarFault::NoBytes(5)),
 ];
 
 /// Each of these lines is the first of its script, and ends the session.
 #[test]
 fn lines_outside_the_grammar(rt: HostRuntime) {
-    let fault = Finish::Fault(Fault::Line(1));
-    for line in NO_LINES {
+    for (line, why) in NO_LINES {
         let ran = over_a_list(rt.alloc(), line, "");
-        assert!(rt; ran == Some((fault, true)), "{line}");
+        assert!(rt; ran == stops_at(1, *why), "{line}: {ran:?}");
     }
+}
+
+/// The lines before one that is not UTF-8 are done.
+#[test]
+fn a_line_that_is_no_text(rt: HostRuntime) {
+    let ran = bytes_over_a_list(rt.alloc(), b"caller\nhistory \xff\n", "caller 0\n");
+    assert!(rt; ran == stops_at(2, GrammarFault::NoText));
 }
 
 fn over_no_store(alloc: Global, script: &str, wanted: &str) -> Ran {

@@ -24,7 +24,7 @@ fn bytes_of(alloc: Global, word: &str, wrong: WordFault) -> Result<Bytes, WordFa
     };
     match Words::new(digits).bytes(alloc) {
         Ok(bytes) => Ok(bytes),
-        Err(LineFault::Grammar) => Err(wrong),
+        Err(LineFault::Grammar(_)) => Err(wrong),
         Err(LineFault::OutOfMemory) => Err(WordFault::OutOfMemory),
     }
 }
