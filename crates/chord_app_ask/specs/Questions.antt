@@ -1,10 +1,12 @@
 -- Requests that may change something, and how often they are sent. Source: our own.
-use Rattle.std.specs.Prelude.{◌≡◌, ℕ, Bool, true, false, not, ◌&&◌, ◌||◌, ◌==◌, nat_le, if◌then◌else◌, Option, Some, None}
+use Rattle.std.specs.Prelude.{◌≡◌, ◌⊎◌, ℕ, ◌+◌, ◌-◌, ◌^◌, min, Bool, true, false, not, ◌&&◌, ◌||◌, ◌==◌, nat_le, if◌then◌else◌, Option, Some, None}
 use Rattle.chord_map.specs.declared.request.Request.{Request}
 use Rattle.chord_map.specs.declared.request.Request.TheVariants.{Insert, Retrieve, Remove}
 use Rattle.chord_app_ask.specs.declared.ask.outcome.AskOutcome.{AskOutcome}
 use Rattle.chord_app_ask.specs.declared.ask.outcome.AskOutcome.TheVariants as outcome
 use Rattle.chord_app_ask.specs.declared.ask.outcome.AskOutcome.TheVariants.{Lost}
+use Rattle.chord_serve.specs.ClientState.{ClientState}
+use Rattle.chord_serve.specs.InFlight.{is_full, with_sent}
 use Rattle.chord_wire.specs.declared.answer.Answer.{Answer}
 use Rattle.chord_wire.specs.declared.answer.Answer.TheVariants as answer
 use Rattle.chord_wire.specs.declared.fault.FaultCode.TheVariants as code
@@ -19,6 +21,21 @@ may_change (Remove key value) = true
 -- open now.
 abbrev pub IsSentOnce : Request → Option ℕ → ℕ → Option AskOutcome → Type 0
 IsSentOnce request number times outcome = may_change request ≡ true → outcome ≡ None → number ≡ None → times ≡ 0
+
+-- a request with no outcome that has no number in the open session
+abbrev pub IsUnsent : Option ℕ → Option AskOutcome → Type 0
+IsUnsent number outcome = (outcome ≡ None) × (number ≡ None)
+
+-- The client sent the request under its next number. That is the request's number now, and it
+-- counts as sent once more.
+pub record IsCounted (request : Request) (before : ℕ) (old : ClientState) (number : Option ℕ) (times : ℕ) (new : ClientState) : Type 0 where
+  pub sent : new ≡ with_sent old request
+  pub numbered : number ≡ Some new.last
+  pub counted : times ≡ min (before + 1) (2 ^ 32 - 1)
+
+-- the client's window is full, or its numbers are spent
+abbrev pub MaySendNoMore : ClientState → Type 0
+MaySendNoMore client = (is_full client ≡ true) ⊎ (client.last + 1 ≡ 2 ^ 64)
 
 -- Once its session ended, a request with no answer is given up if it has no tries left, or if it was
 -- sent and may have changed something.

@@ -2,6 +2,7 @@
 //! exist.
 
 mod asks;
+mod clocks;
 mod loads;
 mod loopback;
 mod sessions;

@@ -1,8 +1,8 @@
 //! A request and its progress.
-ghost use Rattle.std.specs.Prelude.{◌≡◌, ◌≢◌, ◌⊎◌, ◌↔◌, ◌+◌, ◌-◌, ◌^◌, ◌&&◌, IsTrue, None, Some, true, false, min, nat_lt, is_some, not};
+ghost use Rattle.std.specs.Prelude.{◌≡◌, ◌≢◌, ◌⊎◌, ◌↔◌, ◌+◌, ◌&&◌, IsTrue, None, Some, Ok, true, false, nat_lt, is_some, not, IfErr};
 ghost use Rattle.std.specs.Option.{option_copied};
 ghost use Rattle.chord_map.specs.Checked.{IsRequest};
-ghost use Rattle.chord_app_ask.specs.Questions.{may_change, is_lost, may_pass, outcome_given_up, outcome_refused, outcome_of, outcome_after_loss, IsSentOnce};
+ghost use Rattle.chord_app_ask.specs.Questions.{may_change, is_lost, may_pass, outcome_given_up, outcome_refused, outcome_of, outcome_after_loss, IsSentOnce, IsUnsent, IsCounted, MaySendNoMore};
 
 use crate::ask::link::{Link, LinkState};
 use crate::ask::outcome::AskOutcome;
@@ -81,7 +81,11 @@ impl Question {
         ensures sent { self.old.number ≢ None → self.new ≡ self.old }
         ensures done { self.old.outcome ≢ None → self.new ≡ self.old }
         ensures same { (self.new.request ≡ self.old.request) × (self.new.outcome ≡ self.old.outcome) }
-        ensures counted { (self.new ≡ self.old) ⊎ ((is_some self.new.number ≡ true) × (self.new.times ≡ min (self.old.times + 1) (2 ^ 32 - 1))) }
+        ensures counted { ((self.new ≡ self.old) × (link.new.client ≡ link.old.client)) ⊎ IsCounted self.old.request self.old.times link.old.client self.new.number self.new.times link.new.client }
+        ensures open { result ≡ Ok LinkState.Open → IsUnsent self.old.number self.old.outcome → is_some self.new.number ≡ true }
+        ensures broken { result ≡ Ok LinkState.Broken → self.new.number ≡ None → MaySendNoMore link.old.client }
+        ensures no_other { result ≢ Ok LinkState.CallersSpent }
+        ensures memory { IfErr result (λ end. (end ≡ Finish.OutOfMemory) × IsUnsent self.old.number self.old.outcome) }
     {
         if self.outcome.is_some() || self.number.is_some() {
             return Ok(LinkState::Open);

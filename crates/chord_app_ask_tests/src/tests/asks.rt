@@ -202,6 +202,55 @@ fn a_connection_without_a_caller(rt: HostRuntime) {
     }
 }
 
+/// This many letters.
+fn letters(alloc: Global, count: usize) -> Option<String> {
+    String::from_utf8(vec![in alloc; b'a'; count].ok()?).ok()
+}
+
+/// Asks these lines and then one of this many letters.
+fn asks_behind<R: Threads + Clock + Net<Listener = TcpListener, Stream = TcpStream> + Sync>(
+    rt: &R,
+    alloc: Global,
+    lines: &str,
+    count: usize,
+    wanted: &str,
+) -> Option<Asked> {
+    let line = letters(alloc, count)?;
+    let input = format!(in alloc; "{lines}{line}\n");
+    drop(line);
+    let input = input.ok()?;
+    let asking = Asking::Lines(input.as_str(), wanted);
+    let asked = asks_one_that_ends(rt, alloc, (2, 3), asking, 1, &ADDED);
+    drop(input);
+    asked
+}
+
+/// The command ends at this line, from 1, which is no request.
+fn stops_at(line: u64, why: WordFault) -> Result<Finish, Finish> {
+    Err(Finish::Fault(Fault::Request { line, why }))
+}
+
+/// A line has 16,384 bytes at most. The request before a longer one is asked.
+#[test]
+fn a_line_that_is_too_long(rt: HostRuntime) {
+    let alloc = rt.alloc();
+    let longest = asks_behind(&rt, alloc, "", 16_384, "");
+    assert!(rt;
+        longest == Some((stops_at(1, WordFault::NoOperation), true)),
+        "a line of 16,384 bytes is read"
+    );
+    let longer = asks_behind(&rt, alloc, "", 16_385, "");
+    assert!(rt;
+        longer == Some((stops_at(1, WordFault::LineLong), true)),
+        "one of 16,385 is too long"
+    );
+    let second = asks_behind(&rt, alloc, "insert abc x\n", 16_385, "added\n");
+    assert!(rt;
+        second == Some((stops_at(2, WordFault::LineLong), true)),
+        "the request before it is asked"
+    );
+}
+
 /// A retrieve whose connection ended goes over another one, until it has no tries left.
 #[test]
 fn a_retrieve_is_asked_again(rt: HostRuntime) {
@@ -281,7 +330,7 @@ fn words_that_are_no_request(rt: HostRuntime) {
 
 /// The fault of a key of 256 bytes, and that of a value of 4,097.
 fn faults_of_long_words(alloc: Global) -> Option<(WordFault, WordFault)> {
-    let long = String::from_utf8(vec![in alloc; b'a'; 4_097].ok()?).ok()?;
+    let long = letters(alloc, 4_097)?;
     let key = long.as_str().get(..256)?;
     let of_key = fault_of(read_words(alloc, &["retrieve", key]));
     let of_value = fault_of(read_words(alloc, &["insert", "a", long.as_str()]));
@@ -333,4 +382,22 @@ fn are_lines(alloc: Global, wanted: &str) -> Option<bool> {
 fn outcomes_as_lines(rt: HostRuntime) {
     let wanted = "setfull\nfull\nnoanswer\nfault 8\ncallersspent\nlost\n";
     assert!(rt; are_lines(rt.alloc(), wanted) == Some(true));
+}
+
+/// Whether this outcome is a reply.
+fn is_reply(outcome: AskOutcome) -> bool {
+    let is_reply = outcome.is_reply();
+    drop(outcome);
+    is_reply
+}
+
+#[test]
+fn outcomes_that_are_replies(rt: HostRuntime) {
+    assert!(rt; is_reply(AskOutcome::Reply(Reply::Added)));
+    assert!(rt; is_reply(AskOutcome::Reply(Reply::SetFull)));
+    assert!(rt; !is_reply(AskOutcome::Full));
+    assert!(rt; !is_reply(AskOutcome::NoAnswer));
+    assert!(rt; !is_reply(AskOutcome::Fault(FaultCode::NumberReused)));
+    assert!(rt; !is_reply(AskOutcome::CallersSpent));
+    assert!(rt; !is_reply(AskOutcome::Lost));
 }

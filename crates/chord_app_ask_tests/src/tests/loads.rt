@@ -1,7 +1,7 @@
 //! The command `load`, over loopback, and its histogram.
 
 use crate::tests::loopback::bound;
-use chord_app_ask::{Histogram, Kind, Load, Report, Until, run_load};
+use chord_app_ask::{Drops, Histogram, Kind, Load, Report, Tokens, Until, run_load};
 use chord_app_text::{Fault, Finish};
 use std::alloc::Global;
 use std::io::ErrorKind;
@@ -55,6 +55,45 @@ fn shares_of_connections(rt: HostRuntime) {
     for (connection, share) in [(0, 3), (1, 3), (2, 2), (3, 2)] {
         assert!(rt; load.share(connection) == share);
     }
+}
+
+/// Values are of one load alone where it inserts some of 16 bytes at least, in sessions whose
+/// connections are cut.
+#[test]
+fn values_that_nobody_else_inserts(rt: HostRuntime) {
+    let tokens = Tokens::new(&rt).expect(&rt, "random bytes");
+    let unique = Load {
+        value_size: 16,
+        tokens: Some(tokens),
+        drops: Some(Drops { every: 10, seed: 1 }),
+        ..load_of(1, Kind::Insert, 10)
+    };
+    assert!(rt; unique.has_unique_values(), "16 bytes are enough");
+    let longest = Load {
+        value_size: 4096,
+        ..unique
+    };
+    assert!(rt; longest.has_unique_values(), "and so are more");
+    let short = Load {
+        value_size: 15,
+        ..unique
+    };
+    assert!(rt; !short.has_unique_values(), "15 bytes are too few");
+    let retrieves = Load {
+        kind: Kind::Retrieve,
+        ..unique
+    };
+    assert!(rt; !retrieves.has_unique_values(), "nothing is inserted");
+    let uncut = Load {
+        drops: None,
+        ..unique
+    };
+    assert!(rt; !uncut.has_unique_values(), "no connection is cut");
+    let without_sessions = Load {
+        tokens: None,
+        ..unique
+    };
+    assert!(rt; !without_sessions.has_unique_values(), "no session goes on");
 }
 
 /// Checks that the report is written as this table.

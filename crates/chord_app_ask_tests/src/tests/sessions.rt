@@ -162,7 +162,7 @@ fn tokens_differ(rt: HostRuntime) {
 }
 
 /// Loads, and then ends a server that still waits for clients, of which it takes this many.
-fn loads_and_ends<
+pub fn loads_and_ends<
     R: Threads + Wait + Clock + Net<Listener = TcpListener, Stream = TcpStream> + Sync,
 >(
     rt: &R,
