@@ -1,4 +1,6 @@
 //! The command line of `ask`.
+ghost use Rattle.std.specs.Prelude.{IfOk, IfSome};
+ghost use Rattle.chord_map.specs.Checked.{IsRequest};
 
 use crate::faults::{fault_of, print_fault};
 use crate::number::{NumberOption, WrongNumber};
@@ -6,6 +8,7 @@ use crate::parts::with_argument;
 use crate::shared::{no_session_option, port_of, port_option, wants_session};
 use chord_app_ask::{ClientOptions, Tokens, ask_lines, ask_one, read_words};
 use chord_app_text::{Finish, WordFault};
+use chord_map::Request;
 use clap::{Arg, ArgMatches, Command};
 use std::alloc::{AllocError, Global};
 use std::fmt;
@@ -94,6 +97,21 @@ pub fn client_options_of(alloc: Global, found: &ArgMatches) -> Result<ClientOpti
     }
 }
 
+/// The request on the command line, if there is one, or the fault of its first wrong word.
+pub fn request_of(alloc: Global, found: &ArgMatches) -> Result<Option<Request>, clap::Error>
+    ensures { IfOk result (λ request. IfSome request IsRequest) }
+{
+    let words = match found.get_strs("request") {
+        Some(words) if !words.is_empty() => words,
+        _ => return Ok(None),
+    };
+    match read_words(alloc, words) {
+        Ok(request) => Ok(Some(request)),
+        Err(WordFault::OutOfMemory) => Err(clap::Error::from(AllocError)),
+        Err(why) => Err(wrong(alloc, &why)),
+    }
+}
+
 /// The options with tokens, if there are to be sessions, which are of version 2.
 fn with_tokens(
     rt: &HostRuntime,
@@ -123,12 +141,9 @@ pub fn start_ask<R: Net<Stream = TcpStream> + Clock>(
     };
     let client_options = with_tokens(rt, found, client_options)?;
     let mut writer = rt.stdout();
-    match found.get_strs("request") {
-        Some(words) if !words.is_empty() => match read_words(alloc, words) {
-            Ok(request) => ask_one(net, alloc, client_options, request, &mut writer),
-            Err(WordFault::OutOfMemory) => Err(Finish::OutOfMemory),
-            Err(why) => print_fault(rt, wrong(alloc, &why)),
-        },
-        _ => ask_lines(net, alloc, client_options, &mut rt.stdin(), &mut writer),
+    match request_of(alloc, found) {
+        Ok(Some(request)) => ask_one(net, alloc, client_options, request, &mut writer),
+        Ok(None) => ask_lines(net, alloc, client_options, &mut rt.stdin(), &mut writer),
+        Err(fault) => print_fault(rt, fault),
     }
 }

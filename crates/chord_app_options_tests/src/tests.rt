@@ -6,18 +6,21 @@ use chord_app_text::Finish;
 
 mod ask_lines;
 mod command;
+mod faults;
 mod lines;
 mod load_lines;
 mod ring_lines;
 mod serve_lines;
 mod starts;
 
+/// What is written where the command line has no command.
+const NO_COMMAND: &str =
+    "error: 'chord' requires a subcommand but one was not provided\n  [subcommands: world, run, serve, ask, load, ring, help]\n\nUsage: chord <COMMAND>\n\nFor more information, try '--help'.\n";
+
 /// A command line without a command is refused, with this text and status.
 #[test]
 fn a_command_is_wanted(rt: HostRuntime) {
-    let wanted =
-        "error: 'chord' requires a subcommand but one was not provided\n  [subcommands: world, run, serve, ask, load, ring, help]\n\nUsage: chord <COMMAND>\n\nFor more information, try '--help'.\n";
-    assert!(rt; prints(rt.alloc(), "chord", wanted) == Some((true, 2)));
+    assert!(rt; prints(rt.alloc(), "chord", NO_COMMAND) == Some((true, 2)));
 }
 
 #[test]

@@ -1,7 +1,8 @@
 //! The command line of `ask`.
 
 use crate::tests::lines::{ReadLine, prints_usage, read_line, refused};
-use chord_app_options::{client_options_of, wants_session};
+use chord_app_options::{client_options_of, request_of, wants_session};
+use chord_map::Request;
 use clap::ArgMatches;
 use std::alloc::Global;
 
@@ -126,5 +127,84 @@ fn faults_of_ask(rt: HostRuntime) {
     ] {
         let printed = prints_usage(rt.alloc(), line, text, USAGE);
         assert!(rt; printed == Some((true, 2)), "{line}");
+    }
+}
+
+/// A request whose words are wrong is told as such: which word, and what may stand there.
+#[test]
+fn faults_of_requests(rt: HostRuntime) {
+    for (line, text) in [
+        (
+            "chord ask --port 1 add a x",
+            "error: word 1 of the request is not insert, retrieve or remove",
+        ),
+        (
+            "chord ask --port 1 retrieve",
+            "error: word 2 of the request is missing: a key",
+        ),
+        (
+            "chord ask --port 1 insert a",
+            "error: word 3 of the request is missing: a value",
+        ),
+        (
+            "chord ask --port 1 retrieve a x",
+            "error: word 3 of the request is too much: a retrieve has only a key",
+        ),
+        (
+            "chord ask --port 1 remove a x y",
+            "error: word 4 of the request is too much: a value is the last word",
+        ),
+        (
+            "chord ask --port 1 retrieve x:0g",
+            "error: word 2 of the request is no key: behind x: come pairs of hexadecimal digits",
+        ),
+        (
+            "chord ask --port 1 insert a x:0",
+            "error: word 3 of the request is no value: behind x: come pairs of hexadecimal digits",
+        ),
+        (
+            "chord ask --port 1 retrieve x:-",
+            "error: word 2 of the request is no key: a key has 1 to 255 bytes",
+        ),
+    ] {
+        let printed = prints_usage(rt.alloc(), line, text, USAGE);
+        assert!(rt; printed == Some((true, 2)), "{line}");
+    }
+}
+
+/// What the request on a line is.
+#[derive(Clone, Copy, Debug, PartialEq, Eq)]
+enum RequestLine {
+    Nothing,
+    /// The insert of `x` under `a`.
+    InsertsX,
+    Other,
+}
+
+impl ReadLine for RequestLine {
+    fn read(alloc: Global, _name: &str, found: &ArgMatches) -> Option<RequestLine> {
+        let request = request_of(alloc, found).ok()?;
+        let is = match &request {
+            None => RequestLine::Nothing,
+            Some(Request::Insert { key, value })
+                if key.as_slice() == b"a".as_slice() && value.as_slice() == b"x".as_slice() => {
+                RequestLine::InsertsX
+            }
+            Some(_) => RequestLine::Other,
+        };
+        drop(request);
+        Some(is)
+    }
+}
+
+#[test]
+fn requests_of_ask(rt: HostRuntime) {
+    for (line, wanted) in [
+        ("chord ask --port 1", RequestLine::Nothing),
+        ("chord ask --port 1 insert a x", RequestLine::InsertsX),
+        ("chord ask insert x:61 x:78 --port 1", RequestLine::InsertsX),
+    ] {
+        let request = read_line::<RequestLine>(rt.alloc(), line);
+        assert!(rt; request == Some(wanted), "{line}: {request:?}");
     }
 }

@@ -2,7 +2,8 @@
 
 use chord_app_ring::RingFault;
 use chord_app_text::{
-    Fault, Finish, Hex, InsertFault, LineFault, PairFault, ReplyText, WordFault, Words,
+    Fault, Finish, GrammarFault, Hex, InsertFault, LineFault, PairFault, ReplyText, WordFault,
+    Words,
 };
 use chord_ident::Id;
 use chord_map::{Bytes, Reply, Values};
@@ -25,8 +26,8 @@ fn statuses(rt: HostRuntime) {
     }
 }
 
-/// Memory that was refused ends a command and the reading of words, and a failed write is told as
-/// that.
+/// Memory that was refused ends a command and the reading of words; a failed write and a wrong word
+/// are told as that.
 #[test]
 fn refused_memory_is_told_as_that(rt: HostRuntime) {
     let finish = Finish::from(AllocError);
@@ -42,6 +43,11 @@ fn refused_memory_is_told_as_that(rt: HostRuntime) {
     assert!(rt; fault == WordFault::OutOfMemory, "of a request's words");
     let fault = LineFault::from(AllocError);
     assert!(rt; fault == LineFault::OutOfMemory, "of a line's words");
+    let fault = LineFault::from(GrammarFault::NoLine);
+    assert!(rt;
+        fault == LineFault::Grammar(GrammarFault::NoLine),
+        "a wrong word is told as that"
+    );
     let fault = RingFault::from(AllocError);
     let is_memory = matches!(&fault, RingFault::Memory);
     drop(fault);
@@ -55,16 +61,8 @@ fn tells(alloc: Global, fault: Fault, wanted: &str) -> Option<(u8, bool)> {
 }
 
 const TEXTS: &[(Fault, &str)] = &[
-    (Fault::Line(7), "fault line 7"),
     (Fault::Read, "fault read"),
     (Fault::Write, "fault write"),
-    (
-        Fault::Request {
-            line: 7,
-            why: WordFault::NoKey,
-        },
-        "fault line 7\nword 2 of the request is missing: a key",
-    ),
     (
         Fault::Listen {
             port: 7,
@@ -87,6 +85,11 @@ const TEXTS: &[(Fault, &str)] = &[
         },
         "fault connect\nport 7 of 127.0.0.1: connection refused",
     ),
+    (
+        Fault::NoSession { port: 7 },
+        "fault session\nport 7 of 127.0.0.1: no session begins there; a server that keeps none is asked with --no-session",
+    ),
+    (Fault::Doubled(2), "fault doubled 2"),
     (Fault::Unanswered(3), "fault unanswered 3"),
     (Fault::Clock, "fault clock"),
     (
@@ -127,7 +130,95 @@ const TEXTS: &[(Fault, &str)] = &[
 #[test]
 fn texts_of_faults(rt: HostRuntime) {
     for (fault, wanted) in TEXTS {
-        assert!(rt; tells(rt.alloc(), *fault, wanted) == Some((1, true)));
+        let told = tells(rt.alloc(), *fault, wanted);
+        assert!(rt; told == Some((1, true)), "{wanted}");
+    }
+}
+
+/// What is told where line 7 of the console is outside the grammar.
+const GRAMMAR_TEXTS: &[(GrammarFault, &str)] = &[
+    (GrammarFault::NoText, "fault line 7\nthe line is not UTF-8"),
+    (
+        GrammarFault::NoLine,
+        "fault line 7\nword 1 names no line of the console",
+    ),
+    (GrammarFault::Missing(2), "fault line 7\nword 2 is missing"),
+    (GrammarFault::TooMany(3), "fault line 7\nword 3 is too much"),
+    (
+        GrammarFault::NoNumber(4),
+        "fault line 7\nword 4 is no number from 0 to 18446744073709551615 without leading zeros",
+    ),
+    (
+        GrammarFault::NoIdentifier(5),
+        "fault line 7\nword 5 is no identifier: 32 hexadecimal digits",
+    ),
+    (
+        GrammarFault::NoBytes(6),
+        "fault line 7\nword 6 is no pairs of hexadecimal digits, nor - for no byte",
+    ),
+];
+
+#[test]
+fn texts_of_lines_outside_the_grammar(rt: HostRuntime) {
+    for (why, wanted) in GRAMMAR_TEXTS {
+        let fault = Fault::Line { line: 7, why: *why };
+        let told = tells(rt.alloc(), fault, wanted);
+        assert!(rt; told == Some((1, true)), "{wanted}");
+    }
+}
+
+/// What is told where line 7 of `ask` is no request.
+const REQUEST_TEXTS: &[(WordFault, &str)] = &[
+    (WordFault::NoText, "fault line 7\nthe line is not UTF-8"),
+    (
+        WordFault::LineLong,
+        "fault line 7\nthe line has more than 16384 bytes",
+    ),
+    (
+        WordFault::NoOperation,
+        "fault line 7\nword 1 of the request is not insert, retrieve or remove",
+    ),
+    (
+        WordFault::NoKey,
+        "fault line 7\nword 2 of the request is missing: a key",
+    ),
+    (
+        WordFault::NoValue,
+        "fault line 7\nword 3 of the request is missing: a value",
+    ),
+    (
+        WordFault::ValueOfRetrieve,
+        "fault line 7\nword 3 of the request is too much: a retrieve has only a key",
+    ),
+    (
+        WordFault::FourthWord,
+        "fault line 7\nword 4 of the request is too much: a value is the last word",
+    ),
+    (
+        WordFault::KeyDigits,
+        "fault line 7\nword 2 of the request is no key: behind x: come pairs of hexadecimal digits",
+    ),
+    (
+        WordFault::ValueDigits,
+        "fault line 7\nword 3 of the request is no value: behind x: come pairs of hexadecimal digits",
+    ),
+    (
+        WordFault::KeyLength,
+        "fault line 7\nword 2 of the request is no key: a key has 1 to 255 bytes",
+    ),
+    (
+        WordFault::ValueLength,
+        "fault line 7\nword 3 of the request is no value: a value has at most 4096 bytes",
+    ),
+    (WordFault::OutOfMemory, "fault line 7\nout of memory"),
+];
+
+#[test]
+fn texts_of_lines_that_are_no_request(rt: HostRuntime) {
+    for (why, wanted) in REQUEST_TEXTS {
+        let fault = Fault::Request { line: 7, why: *why };
+        let told = tells(rt.alloc(), fault, wanted);
+        assert!(rt; told == Some((1, true)), "{wanted}");
     }
 }
 
@@ -138,19 +229,24 @@ fn words_of_a_line(rt: HostRuntime) {
     let all = [words.word(), words.word(), words.word()];
     assert!(rt; all == [Ok("insert"), Ok(""), Ok("7")]);
     assert!(rt; (words.has_more(), words.end()) == (false, Ok(())));
-    assert!(rt; words.word() == Err(LineFault::Grammar));
+    let missing = LineFault::Grammar(GrammarFault::Missing(4));
+    assert!(rt; words.word() == Err(missing), "the fourth word is missing");
     let more = Words::new("a");
-    assert!(rt; (more.has_more(), more.end()) == (true, Err(LineFault::Grammar)));
+    let first = LineFault::Grammar(GrammarFault::TooMany(1));
+    assert!(rt; (more.has_more(), more.end()) == (true, Err(first)));
 }
+
+/// The first word is no number.
+const NO_NUMBER: LineFault = LineFault::Grammar(GrammarFault::NoNumber(1));
 
 const NUMBERS: &[(&str, Result<u64, LineFault>)] = &[
     ("0", Ok(0)),
     ("70", Ok(70)),
     ("18446744073709551615", Ok(u64::MAX)),
-    ("18446744073709551616", Err(LineFault::Grammar)),
-    ("07", Err(LineFault::Grammar)),
-    ("+7", Err(LineFault::Grammar)),
-    ("", Err(LineFault::Grammar)),
+    ("18446744073709551616", Err(NO_NUMBER)),
+    ("07", Err(NO_NUMBER)),
+    ("+7", Err(NO_NUMBER)),
+    ("", Err(NO_NUMBER)),
 ];
 
 #[test]
@@ -175,16 +271,16 @@ fn identifiers(rt: HostRuntime) {
     for (line, number) in IDENTIFIERS {
         let read = match number {
             Some(number) => Ok(Id::new(*number)),
-            None => Err(LineFault::Grammar),
+            None => Err(LineFault::Grammar(GrammarFault::NoIdentifier(1))),
         };
         assert!(rt; Words::new(line).id() == read, "{line}");
     }
 }
 
-/// Checks that the line has these bytes.
-fn are_bytes(alloc: Global, line: &str, wanted: &[u8]) -> Option<bool> {
-    let bytes = Words::new(line).bytes(alloc).ok()?;
-    Some(bytes.as_slice() == wanted)
+/// Whether the line has these bytes, or why it has none.
+fn are_bytes(alloc: Global, line: &str, wanted: &[u8]) -> Result<bool, LineFault> {
+    let bytes = Words::new(line).bytes(alloc)?;
+    Ok(bytes.as_slice() == wanted)
 }
 
 /// Lines, and the bytes in them, if any.
@@ -200,8 +296,12 @@ const BYTES: &[(&str, Option<&[u8]>)] = &[
 #[test]
 fn bytes_of_digits(rt: HostRuntime) {
     for (line, wanted) in BYTES {
-        let same = are_bytes(rt.alloc(), line, wanted.unwrap_or(&[]));
-        assert!(rt; same == wanted.map(|_| true), "{line}");
+        let read = are_bytes(rt.alloc(), line, wanted.unwrap_or(&[]));
+        let is_read = match wanted {
+            Some(_) => Ok(true),
+            None => Err(LineFault::Grammar(GrammarFault::NoBytes(1))),
+        };
+        assert!(rt; read == is_read, "{line}");
     }
 }
 

@@ -1,8 +1,8 @@
 //! What command lines say, and what is printed of those that are refused.
 
 use chord_app_options::{
-    client_options_of, commands, load_of, plan_path_of, print_fault, ring_task_of, serve_line_of,
-    stores_of,
+    client_options_of, commands, load_of, plan_path_of, print_fault, request_of, ring_task_of,
+    serve_line_of, stores_of,
 };
 use chord_app_text::Finish;
 use clap::ArgMatches;
@@ -38,13 +38,21 @@ fn words(alloc: Global, line: &'static str) -> Result<Vec<&'static str>, AllocEr
     line.split_whitespace().collect(alloc)
 }
 
+/// The fault of an option of `ask`, or else of its request, if there is one.
+fn fault_of_ask(alloc: Global, found: &ArgMatches) -> Option<clap::Error> {
+    match client_options_of(alloc, found) {
+        Ok(_) => request_of(alloc, found).err(),
+        Err(fault) => Some(fault),
+    }
+}
+
 /// The fault of a value on a line whose words match, if there is one.
 fn fault_of_values(alloc: Global, matches: &ArgMatches) -> Option<clap::Error> {
     let (name, found) = matches.subcommand()?;
     match name {
         "world" => stores_of(alloc, found).err(),
         "serve" => serve_line_of(alloc, found).err(),
-        "ask" => client_options_of(alloc, found).err(),
+        "ask" => fault_of_ask(alloc, found),
         "load" => load_of(alloc, found).err(),
         "ring" => ring_task_of(alloc, found).err(),
         _ => None,
@@ -63,7 +71,7 @@ fn fault_of_words<'a>(alloc: Global, words: &'a [&'static str]) -> Option<clap::
 }
 
 /// The fault of a command line, or its help, if there is one.
-fn fault_of(alloc: Global, line: &'static str) -> Option<clap::Error> {
+pub fn fault_of(alloc: Global, line: &'static str) -> Option<clap::Error> {
     let words = words(alloc, line).ok()?;
     let fault = fault_of_words(alloc, words.as_slice());
     drop(words);

@@ -176,7 +176,8 @@ fn a_port_that_is_no_number(rt: HostRuntime) {
     assert!(rt; printed == Some((true, 2)));
 }
 
-/// At port 0 the system picks one; a client may be idle for 300 seconds unless the line says more.
+/// At port 0 the system picks one; a client may be idle for 300 seconds unless the line says
+/// another number, from 1 to 86,400.
 const IDLE: &[(&str, LineOfP)] = &[
     (
         "chord serve --plan p --port 0 --stay",
@@ -184,6 +185,10 @@ const IDLE: &[(&str, LineOfP)] = &[
             port: Some(0),
             ..AT_7
         },
+    ),
+    (
+        "chord serve --plan p --port 7 --stay --idle 1",
+        LineOfP { idle: 1, ..AT_7 },
     ),
     (
         "chord serve --plan p --port 7 --stay --idle 86400",
@@ -197,6 +202,14 @@ const IDLE: &[(&str, LineOfP)] = &[
 #[test]
 fn the_port_and_idle_clients_of_serve(rt: HostRuntime) {
     say(&rt, rt.alloc(), IDLE);
+    are_refused(
+        &rt,
+        rt.alloc(),
+        &[
+            "chord serve --plan p --port 7 --stay --idle 0",
+            "chord serve --plan p --port 7 --stay --idle 86401",
+        ],
+    );
 }
 
 /// Sessions without a connection are kept for 600 seconds unless the line says another number; for 0
@@ -314,7 +327,7 @@ fn the_size_of_serve(rt: HostRuntime) {
     );
 }
 
-const SERVE_HELP: &str = concat!(
+pub const SERVE_HELP: &str = concat!(
     "Serves clients over loopback, and writes how each connection ended\n",
     "\n",
     "Usage: chord serve [OPTIONS] --plan <FILE> <--port <N>|--redis <N>> <--connections <K>|--stay>\n",
