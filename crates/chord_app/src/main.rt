@@ -138,11 +138,19 @@ fn port_of(door: &Option<OperatorDoor>) -> Option<OperatorPort<'_>> {
 
 /// How many stores a command wants: one for each node of the plan, and, where an operator may make
 /// nodes join, a spare one for each slot that is left.
-fn store_count(plan: &Plan, settings: Settings, options: &Option<ServeOptions<'_>>) -> usize {
+fn store_count(plan: &Plan, settings: Settings, options: Option<&ServeOptions<'_>>) -> usize {
     let nodes = plan.nodes.len();
     match options {
         Some(options) if options.operator.is_some() => settings.slots.max(nodes),
         _ => nodes,
+    }
+}
+
+/// The kind of the store with this number: that of the node, or of spare ones behind the nodes.
+fn store_kind(plan: &Plan, number: usize) -> StoreKind {
+    match plan.nodes.get(number) {
+        Some(node) => node.store,
+        None => plan.spare,
     }
 }
 
@@ -153,14 +161,12 @@ fn start_with_stores<T: Host>(
     threads: &T,
     plan: &Plan,
     settings: Settings,
-    options: Option<ServeOptions<'_>>,
+    options: Option<&ServeOptions<'_>>,
 ) -> Result<Finish, Finish> {
     let alloc = rt.alloc();
-    let mut nodes: Vec<Box<dyn EntryStore + Send>> = Vec::new(alloc);
-    let mut spares: Vec<Box<dyn EntryStore + Send>> = Vec::new(alloc);
-    for number in 0..store_count(plan, settings, &options) {
-        let node = plan.nodes.get(number);
-        let store: Box<dyn EntryStore + Send> = match node.map_or(plan.spare, |node| node.store) {
+    let mut stores: Vec<Box<dyn EntryStore + Send>> = Vec::new(alloc);
+    for number in 0..store_count(plan, settings, options) {
+        let store: Box<dyn EntryStore + Send> = match store_kind(plan, number) {
             StoreKind::Tree => Box::new(alloc, TreeStore::new(alloc))?,
             StoreKind::List => Box::new(alloc, ListStore::new(alloc))?,
             StoreKind::Noted => {
@@ -169,37 +175,38 @@ fn start_with_stores<T: Host>(
             }
             StoreKind::Capped(limit) => Box::new(alloc, CappedStore::new(alloc, limit))?,
         };
-        if node.is_some() {
-            nodes.push(store)?;
-        } else {
-            spares.push(store)?;
-        }
+        stores.push(store)?;
     }
     match options {
-        Some(options) => {
-            let stores = ServerStores { nodes, spares };
-            serve_over(rt, threads, plan, settings, &options, stores)
-        }
-        None => {
-            drop(spares);
-            Ok(run(threads, alloc, plan, nodes, rt.stdout()))
-        }
+        Some(options) => serve_over(rt, threads, plan, settings, options, stores),
+        None => Ok(run(threads, alloc, plan, stores, rt.stdout())),
     }
 }
 
-/// Serves clients over these stores.
+/// The stores of this many nodes, and those behind them as spare ones.
+fn split<S: EntryStore>(stores: Vec<S>, nodes: usize) -> Result<ServerStores<S>, Finish> {
+    let mut nodes_first = stores;
+    let spares = nodes_first.split_off(nodes.min(nodes_first.len()))?;
+    Ok(ServerStores {
+        nodes: nodes_first,
+        spares,
+    })
+}
+
+/// Serves clients over these stores, those of the plan's nodes first.
 fn serve_over<'a, T: Host>(
     rt: &HostRuntime,
     threads: &T,
     plan: &'a Plan,
     settings: Settings,
     options: &'a ServeOptions<'_>,
-    stores: ServerStores<Box<dyn EntryStore + Send>>,
+    stores: Vec<Box<dyn EntryStore + Send>>,
 ) -> Result<Finish, Finish> {
     let Some(doors) = options.doors() else {
         drop(stores);
         return Err(Finish::BadCommandLine);
     };
+    let stores = split(stores, plan.nodes.len())?;
     let setup = ServerSetup {
         alloc: rt.alloc(),
         plan,
@@ -252,7 +259,10 @@ fn start_serve<T: Host>(
         notes: if line.notes { Some(rt) } else { None },
     };
     let settings = plan.settings_with(line.slots, line.callers);
-    start_with_stores(rt, threads, &plan, settings, Some(options))
+    let ended = start_with_stores(rt, threads, &plan, settings, Some(&options));
+    drop(options);
+    drop(plan);
+    ended
 }
 
 /// Does the command `run`.
