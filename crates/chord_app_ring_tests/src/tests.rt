@@ -3,6 +3,7 @@
 mod answers;
 mod both_ends;
 mod dumps;
+mod input_lines;
 mod loopback;
 mod operators;
 mod reading;

@@ -4,7 +4,7 @@ use super::sights::ring;
 use bytes::Bytes;
 use chord_app_operator::{
     CrashRefusal, Fault, JoinRefusal, JoinRequest, LeaveRefusal, Measure, OperatorCall, Pair,
-    PairsRequest, Phase, Refusal, Resource, Site, StoreKind, Verb, pair_lines,
+    PairsRequest, Phase, Refusal, Resource, Site, StoreKind, Total, Verb, pair_lines,
 };
 use chord_ident::Id;
 use http::Request;
@@ -92,6 +92,80 @@ fn measures_are_of_a_node(rt: HostRuntime) -> Result<(), Fail> {
     assert!(rt; told == 100);
     assert!(rt; Measure::Taken.before_node() == "chord_handovers_total{node=\"");
     assert!(rt; Measure::Taken.after_node() == "\",kind=\"taken\"} ");
+    Ok(())
+}
+
+/// What is counted of a server, its number in the ring of these tests, and the line of its metric
+/// up to the number.
+const TOTALS: &[(Total, u64, &str)] = &[
+    (
+        Total::Ended,
+        10,
+        "chord_connections_total{result=\"ended\"} ",
+    ),
+    (
+        Total::Truncated,
+        11,
+        "chord_connections_total{result=\"truncated\"} ",
+    ),
+    (
+        Total::Malformed,
+        12,
+        "chord_connections_total{result=\"malformed\"} ",
+    ),
+    (
+        Total::Protocol,
+        13,
+        "chord_connections_total{result=\"protocol\"} ",
+    ),
+    (Total::Read, 14, "chord_connections_total{result=\"read\"} "),
+    (
+        Total::Write,
+        15,
+        "chord_connections_total{result=\"write\"} ",
+    ),
+    (
+        Total::TurnsSpent,
+        16,
+        "chord_connections_total{result=\"turnsspent\"} ",
+    ),
+    (
+        Total::Memory,
+        17,
+        "chord_connections_total{result=\"memory\"} ",
+    ),
+    (
+        Total::CallersSpent,
+        18,
+        "chord_connections_total{result=\"callersspent\"} ",
+    ),
+    (Total::Idle, 19, "chord_connections_total{result=\"idle\"} "),
+    (Total::Kept, 20, "chord_sessions_kept "),
+    (
+        Total::Resumed,
+        21,
+        "chord_sessions_total{kind=\"resumed\"} ",
+    ),
+    (
+        Total::Dropped,
+        22,
+        "chord_sessions_total{kind=\"dropped\"} ",
+    ),
+    (
+        Total::Refused,
+        23,
+        "chord_sessions_total{kind=\"refused\"} ",
+    ),
+];
+
+#[test]
+fn totals_are_of_a_server(rt: HostRuntime) -> Result<(), Fail> {
+    let sight = ring(rt.alloc())?;
+    for (total, count, before) in TOTALS {
+        assert!(rt; total.of(&sight) == *count, "{total:?}");
+        assert!(rt; total.before_count() == *before, "{total:?}");
+    }
+    drop(sight);
     Ok(())
 }
 

@@ -3,7 +3,7 @@
 use super::loopback::Command;
 use chord_app_operator::PairsRequest;
 use chord_app_ring::{
-    DumpFault, PAGE_TRIES, Page, PageTeller, PageTurn, RingFault, dump, request_behind,
+    DumpFault, PAGE_TRIES, Page, PageTeller, PageTurn, RingFault, dump, id_in, request_behind,
 };
 use chord_app_text::{Fault, Finish};
 use chord_ident::Id;
@@ -141,5 +141,29 @@ fn what_follows_a_page(rt: HostRuntime) {
     ] {
         let after = after.map(Id::new);
         assert!(rt; page.turn(after) == turn, "{after:?}");
+    }
+}
+
+/// Digits, and the identifier that they write, if any.
+const IDENTIFIERS: &[(&[u8], Option<u128>)] = &[
+    (b"00000000000000000000000000000000", Some(0)),
+    (
+        b"C00000000000000000000000000000aB",
+        Some(0xc000_0000_0000_0000_0000_0000_0000_00ab),
+    ),
+    (b"ffffffffffffffffffffffffffffffff", Some(u128::MAX)),
+    (b"", None),
+    (b"c00000000000000000000000000000a", None),
+    (b"c00000000000000000000000000000ab0", None),
+    (b"c00000000000000000000000000000ab00", None),
+    (b"c00000000000000000000000000000ag", None),
+    (b" 0000000000000000000000000000000", None),
+];
+
+#[test]
+fn identifiers_of_digits(rt: HostRuntime) {
+    for (digits, number) in IDENTIFIERS {
+        let id = id_in(digits);
+        assert!(rt; id == number.map(Id::new), "{number:?}: {id:?}");
     }
 }

@@ -1,8 +1,10 @@
 //! What is sent for each command.
 
 use super::streams::MadeStream;
-use chord_app_operator::{CrashRequest, JoinRequest, StoreKind};
-use chord_app_ring::{RingCommand, RingFault, exchange, request_body, request_bytes, request_path};
+use chord_app_operator::{CrashRequest, JoinRequest, PairsRequest, StoreKind};
+use chord_app_ring::{
+    RingCommand, RingFault, exchange, pairs_path, request_body, request_bytes, request_path,
+};
 use chord_ident::Id;
 use http1::{Client, Limits};
 use std::alloc::{AllocError, Global};
@@ -93,6 +95,34 @@ fn paths_and_bodies(rt: HostRuntime) -> Result<(), Fail> {
     let body = request_body(rt.alloc(), &command)?;
     assert!(rt; path.as_str() == "/nodes/7/crash" && body.as_str() == "{\"force\":true}");
     assert!(rt; command.method() == "POST" && command.good_status() == 200);
+    Ok(())
+}
+
+/// Requests for a page of pairs, and the path of each.
+const PAGES: [(PairsRequest, &str); 2] = [
+    (
+        PairsRequest {
+            after: None,
+            limit: 1000,
+        },
+        "/pairs?limit=1000",
+    ),
+    (
+        PairsRequest {
+            after: Some(Id { number: 0xab }),
+            limit: 1,
+        },
+        "/pairs?after=000000000000000000000000000000ab&limit=1",
+    ),
+];
+
+#[test]
+fn paths_of_pages(rt: HostRuntime) -> Result<(), Fail> {
+    for (request, wanted) in PAGES {
+        let path = pairs_path(rt.alloc(), request)?;
+        assert!(rt; path.as_str() == wanted, "{wanted}");
+        drop(path);
+    }
     Ok(())
 }
 
