@@ -28,6 +28,8 @@ pub struct Size {
     pub room: u64,
     /// How many nodes may join the two of the plan.
     pub joining: usize,
+    /// How often a request is sent at most. Each sending is waited for a tenth of a second.
+    pub tries: u64,
     pub speech: Speech,
     /// The keys of the operator's port, if it has one.
     pub operator: Option<RandomState>,
@@ -38,6 +40,7 @@ pub const SMALL: Size = Size {
     callers: 1,
     room: 4,
     joining: 0,
+    tries: 100,
     speech: Speech::Frames,
     operator: None,
 };
@@ -135,10 +138,12 @@ fn serve_on<'a, R: Host, L: Log + Sync>(
     let nodes = two_stores(alloc, size.room)?;
     let doors = listeners.doors(size.speech);
     let operator = listeners.operator_port(size.operator);
+    let mut settings = plan.settings_with(Some(size.joining.saturating_add(2)), None);
+    settings.tries = size.tries;
     let setup = ServerSetup {
         alloc,
         plan,
-        settings: plan.settings_with(Some(size.joining.saturating_add(2)), None),
+        settings,
         doors,
         operator,
         notes,

@@ -1,6 +1,7 @@
 //! Tests, by what they look at.
 
 mod commands;
+mod no_memory;
 mod plan_runs;
 mod servers;
 mod sessions;

@@ -1,20 +1,23 @@
-//! Connections over loopback: how they are made ready, closed slowly, and ended.
+//! Connections over loopback: how they are made ready, told not to sleep, closed slowly, and ended.
 
-use chord_app_sockets::{Clients, close_slowly, prepare};
+use chord_app_sockets::{Clients, Pollable, close_slowly, prepare};
 use std::alloc::Global;
 use std::io::{self, ErrorKind, Read, Write};
 use std::net::{Net, TcpListener, TcpStream};
+use std::sync::atomic::{AtomicBool, Ordering};
 use std::sync::{Arc, Wait};
+use std::thread;
+use std::thread::Threads;
 use std::time::{Clock, Duration};
 
 /// Both ends of a connection.
 #[derive(Drop)]
-struct Ends {
-    client: TcpStream,
-    server: TcpStream,
+pub struct Ends {
+    pub client: TcpStream,
+    pub server: TcpStream,
 }
 
-fn connect<R: Net<Listener = TcpListener, Stream = TcpStream>>(rt: &R) -> io::Result<Ends> {
+pub fn connect<R: Net<Listener = TcpListener, Stream = TcpStream>>(rt: &R) -> io::Result<Ends> {
     let listener = TcpListener::bind(rt, "127.0.0.1:0")?;
     let client = TcpStream::connect(rt, listener.local_addr()?)?;
     let (server, _) = listener.accept()?;
@@ -65,6 +68,69 @@ fn reads_and_writes_give_up(rt: HostRuntime) {
     assert!(rt;
         seen == Some(limited),
         "a read gives up after a tenth of a second, a write after all of them"
+    );
+}
+
+/// What two reads give that begin before a byte is there. The first is not to sleep.
+#[derive(Clone, Copy, Debug, PartialEq, Eq)]
+struct TwoReads {
+    not_to_sleep: Result<usize, ErrorKind>,
+    to_sleep: Result<usize, ErrorKind>,
+}
+
+/// Reads once without sleeping, lets the client know, and reads once more.
+fn read_twice<R: Read + Pollable>(reader: &mut R, has_read: &AtomicBool) -> io::Result<TwoReads> {
+    reader.set_nonblocking(true)?;
+    let not_to_sleep = read_once(reader);
+    has_read.store(true, Ordering::SeqCst);
+    reader.set_nonblocking(false)?;
+    let to_sleep = read_once(reader);
+    Ok(TwoReads {
+        not_to_sleep,
+        to_sleep,
+    })
+}
+
+/// Sends a byte for each read, a while after the first one was done. If that is not done within 5
+/// seconds the bytes are sent all the same, so that the test ends.
+fn send_late<R: Clock>(rt: &R, client: &mut TcpStream, has_read: &AtomicBool) -> io::Result<()> {
+    for _ in 0..500u64 {
+        if has_read.load(Ordering::SeqCst) {
+            break;
+        }
+        thread::sleep(rt, Duration::from_millis(10));
+    }
+    thread::sleep(rt, Duration::from_millis(50));
+    client.write_all(b"xy")
+}
+
+/// What the reads of a connection give, whose client sends late.
+fn two_reads<R: Threads + Clock + Net<Listener = TcpListener, Stream = TcpStream> + Sync>(
+    rt: &R,
+) -> io::Result<TwoReads> {
+    let Ends { mut client, server } = connect(rt)?;
+    let has_read = AtomicBool::new(false);
+    let (reads, sent) = thread::join(
+        rt,
+        || read_twice(&mut &server, &has_read),
+        || send_late(rt, &mut client, &has_read),
+    );
+    drop(server);
+    drop(client);
+    sent?;
+    reads
+}
+
+#[test]
+fn a_stream_is_told_not_to_sleep(rt: HostRuntime) {
+    let wanted = TwoReads {
+        not_to_sleep: Err(ErrorKind::WouldBlock),
+        to_sleep: Ok(1),
+    };
+    let seen = two_reads(&rt).map_err(|error| error.kind());
+    assert!(rt;
+        seen == Ok(wanted),
+        "a read gives up at once, and then waits for its byte: {seen:?}"
     );
 }
 
@@ -123,9 +189,9 @@ fn a_slow_close_loses_no_answer(rt: HostRuntime) {
 /// What a client reads before its connection is ended, and afterwards.
 type Reads = (Result<usize, ErrorKind>, Result<usize, ErrorKind>);
 
-fn read_once(stream: &mut TcpStream) -> Result<usize, ErrorKind> {
+fn read_once<R: Read>(reader: &mut R) -> Result<usize, ErrorKind> {
     let mut byte = [0u8; 1];
-    stream.read(&mut byte).map_err(|error| error.kind())
+    reader.read(&mut byte).map_err(|error| error.kind())
 }
 
 /// A connection that is not removed once all are told to end.

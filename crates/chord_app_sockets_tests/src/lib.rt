@@ -2,6 +2,8 @@
 #![tactic(auto)]
 
 #[cfg(test)]
+mod clients;
+#[cfg(test)]
 mod closing;
 #[cfg(test)]
 mod doors;
@@ -11,3 +13,5 @@ mod ends;
 mod patience;
 #[cfg(test)]
 mod polling;
+#[cfg(test)]
+mod stopping;

@@ -3,13 +3,13 @@
 use crate::tests::players::{Deed, Player, serve_player};
 use crate::tests::stays::WAITS;
 use chord_app_serve_testkit::{
-    Act, Acts, Addresses, Answer, Ask, GOOD, SMALL, Size, do_acts, look_at,
+    Act, Acts, Addresses, Answer, Ask, Found, GOOD, Handle, SMALL, Size, do_acts, look_at,
 };
 use log::sink::Discard;
 use std::alloc::Global;
 use std::hash::RandomState;
-use std::io::{self, Read, Write};
-use std::net::{Net, SocketAddr, TcpStream};
+use std::io::{self, PipeReader, PipeWriter, Read, Write};
+use std::net::{Net, SocketAddr, TcpListener, TcpStream};
 use std::test::Fail;
 use std::thread;
 use std::time::{Clock, Duration};
@@ -332,7 +332,7 @@ const LATER: Acts = &[
 ];
 
 /// Expects that each of these calls is answered as is wanted, at once or after some time.
-fn each_is_answered<R: Net + Clock>(
+pub fn each_is_answered<R: Net + Clock>(
     rt: &R,
     alloc: Global,
     address: SocketAddr,
@@ -344,29 +344,189 @@ fn each_is_answered<R: Net + Clock>(
     }
 }
 
-/// An operator and clients, until the operator stops the server.
-pub fn operate<R: Net + Clock>(rt: &R, alloc: Global, at: Addresses) -> io::Result<()> {
-    let mut streams = Vec::new(alloc);
-    each_is_answered(rt, alloc, at.operator, BEFORE)?;
-    do_acts(rt, alloc, at.frames, &mut streams, CLIENTS)?;
-    for calls in [READ, LEAVE, READ] {
-        each_is_answered(rt, alloc, at.operator, calls)?;
-    }
-    do_acts(rt, alloc, at.frames, &mut streams, LATER)?;
-    each_is_answered(rt, alloc, at.operator, CRASH)
+/// What an operator or clients do next.
+#[derive(Clone, Copy)]
+pub enum Step {
+    /// Each of these calls is answered as is wanted, at once or after some time.
+    Operator(&'static [Call]),
+    Clients(Acts),
 }
+
+/// An operator and clients do these steps, one after another.
+pub fn operate<R: Net + Clock>(
+    rt: &R,
+    alloc: Global,
+    at: Addresses,
+    steps: &[Step],
+) -> io::Result<()> {
+    let mut streams = Vec::new(alloc);
+    for step in steps {
+        match step {
+            Step::Operator(calls) => each_is_answered(rt, alloc, at.operator, calls)?,
+            Step::Clients(acts) => do_acts(rt, alloc, at.frames, &mut streams, acts)?,
+        }
+    }
+    Ok(())
+}
+
+/// What is found at a server of this size, with an operator's port, once these steps are done. It
+/// is to write these lines.
+fn operated<R: Handle + Net<Listener = TcpListener, Stream = TcpStream>>(
+    rt: &R,
+    alloc: Global,
+    (size, keys): (Size, RandomState),
+    steps: &'static [Step],
+    pipe: (PipeReader, PipeWriter),
+    lines: &str,
+) -> Option<Found> {
+    let operator = Some(keys);
+    let player = Player::with_end(Deed::Operate(steps), WAITS, pipe);
+    let played = serve_player(rt, alloc, Size { operator, ..size }, &Discard, player);
+    look_at(alloc, played, lines)
+}
+
+/// A server of two callers.
+const TWO_CALLERS: Size = Size {
+    callers: 2,
+    ..SMALL
+};
+
+/// Node 1 leaves, then node 0 crashes, and the operator stops the server.
+const TO_THE_STOP: &[Step] = &[
+    Step::Operator(BEFORE),
+    Step::Clients(CLIENTS),
+    Step::Operator(READ),
+    Step::Operator(LEAVE),
+    Step::Operator(READ),
+    Step::Clients(LATER),
+    Step::Operator(CRASH),
+];
 
 /// Each call is answered, a node leaves and one crashes, and a stop ends the server.
 #[test]
 fn an_operator_of_a_ring(rt: HostRuntime) -> Result<(), Fail> {
+    let server = (TWO_CALLERS, RandomState::new(&rt)?);
+    let lines = "connection 1 ended\nconnection 0 ended\n";
+    let pipe = io::pipe(&rt)?;
+    let found = operated(&rt, rt.alloc(), server, TO_THE_STOP, pipe, lines);
+    assert!(rt; found == Some(GOOD), "{found:?}");
+    Ok(())
+}
+
+/// Node 1 holds `abc`, and node 0 holds `b`.
+const HOLDERS: &[Call] = &[
+    Call {
+        line: "GET /holder/abc",
+        status: "200 OK",
+        has: "\"node\":1}",
+        ..PLAIN
+    },
+    Call {
+        line: "GET /holder/b",
+        status: "200 OK",
+        has: "\"node\":0}",
+        ..PLAIN
+    },
+];
+
+/// A client retrieves `b` by its request 1, and is told that it has no values.
+const RETRIEVE_B: Act = Act::Exchange(
+    b"\x00\x00\x00\x0c\x01\x02\x00\x00\x00\x00\x00\x00\x00\x01\x01b",
+    b"\x00\x00\x00\x0e\x01\x82\x00\x00\x00\x00\x00\x00\x00\x01\x00\x00\x00\x00",
+);
+
+/// Of three clients the first and the last ask for the key of node 0, and the second for the key
+/// of node 1. Each has a caller of its own, which has asked nothing before.
+const THREE_CLIENTS: Acts = &[
+    (0, Act::Connect),
+    (0, RETRIEVE_B),
+    (1, Act::Connect),
+    (1, Act::Call(1, Ask::Retrieve, Answer::Values(&[]))),
+    (2, Act::Connect),
+    (2, RETRIEVE_B),
+];
+
+const THREE_LEAVE: Acts = &[(0, Act::Leave), (1, Act::Leave), (2, Act::Leave)];
+
+/// Both nodes told the replies, and neither passed a request on.
+const NONE_PASSED_ON: &[Call] = &[Call {
+    line: "GET /metrics",
+    status: "200 OK",
+    has: concat!(
+        "chord_asks_total{node=\"0\",answer=\"told\"} 2\n",
+        "chord_asks_total{node=\"1\",answer=\"told\"} 1\n",
+        "chord_asks_total{node=\"0\",answer=\"forwarded\"} 0\n",
+        "chord_asks_total{node=\"1\",answer=\"forwarded\"} 0\n",
+    ),
+    ..PLAIN
+}];
+
+const AT_THEIR_NODES: &[Step] = &[
+    Step::Operator(HOLDERS),
+    Step::Clients(THREE_CLIENTS),
+    Step::Operator(NONE_PASSED_ON),
+    Step::Clients(THREE_LEAVE),
+];
+
+/// Connections 0 and 2 ask at node 0, and connection 1 asks at node 1.
+#[test]
+fn a_connection_asks_at_the_node_of_its_number(rt: HostRuntime) -> Result<(), Fail> {
     let size = Size {
-        callers: 2,
-        operator: Some(RandomState::new(&rt)?),
+        callers: 3,
         ..SMALL
     };
-    let player = Player::with_end(Deed::Operate, WAITS, io::pipe(&rt)?);
-    let played = serve_player(&rt, rt.alloc(), size, &Discard, player);
+    let server = (size, RandomState::new(&rt)?);
+    let lines = "connection 0 ended\nconnection 1 ended\nconnection 2 ended\n";
+    let pipe = io::pipe(&rt)?;
+    let found = operated(&rt, rt.alloc(), server, AT_THEIR_NODES, pipe, lines);
+    assert!(rt; found == Some(GOOD), "{found:?}");
+    Ok(())
+}
+
+const NODE_1_CRASHES: &[Call] = &[Call {
+    line: "POST /nodes/1/crash",
+    fields: "",
+    body: "{\"force\":true}",
+    status: "200 OK",
+    has: "{\"node\":1}",
+}];
+
+/// A client asks for `abc` by its request 2, and is told fault 11.
+const NO_ANSWER: Act = Act::Exchange(
+    b"\x00\x00\x00\x0e\x01\x02\x00\x00\x00\x00\x00\x00\x00\x02\x03abc",
+    b"\x00\x00\x00\x0b\x01\xff\x00\x00\x00\x00\x00\x00\x00\x02\x0b",
+);
+
+/// The node that holds `abc` crashes. Each request for that key gets fault 11, and another client
+/// is answered, which asks for the key of the other node.
+const BEHIND_A_CRASH: &[Step] = &[
+    Step::Operator(HOLDERS),
+    Step::Clients(&[
+        (0, Act::Connect),
+        (0, Act::Call(1, Ask::Insert(b"x"), Answer::Added)),
+    ]),
+    Step::Operator(NODE_1_CRASHES),
+    Step::Clients(&[
+        (0, NO_ANSWER),
+        (0, NO_ANSWER),
+        (1, Act::Connect),
+        (1, RETRIEVE_B),
+        (1, Act::Leave),
+        (0, Act::Leave),
+    ]),
+];
+
+/// The server sends a request once, and waits a tenth of a second for the answer.
+#[test]
+fn a_key_of_a_crashed_node_gets_fault_11(rt: HostRuntime) -> Result<(), Fail> {
+    let size = Size {
+        tries: 1,
+        ..TWO_CALLERS
+    };
+    let server = (size, RandomState::new(&rt)?);
     let lines = "connection 1 ended\nconnection 0 ended\n";
-    assert!(rt; look_at(rt.alloc(), played, lines) == Some(GOOD));
+    let pipe = io::pipe(&rt)?;
+    let found = operated(&rt, rt.alloc(), server, BEHIND_A_CRASH, pipe, lines);
+    assert!(rt; found == Some(GOOD), "{found:?}");
     Ok(())
 }

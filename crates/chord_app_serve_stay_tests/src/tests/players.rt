@@ -1,10 +1,11 @@
 //! A server and who asks it, each on a thread of its own.
 
 use crate::tests::joins::{Joined, join_and_ask};
-use crate::tests::operators::operate;
+use crate::tests::operators::{Step, operate};
+use crate::tests::redis::pings_until_the_end;
 use crate::tests::redis_hostile::{each_in_turn, redis_reads_no_more};
 use crate::tests::resumes::{Loaded, begins_and_resumes, loads};
-use crate::tests::stops::reads_no_more;
+use crate::tests::stops::{is_left, reads_no_more};
 use chord_app_ask::Tokens;
 use chord_app_serve_testkit::{
     Actors, Addresses, Ending, Found, Handle, Script, Size, Written, all_bound, end_waiting,
@@ -28,8 +29,12 @@ pub enum Deed {
     ReadsNoMore,
     /// One of Redis's clients does so.
     RedisReadsNoMore,
-    /// An operator lets a node leave and one crash while clients ask.
-    Operate,
+    /// A client does so until an operator sees that the server left it.
+    IsLeft,
+    /// One of Redis's clients sends as often as the server reads.
+    Pings,
+    /// An operator and clients do these steps.
+    Operate(&'static [Step]),
     /// An operator lets nodes join, leave and crash while clients ask.
     Join,
     /// A load loses its connections, and goes on in sessions of these tokens.
@@ -85,7 +90,9 @@ impl Player {
             Deed::Hostile => each_in_turn(rt, alloc, at.redis).map(|()| Told::Answered),
             Deed::ReadsNoMore => reads_no_more(rt, alloc, at.frames).map(Told::Open),
             Deed::RedisReadsNoMore => redis_reads_no_more(rt, alloc, at.redis).map(Told::Open),
-            Deed::Operate => operate(rt, alloc, at).map(|()| Told::Answered),
+            Deed::IsLeft => is_left(rt, alloc, at).map(Told::Open),
+            Deed::Pings => pings_until_the_end(rt, alloc, at.redis).map(|()| Told::Answered),
+            Deed::Operate(steps) => operate(rt, alloc, at, steps).map(|()| Told::Answered),
             Deed::Join => Ok(Told::Joined(join_and_ask(rt, alloc, at))),
             Deed::Load(tokens) => Ok(Told::Loaded(loads(rt, alloc, at.frames, tokens))),
             Deed::Resume => begins_and_resumes(rt, alloc, at.frames).map(|()| Told::Answered),

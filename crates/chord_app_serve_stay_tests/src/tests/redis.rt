@@ -2,9 +2,13 @@
 
 use crate::tests::players::{Deed, Player, follow, serve_player};
 use crate::tests::stays::WAITS;
-use chord_app_serve_testkit::{Act, Ending, GOOD, NOTHING, SMALL, Script, Size, Speech, look_at};
+use chord_app_serve_testkit::{
+    Act, Ending, GOOD, NOTHING, SMALL, Script, Size, Speech, expect, expect_end, look_at,
+};
 use log::sink::Discard;
-use std::io;
+use std::alloc::Global;
+use std::io::{self, Write};
+use std::net::{Net, SocketAddr, TcpStream};
 use std::test::Fail;
 
 /// A client adds x to the set a.
@@ -104,15 +108,38 @@ const CROWDED: Script = Script {
     ..NOTHING
 };
 
+/// A server of one caller for Redis's clients.
+const REDIS: Size = Size {
+    speech: Speech::Redis,
+    ..SMALL
+};
+
 /// Redis's clients alone: one gets no caller, and one sends bytes that are no command.
 #[test]
 fn redis_clients_alone(rt: HostRuntime) {
-    let size = Size {
-        speech: Speech::Redis,
-        ..SMALL
-    };
     let player = (Player::new(Deed::Script(CROWDED)), Ending::Connections(2));
-    let played = serve_player(&rt, rt.alloc(), size, &Discard, player);
+    let played = serve_player(&rt, rt.alloc(), REDIS, &Discard, player);
     let lines = "connection 0 protocol\nconnection 1 callersspent\n";
     assert!(rt; look_at(rt.alloc(), played, lines) == Some(GOOD));
+}
+
+/// How often a server that takes some connections reads each of them.
+const READS: u64 = 65_536;
+
+/// A client sends each PING once the one before it was answered, so that each is a read of its own.
+/// Behind the last answer the server ends the connection.
+pub fn pings_until_the_end<R: Net>(rt: &R, alloc: Global, redis: SocketAddr) -> io::Result<()> {
+    let mut stream = TcpStream::connect(rt, redis)?;
+    for _ in 0..READS {
+        stream.write_all(b"PING\r\n")?;
+        expect(alloc, &mut stream, b"+PONG\r\n")?;
+    }
+    expect_end(&mut stream)
+}
+
+#[test]
+fn a_connection_ends_behind_its_last_read(rt: HostRuntime) {
+    let player = (Player::new(Deed::Pings), Ending::Connections(1));
+    let played = serve_player(&rt, rt.alloc(), REDIS, &Discard, player);
+    assert!(rt; look_at(rt.alloc(), played, "connection 0 turnsspent\n") == Some(GOOD));
 }

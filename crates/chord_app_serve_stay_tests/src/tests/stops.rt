@@ -1,13 +1,20 @@
-//! A server that stays is stopped while a client asks for much and does not read.
+//! A server that stays, and a client that asks for much and does not read: the server is stopped,
+//! or it leaves the client, which was idle for too long.
 
+use crate::tests::operators::{Call, PLAIN, each_is_answered};
 use crate::tests::players::{Deed, Player, serve_player};
 use crate::tests::stays::WAITS;
-use chord_app_serve_testkit::{GOOD, SMALL, Size, expect, fill, look_at, request_frame, retrieve};
+use chord_app_serve_testkit::{
+    Addresses, GOOD, SMALL, Size, expect, fill, look_at, request_frame, retrieve,
+};
+use chord_app_sockets::ClientSeconds;
 use log::sink::Discard;
 use std::alloc::Global;
+use std::hash::RandomState;
 use std::io::{self, Write};
 use std::net::{Net, SocketAddr, TcpStream};
 use std::test::Fail;
+use std::time::Clock;
 
 /// Asks 224 times for all 32 values, in one write of 4,032 bytes, which the server reads at once. The
 /// answers have 28 MiB together, which is more than a connection can hold.
@@ -46,5 +53,44 @@ fn a_client_that_does_not_read_is_left(rt: HostRuntime) -> Result<(), Fail> {
     let player = Player::with_end(Deed::ReadsNoMore, WAITS, io::pipe(&rt)?);
     let played = serve_player(&rt, rt.alloc(), ROOMY, &Discard, player);
     assert!(rt; look_at(rt.alloc(), played, "connection 0 write\n") == Some(GOOD));
+    Ok(())
+}
+
+/// One connection was ended since its client was idle, and none is open.
+const ONE_WAS_IDLE: &[Call] = &[
+    Call {
+        line: "GET /metrics",
+        status: "200 OK",
+        has: "chord_connections_total{result=\"idle\"} 1\n",
+        ..PLAIN
+    },
+    Call {
+        line: "GET /metrics",
+        status: "200 OK",
+        has: "chord_connections 0\n",
+        ..PLAIN
+    },
+];
+
+/// A client does not read until an operator sees that the server ended its connection. Gives the
+/// connection, which is open at the client's side.
+pub fn is_left<R: Net + Clock>(rt: &R, alloc: Global, at: Addresses) -> io::Result<R::Stream> {
+    let stream = reads_no_more(rt, alloc, at.frames)?;
+    each_is_answered(rt, alloc, at.operator, ONE_WAS_IDLE)?;
+    Ok(stream)
+}
+
+/// A client that takes no byte of its answers for a second is idle, though the server has read its
+/// requests.
+#[test]
+fn a_client_that_does_not_read_is_idle(rt: HostRuntime) -> Result<(), Fail> {
+    let seconds = ClientSeconds { idle: 1, ..WAITS };
+    let size = Size {
+        operator: Some(RandomState::new(&rt)?),
+        ..ROOMY
+    };
+    let player = Player::with_end(Deed::IsLeft, seconds, io::pipe(&rt)?);
+    let played = serve_player(&rt, rt.alloc(), size, &Discard, player);
+    assert!(rt; look_at(rt.alloc(), played, "connection 0 idle\n") == Some(GOOD));
     Ok(())
 }

@@ -1,13 +1,29 @@
 //! The command `run`.
 
+use crate::tests::no_memory::NoMemory;
+use chord_app_plan::Plan;
 use chord_app_serve::{AskResult, run};
 use chord_app_serve_testkit::{TWO_NODES, changed, plan_of, two_stores};
 use chord_app_text::{Fault, Finish};
 use chord_map::Reply;
+use chord_store::EntryStore;
 use std::alloc::Global;
 use std::sync::Wait;
 use std::thread::Threads;
 use std::time::Clock;
+
+/// How a plan ended over these stores, and whether it wrote these lines.
+fn runs_over<S: EntryStore + Send, R: Threads + Wait + Clock + Sync>(
+    rt: &R,
+    alloc: Global,
+    plan: &Plan,
+    stores: Vec<S>,
+    wanted: &str,
+) -> (Finish, bool) {
+    let mut written: Vec<u8> = Vec::new(alloc);
+    let finish = run(rt, alloc, plan, stores, &mut written);
+    (finish, written.as_slice() == wanted.as_bytes())
+}
 
 /// How a plan ended over two stores with room for `room` pairs, and whether it wrote these lines.
 fn runs<R: Threads + Wait + Clock + Sync>(
@@ -19,9 +35,9 @@ fn runs<R: Threads + Wait + Clock + Sync>(
 ) -> Option<(Finish, bool)> {
     let plan = plan_of(alloc, text)?;
     let stores = two_stores(alloc, room).ok()?;
-    let mut written: Vec<u8> = Vec::new(alloc);
-    let finish = run(rt, alloc, &plan, stores, &mut written);
-    Some((finish, written.as_slice() == wanted.as_bytes()))
+    let ran = runs_over(rt, alloc, &plan, stores, wanted);
+    drop(plan);
+    Some(ran)
 }
 
 /// Runs the plan. Over stores without room the caller asks nothing after its first request.
@@ -34,6 +50,32 @@ fn plan_run(rt: HostRuntime) {
         let ran = runs(&rt, rt.alloc(), TWO_NODES, room, wanted);
         assert!(rt; ran == Some((Finish::Done, true)));
     }
+}
+
+/// How the plan ended over two stores that have no memory for a pair, with each request sent once,
+/// and whether it wrote these lines.
+fn runs_without_memory<R: Threads + Wait + Clock + Sync>(
+    rt: &R,
+    alloc: Global,
+    wanted: &str,
+) -> Option<(Finish, bool)> {
+    let once = changed(alloc, "tries = 100", "tries = 1").ok()?;
+    let plan = plan_of(alloc, once.as_str());
+    drop(once);
+    let plan = plan?;
+    let mut stores = Vec::new(alloc);
+    stores.push(NoMemory).ok()?;
+    stores.push(NoMemory).ok()?;
+    let ran = runs_over(rt, alloc, &plan, stores, wanted);
+    drop(plan);
+    Some(ran)
+}
+
+/// No node has memory for the first request, so none answers it. The caller asks nothing after it.
+#[test]
+fn a_request_without_an_answer(rt: HostRuntime) {
+    let ran = runs_without_memory(&rt, rt.alloc(), "0 1 noanswer\n");
+    assert!(rt; ran == Some((Finish::Done, true)));
 }
 
 /// A plan in which the second caller asks twice, for another key.

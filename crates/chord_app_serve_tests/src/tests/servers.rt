@@ -17,13 +17,25 @@ use std::io::{self, Read, Write};
 use std::net::{Net, OpenStream, SocketAddr, TcpListener, TcpStream};
 use std::thread;
 
+/// Request 1, which inserts `x` under `a`.
+const INSERT_A: &[u8] = b"\x00\x00\x00\x0f\x01\x01\x00\x00\x00\x00\x00\x00\x00\x01\x01a\x00\x01x";
+
+/// What it is told that adds the value.
+const ADDED: &[u8] = b"\x00\x00\x00\x0b\x01\x81\x00\x00\x00\x00\x00\x00\x00\x01\x01";
+
+/// What it is told that finds the value there.
+const PRESENT: &[u8] = b"\x00\x00\x00\x0b\x01\x81\x00\x00\x00\x00\x00\x00\x00\x01\x00";
+
+/// What it is told that finds the store full: fault 10.
+const FULL: &[u8] = b"\x00\x00\x00\x0b\x01\xff\x00\x00\x00\x00\x00\x00\x00\x01\x0a";
+
 /// Four clients, one after another. The first three close their sending side before they read and
 /// are answered all the same. No caller is left for the fourth, which is told so.
 const FOUR: Acts = &[
     (0, Act::Connect),
-    (0, Act::Ask(1, Ask::Insert(b"x"))),
+    (0, Act::Say(INSERT_A)),
     (0, Act::Hush),
-    (0, Act::Hear(1, Answer::Added)),
+    (0, Act::HearBytes(ADDED)),
     (0, Act::End),
     (1, Act::Connect),
     (1, Act::Say(b"abc")),
@@ -50,6 +62,7 @@ pub enum Clients {
     Acting(Acts),
     SixtyFour,
     NeverReads,
+    Resets,
 }
 
 impl Clients {
@@ -65,14 +78,36 @@ impl Clients {
             Clients::Acting(acts) => do_acts(rt, alloc, at.frames, &mut Vec::new(alloc), acts),
             Clients::SixtyFour => many_clients(rt, alloc, at.frames, 64),
             Clients::NeverReads => never_reads(rt, alloc, at.frames),
+            Clients::Resets => resets(rt, alloc, at.frames),
         };
         end_waiting(rt, at, connections);
         played
     }
 }
 
-/// What a test finds at a server with `callers` callers that ends after `connections` connections
-/// of these clients. `lines` are those that it must write.
+/// What a test finds at a server of this size that ends after `connections` connections of these
+/// clients. `lines` are those that it must write.
+fn served_by<R: Handle + Net<Listener = TcpListener, Stream = TcpStream>, L: Log + Sync>(
+    rt: &R,
+    alloc: Global,
+    (size, connections): (Size, usize),
+    notes: &L,
+    clients: Clients,
+    lines: &str,
+) -> Option<Found> {
+    let plan = plan_with(alloc, size.callers)?;
+    let (listeners, at) = all_bound(rt)?;
+    let ending = Ending::Connections(connections);
+    let (written, told) = thread::join(
+        rt,
+        || serve_at(rt, alloc, &plan, size, listeners, ending, notes),
+        || clients.play(rt, alloc, at, connections),
+    );
+    drop(plan);
+    look_at(alloc, Some((Written::of(size, at, written), told)), lines)
+}
+
+/// The same of a roomy server with `callers` callers.
 pub fn served<R: Handle + Net<Listener = TcpListener, Stream = TcpStream>, L: Log + Sync>(
     rt: &R,
     alloc: Global,
@@ -81,16 +116,8 @@ pub fn served<R: Handle + Net<Listener = TcpListener, Stream = TcpStream>, L: Lo
     clients: Clients,
     lines: &str,
 ) -> Option<Found> {
-    let plan = plan_with(alloc, callers)?;
-    let (listeners, at) = all_bound(rt)?;
-    let ending = Ending::Connections(connections);
-    let (written, told) = thread::join(
-        rt,
-        || serve_at(rt, alloc, &plan, ROOMY, listeners, ending, notes),
-        || clients.play(rt, alloc, at, connections),
-    );
-    drop(plan);
-    look_at(alloc, Some((Written::of(ROOMY, at, written), told)), lines)
+    let size = Size { callers, ..ROOMY };
+    served_by(rt, alloc, (size, connections), notes, clients, lines)
 }
 
 /// Checks the lines that are logged, too.
@@ -108,7 +135,8 @@ fn loopback_server(rt: HostRuntime) {
     assert!(rt; noted.as_slice() == wanted.as_bytes());
 }
 
-/// Refused bytes, another version, half of a frame, and a client that never reads.
+/// Refused bytes, another version, half of a frame, a client that never reads, and one that resets
+/// its connection.
 #[test]
 fn faulty_clients(rt: HostRuntime) {
     for (counts, clients, wanted) in [
@@ -131,6 +159,11 @@ fn faulty_clients(rt: HostRuntime) {
             (2, 2),
             Clients::NeverReads,
             "connection 0 write\nconnection 1 ended\n",
+        ),
+        (
+            (2, 2),
+            Clients::Resets,
+            "connection 0 read\nconnection 1 ended\n",
         ),
     ] {
         let found = served(&rt, rt.alloc(), counts, &Discard, clients, wanted);
@@ -339,6 +372,40 @@ fn never_reads<R: Net>(rt: &R, alloc: Global, address: SocketAddr) -> io::Result
         greedy.write_all(&request_frame(alloc, number, &request)?)?;
     }
     do_acts(rt, alloc, address, &mut Vec::new(alloc), ANOTHER)
+}
+
+/// A client that sends the same request as another one before it.
+const THE_SAME: Acts = &[
+    (0, Act::Connect),
+    (0, Act::Exchange(INSERT_A, PRESENT)),
+    (0, Act::Leave),
+];
+
+/// A client reads the length of an answer, and closes its connection while the rest of it is unread:
+/// that resets the connection. Another client is served.
+fn resets<R: Net>(rt: &R, alloc: Global, address: SocketAddr) -> io::Result<()> {
+    let mut hasty = TcpStream::connect(rt, address)?;
+    hasty.write_all(INSERT_A)?;
+    expect(alloc, &mut hasty, b"\x00\x00\x00\x0b")?;
+    drop(hasty);
+    do_acts(rt, alloc, address, &mut Vec::new(alloc), THE_SAME)
+}
+
+/// A client inserts over stores without room, and sends the same again.
+const TWICE_FULL: Acts = &[
+    (0, Act::Connect),
+    (0, Act::Exchange(INSERT_A, FULL)),
+    (0, Act::Exchange(INSERT_A, FULL)),
+    (0, Act::Leave),
+];
+
+#[test]
+fn a_full_store_is_told_by_fault_10(rt: HostRuntime) {
+    let size = Size { room: 0, ..SMALL };
+    let clients = Clients::Acting(TWICE_FULL);
+    let lines = "connection 0 ended\n";
+    let found = served_by(&rt, rt.alloc(), (size, 1), &Discard, clients, lines);
+    assert!(rt; found == Some(GOOD));
 }
 
 /// How many values of 4,096 bytes are put under one key.
