@@ -5,7 +5,7 @@ ghost use Rattle.std.specs.Prelude.{◌≡◌, ◌≤◌, []};
 use chord_caller::SubmitFault;
 use chord_ident::Id;
 use chord_links::Peer;
-use chord_live::{AskingCore, Caller, OpenCaller, RingCaller};
+use chord_live::{AskingCore, OpenCaller, RingCaller};
 use chord_live_ring::{NodeSight, Ring, RingParts, Settings};
 use chord_live_types::{AskFault, BeginFault, WaitFault};
 use chord_map::{Done, Reply, Request, SharedValues};
@@ -229,16 +229,15 @@ pub fn insert_by_another<J: Naming, S: EntryStore, R: Abort + Wait + Clock>(
     said
 }
 
-/// Begins a retrieve of this key at node `via`, and gives its number.
-pub fn begin<J: Naming, S: EntryStore, R: Wait + Clock>(
+/// Begins a request at node `via`, and gives its number.
+pub fn begin<J: Naming, S: EntryStore, C: AskingCore, R: Wait + Clock>(
     rt: &R,
-    alloc: Global,
-    caller: &mut Caller<'_, J, S>,
+    asker: &mut RingCaller<'_, J, S, C>,
     via: u64,
-    key: &[u8],
+    request: Result<Request, AllocError>,
 ) -> Result<u64, BeginFault> {
-    match Request::retrieve(alloc, key) {
-        Ok(request) => caller.begin(rt, via, request),
+    match request {
+        Ok(request) => asker.begin(rt, via, request),
         Err(_) => Err(BeginFault::Submit(SubmitFault::Memory)),
     }
 }

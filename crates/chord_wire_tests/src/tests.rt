@@ -93,9 +93,11 @@ fn keeps_pieces(frames: &mut Frames, bytes: &[u8]) -> Result<bool, WireFault> {
     Ok(true)
 }
 
-/// Feeds an answer whole, then one byte by byte, then one whole.
+/// Feeds two answers byte by byte, then one whole.
 fn feed_in_pieces(answers: &mut Answers) -> Result<(), WireFault> {
-    answers.feed(&ADDED)?;
+    for byte in &ADDED {
+        answers.feed(&[*byte])?;
+    }
     for byte in &ONE_VALUE {
         answers.feed(&[*byte])?;
     }

@@ -128,9 +128,9 @@ fn collect_turned<J: Naming, S: EntryStore, R: Abort + Wait + Clock>(
     ring: &Ring<J, S>,
 ) {
     let mut two = ring.open_caller(rt, 2).expect(rt, "a third caller");
-    let first = begin(rt, alloc, &mut two, 0, b"a");
+    let first = begin(rt, &mut two, 0, Request::retrieve(alloc, b"a"));
     assert!(rt; first == Ok(1), "the first request has number 1");
-    let second = begin(rt, alloc, &mut two, 0, b"a");
+    let second = begin(rt, &mut two, 0, Request::retrieve(alloc, b"a"));
     assert!(rt; second == Ok(2), "the second request has number 2");
     let collected = said_by(two.collect(rt, 2));
     assert!(rt;

@@ -7,10 +7,10 @@ use super::{A, C, Known, Said, ask, begin, only_call, said_by, settings, succeed
 use chord_caller::SubmitFault;
 use chord_ident::Id;
 use chord_live::{Caller, OpenCaller};
-use chord_live_ring::{Ring, RingParts, Round};
+use chord_live_ring::{Ring, RingParts, Round, Settings};
 use chord_live_types::{
-    AskFault, BeginFault, CollectFault, CreateFault, JoinFault, NewFault, RetryFault, TickFault,
-    WaitFault,
+    AskFault, BeginFault, CollectFault, CreateFault, JoinFault, NewFault, OpenClientFault,
+    RetryFault, TickFault, WaitFault,
 };
 use chord_map::Request;
 use chord_store::{CappedStore, EntryStore};
@@ -24,19 +24,51 @@ use std::time::Clock;
 
 #[test]
 fn refused_growths_of_a_ring(rt: HostRuntime) {
-    match unnamed(rt.alloc()) {
+    match unnamed(rt.alloc(), settings(2, 2, 20, 50)) {
         Ok(parts) => two_nodes::<Brand, _>(&rt, rt.alloc(), parts),
         Err(_) => assert!(rt; false, "a ring is made at the second try"),
     }
 }
 
-/// A ring for two nodes and two callers, tried twice if out of memory.
-fn unnamed(alloc: Global) -> Result<RingParts, NewFault> {
-    let limits = settings(2, 2, 20, 50);
+#[test]
+fn refused_growths_of_a_client(rt: HostRuntime) {
+    match unnamed(rt.alloc(), settings(1, 1, 1, 1)) {
+        Ok(parts) => one_client::<Brand, _>(&rt, parts),
+        Err(_) => assert!(rt; false, "a ring is made at the second try"),
+    }
+}
+
+/// A ring with these limits, tried twice if out of memory.
+fn unnamed(alloc: Global, limits: Settings) -> Result<RingParts, NewFault> {
     match RingParts::new(alloc, limits) {
         Err(NewFault::Memory) => RingParts::new(alloc, limits),
         made => made,
     }
+}
+
+/// Opens a client, again if out of memory. Says whether it did.
+fn is_opened<J: Naming, S: EntryStore>(rt: &impl Wait, ring: &Ring<J, S>) -> bool {
+    match ring.open_client(rt, 1).err() {
+        Some(OpenClientFault::Memory) => succeeds(ring.open_client(rt, 1)),
+        fault => fault == None,
+    }
+}
+
+/// A ring for one caller has one client. A client that memory was refused to takes no number.
+fn one_client<J: Naming, R: Abort + Wait>(rt: &R, parts: RingParts)
+    requires { parts.name ≡ J.name }
+{
+    let Ok(ring) = parts.assemble::<J, CappedStore>() else {
+        return;
+    };
+    let is_opened = is_opened(rt, &ring);
+    let spent = ring.open_client(rt, 1).err();
+    ring.close();
+    assert!(rt; is_opened, "a client is opened at the second try");
+    assert!(rt;
+        spent == Some(OpenClientFault::CallersSpent),
+        "there is no number for another one"
+    );
 }
 
 /// Creates node 0, again with the same store if out of memory. Says whether it did.
@@ -202,9 +234,9 @@ fn see<J: Naming, S: EntryStore, R: Abort + Wait + Clock>(
     alloc: Global,
     caller: &mut Caller<'_, J, S>,
 ) {
-    let mut begun = begin(rt, alloc, caller, 0, b"b");
+    let mut begun = begin(rt, caller, 0, Request::retrieve(alloc, b"b"));
     if begun == Err(BeginFault::Submit(SubmitFault::Memory)) {
-        begun = begin(rt, alloc, caller, 0, b"b");
+        begun = begin(rt, caller, 0, Request::retrieve(alloc, b"b"));
     }
     assert!(rt; begun == Ok(1), "a retrieve is begun at the second try");
     let seen = collected(rt, caller);

@@ -2,7 +2,7 @@
 ghost use Rattle.std.specs.Prelude.{◌≡◌};
 
 use super::workers::{Deed, with_a_worker};
-use super::{Said, ask, call, founded, parts_with, said_by, settings};
+use super::{Said, ask, begin, call, founded, parts_with, said_by, settings};
 use chord_live::{AskingCore, Caller, OpenCaller, RingCaller};
 use chord_live_ring::{Ring, RingParts};
 use chord_live_types::{AskFault, RetryFault, WaitFault};
@@ -28,6 +28,20 @@ fn a_caller_is_answered_again_once_there_is_room(rt: HostRuntime) {
     let alloc = rt.alloc();
     let parts = parts_with(&rt, alloc, settings(1, 2, 1, 2));
     caller_without_room::<Brand, _>(&rt, alloc, parts);
+}
+
+#[test]
+fn a_retry_of_a_caller_sends_the_request_of_its_number(rt: HostRuntime) {
+    let alloc = rt.alloc();
+    let parts = parts_with(&rt, alloc, settings(1, 2, 1, 2));
+    caller_with_two_requests::<Brand, _>(&rt, alloc, parts);
+}
+
+#[test]
+fn a_retry_of_a_client_sends_the_request_of_its_number(rt: HostRuntime) {
+    let alloc = rt.alloc();
+    let parts = parts_with(&rt, alloc, settings(1, 2, 1, 2));
+    client_with_two_requests::<Brand, _>(&rt, alloc, parts);
 }
 
 #[test]
@@ -142,6 +156,66 @@ fn ask_until_there_is_room<J: Naming, S: EntryStore, C: AskingCore, R: Abort + W
     assert!(rt; asker.pending() == None, "nothing is pending");
 }
 
+fn caller_with_two_requests<J: Naming, R: Abort + Wait + Clock>(
+    rt: &R,
+    alloc: Global,
+    parts: RingParts,
+)
+    requires name { parts.name ≡ J.name }
+{
+    let ring = founded::<J, CappedStore, R>(rt, parts, CappedStore::new(alloc, 2));
+    let mut other = ring.open_caller(rt, 1).expect(rt, "a caller");
+    let mut caller = ring.open_caller(rt, 2).expect(rt, "a second caller");
+    send_the_second_again(rt, alloc, &mut other, &mut caller);
+    drop(caller);
+    drop(other);
+    ring.close();
+}
+
+fn client_with_two_requests<J: Naming, R: Abort + Wait + Clock>(
+    rt: &R,
+    alloc: Global,
+    parts: RingParts,
+)
+    requires name { parts.name ≡ J.name }
+{
+    let ring = founded::<J, CappedStore, R>(rt, parts, CappedStore::new(alloc, 2));
+    let mut other = ring.open_caller(rt, 1).expect(rt, "a caller");
+    let mut client = ring.open_client(rt, 2).expect(rt, "a client");
+    send_the_second_again(rt, alloc, &mut other, &mut client);
+    drop(client);
+    drop(other);
+    ring.close();
+}
+
+/// Node 0 has y under `b`, and no worker. So it takes in neither request that the asker begins: to
+/// insert x under `a`, and to retrieve what is under `b`.
+fn send_the_second_again<J: Naming, S: EntryStore, C: AskingCore, R: Abort + Wait + Clock>(
+    rt: &R,
+    alloc: Global,
+    other: &mut Caller<'_, J, S>,
+    asker: &mut RingCaller<'_, J, S, C>,
+) {
+    let added = call(rt, other, 0, Request::insert(alloc, b"b", b"y"));
+    assert!(rt; added == Ok(Said::Added), "a node with room adds a pair");
+    let first = begin(rt, asker, 0, Request::insert(alloc, b"a", b"x"));
+    assert!(rt; first == Ok(1), "the first request has number 1");
+    let second = begin(rt, asker, 0, Request::retrieve(alloc, b"b"));
+    assert!(rt; second == Ok(2), "the second request has number 2");
+    let answered = said_by(asker.call_again(rt, 0, 2));
+    assert!(rt; answered == Ok(Said::OnlyY), "the second is answered");
+    assert!(rt; !asker.is_pending(2), "so it is over");
+    assert!(rt; asker.is_pending(1), "the first waits for its reply");
+    let found = call(rt, other, 0, Request::retrieve(alloc, b"a"));
+    assert!(rt;
+        found == Ok(Said::OtherValues),
+        "nothing is under `a`: the first did not act"
+    );
+    let answered = said_by(asker.call_again(rt, 0, 1));
+    assert!(rt; answered == Ok(Said::Added), "sent again, it acts");
+    assert!(rt; asker.floor() == 2, "both are answered");
+}
+
 fn client_with_a_worker<J: Naming + Send + Sync, R: Abort + Threads + Wait + Clock + Sync>(
     rt: &R,
     alloc: Global,
@@ -173,8 +247,7 @@ fn ask_through_inboxes<J: Naming, S: EntryStore, C: AskingCore, R: Abort + Wait 
 ) {
     let added = ask(rt, asker, 0, Request::insert(alloc, b"a", b"x"));
     assert!(rt; added == Ok(Said::Added), "a worker answers");
-    let retrieve = Request::retrieve(alloc, b"a").expect(rt, "memory for a request");
-    let begun = asker.begin(rt, 0, retrieve);
+    let begun = begin(rt, asker, 0, Request::retrieve(alloc, b"a"));
     assert!(rt; begun == Ok(2), "the second request has number 2");
     assert!(rt;
         asker.is_pending(2),

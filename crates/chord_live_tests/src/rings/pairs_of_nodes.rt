@@ -231,7 +231,7 @@ pub fn begins_at_one<J: Naming, S: EntryStore, R: Abort + Wait + Clock>(
     let mut caller = ring.open_caller(rt, 1).expect(rt, "a caller");
     let added = call(rt, &mut caller, 1, Request::insert(alloc, b"a", b"x"));
     assert!(rt; added == Ok(Said::Added), "node 1 adds a pair");
-    let begun = begin(rt, alloc, &mut caller, 1, b"a");
+    let begun = begin(rt, &mut caller, 1, Request::retrieve(alloc, b"a"));
     assert!(rt; begun == Ok(2), "the second request has number 2");
     let collected = said_by(caller.collect(rt, 2));
     drop(caller);

@@ -5,11 +5,11 @@ use super::{A, B, C, Said, ask, begin, call, founded, parts_with, said_by, setti
 use chord_caller::SubmitFault;
 use chord_ident::Id;
 use chord_links::Peer;
-use chord_live::{Caller, OpenCaller};
+use chord_live::{Caller, OpenCaller, RingClient};
 use chord_live_ring::{NoProbe, Ring, RingParts, RingRetireFault, Settings};
 use chord_live_types::{
     AskFault, BeginFault, CollectFault, CreateFault, JoinFault, LeaveFault, NewFault, NoSuchNode,
-    OpenFault, RetryFault, TickFault, WaitFault,
+    OpenClientFault, OpenFault, RetryFault, TickFault, WaitFault,
 };
 use chord_map::{Bytes, Request, RequestFault};
 use chord_store::{CappedStore, EntryStore, Inserted, StoreFault};
@@ -278,6 +278,8 @@ fn is_stopped<J: Naming, R: Abort + Wait + Clock>(
     assert!(rt; ticked == Err(TickFault::Stopped), "none is ticked");
     let opened = ring.open_caller(rt, 1).err();
     assert!(rt; opened == Some(OpenFault::Stopped), "no caller is admitted");
+    let opened = ring.open_client(rt, 1).err();
+    assert!(rt; opened == Some(OpenClientFault::Stopped), "nor is a client");
 }
 
 #[test]
@@ -297,6 +299,11 @@ fn caller_refusals<J: Naming, R: Abort + Wait + Clock>(rt: &R, alloc: Global, pa
         spent == Some(OpenFault::CallersSpent),
         "a ring for one caller admits no second one"
     );
+    let spent = ring.open_client(rt, 1).err();
+    assert!(rt;
+        spent == Some(OpenClientFault::CallersSpent),
+        "nor a client, which would be its second caller"
+    );
     bad_requests(rt, alloc, &mut caller);
     unknown_nodes(rt, alloc, &mut caller);
     nothing_pending(rt, &mut caller);
@@ -313,7 +320,7 @@ fn bad_requests<J: Naming, R: Abort + Wait + Clock>(
     caller: &mut Caller<'_, J, CappedStore>,
 ) {
     let bad = BeginFault::Submit(SubmitFault::Bad(RequestFault::KeyEmpty));
-    let begun = begin(rt, alloc, caller, 5, b"");
+    let begun = begin(rt, caller, 5, Request::retrieve(alloc, b""));
     assert!(rt;
         begun == Err(bad),
         "a request is judged before its node is looked for"
@@ -331,7 +338,7 @@ fn unknown_nodes<J: Naming, R: Abort + Wait + Clock>(
     alloc: Global,
     caller: &mut Caller<'_, J, CappedStore>,
 ) {
-    let begun = begin(rt, alloc, caller, 5, b"a");
+    let begun = begin(rt, caller, 5, Request::retrieve(alloc, b"a"));
     assert!(rt;
         begun == Err(BeginFault::NoSuchNode),
         "an unknown node is asked nothing"
@@ -368,9 +375,9 @@ fn a_full_window<J: Naming, R: Abort + Wait + Clock>(
     caller: &mut Caller<'_, J, CappedStore>,
 ) {
     let full = BeginFault::Submit(SubmitFault::WindowFull);
-    let first = begin(rt, alloc, caller, 0, b"a");
+    let first = begin(rt, caller, 0, Request::retrieve(alloc, b"a"));
     assert!(rt; first == Ok(1), "the first request has number 1");
-    let second = begin(rt, alloc, caller, 0, b"b");
+    let second = begin(rt, caller, 0, Request::retrieve(alloc, b"b"));
     assert!(rt;
         second == Ok(2),
         "a window of two has room for a second one"
@@ -383,7 +390,7 @@ fn a_full_window<J: Naming, R: Abort + Wait + Clock>(
         "the first is the least pending one"
     );
     assert!(rt; caller.floor() == 0, "no reply came");
-    let more = begin(rt, alloc, caller, 5, b"a");
+    let more = begin(rt, caller, 5, Request::retrieve(alloc, b"a"));
     assert!(rt;
         more == Err(full),
         "a full window is seen before the node is looked for"
@@ -417,6 +424,47 @@ fn no_answers<J: Naming, R: Abort + Wait + Clock>(rt: &R, caller: &mut Caller<'_
         "a request without a reply stays pending"
     );
     assert!(rt; caller.is_pending(2), "each of them does");
+}
+
+#[test]
+fn a_client_sends_no_other_request_again(rt: HostRuntime) {
+    let parts = parts_with(&rt, rt.alloc(), settings(1, 1, 1, 1));
+    client_refusals::<Brand, _>(&rt, rt.alloc(), parts);
+}
+
+/// A ring with one client, whose node has no worker.
+fn client_refusals<J: Naming, R: Abort + Wait + Clock>(rt: &R, alloc: Global, parts: RingParts)
+    requires { parts.name ≡ J.name }
+{
+    let ring = founded::<J, CappedStore, R>(rt, parts, CappedStore::new(alloc, 1));
+    let mut client = ring.open_client(rt, 1).expect(rt, "a client");
+    let idle = said_by(client.retry(rt, 0, 1));
+    assert!(rt; idle == Err(RetryFault::Idle), "no request was begun yet");
+    let begun = begin(rt, &mut client, 0, Request::retrieve(alloc, b"a"));
+    assert!(rt; begun == Ok(1), "the first request has number 1");
+    retries(rt, &mut client);
+    drop(client);
+    ring.close();
+}
+
+/// Request 1 is pending.
+fn retries<J: Naming, R: Abort + Wait + Clock>(
+    rt: &R,
+    client: &mut RingClient<'_, J, CappedStore>,
+) {
+    let idle = said_by(client.retry(rt, 0, 2));
+    assert!(rt; idle == Err(RetryFault::Idle), "there is no request 2");
+    let nowhere = said_by(client.retry(rt, 5, 1));
+    assert!(rt;
+        nowhere == Err(RetryFault::NoSuchNode),
+        "a request goes to a node that exists"
+    );
+    let unheard = said_by(client.retry(rt, 0, 1));
+    assert!(rt;
+        unheard == Err(RetryFault::Wait(WaitFault::NoAnswer)),
+        "a node without a worker does not answer"
+    );
+    assert!(rt; client.is_pending(1), "the request stays pending");
 }
 
 #[test]

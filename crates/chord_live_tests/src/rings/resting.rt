@@ -5,6 +5,7 @@ use super::refusals::{join, peer};
 use super::{C, begin, founded, parts_with, settings, sight_of, tick};
 use chord_live::OpenCaller;
 use chord_live_ring::{NoProbe, Ring, RingParts, Round};
+use chord_map::Request;
 use chord_store::{CappedStore, EntryStore};
 use chord_table::Naming;
 use std::alloc::Global;
@@ -121,7 +122,7 @@ fn passes_on<J: Naming, R: Abort + Wait + Clock>(rt: &R, alloc: Global, parts: R
     let worked = ring.work(rt, 1, &NoProbe);
     assert!(rt; worked == Ok(()), "a worker of a gone node ends");
     let mut caller = ring.open_caller(rt, 1).expect(rt, "a caller");
-    let begun = begin(rt, alloc, &mut caller, 1, b"abc");
+    let begun = begin(rt, &mut caller, 1, Request::retrieve(alloc, b"abc"));
     assert!(rt; begun == Ok(1), "a request is sent to it");
     assert!(rt;
         passed_on(rt, alloc, &ring) == 0,

@@ -61,6 +61,12 @@ impl Flight {
         (client.in_flight(), client.floor(), client.is_full())
     }
 
+    /// The number of the last request behind this one, which may be refused.
+    fn last_behind(&mut self, request: Result<Request, AllocError>) -> u64 {
+        let _ = self.send(request);
+        self.client.last()
+    }
+
     fn has_written(&self, frames: &[u8]) -> bool {
         self.written.as_slice() == frames
     }
@@ -515,6 +521,56 @@ fn awaited_half_written(alloc: Global) -> Option<(bool, usize)> {
 #[test]
 fn a_writer_that_fails(rt: HostRuntime) {
     assert!(rt; awaited_half_written(rt.alloc()) == Some((true, 1)));
+}
+
+/// The number of the last request of a client with a window of two: before the first one, behind
+/// two that it sends, behind one that it refuses; and of one that wrote a part of its first one.
+#[derive(Clone, Copy, Debug, PartialEq, Eq)]
+struct LastNumbers {
+    before: u64,
+    first: u64,
+    second: u64,
+    refused: u64,
+    in_part: u64,
+}
+
+/// The number of the last request of a client that wrote a part of its first one.
+fn last_in_part(alloc: Global) -> Option<u64> {
+    let (client, writer) = half_written(alloc)?;
+    drop(writer);
+    let last = client.last();
+    drop(client);
+    Some(last)
+}
+
+fn last_numbers(alloc: Global) -> Option<LastNumbers> {
+    let in_part = last_in_part(alloc)?;
+    let mut flight = Flight::new(alloc, 2, 2)?;
+    let before = flight.client.last();
+    let first = flight.last_behind(insert(alloc));
+    let second = flight.last_behind(retrieve(alloc));
+    let refused = flight.last_behind(remove(alloc));
+    drop(flight);
+    Some(LastNumbers {
+        before,
+        first,
+        second,
+        refused,
+        in_part,
+    })
+}
+
+#[test]
+fn a_client_tells_the_number_of_its_last_request(rt: HostRuntime) {
+    let last = last_numbers(rt.alloc());
+    let wanted = LastNumbers {
+        before: 0,
+        first: 1,
+        second: 2,
+        refused: 2,
+        in_part: 1,
+    };
+    assert!(rt; last == Some(wanted), "{last:?}");
 }
 
 /// Whether the Full of a store comes, what sending again

@@ -6,7 +6,7 @@ use super::script::{
     opened, requests, retrieve, status, visit, whole,
 };
 use super::sessions::{INSERT, fault, joined};
-use chord_serve::{ClientSession, Parted, Served, SessionTable, laws};
+use chord_serve::{ClientSession, KeptSessions, Parted, Served, SessionTable, laws};
 use chord_serve_testkit::MapAsker;
 use chord_wire::Token;
 use std::alloc::Global;
@@ -353,6 +353,47 @@ fn bytes_kept(alloc: Global, frames: &[&[u8]]) -> Option<(u64, u64)> {
     let kept = table.kept_bytes();
     drop(table);
     Some((bytes, kept))
+}
+
+/// How many bytes of answers are kept where there is no session, where there are two with the same
+/// answers, and once one of them was taken.
+#[derive(Clone, Copy, Debug, PartialEq, Eq)]
+struct KeptBytes {
+    of_none: u64,
+    of_two: u64,
+    of_one: u64,
+}
+
+fn kept_bytes(alloc: Global, frames: &[&[u8]]) -> Option<KeptBytes> {
+    let (one, other) = after(alloc, frames).zip(after(alloc, frames))?;
+    let (first, second) = (Token { bytes: [1; 16] }, Token { bytes: [2; 16] });
+    let mut sessions = KeptSessions::new(alloc);
+    let of_none = sessions.bytes();
+    drop(sessions.keep(first, 1, one));
+    drop(sessions.keep(second, 2, other));
+    let of_two = sessions.bytes();
+    drop(sessions.take(first));
+    let of_one = sessions.bytes();
+    drop(sessions);
+    Some(KeptBytes {
+        of_none,
+        of_two,
+        of_one,
+    })
+}
+
+#[test]
+fn answers_of_sessions_without_a_connection_are_counted(rt: HostRuntime) {
+    let seen = kept_bytes(
+        rt.alloc(),
+        &[&change(1, 1, 0, b'a', b'x'), &retrieve(2, 0, b'a')],
+    );
+    let wanted = KeptBytes {
+        of_none: 0,
+        of_two: 72,
+        of_one: 36,
+    };
+    assert!(rt; seen == Some(wanted), "15 bytes and 21 each: {seen:?}");
 }
 
 /// An answer is kept until a floor passes its request.

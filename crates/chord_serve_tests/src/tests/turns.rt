@@ -295,6 +295,26 @@ fn writes_what_is_due(alloc: Global) -> Option<(bool, bool)> {
     Some((first, second))
 }
 
+/// Whether output of this many bytes must be written before more is added.
+fn is_full_at(alloc: Global, len: usize) -> Option<bool> {
+    let bytes = vec![in alloc; 7u8; len].ok()?;
+    let mut due = Due::new(alloc);
+    let added = due.add(&bytes);
+    drop(bytes);
+    let is_full = due.is_full();
+    drop(due);
+    added.ok()?;
+    Some(is_full)
+}
+
+#[test]
+fn output_above_64_kib_is_full(rt: HostRuntime) {
+    for (len, is_full) in [(0, false), (65_536, false), (65_537, true)] {
+        let seen = is_full_at(rt.alloc(), len);
+        assert!(rt; seen == Some(is_full), "{len} bytes: {seen:?}");
+    }
+}
+
 #[test]
 fn output_that_is_due_is_written(rt: HostRuntime) {
     let seen = writes_what_is_due(rt.alloc());

@@ -235,7 +235,14 @@ fn a_capped_store_refuses_growths(rt: HostRuntime) {
 #[test]
 fn a_box_refuses_growths(rt: HostRuntime) -> Result<(), Fail> {
     let alloc = rt.alloc();
-    let store: Box<dyn EntryStore + Send> = Box::new(alloc, noted(alloc)?)?;
+    let made = match noted(alloc) {
+        Ok(made) => made,
+        Err(_) => noted(alloc)?,
+    };
+    let store: Box<dyn EntryStore + Send> = match Box::new(alloc, made) {
+        Ok(store) => store,
+        Err(refused) => Box::new(alloc, refused.value)?,
+    };
     refuses_growths(&rt, alloc, store);
     Ok(())
 }
