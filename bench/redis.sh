@@ -4,9 +4,10 @@
 # Needs the toolchain and redis-cli. What also needs redis-server with redis-benchmark, or python3
 # with its module redis, is skipped with a word where they are missing; it installs nothing. Rows of
 # the last part are medians of requests a second as multiples of Redis's in the same round, over 16
-# nodes. A ring does 1,000 rounds of upkeep once its nodes are there, so its clients begin REST
-# seconds later (3). It ends with a status other than 0 where a client was answered otherwise than it
-# says.
+# nodes: of keys that lie on all nodes, and of one key, which lies on one. KINDS names some of these
+# rows. THREADS gives redis-benchmark this number of threads; without it, it has one. A ring does
+# 1,000 rounds of upkeep once its nodes are there, so its clients begin REST seconds later (3). It
+# ends with a status other than 0 where a client was answered otherwise than it says.
 set -euo pipefail
 cd "$(dirname "$0")/.."
 requests=${1-100000} rounds=${2-3} port=17600
@@ -133,23 +134,38 @@ fi
 # The median of numbers, one a line.
 median() { sort -g | awk '{ all[NR] = $1 } END { print all[int((NR + 1) / 2)] }'; }
 
+# fill: sets that the cells read. `one` and `hundred` have 1 and 100 members, and so have 10,000
+# keys one:N and 1,000 keys hundred:N, which lie on all nodes.
+fill() {
+    local members
+    members=$(seq 100 | tr '\n' ' ')
+    {
+        echo "SADD one a"
+        echo "SADD hundred $members"
+        seq 0 9999 | awk '{ printf "SADD one:%012d a\n", $1 }'
+        seq 0 999 | awk -v members="$members" '{ printf "SADD hundred:%012d %s\n", $1, members }'
+    } | redis-cli -p $port --pipe > /dev/null
+}
+
 # cell SERVER KIND CLIENTS FLIGHT: sets `rate` to the requests a second that redis-benchmark says.
 cell() {
-    local words
+    local words keys=10000
     start "$1"
     case $2 in
-    SADD) words='SADD key:__rand_int__ member:__rand_int__' ;;
-    SMEMBERS1) words='SMEMBERS one' ;;
-    SMEMBERS100) words='SMEMBERS hundred' ;;
-    SISMEMBER) words='SISMEMBER one a' ;;
+    SADD) words='SADD key:__rand_int__ member:__rand_int__' keys=100000 ;;
+    SMEMBERS1) words='SMEMBERS one:__rand_int__' ;;
+    SMEMBERS100) words='SMEMBERS hundred:__rand_int__' keys=1000 ;;
+    SISMEMBER) words='SISMEMBER one:__rand_int__ a' ;;
+    SMEMBERS1-one-key) words='SMEMBERS one' ;;
+    SMEMBERS100-one-key) words='SMEMBERS hundred' ;;
+    SISMEMBER-one-key) words='SISMEMBER one a' ;;
     esac
-    redis-cli -p $port SADD one a > /dev/null
-    redis-cli -p $port SADD hundred $(seq 100) > /dev/null
-    rate=$(redis-benchmark -p $port -n "$requests" -r 100000 -c "$3" -P "$4" --csv $words | tail -1 | cut -d, -f2 | tr -d '"')
+    fill
+    rate=$(redis-benchmark -p $port -n "$requests" -r $keys -c "$3" -P "$4" ${THREADS:+--threads $THREADS} --csv $words | tail -1 | cut -d, -f2 | tr -d '"')
     stop
 }
 
-for kind in SADD SMEMBERS1 SMEMBERS100 SISMEMBER; do
+for kind in ${KINDS-SADD SMEMBERS1 SMEMBERS100 SISMEMBER SMEMBERS1-one-key SMEMBERS100-one-key SISMEMBER-one-key}; do
     echo "$kind: as a multiple of Redis (requests a second of Redis)"
     for shape in "1 1" "16 1" "64 1" "1 16" "16 16" "64 16"; do
         : > "$room/rows"
