@@ -10,8 +10,8 @@ use Rattle.chord_app_serve.specs.Asked.{asked_by, asked_since}
 use Rattle.chord_caller.proofs.Places.{got_last}
 use Rattle.chord_caller.specs.Caller.{Caller, Submission, request_for_reply, fresh_for, is_taken, next_number, submission_at, with_request}
 use Rattle.chord_caller.specs.declared.told.Told.{Told}
-use Rattle.chord_live.specs.Asking.{CallIs, RetryIs, SubmittedAndEnded}
-use Rattle.chord_live.specs.Ending.{AwaitIs, TookReply, told_to}
+use Rattle.chord_live_steps.specs.Asking.{CallIs, RetryIs, SubmittedAndEnded}
+use Rattle.chord_live_steps.specs.Ending.{AwaitIs, TookReply, told_to}
 use Rattle.chord_live_types.specs.declared.caller.AskFault.{AskFault}
 use Rattle.chord_live_types.specs.declared.caller.AskFault.TheVariants as ask
 use Rattle.chord_live_types.specs.declared.caller.RetryFault.{RetryFault}

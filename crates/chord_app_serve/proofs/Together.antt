@@ -9,8 +9,8 @@ use Rattle.chord_app_serve.specs.Together.{taken_requests, taken_replies, AskedI
 use Rattle.chord_app_serve.specs.declared.plan_run.asking.AskResult.{AskResult}
 use Rattle.chord_app_serve.specs.declared.plan_run.asking.AskResult.TheVariants as ended
 use Rattle.chord_caller.specs.Caller.{Caller, fresh_for, submission_at, next_number, with_request, with_reply}
-use Rattle.chord_live.specs.Asking.{CallIs}
-use Rattle.chord_live.specs.Ending.{AwaitIs, told_to}
+use Rattle.chord_live_steps.specs.Asking.{CallIs}
+use Rattle.chord_live_steps.specs.Ending.{AwaitIs, told_to}
 use Rattle.chord_live_types.specs.declared.caller.AskFault.{AskFault}
 use Rattle.chord_live_types.specs.declared.caller.AskFault.TheVariants as fault
 use Rattle.chord_map.proofs.Equal.{eqb_same}

@@ -1,7 +1,7 @@
 -- What a session is told by a caller of a ring: how the caller's call ended. Source: our own.
 use Rattle.std.specs.Prelude.{◌≡◌, ◌⊎◌, ℕ, ◌+◌, ◌^◌, ◌≤◌, Result, Ok, Err}
-use Rattle.chord_live.specs.Asking.{CallIs, RetryIs}
-use Rattle.chord_live.specs.Ending.{AwaitIs}
+use Rattle.chord_live_steps.specs.Asking.{CallIs, RetryIs}
+use Rattle.chord_live_steps.specs.Ending.{AwaitIs}
 use Rattle.chord_live_types.specs.declared.caller.AskFault.{AskFault}
 use Rattle.chord_live_types.specs.declared.caller.AskFault.TheVariants as ask
 use Rattle.chord_live_types.specs.declared.caller.RetryFault.{RetryFault}

@@ -1,21 +1,19 @@
 //! A caller that stores all that it took.
 ghost use Rattle.std.specs.Prelude.{◌≡◌, ◌++◌, [], ◌∷◌, IfOk, IfSome, OnErr, Ok, None, true, is_some};
 ghost use Rattle.chord_caller.specs.Caller.{known_calls, submission_at};
-ghost use Rattle.chord_live.specs.Asking.{CollectIs, MeetIs};
-ghost use Rattle.chord_live.specs.Ending.{Ended, IsTaken, WaitIs};
+ghost use Rattle.chord_live_steps.specs.Asking.{CollectIs, MeetIs};
+ghost use Rattle.chord_live_steps.specs.Ending.{Ended, IsTaken, WaitIs};
 ghost use Rattle.chord_map.specs.History.{done_at};
 ghost use Rattle.chord_model.specs.declared.message.Message.TheVariants.{Note as NoteMessage};
 ghost use Rattle.chord_table.specs.Shown.{CallerShown};
 
-use crate::note_envelope::NoteEnvelope;
 use crate::ring_caller::RingCaller;
-use crate::seated_core::SeatedCore;
 use chord_caller::CallerCore;
+use chord_live_steps::NoteEnvelope;
 use chord_live_types::{CollectFault, WaitFault};
 use chord_map::{Done, Reply};
-use chord_node::Message;
 use chord_store::EntryStore;
-use chord_table::{Naming, Shared};
+use chord_table::Naming;
 use std::alloc::AllocError;
 use std::sync::Wait;
 use std::time::Clock;
@@ -23,63 +21,19 @@ use std::time::Clock;
 /// A caller that stores all that it took, and gives notes of what it knows.
 pub type Caller<'a, J, S> = RingCaller<'a, J, S, CallerCore>;
 
-impl<J: Naming> SeatedCore<J, CallerCore> {
-    /// A copy of the reply to the request of this number, if it was taken.
-    fn reply_to(&self, number: u64) -> Result<Option<Reply>, AllocError>
-        ensures some { IfOk result (λ found. IfSome found (IsTaken self.now.caller number)) }
-        ensures none { result ≡ Ok None → done_at self.now.caller.number number self.now.caller.mine ≡ None }
-        ensures err { OnErr result (is_some (done_at self.now.caller.number number self.now.caller.mine) ≡ true) }
-    {
-        match self.core.taken(number) {
-            Some(done) => match done.reply.try_copy() {
-                Ok(reply) => Ok(Some(reply)),
-                Err(_) => Err(AllocError),
-            },
-            None => Ok(None),
-        }
-    }
-
-    /// A note of all that the caller knows.
-    fn show(&mut self, table: &Shared<J>) -> Result<NoteEnvelope<J>, AllocError>
-        ensures same { self.new ≡ self.old }
-        ensures ok { IfOk result (λ shown. shown ≡ record { caller = self.old.caller.number; done = known_calls self.old.caller }) }
-    {
-        let note = self.core.show()?;
-        let envelope = self.seat.send(table, &self.core, Message::Note(note));
-        Ok(NoteEnvelope { envelope })
-    }
-
-    /// Learns the calls of a note that the caller did not know.
-    fn meet(&mut self, table: &Shared<J>, shown: NoteEnvelope<J>) -> Result<(), AllocError>
-        ensures messages { self.new.messages ≡ self.old.messages ++ NoteMessage shown ∷ [] }
-        ensures answer { MeetIs shown self.old.caller result self.new.caller }
-    {
-        match self.seat.receive(table, shown.envelope) {
-            Message::Note(note) => match self.core.meet(&note) {
-                Ok(()) => {
-                    self.seat.local(table, &self.core);
-                    Ok(())
-                }
-                Err(_) => Err(AllocError),
-            },
-            _ => unreachable!(),
-        }
-    }
-}
-
 impl<'a, J: Naming, S: EntryStore> RingCaller<'a, J, S, CallerCore> {
     /// The calls whose replies it took, in the order taken.
     pub fn mine(&self) -> &[Done]
         ensures { result.now ≡ self.now.caller.mine }
     {
-        self.own.core.mine()
+        self.own.mine()
     }
 
     /// The calls that it learned by others' notes.
     pub fn told(&self) -> &[Done]
         ensures { result.now ≡ self.now.caller.told }
     {
-        self.own.core.told()
+        self.own.told()
     }
 
     /// A note of all that the caller knows, for another caller of the same ring to meet.
@@ -119,7 +73,7 @@ impl<'a, J: Naming, S: EntryStore> RingCaller<'a, J, S, CallerCore> {
     fn find_or_wait<R: Wait + Clock>(&mut self, rt: &R, number: u64) -> Result<Reply, CollectFault>
         ensures { CollectIs number self.old result self.new }
     {
-        if !self.own.core.was_submitted(number) {
+        if !self.own.was_submitted(number) {
             return Err(CollectFault::NotBegun);
         }
         match self.own.reply_to(number) {

@@ -2,7 +2,7 @@
 ghost use Rattle.std.specs.Prelude.{◌≡◌, ◌≤◌, [], length};
 ghost use Rattle.chord_ident.specs.Circle.{key_id};
 ghost use Rattle.chord_live.specs.LastKeys.{remembered};
-ghost use Rattle.chord_live_ring.specs.Keys.{IsKeyId};
+ghost use Rattle.chord_live_steps.specs.Keys.{IsKeyId};
 
 use chord_ident::Id;
 use chord_node::Message;

@@ -11,20 +11,14 @@
 //! Each has its seat of the table, so all that they took is in one history of one map of sets.
 #![tactic(auto)]
 
-mod asking_core;
-mod caller_asking;
-mod client_asking;
 mod guesses;
 mod keeping;
 mod last_key;
-mod note_envelope;
 mod opening;
 mod ring_caller;
 mod route;
-mod seated_core;
 
-pub use asking_core::AskingCore;
+pub use chord_live_steps::{AskingCore, NoteEnvelope};
 pub use keeping::Caller;
-pub use note_envelope::NoteEnvelope;
 pub use opening::OpenCaller;
 pub use ring_caller::{RingCaller, RingClient};

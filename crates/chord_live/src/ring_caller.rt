@@ -2,22 +2,21 @@
 ghost use Rattle.std.specs.Prelude.{◌≡◌, ◌≤◌, ◌<◌, [], ◌∷◌, Ok, Err, None, true, IfOk, IfErr, IfSome, OnErr};
 ghost use Rattle.chord_caller.specs.Answers.{PendingIs, is_pending};
 ghost use Rattle.chord_caller.specs.Caller.{floor_of, next_number};
-ghost use Rattle.chord_live.specs.Asking.{CallIs, RetryIs};
-ghost use Rattle.chord_live.specs.Begun.{BeginIs, IsCallOf, MaySubmit, Submitted};
-ghost use Rattle.chord_live.specs.Ending.{Ended};
+ghost use Rattle.chord_live_steps.specs.Asking.{CallIs, RetryIs};
+ghost use Rattle.chord_live_steps.specs.Begun.{BeginIs, IsCallOf, MaySubmit, Submitted};
+ghost use Rattle.chord_live_steps.specs.Ending.{Ended};
 ghost use Rattle.chord_live_types.specs.declared.caller.AskFault.TheVariants as AskFault;
 ghost use Rattle.chord_live_types.specs.declared.caller.BeginFault.TheVariants as BeginFault;
 ghost use Rattle.chord_live_types.specs.declared.caller.RetryFault.TheVariants as RetryFault;
 ghost use Rattle.chord_table.specs.Shown.{CallerShown};
 
-use crate::asking_core::AskingCore;
 use crate::guesses::Guesses;
 use crate::last_key::LastKey;
 use crate::route::Route;
-use crate::seated_core::SeatedCore;
 use chord_caller::ClientCore;
 use chord_ident::Id;
-use chord_live_ring::{Carried, Keyed, ReturnedCaller, Ring, Target};
+use chord_live_ring::{Carried, ReturnedCaller, Ring};
+use chord_live_steps::{AskingCore, Keyed, SeatedCore, Target};
 use chord_live_types::{AskFault, BeginFault, RetryFault, WaitFault};
 use chord_map::{Reply, Request};
 use chord_store::EntryStore;
@@ -99,7 +98,8 @@ impl<'a, J: Naming, S: EntryStore, C: AskingCore> RingCaller<'a, J, S, C> {
     pub fn into_returned(self) -> ReturnedCaller<J>
         ensures { result ≡ self.entry }
     {
-        self.own.into_returned()
+        let (number, seat) = self.own.into_seat();
+        ReturnedCaller::new(number, seat)
     }
 
     /// A witness of the caller as it is now. One look of joined witnesses proves something of all

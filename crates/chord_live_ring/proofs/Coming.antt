@@ -1,8 +1,8 @@
 -- A message that came is among those that a seat shows.
 use Rattle.std.proofs.Common.{◌≡◌, [], ◌∷◌, ◌++◌, Option, Some, sym, subst, Contains}
 use Rattle.std.proofs.lemmas.List.Elements.{Contains-push}
-use Rattle.chord_live_ring.specs.Dealt.{message_in}
-use Rattle.chord_live_ring.specs.declared.target.Target.{Target}
+use Rattle.chord_live_steps.specs.Dealt.{message_in}
+use Rattle.chord_live_steps.specs.declared.target.Target.{Target}
 use Rattle.chord_model.specs.Node.{Node, NodeStep}
 use Rattle.chord_model.specs.declared.message.Message.{Message}
 use Rattle.chord_map.specs.declared.done.Done.{Done}

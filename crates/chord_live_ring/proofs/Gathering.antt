@@ -2,7 +2,7 @@
 use Rattle.std.proofs.Common.{◌≡◌, ℕ, List, [], ◌∷◌, ◌++◌, ◌+◌, map, refl, ap, ◌∙◌, append-nil}
 use Rattle.std.proofs.lemmas.List.{map-append}
 use Rattle.chord_caller.specs.Caller.{Caller}
-use Rattle.chord_live_ring.proofs.Counting.{below_next}
+use Rattle.chord_live_steps.proofs.Counting.{below_next}
 use Rattle.chord_live_ring.specs.Closings.{AreInOrder}
 use Rattle.chord_model.specs.declared.message.Message.{Message}
 use Rattle.chord_model.specs.Node.{Node}

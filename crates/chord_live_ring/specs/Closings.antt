@@ -1,7 +1,7 @@
 -- What a ring that ended takes in.
 use Rattle.std.specs.Prelude.{◌≡◌, ℕ, List, map}
 use Rattle.chord_caller.specs.Caller.{Caller}
-use Rattle.chord_live_ring.specs.Counts.{numbers_below}
+use Rattle.chord_live_steps.specs.Counts.{numbers_below}
 use Rattle.chord_model.specs.Node.{Node}
 use Rattle.chord_table.specs.Seen.{Sight}
 use Rattle.chord_table.specs.Views.{nodes_among, callers_among}

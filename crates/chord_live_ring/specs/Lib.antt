@@ -1,11 +1,5 @@
-pub mod Adjoining
 pub mod Closings
-pub mod Counts
-pub mod Dealt
 pub mod Deeds
-pub mod Keys
 pub mod Parts
-pub mod Pieces
 pub mod Refused
 pub mod Sights
-pub mod Tidy

@@ -1,7 +1,7 @@
 //! The end of a ring: all its seats at one moment.
 ghost use Rattle.std.specs.Prelude.{◌≡◌, ◌+◌, ◌++◌, [], ◌∷◌, map, true};
 ghost use Rattle.std.specs.List.Sorted.{IsPermutation};
-ghost use Rattle.chord_live_ring.specs.Counts.{numbers_below};
+ghost use Rattle.chord_live_steps.specs.Counts.{numbers_below};
 ghost use Rattle.chord_live_ring.specs.Closings.{AreInOrder};
 ghost use Rattle.chord_table.specs.Shown.{AssemblyShown, WholeShown};
 ghost use Rattle.chord_table.specs.Views.{CallerSight, callers_among};

@@ -10,18 +10,13 @@
 //! [`Ring::carry`] does the nodes' events on the calling thread. `chord_live` has such callers.
 #![tactic(auto)]
 
-mod adjoining;
 mod carried;
 mod closing;
-mod dealing;
 mod deed;
 mod fault;
 mod handing_over;
-mod keyed;
 mod looking;
 mod node_counts;
-mod numbers;
-mod pieces;
 mod probe;
 mod reader;
 mod resting;
@@ -33,29 +28,22 @@ mod round;
 mod seated_node;
 mod sight;
 mod slot;
-mod target;
 mod tick;
-mod tidying;
 mod waiting;
 mod work;
 
-pub use adjoining::join_adjoining;
 pub use carried::Carried;
+pub use chord_live_steps::{Keyed, Target, Tidied, deal, join_adjoining, tidy, trim};
 pub use chord_live_types::{
     CreateFault, JoinFault, LeaveFault, NewFault, NoSuchNode, OpenClientFault, OpenFault, Settings,
     TickFault,
 };
 pub use closing::Closed;
-pub use dealing::deal;
 pub use fault::RingRetireFault;
-pub use keyed::Keyed;
 pub use node_counts::{AskCounts, HandoverCounts, NodeCounts};
-pub use pieces::trim;
 pub use probe::{NoProbe, Probe};
 pub use returned_caller::ReturnedCaller;
 pub use ring::Ring;
 pub use ring_parts::RingParts;
 pub use round::Round;
 pub use sight::{NodeSight, OutboxSight, SegmentSight};
-pub use target::Target;
-pub use tidying::{Tidied, tidy};

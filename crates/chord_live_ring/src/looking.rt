@@ -5,7 +5,7 @@ ghost use Rattle.chord_ident.specs.Circle.{in_span};
 ghost use Rattle.chord_model.specs.declared.holder.Holder.TheVariants.{UnderWay};
 ghost use Rattle.chord_segment.specs.Callers.{calls_in};
 ghost use Rattle.chord_live_ring.specs.Sights.{capped, segment_sight, outbox_sight, known_fingers, numbers_of, GivesIs, HoldingIs};
-ghost use Rattle.chord_live_ring.specs.Pieces.{goes_to, GivesToIs};
+ghost use Rattle.chord_live_steps.specs.Pieces.{goes_to, GivesToIs};
 
 use crate::sight::{OutboxSight, SegmentSight};
 use chord_ident::Id;

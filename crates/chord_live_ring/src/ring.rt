@@ -5,7 +5,6 @@ ghost use Rattle.chord_caller.specs.Client.{IsCoreOf};
 ghost use Rattle.chord_live_ring.specs.Sights.{IsPageShown, IsSightOf};
 ghost use Rattle.chord_live_types.specs.Limits.{AreWithin};
 
-use crate::numbers::Numbers;
 use crate::reader::RingReader;
 use crate::seated_node::SeatedNode;
 use crate::sight::NodeSight;
@@ -13,6 +12,7 @@ use crate::slot::{Inbox, Slot, SlotState};
 use chord_caller::{CallerCore, ClientCore};
 use chord_ident::Id;
 use chord_links::{Links, Peer};
+use chord_live_steps::Numbers;
 use chord_live_types::{
     CreateFault, JoinFault, LeaveFault, NoSuchNode, OpenClientFault, OpenFault, Settings,
 };
@@ -228,8 +228,8 @@ impl<J: Naming, S: EntryStore> Ring<J, S> {
             return Err((CreateFault::AlreadyCreated, store));
         }
         match numbers.create(&self.table, self.alloc, id, self.settings.successors, store) {
-            Ok(seated) => {
-                self.fill_slot(rt, 0, seated);
+            Ok((node, seat)) => {
+                self.fill_slot(rt, 0, SeatedNode::new(node, seat));
                 Ok(Peer { number: 0, id })
             }
             Err(store) => Err((CreateFault::Memory, store)),
@@ -290,8 +290,8 @@ impl<J: Naming, S: EntryStore> Ring<J, S> {
             Err(fault) => return Err((fault, store)),
         };
         match numbers.join(&self.table, self.alloc, links, store) {
-            Ok(seated) => {
-                self.fill_slot(rt, number, seated);
+            Ok((node, seat)) => {
+                self.fill_slot(rt, number, SeatedNode::new(node, seat));
                 Ok(me)
             }
             Err(store) => Err((JoinFault::Memory, store)),

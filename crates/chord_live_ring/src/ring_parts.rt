@@ -3,10 +3,10 @@ ghost use Rattle.std.specs.Prelude.{◌≡◌, ◌↔◌, Err, IfOk, vec_len};
 ghost use Rattle.chord_live_types.specs.Limits.{AreWithin};
 ghost use Rattle.chord_live_types.specs.declared.ring.NewFault.TheVariants as NewFault;
 
-use crate::numbers::Numbers;
 use crate::ring::Ring;
 use crate::slot::{Inbox, Slot, SlotState};
 use chord_links::Links;
+use chord_live_steps::Numbers;
 use chord_live_types::{NewFault, Settings};
 use chord_store::EntryStore;
 use chord_table::{Naming, Registrar, TableParts};

@@ -1,28 +1,23 @@
 //! A node with its seat.
 ghost use Rattle.std.specs.Prelude.{◌≡◌, ◌≤◌, ◌<◌, ◌++◌, [], ◌∷◌, Ok, Some, None, IfOk, IfSome, IfNone, OnOk, OnErr};
-ghost use Rattle.chord_live_ring.specs.Adjoining.{JoinIs};
+ghost use Rattle.chord_live_steps.specs.Adjoining.{JoinIs};
 ghost use Rattle.chord_live_ring.specs.Deeds.{counted, no_counts};
 ghost use Rattle.chord_live_ring.specs.declared.deed.Deed.TheVariants.{Gave, Ticked};
-ghost use Rattle.chord_live_ring.specs.Pieces.{Gives, GivesNone, GivesPiece, GivesToIs, TrimIs};
+ghost use Rattle.chord_live_steps.specs.Pieces.{Gives, GivesNone, GivesPiece, GivesToIs, TrimIs};
 ghost use Rattle.chord_live_ring.specs.Sights.{HoldingIs, counts_after, kind_in, look_in, number_in, sight_of};
-ghost use Rattle.chord_live_ring.specs.Tidy.{TidyIs};
+ghost use Rattle.chord_live_steps.specs.Tidy.{TidyIs};
 ghost use Rattle.chord_model.specs.Node.{segment_with};
 ghost use Rattle.chord_node.specs.Moves.{LeaveIs, RetireIs};
 ghost use Rattle.chord_node.specs.Pages.{PairsFromIs};
 ghost use Rattle.chord_table.specs.Shown.{NodeShown};
 
-use crate::adjoining::join_adjoining;
-use crate::dealing::{deal_by_id, is_for};
 use crate::deed::{Deed, MessageKind};
-use crate::keyed::Keyed;
 use crate::looking::{gives_to, holding_of, known_fingers, numbers_of, outbox_of, segments_of};
 use crate::node_counts::NodeCounts;
-use crate::pieces::trim;
 use crate::sight::NodeSight;
-use crate::target::Target;
-use crate::tidying::{Tidied, tidy};
 use chord_ident::Id;
 use chord_links::{Links, Peer};
+use chord_live_steps::{Keyed, Target, Tidied, deal_by_id, is_for, join_adjoining, tidy, trim};
 use chord_node::{
     GiveFault, Holder, Message, Node, NotStaying, PairsPage, Phase, ResendPartFault, RetireFault,
 };

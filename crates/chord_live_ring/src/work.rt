@@ -1,12 +1,11 @@
 //! Envelopes for nodes, taken in by workers or by the callers themselves.
 
 use crate::carried::Carried;
-use crate::keyed::Keyed;
 use crate::probe::{NoProbe, Probe};
 use crate::ring::Ring;
 use crate::slot::SlotState;
-use crate::target::Target;
 use crate::waiting::{Wakes, lock_soon};
+use chord_live_steps::{Keyed, Target};
 use chord_live_types::NoSuchNode;
 use chord_store::EntryStore;
 use chord_table::{Envelope, Naming};

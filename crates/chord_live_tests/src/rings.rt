@@ -23,6 +23,7 @@ mod growths;
 mod handing;
 mod kinds;
 mod notes;
+mod numbering;
 mod pairs_of_nodes;
 mod pieces;
 mod refusals;
@@ -55,7 +56,7 @@ pub const ONE: Peer = Peer {
 pub type Store = Box<dyn EntryStore + Send>;
 
 /// A reply, without its values.
-#[derive(Clone, Copy, Debug, PartialEq, Eq)]
+#[derive(Clone, Copy, PartialEq, Eq)]
 pub enum Said {
     Added,
     Present,
@@ -99,7 +100,7 @@ pub fn said_by<F: Copy>(answer: Result<Reply, F>) -> Result<Said, F> {
 }
 
 /// A call that a caller knows of.
-#[derive(Clone, Copy, Debug, PartialEq, Eq)]
+#[derive(Clone, Copy, PartialEq, Eq)]
 pub struct Known {
     pub caller: u64,
     pub number: u64,

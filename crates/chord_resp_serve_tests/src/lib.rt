@@ -1,5 +1,7 @@
-//! The tests of `chord_resp_serve`.
+//! The tests of `chord_resp` and `chord_resp_serve`.
 #![tactic(auto)]
 
 #[cfg(test)]
-mod tests;
+mod connections;
+#[cfg(test)]
+mod words;

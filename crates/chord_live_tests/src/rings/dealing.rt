@@ -77,7 +77,7 @@ fn a_node_alone_tidies(rt: HostRuntime) {
 type Sent = Result<Option<(Target, Message)>, AllocError>;
 
 /// The answer that a node sends for a call, and to which caller.
-#[derive(Clone, Copy, Debug, PartialEq, Eq)]
+#[derive(Clone, Copy, PartialEq, Eq)]
 enum Dealt {
     /// The reply to this call of a caller, sent to that one.
     Told {

@@ -20,7 +20,7 @@ const FIRST: Ticket = Ticket {
 };
 
 /// What a node sends.
-#[derive(Clone, Copy, Debug, PartialEq, Eq)]
+#[derive(Clone, Copy, PartialEq, Eq)]
 enum Sent {
     /// To this node: its handover was taken.
     Got { to: u64, of: Ticket },
@@ -96,7 +96,7 @@ fn receiver(alloc: Global, limit: u64) -> Node<CappedStore> {
 }
 
 /// Whether a node holds the identifier of `abc`, how many pairs it has, and how many handovers.
-#[derive(Clone, Copy, Debug, PartialEq, Eq)]
+#[derive(Clone, Copy, PartialEq, Eq)]
 struct Has {
     holds_abc: bool,
     pairs: u64,

@@ -22,7 +22,7 @@ use std::thread::Threads;
 use std::time::{Clock, Duration};
 
 /// How many pairs a node has, and how many handovers it gives.
-#[derive(Clone, Copy, Debug, PartialEq, Eq)]
+#[derive(Clone, Copy, PartialEq, Eq)]
 struct Holding {
     pairs: u64,
     given: usize,

@@ -47,7 +47,7 @@ fn with_three(alloc: Global) -> Option<Node<TreeStore>> {
 }
 
 /// The index of the segment that holds each of `c`, `a` and `b`.
-#[derive(Clone, Copy, Debug, PartialEq, Eq)]
+#[derive(Clone, Copy, PartialEq, Eq)]
 struct Places {
     c: Option<usize>,
     a: Option<usize>,

@@ -66,7 +66,7 @@ fn settings_at_their_limits_are_good(rt: HostRuntime) {
 }
 
 /// What a store that came back shows: how many pairs it has, and the results of two inserts.
-#[derive(Clone, Copy, Debug, PartialEq, Eq)]
+#[derive(Clone, Copy, PartialEq, Eq)]
 struct StoreShown {
     count: u64,
     first: Result<Inserted, StoreFault>,

@@ -138,7 +138,7 @@ fn has_answered<R: Abort>(rt: &R, sight: &NodeSight) {
 }
 
 /// How a page looks.
-#[derive(Clone, Copy, Debug, PartialEq, Eq)]
+#[derive(Clone, Copy, PartialEq, Eq)]
 struct PageSeen {
     pairs: usize,
     next: Option<Id>,

@@ -150,7 +150,7 @@ fn is_there<T: Drop>(value: Option<T>) -> bool {
 }
 
 /// A reply that came to a caller.
-#[derive(Clone, Copy, Debug, PartialEq, Eq)]
+#[derive(Clone, Copy, PartialEq, Eq)]
 struct Told {
     caller: u64,
     number: u64,

@@ -28,7 +28,7 @@ use std::time::{Clock, Duration};
 const M: u128 = 0xa99a0000000000000000000000000000;
 
 /// What a test does once the ring is settled.
-#[derive(Clone, Copy, Debug, PartialEq, Eq)]
+#[derive(Clone, Copy, PartialEq, Eq)]
 enum Then {
     /// A caller is answered at node 1 while worker 0 is held in its lock.
     TwoLocks,

@@ -1,4 +1,4 @@
-use Rattle.chord_live_ring.specs.Pieces.{NoneGoesTo}
+use Rattle.chord_live_steps.specs.Pieces.{NoneGoesTo}
 use Rattle.chord_live_ring.proofs.looking.gives_to.Given as goal
 
 -- the items before this index do not go there

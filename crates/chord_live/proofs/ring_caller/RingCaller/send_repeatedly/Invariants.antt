@@ -1,5 +1,5 @@
 use Rattle.std.proofs.Common.{Err}
-use Rattle.chord_live.specs.Ending.{Ended}
+use Rattle.chord_live_steps.specs.Ending.{Ended}
 use Rattle.chord_live_types.specs.declared.caller.WaitFault.TheVariants as wait
 use Rattle.chord_live.proofs.ring_caller.RingCaller.send_repeatedly.Given as goal
 

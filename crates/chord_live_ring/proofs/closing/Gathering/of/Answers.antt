@@ -1,5 +1,5 @@
 use Rattle.std.proofs.Common.{List, ap, sym, subst}
-use Rattle.chord_live_ring.proofs.Counting.{none_below}
+use Rattle.chord_live_steps.proofs.Counting.{none_below}
 use Rattle.chord_live_ring.specs.Closings.{AreInOrder}
 use Rattle.chord_table.specs.Seen.{Sight}
 use Rattle.chord_table.specs.Views.{Assembled}

@@ -1,6 +1,6 @@
 use Rattle.std.proofs.Common.{None, Some, ap, ◌∙◌, sym}
 use Rattle.chord_live_ring.proofs.Coming.{acted}
-use Rattle.chord_live_ring.specs.Dealt.{message_in}
+use Rattle.chord_live_steps.specs.Dealt.{message_in}
 use Rattle.chord_table.specs.Views.{NodeSight}
 use Rattle.chord_live_ring.proofs.seated_node.SeatedNode.deal_with.Goals as goal
 

@@ -1,7 +1,7 @@
 use Rattle.std.proofs.Common.{refl, subst, inl}
 use Rattle.chord_app_serve.proofs.Asked.{heard_first}
-use Rattle.chord_live.specs.Asking.{CallIs}
-use Rattle.chord_live.specs.Ending.{AwaitIs}
+use Rattle.chord_live_steps.specs.Asking.{CallIs}
+use Rattle.chord_live_steps.specs.Ending.{AwaitIs}
 use Rattle.chord_map.specs.declared.request.Request.{Request}
 use Rattle.chord_app_serve.proofs.serving.asker.RingAskerAsker.ask.Goals as goal
 

@@ -1,7 +1,7 @@
 use Rattle.std.proofs.Common.{◌≡◌, ◌+◌, ℕ, refl, subst, inl, rules}
 use Rattle.chord_app_serve.proofs.Asked.{heard_again}
-use Rattle.chord_live.specs.Asking.{RetryIs}
-use Rattle.chord_live.specs.Ending.{AwaitIs}
+use Rattle.chord_live_steps.specs.Asking.{RetryIs}
+use Rattle.chord_live_steps.specs.Ending.{AwaitIs}
 use Rattle.chord_app_serve.proofs.serving.asker.RingAskerAsker.retry.Goals as goal
 
 pub returns-clause-answer : goal.returns-clause-answer

@@ -1,5 +1,0 @@
-//! The tests of `chord_caller`.
-#![tactic(auto)]
-
-#[cfg(test)]
-mod tests;

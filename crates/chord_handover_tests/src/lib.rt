@@ -1,5 +1,0 @@
-//! The tests of `chord_handover`.
-#![tactic(auto)]
-
-#[cfg(test)]
-mod tests;

@@ -1,4 +1,0 @@
-pub mod Coming
-pub mod Hearing
-pub mod Submitting
-pub mod Waiting

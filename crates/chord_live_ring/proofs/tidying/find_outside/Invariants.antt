@@ -1,6 +1,0 @@
-use Rattle.chord_live_ring.specs.Tidy.{AreInside}
-use Rattle.chord_live_ring.proofs.tidying.find_outside.Given as goal
-
--- the segments before this index are inside
-abbrev pub invariant-loop-place : goal.invariant-loop-place
-invariant-loop-place g l = AreInside l.own l.node.held l.place

@@ -1,0 +1,6 @@
+pub mod Coming
+pub mod Counting
+pub mod Hearing
+pub mod Sending
+pub mod Submitting
+pub mod Waiting

@@ -1,0 +1,11 @@
+pub mod Adjoining
+pub mod Asking
+pub mod Begun
+pub mod Counts
+pub mod Dealt
+pub mod Ending
+pub mod Keys
+pub mod Laws
+pub mod Noted
+pub mod Pieces
+pub mod Tidy

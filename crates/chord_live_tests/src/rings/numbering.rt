@@ -1,0 +1,314 @@
+//! How nodes and callers get their numbers, and what a core with its seat answers, without a ring.
+ghost use Rattle.std.specs.Prelude.{◌≡◌};
+ghost use Rattle.chord_caller.specs.Answers.{new_caller};
+
+use super::{C, ONE, ZERO};
+use chord_caller::{CallerCore, SubmitFault};
+use chord_ident::Id;
+use chord_links::Links;
+use chord_live_steps::{Numbers, SeatedCore};
+use chord_live_types::OpenClientFault;
+use chord_map::Request;
+use chord_node::Message;
+use chord_store::CappedStore;
+use chord_table::{Naming, Registrar, Shared, TableParts};
+use std::alloc::Global;
+use std::marker::Brand;
+
+#[test]
+fn numbers_are_given_in_turn(rt: HostRuntime) {
+    let parts = Registrar::open(rt.alloc(), 2, 2).expect(&rt, "memory for a table");
+    let (nodes, callers) = numbers_of::<Brand>(rt.alloc(), parts).expect(&rt, "memory for actors");
+    assert!(rt;
+        nodes.before == (0, true),
+        "there is no node yet, and a slot"
+    );
+    assert!(rt; nodes.first == Some(0), "the first node has number 0");
+    assert!(rt; nodes.second == Some(1), "the next one has number 1");
+    assert!(rt; nodes.after == (2, false), "then both slots are taken");
+    assert!(rt;
+        nodes.taken == (true, true, false),
+        "both identifiers are taken, and no other"
+    );
+    assert!(rt; callers.first == Some(0), "the first caller has number 0");
+    assert!(rt; callers.second == Some(1), "a client has the next number");
+    assert!(rt; callers.third == None, "there is no third number");
+    assert!(rt;
+        callers.fourth == Some(OpenClientFault::CallersSpent),
+        "nor one for a client"
+    );
+    assert!(rt; callers.count == 2, "two callers were admitted");
+}
+
+/// What the numbers of nodes answer: how many nodes there are, and whether there is a slot.
+struct NodesNumbered {
+    before: (usize, bool),
+    first: Option<u64>,
+    second: Option<u64>,
+    after: (usize, bool),
+    /// Whether the identifiers of node 0 and of node 1 are taken, and 5.
+    taken: (bool, bool, bool),
+}
+
+/// What the numbers of callers answer.
+struct CallersNumbered {
+    first: Option<u64>,
+    second: Option<u64>,
+    third: Option<u64>,
+    fourth: Option<OpenClientFault>,
+    count: usize,
+}
+
+fn numbers_of<J: Naming>(
+    alloc: Global,
+    parts: TableParts,
+) -> Option<(NodesNumbered, CallersNumbered)>
+    requires name { parts ≡ J.name }
+    requires slots { parts.slots ≡ 2 }
+    requires callers { parts.callers ≡ 2 }
+{
+    let (table, registrar) = parts.assemble::<J>();
+    let mut numbers = Numbers::new(alloc, registrar, 2, 2);
+    let nodes = nodes_numbered(alloc, &table, &mut numbers)?;
+    let callers = callers_numbered(alloc, &table, &mut numbers);
+    drop(numbers.into_registrar());
+    drop(table);
+    Some((nodes, callers))
+}
+
+/// The numbers of two nodes that are admitted.
+fn nodes_numbered<J: Naming>(
+    alloc: Global,
+    table: &Shared<J>,
+    numbers: &mut Numbers<J>,
+) -> Option<NodesNumbered>
+    requires none { numbers.old.nodes ≡ 0 }
+    requires slots { J.name.slots ≡ 2 }
+{
+    let before = (numbers.nodes(), numbers.has_slot());
+    let store = CappedStore::new(alloc, 1);
+    let (node, seat) = numbers.create(table, alloc, ZERO.id, 3, store).ok()?;
+    let first = node.number();
+    drop(seat);
+    drop(node);
+    let store = CappedStore::new(alloc, 1);
+    let (node, seat) = numbers
+        .join(table, alloc, Links::alone(ONE, 3), store)
+        .ok()?;
+    let second = node.number();
+    drop(seat);
+    drop(node);
+    Some(NodesNumbered {
+        before,
+        first: Some(first),
+        second: Some(second),
+        after: (numbers.nodes(), numbers.has_slot()),
+        taken: (
+            numbers.is_taken(ZERO.id),
+            numbers.is_taken(Id::new(C)),
+            numbers.is_taken(Id::new(5)),
+        ),
+    })
+}
+
+/// The numbers of a caller and a client that are admitted, and of two that are not.
+fn callers_numbered<J: Naming>(
+    alloc: Global,
+    table: &Shared<J>,
+    numbers: &mut Numbers<J>,
+) -> CallersNumbered {
+    CallersNumbered {
+        first: number_of_caller(alloc, table, numbers),
+        second: number_of_client(alloc, table, numbers).ok(),
+        third: number_of_caller(alloc, table, numbers),
+        fourth: number_of_client(alloc, table, numbers).err(),
+        count: numbers.callers(),
+    }
+}
+
+/// The number of the next caller that is admitted.
+fn number_of_caller<J: Naming>(
+    alloc: Global,
+    table: &Shared<J>,
+    numbers: &mut Numbers<J>,
+) -> Option<u64> {
+    let (core, seat) = numbers.admit_caller(table, alloc, 1)?;
+    let number = core.number();
+    drop(seat);
+    drop(core);
+    Some(number)
+}
+
+/// The number of the next client that is admitted.
+fn number_of_client<J: Naming>(
+    alloc: Global,
+    table: &Shared<J>,
+    numbers: &mut Numbers<J>,
+) -> Result<u64, OpenClientFault> {
+    let (core, seat) = numbers.admit_client(table, alloc, 1)?;
+    let number = core.number();
+    drop(seat);
+    drop(core);
+    Ok(number)
+}
+
+#[test]
+fn a_seated_core_submits_and_meets(rt: HostRuntime) {
+    let parts = Registrar::open(rt.alloc(), 1, 2).expect(&rt, "memory for a table");
+    let (asked, met) = seated::<Brand>(rt.alloc(), parts).expect(&rt, "memory for two callers");
+    assert!(rt; asked.before == (0, None, false), "it waits for nothing");
+    assert!(rt; asked.sent == (1, Some(1)), "its first call has number 1");
+    assert!(rt;
+        asked.after == (Some(1), true, true),
+        "which waits, and was submitted"
+    );
+    assert!(rt;
+        asked.refusal == Some(SubmitFault::WindowFull),
+        "its window has room for one"
+    );
+    assert!(rt; asked.again == Some(1), "it is sent again under its number");
+    assert!(rt; asked.number == 0, "its seat has its number");
+    assert!(rt;
+        met.known == (0, 0),
+        "another caller took and was told nothing"
+    );
+    assert!(rt; met.after == (0, 0), "a note of nothing tells it nothing");
+    assert!(rt;
+        met.reply == Some(false),
+        "it has no reply to its request 1"
+    );
+}
+
+/// What a core with its seat answers before and after it submits.
+struct SeatAsked {
+    /// Its floor, the least number that waits, and whether 1 waits.
+    before: (u64, Option<u64>, bool),
+    /// The number that it gives, and the number of the call that is sent.
+    sent: (u64, Option<u64>),
+    /// The least number that waits, whether 1 waits, and whether 1 was submitted.
+    after: (Option<u64>, bool, bool),
+    refusal: Option<SubmitFault>,
+    /// The number of the call that is sent again.
+    again: Option<u64>,
+    /// The number that goes with its seat.
+    number: u64,
+}
+
+/// What a core with its seat knows before and after it met a note.
+struct SeatMet {
+    /// How many calls it took, and how many it was told of.
+    known: (usize, usize),
+    after: (usize, usize),
+    /// Whether it has a reply to request 1.
+    reply: Option<bool>,
+}
+
+fn seated<J: Naming>(alloc: Global, parts: TableParts) -> Option<(SeatAsked, SeatMet)>
+    requires name { parts ≡ J.name }
+    requires slots { parts.slots ≡ 1 }
+    requires callers { parts.callers ≡ 2 }
+{
+    let (table, registrar) = parts.assemble::<J>();
+    let mut numbers = Numbers::new(alloc, registrar, 1, 2);
+    let (core, seat) = numbers.admit_caller(&table, alloc, 1)?;
+    let mut zero = SeatedCore::new(core, seat);
+    let (core, seat) = numbers.admit_caller(&table, alloc, 1)?;
+    let mut one = SeatedCore::new(core, seat);
+    let met = met_by(&table, &mut zero, &mut one);
+    drop(one);
+    let asked = asked_by(alloc, &table, zero);
+    drop(numbers);
+    drop(table);
+    Some((asked?, met?))
+}
+
+/// The number of the call in a message.
+fn call_in(message: &Message) -> Option<u64> {
+    match message {
+        Message::Ask(ask) => Some(ask.number),
+        _ => None,
+    }
+}
+
+/// What a core answers that submits its first request.
+fn asked_by<J: Naming>(
+    alloc: Global,
+    table: &Shared<J>,
+    mut own: SeatedCore<J, CallerCore>,
+) -> Option<SeatAsked>
+    requires own { own.caller ≡ new_caller own.caller.number 1 }
+{
+    let before = (own.floor(), own.pending(), own.is_pending(1));
+    let (number, envelope) = own.submit(table, insert(alloc)?).ok()?;
+    let sent = (number, call_in(envelope.message()));
+    drop(envelope);
+    let after = (own.pending(), own.is_pending(1), own.was_submitted(1));
+    let request = insert(alloc)?;
+    let refusal = own.refusal(&request);
+    drop(request);
+    let again = sent_again(table, &mut own);
+    own.look(table);
+    drop(own.witness(table));
+    let (number, seat) = own.into_seat();
+    drop(seat);
+    Some(SeatAsked {
+        before,
+        sent,
+        after,
+        refusal,
+        again,
+        number,
+    })
+}
+
+/// Insert `x` under `a`.
+fn insert(alloc: Global) -> Option<Request> {
+    Request::insert(alloc, b"a", b"x").ok()
+}
+
+/// The number of the pending call that is sent again.
+fn sent_again<J: Naming>(table: &Shared<J>, own: &mut SeatedCore<J, CallerCore>) -> Option<u64> {
+    if !own.is_pending(1) {
+        return None;
+    }
+    let envelope = own.resend(table, 1).ok()?;
+    let number = call_in(envelope.message());
+    drop(envelope);
+    number
+}
+
+/// How many calls a core took, and how many it was told of.
+fn known_by<J: Naming>(own: &SeatedCore<J, CallerCore>) -> (usize, usize) {
+    (own.mine().len(), own.told().len())
+}
+
+/// What `one` knows before and after it met a note of `zero`.
+fn met_by<J: Naming>(
+    table: &Shared<J>,
+    zero: &mut SeatedCore<J, CallerCore>,
+    one: &mut SeatedCore<J, CallerCore>,
+) -> Option<SeatMet>
+    ensures { zero.new ≡ zero.old }
+{
+    let known = known_by(one);
+    let note = zero.show(table).ok()?;
+    one.meet(table, note).ok()?;
+    let after = known_by(one);
+    let reply = has_reply(one);
+    Some(SeatMet {
+        known,
+        after,
+        reply,
+    })
+}
+
+/// Whether a core has a reply to its request 1; None where memory was out.
+fn has_reply<J: Naming>(own: &SeatedCore<J, CallerCore>) -> Option<bool> {
+    let found = own.reply_to(1);
+    let reply = match &found {
+        Ok(found) => Some(found.is_some()),
+        Err(_) => None,
+    };
+    drop(found);
+    reply
+}

@@ -1,5 +1,0 @@
-//! The tests of `chord_resp`.
-#![tactic(auto)]
-
-#[cfg(test)]
-mod tests;

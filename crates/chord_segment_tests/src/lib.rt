@@ -1,5 +1,0 @@
-//! The tests of `chord_segment`.
-#![tactic(auto)]
-
-#[cfg(test)]
-mod tests;

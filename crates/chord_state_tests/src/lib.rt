@@ -1,0 +1,14 @@
+//! The tests of the map, its stores and what a node keeps of them: `chord_map`, `chord_store`,
+//! `chord_segment`, `chord_handover` and `chord_caller`.
+#![tactic(auto)]
+
+#[cfg(test)]
+mod caller;
+#[cfg(test)]
+mod handover;
+#[cfg(test)]
+mod map;
+#[cfg(test)]
+mod segment;
+#[cfg(test)]
+mod store;

@@ -1,0 +1,9 @@
+//! Requests, replies and the plain map.
+
+mod bytes;
+mod done;
+mod pair_list;
+mod plain_map;
+mod request;
+mod samples;
+mod values;

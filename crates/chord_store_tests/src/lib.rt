@@ -1,5 +1,0 @@
-//! The tests of `chord_store`.
-#![tactic(auto)]
-
-#[cfg(test)]
-mod tests;
