@@ -1,5 +1,6 @@
 pub mod Digits
 pub mod JsonLaws
 pub mod Lines
+pub mod Members
 pub mod Objects
 pub mod Shown

@@ -1,12 +1,14 @@
 -- What is answered, as JSON (RFC 8259). Source: our own.
 use Rattle.std.specs.Prelude.{ℕ, List, [], ◌∷◌, ◌++◌, map, fold, codes, Option, Some, None}
 use Rattle.std.specs.List.{flat_map}
+use Rattle.std.specs.Borrow.{Bor}
 use Rattle.std.specs.Int.{to_be_bytes, w128}
 use Rattle.hex.specs.Hex.{encode_lower}
 use Rattle.serde_json.specs.Data.{Data, null, number, unsigned, string, array, object, Members, no_members, put}
 use Rattle.serde_json.specs.View.{items_of}
 use Rattle.serde_json.specs.Written.{compact_text}
 use Rattle.chord_ident.specs.declared.id.Id.{Id}
+use Rattle.chord_ident.specs.declared.span.Span.{Span}
 use Rattle.chord_app_operator.specs.declared.sight.parts.SegmentSight.{SegmentSight}
 use Rattle.chord_app_operator.specs.declared.sight.parts.OutboxSight.{OutboxSight}
 use Rattle.chord_app_operator.specs.declared.sight.counts.AskCounts.{AskCounts}
@@ -39,6 +41,10 @@ abbrev pub optional_data : Option ℕ → Data
 optional_data None = null
 optional_data (Some n) = count_data n
 
+-- a number under a name
+abbrev pub count_member : Bor (List ℕ) × ℕ → List ℕ × Data
+count_member m = (m.0.now, count_data m.1)
+
 -- an identifier: 32 hexadecimal digits, its first bytes first
 abbrev pub id_hex : Id → List ℕ
 id_hex id = encode_lower (to_be_bytes w128 id.number)
@@ -50,9 +56,13 @@ id_data id = string (id_hex id)
 abbrev pub list_data : {X : Type 0} → (X → Data) → List X → Data
 list_data data_of xs = array (items_of (map data_of xs))
 
+-- where the identifiers of a span lie
+abbrev pub span_members : Span → List (List ℕ × Data)
+span_members s = (codes "after", id_data s.after) ∷ (codes "upto", id_data s.upto) ∷ []
+
 -- a segment that a node holds
 abbrev pub segment_members : SegmentSight → List (List ℕ × Data)
-segment_members s = (codes "after", id_data s.span.after) ∷ (codes "upto", id_data s.span.upto) ∷ (codes "kept", count_data s.kept) ∷ []
+segment_members s = span_members s.span ++ (codes "kept", count_data s.kept) ∷ []
 
 abbrev pub segment_data : SegmentSight → Data
 segment_data s = record_of (segment_members s)
@@ -60,8 +70,8 @@ segment_data s = record_of (segment_members s)
 -- a handover that is under way
 abbrev pub outbox_members : OutboxSight → List (List ℕ × Data)
 outbox_members o =
-    (codes "to", count_data o.to) ∷ (codes "number", count_data o.number) ∷ (codes "after", id_data o.span.after)
-    ∷ (codes "upto", id_data o.span.upto) ∷ (codes "pairs", count_data o.pairs) ∷ []
+    (codes "to", count_data o.to) ∷ (codes "number", count_data o.number) ∷ span_members o.span
+    ++ (codes "pairs", count_data o.pairs) ∷ []
 
 abbrev pub outbox_data : OutboxSight → Data
 outbox_data o = record_of (outbox_members o)
@@ -137,13 +147,15 @@ abbrev pub node_data : NodeSight → Data
 node_data n =
     object (with_members (with_members (with_members (with_members no_members (name_members n)) (link_members n)) (held_members n)) (done_members n))
 
--- a ring
-abbrev pub ring_members : RingSight → List (List ℕ × Data)
-ring_members r =
+-- a ring: what it has beside its nodes, and its nodes
+abbrev pub server_members : RingSight → List (List ℕ × Data)
+server_members r =
     (codes "successors", count_data r.successors) ∷ (codes "slots", count_data r.slots) ∷ (codes "callers", callers_data r.callers)
     ∷ (codes "connections", count_data r.connections) ∷ (codes "ends", ends_data r.ends) ∷ (codes "sessions", sessions_data r.sessions)
-    ∷ (codes "uptime_ms", count_data r.uptime_ms)
-    ∷ (codes "nodes", list_data node_data r.nodes.items) ∷ []
+    ∷ (codes "uptime_ms", count_data r.uptime_ms) ∷ []
+
+abbrev pub ring_members : RingSight → List (List ℕ × Data)
+ring_members r = server_members r ++ (codes "nodes", list_data node_data r.nodes.items) ∷ []
 
 abbrev pub ring_data : RingSight → Data
 ring_data r = record_of (ring_members r)
@@ -156,9 +168,11 @@ holder_data id (Handover from to handover) = record_of (
 holder_data id Moved = null
 
 -- a pair, its key and its value by their bytes
+abbrev pub pair_members : Pair → List (List ℕ × Data)
+pair_members p = (codes "id", id_data p.id) ∷ (codes "key", string (encode_lower p.key.items)) ∷ (codes "value", string (encode_lower p.value.items)) ∷ []
+
 abbrev pub pair_data : Pair → Data
-pair_data p = record_of (
-    (codes "id", id_data p.id) ∷ (codes "key", string (encode_lower p.key.items)) ∷ (codes "value", string (encode_lower p.value.items)) ∷ [])
+pair_data p = record_of (pair_members p)
 
 -- a line for each pair
 abbrev pub pair_line : Pair → List ℕ

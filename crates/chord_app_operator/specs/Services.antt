@@ -9,7 +9,6 @@ use Rattle.chord_app_operator.specs.declared.request.refusal.Refusal.{Refusal}
 use Rattle.chord_app_operator.specs.declared.request.refusal.Refusal.TheVariants as R
 use Rattle.chord_app_operator.specs.declared.request.calls.OperatorCall.{OperatorCall}
 use Rattle.chord_app_operator.specs.declared.request.calls.OperatorCall.TheVariants as Call
-use Rattle.chord_app_operator.specs.declared.request.calls.CrashRequest.{CrashRequest}
 use Rattle.chord_app_operator.specs.declared.sight.ring.RingSight.{RingSight}
 use Rattle.chord_app_operator.specs.declared.operator.pairs.PairsPage.{PairsPage}
 use Rattle.chord_app_operator.specs.declared.operator.holder.Holder.{Holder}

@@ -4,6 +4,7 @@ mod front_page;
 mod holder_json;
 mod json;
 mod measure;
+mod members;
 mod metrics;
 mod metrics_heads;
 mod pairs_json;

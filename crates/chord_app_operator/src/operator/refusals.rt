@@ -2,44 +2,33 @@
 ghost use Rattle.std.specs.Prelude.{◌≡◌};
 ghost use Rattle.chord_app_operator.specs.Words.{join_refusal_name, leave_refusal_name, crash_refusal_name};
 
+use std::fmt;
 use thiserror::Error;
 
 /// Why a node does not join.
 #[derive(Clone, Copy, Debug, PartialEq, Eq, Error)]
 pub enum JoinRefusal {
-    #[error("a node has the identifier")]
     IdTaken,
-    #[error("all slots are taken")]
     NoSlot,
-    #[error("no spare store of the kind is left")]
     NoStore,
-    #[error("the ring is not settled there")]
     Unsettled,
-    #[error("no node has the number")]
     NoSuchNode,
-    #[error("the ring is stopped")]
     Stopped,
-    #[error("out of memory")]
     Memory,
 }
 
 /// Why a node does not begin to leave.
 #[derive(Clone, Copy, Debug, PartialEq, Eq, Error)]
 pub enum LeaveRefusal {
-    #[error("no node has the number")]
     NoSuchNode,
-    #[error("the node does not stay")]
     NotStaying,
 }
 
 /// Why a node does not crash.
 #[derive(Clone, Copy, Debug, PartialEq, Eq, Error)]
 pub enum CrashRefusal {
-    #[error("no node has the number")]
     NoSuchNode,
-    #[error("the node is gone or crashed already")]
     NotLive,
-    #[error("the ring would not stand without the node")]
     Unsafe,
 }
 
@@ -58,6 +47,19 @@ impl JoinRefusal {
             JoinRefusal::Memory => "Memory",
         }
     }
+
+    /// Why, in words.
+    pub(crate) fn text(self) -> &'static str {
+        match self {
+            JoinRefusal::IdTaken => "a node has the identifier",
+            JoinRefusal::NoSlot => "all slots are taken",
+            JoinRefusal::NoStore => "no spare store of the kind is left",
+            JoinRefusal::Unsettled => "the ring is not settled there",
+            JoinRefusal::NoSuchNode => "no node has the number",
+            JoinRefusal::Stopped => "the ring is stopped",
+            JoinRefusal::Memory => "out of memory",
+        }
+    }
 }
 
 impl LeaveRefusal {
@@ -68,6 +70,14 @@ impl LeaveRefusal {
         match self {
             LeaveRefusal::NoSuchNode => "NoSuchNode",
             LeaveRefusal::NotStaying => "NotStaying",
+        }
+    }
+
+    /// Why, in words.
+    pub(crate) fn text(self) -> &'static str {
+        match self {
+            LeaveRefusal::NoSuchNode => "no node has the number",
+            LeaveRefusal::NotStaying => "the node does not stay",
         }
     }
 }
@@ -82,5 +92,32 @@ impl CrashRefusal {
             CrashRefusal::NotLive => "NotLive",
             CrashRefusal::Unsafe => "Unsafe",
         }
+    }
+
+    /// Why, in words.
+    pub(crate) fn text(self) -> &'static str {
+        match self {
+            CrashRefusal::NoSuchNode => "no node has the number",
+            CrashRefusal::NotLive => "the node is gone or crashed already",
+            CrashRefusal::Unsafe => "the ring would not stand without the node",
+        }
+    }
+}
+
+impl fmt::Display for JoinRefusal {
+    fn fmt<W: fmt::Write>(&self, f: &mut fmt::Formatter<W>) -> fmt::Result {
+        f.write_str(self.text())
+    }
+}
+
+impl fmt::Display for LeaveRefusal {
+    fn fmt<W: fmt::Write>(&self, f: &mut fmt::Formatter<W>) -> fmt::Result {
+        f.write_str(self.text())
+    }
+}
+
+impl fmt::Display for CrashRefusal {
+    fn fmt<W: fmt::Write>(&self, f: &mut fmt::Formatter<W>) -> fmt::Result {
+        f.write_str(self.text())
     }
 }

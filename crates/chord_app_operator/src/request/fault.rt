@@ -2,30 +2,21 @@
 ghost use Rattle.std.specs.Prelude.{◌≡◌};
 ghost use Rattle.chord_app_operator.specs.Words.{fault_name};
 
+use std::fmt;
 use thiserror::Error;
 
 /// What is wrong with the body or the query of a request.
 #[derive(Clone, Copy, Debug, PartialEq, Eq, Error)]
 pub enum Fault {
-    #[error("the body is not JSON")]
     NotJson,
-    #[error("the body is no object")]
     NotObject,
-    #[error("the body has a member that the call does not have")]
     UnknownMember,
-    #[error("`id` is not 32 hexadecimal digits")]
     BadId,
-    #[error("`store` is none of tree, list and capped")]
     BadStore,
-    #[error("`limit` is no number, or out of range, or stands beside a store without a limit")]
     BadLimit,
-    #[error("`via` is no number of a node")]
     BadVia,
-    #[error("`force` is neither true nor false")]
     BadForce,
-    #[error("`after` is not 32 hexadecimal digits")]
     BadAfter,
-    #[error("the query has a parameter that the call does not have")]
     UnknownParameter,
 }
 
@@ -46,5 +37,28 @@ impl Fault {
             Fault::BadAfter => "BadAfter",
             Fault::UnknownParameter => "UnknownParameter",
         }
+    }
+
+    /// Why, in words.
+    pub(crate) fn text(self) -> &'static str {
+        match self {
+            Fault::NotJson => "the body is not JSON",
+            Fault::NotObject => "the body is no object",
+            Fault::UnknownMember => "the body has a member that the call does not have",
+            Fault::BadId => "`id` is not 32 hexadecimal digits",
+            Fault::BadStore => "`store` is none of tree, list and capped",
+            Fault::BadLimit =>
+                "`limit` is no number, or out of range, or stands beside a store without a limit",
+            Fault::BadVia => "`via` is no number of a node",
+            Fault::BadForce => "`force` is neither true nor false",
+            Fault::BadAfter => "`after` is not 32 hexadecimal digits",
+            Fault::UnknownParameter => "the query has a parameter that the call does not have",
+        }
+    }
+}
+
+impl fmt::Display for Fault {
+    fn fmt<W: fmt::Write>(&self, f: &mut fmt::Formatter<W>) -> fmt::Result {
+        f.write_str(self.text())
     }
 }

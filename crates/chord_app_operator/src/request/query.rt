@@ -1,7 +1,7 @@
 //! Reading the query of `/pairs`.
 ghost use Rattle.std.specs.Prelude.{◌≡◌, option_copied, option_and_then};
 ghost use Rattle.chord_app_operator.specs.Paths.{number_of};
-ghost use Rattle.chord_app_operator.specs.Queries.{id_of, from_1_to_1000, with_parameter, with_parameters, first_pairs, pairs_request};
+ghost use Rattle.chord_app_operator.specs.Queries.{id_of, from_1_to_1000, with_after, with_limit, with_parameter, with_parameters, first_pairs, pairs_request};
 
 use super::calls::PairsRequest;
 use super::fault::Fault;
@@ -37,22 +37,36 @@ fn id_of_bytes(text: &[u8]) -> Option<Id>
 }
 
 impl PairsRequest {
+    // The request for pairs behind this identifier.
+    fn with_after(self, after: Option<Id>) -> Result<PairsRequest, Fault>
+        ensures { result ≡ with_after self after }
+    {
+        match after {
+            Some(id) => Ok(PairsRequest {
+                after: Some(id),
+                ..self
+            }),
+            None => Err(Fault::BadAfter),
+        }
+    }
+
+    // The request for at most this many pairs.
+    fn with_limit(self, limit: Option<u64>) -> Result<PairsRequest, Fault>
+        ensures { result ≡ with_limit self limit }
+    {
+        match limit {
+            Some(limit) => Ok(PairsRequest { limit, ..self }),
+            None => Err(Fault::BadLimit),
+        }
+    }
+
     // The request with one more parameter.
     fn with(self, name: &[u8], value: &[u8]) -> Result<PairsRequest, Fault>
         ensures { result ≡ with_parameter self (name.now, value.now) }
     {
         match name {
-            b"after" => match id_of_bytes(value) {
-                Some(id) => Ok(PairsRequest {
-                    after: Some(id),
-                    ..self
-                }),
-                None => Err(Fault::BadAfter),
-            },
-            b"limit" => match limit_of_digits(value) {
-                Some(limit) => Ok(PairsRequest { limit, ..self }),
-                None => Err(Fault::BadLimit),
-            },
+            b"after" => self.with_after(id_of_bytes(value)),
+            b"limit" => self.with_limit(limit_of_digits(value)),
             _ => Err(Fault::UnknownParameter),
         }
     }

@@ -6,30 +6,21 @@ use super::fault::Fault;
 use super::verb::Verb;
 use crate::operator::{CrashRefusal, JoinRefusal, LeaveRefusal};
 use http::StatusCode;
+use std::fmt;
 use thiserror::Error;
 
 /// Why a request is refused, by what it is or by the operator.
 #[derive(Clone, Copy, Debug, PartialEq, Eq, Error)]
 pub enum Refusal {
-    #[error("the request is for another host")]
     ForeignHost,
-    #[error("the request comes from a page of another site")]
     ForeignOrigin,
-    #[error("the path names nothing")]
     NoSuchPath,
-    #[error("the path has another method")]
     WrongMethod(Verb),
-    #[error("the body is longer than 4,096 bytes")]
     BodyTooLong,
-    #[error("{0}")]
     Bad(Fault),
-    #[error("{0}")]
     Join(JoinRefusal),
-    #[error("{0}")]
     Leave(LeaveRefusal),
-    #[error("{0}")]
     Crash(CrashRefusal),
-    #[error("out of memory")]
     Memory,
 }
 
@@ -68,5 +59,27 @@ impl Refusal {
             Refusal::Crash(refusal) => refusal.name(),
             Refusal::Memory => "Memory",
         }
+    }
+
+    // Why, in words.
+    fn text(self) -> &'static str {
+        match self {
+            Refusal::ForeignHost => "the request is for another host",
+            Refusal::ForeignOrigin => "the request comes from a page of another site",
+            Refusal::NoSuchPath => "the path names nothing",
+            Refusal::WrongMethod(_) => "the path has another method",
+            Refusal::BodyTooLong => "the body is longer than 4,096 bytes",
+            Refusal::Bad(why) => why.text(),
+            Refusal::Join(why) => why.text(),
+            Refusal::Leave(why) => why.text(),
+            Refusal::Crash(why) => why.text(),
+            Refusal::Memory => "out of memory",
+        }
+    }
+}
+
+impl fmt::Display for Refusal {
+    fn fmt<W: fmt::Write>(&self, f: &mut fmt::Formatter<W>) -> fmt::Result {
+        f.write_str(self.text())
     }
 }

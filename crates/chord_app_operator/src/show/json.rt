@@ -5,7 +5,7 @@ ghost use Rattle.serde_json.specs.View.{view, items_of, items_view};
 ghost use Rattle.chord_app_operator.specs.Json.{id_hex, id_data, count_data, optional_data};
 
 use chord_ident::Id;
-use serde_json::Value;
+use serde_json::{Value, push};
 use std::alloc::{AllocError, Global};
 
 /// An identifier as 32 lower case hexadecimal digits.
@@ -56,7 +56,7 @@ pub fn array<T: ToJson>(alloc: Global, list: &[T]) -> Result<Value, AllocError>
 {
     let mut values = Vec::new(alloc);
     for item in list {
-        values.push(item.to_json(alloc)?)?;
+        push(&mut values, item.to_json(alloc)?)?;
     }
     Ok(Value::Array(values))
 }

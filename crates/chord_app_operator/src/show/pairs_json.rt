@@ -1,22 +1,30 @@
 //! Pairs as lines of JSON.
 ghost use Rattle.std.specs.Prelude.{◌≡◌, ◌++◌, string_bytes, IfOk, OnOk};
 ghost use Rattle.std.specs.List.{flat_map};
-ghost use Rattle.serde_json.specs.View.{view};
-ghost use Rattle.chord_app_operator.specs.Json.{pair_data, pair_line, pair_lines};
+ghost use Rattle.serde_json.specs.View.{view, members_view};
+ghost use Rattle.chord_app_operator.specs.Json.{with_members, pair_members, pair_data, pair_line, pair_lines};
 
-use super::json::{ToJson, id_text};
+use super::json::ToJson;
+use super::members::{put_bytes, put_id};
 use crate::operator::Pair;
-use serde_json::{Value, json};
+use serde_json::{Map, Value};
 use std::alloc::{AllocError, Global};
+
+fn put_pair(alloc: Global, pair: &Pair, members: &mut Map<String, Value>) -> Result<(), AllocError>
+    ensures { OnOk result (members_view members.new.entries ≡ with_members (members_view members.old.entries) (pair_members pair.now)) }
+{
+    put_id(alloc, "id", pair.id, members)?;
+    put_bytes(alloc, "key", &pair.key, members)?;
+    put_bytes(alloc, "value", &pair.value, members)
+}
 
 impl ToJson for Pair {
     ghost data_of = { pair_data };
 
     fn to_json(&self, alloc: Global) -> Result<Value, AllocError> {
-        let id = id_text(alloc, self.id)?;
-        let key = hex::encode(alloc, &self.key)?;
-        let value = hex::encode(alloc, &self.value)?;
-        json!(in alloc; {"id": id, "key": key, "value": value})
+        let mut members = Map::new(alloc);
+        put_pair(alloc, self, &mut members)?;
+        Ok(Value::Object(members))
     }
 }
 

@@ -1,16 +1,18 @@
 //! Answers as responses.
-ghost use Rattle.std.specs.Prelude.{◌≡◌, codes, false, IsTrue, OnOk, OnErr};
+ghost use Rattle.std.specs.Prelude.{◌≡◌, codes, false, IsTrue, IfOk, OnOk, OnErr};
 ghost use Rattle.http_header.specs.FieldValue.{is_visible_text};
 ghost use Rattle.http_server.specs.Response.{IsBlank, IsResponse, fields_of};
 ghost use Rattle.chord_app_operator.specs.Replies.{typed, text_type, metrics_type, IsPage, IsJson, IsHealth, IsRefused, IsPairs, IsFull};
 ghost use Rattle.serde_json.specs.Written.{compact_text, has_float};
 ghost use Rattle.serde_json.specs.View.{view};
 ghost use Rattle.chord_app_operator.specs.Metrics.{metrics_text};
-ghost use Rattle.chord_app_operator.specs.Json.{refused, node_named, holder_data, ring_data};
+ghost use Rattle.chord_app_operator.specs.Words.{refusal_status};
+ghost use Rattle.chord_app_operator.specs.Json.{id_hex, refused, node_named, holder_data, ring_data};
 
 use super::front_page::{FRONT_PAGE, PAGE_POLICY};
 use super::holder_json::holder_value;
 use super::json::id_text;
+use super::members::{counts_value, put_word};
 use super::pairs_json::pair_lines;
 use super::sight_json::ring_text;
 use crate::operator::{Holder, PairsPage};
@@ -20,7 +22,7 @@ use bytes::Bytes;
 use chord_ident::Id;
 use http::{HeaderName, HeaderValue, StatusCode};
 use http_server::Response;
-use serde_json::{Value, json};
+use serde_json::{Map, Value};
 use std::alloc::{AllocError, Global};
 
 // Sets the status, the type and the body.
@@ -133,7 +135,7 @@ pub(crate) fn show_node(
     requires { IsBlank response.old }
     ensures { OnOk result (IsJson status (node_named node) response.new) }
 {
-    let value = json!(in alloc; {"node": node})?;
+    let value = counts_value(alloc, &[("node", node)])?;
     let shown = fill_json(alloc, response, status, &value);
     drop(value);
     shown
@@ -155,6 +157,16 @@ pub(crate) fn show_holder(
     shown
 }
 
+// An identifier as the value of a field.
+fn id_field(alloc: Global, id: Id) -> Result<HeaderValue, AllocError>
+    ensures { IfOk result (λ value. value.bytes ≡ id_hex id) }
+{
+    match HeaderValue::from_string(id_text(alloc, id)?) {
+        Ok(value) => Ok(value),
+        Err(_) => Err(AllocError),
+    }
+}
+
 /// Pairs, and the identifier to go on from.
 pub(crate) fn show_pairs(
     alloc: Global,
@@ -172,12 +184,10 @@ pub(crate) fn show_pairs(
         Bytes::from_string(text)?,
     )?;
     match page.next {
-        Some(next) => {
-            let Ok(value) = HeaderValue::from_string(id_text(alloc, next)?) else {
-                return Err(AllocError);
-            };
-            response.add_header(HeaderName::from_static("chord-next"), value)
-        }
+        Some(next) => response.add_header(
+            HeaderName::from_static("chord-next"),
+            id_field(alloc, next)?,
+        ),
         None => Ok(()),
     }
 }
@@ -195,6 +205,26 @@ pub(crate) fn show_stopping(response: &mut Response) -> Result<(), AllocError>
     )
 }
 
+// The name of a refusal.
+fn refused_value(alloc: Global, refusal: Refusal) -> Result<Value, AllocError>
+    ensures { IfOk result (λ value. view value ≡ refused refusal) }
+{
+    let mut members = Map::new(alloc);
+    put_word(alloc, "refused", refusal.name(), &mut members)?;
+    Ok(Value::Object(members))
+}
+
+// The name of a refusal as the body.
+fn fill_refused(alloc: Global, refusal: Refusal, response: &mut Response) -> Result<(), AllocError>
+    requires { IsBlank response.old }
+    ensures { OnOk result (IsJson (refusal_status refusal) (refused refusal) response.new) }
+{
+    let value = refused_value(alloc, refusal)?;
+    let shown = fill_json(alloc, response, refusal.status(), &value);
+    drop(value);
+    shown
+}
+
 /// Why the request is refused.
 pub(crate) fn refuse(
     alloc: Global,
@@ -204,10 +234,7 @@ pub(crate) fn refuse(
     requires { IsBlank response.old }
     ensures { OnOk result (IsRefused refusal response.new) }
 {
-    let value = json!(in alloc; {"refused": refusal.name()})?;
-    let shown = fill_json(alloc, response, refusal.status(), &value);
-    drop(value);
-    shown?;
+    fill_refused(alloc, refusal, response)?;
     match refusal {
         Refusal::WrongMethod(verb) => response.add_header(
             HeaderName::from_static("allow"),

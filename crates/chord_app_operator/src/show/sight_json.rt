@@ -2,23 +2,34 @@
 ghost use Rattle.std.specs.Prelude.{◌≡◌, string_bytes, IfOk, OnOk};
 ghost use Rattle.serde_json.specs.Written.{compact_text};
 ghost use Rattle.serde_json.specs.View.{view, members_view};
-ghost use Rattle.chord_app_operator.specs.Json.{with_members, name_members, link_members, held_members, done_members, segment_data, outbox_data, asks_data, handovers_data, callers_data, ends_data, sessions_data, node_data, ring_data};
+ghost use Rattle.chord_app_operator.specs.Json.{with_members, span_members, server_members, name_members, link_members, held_members, done_members, segment_data, outbox_data, asks_data, handovers_data, callers_data, ends_data, sessions_data, node_data, ring_data};
 
-use super::json::{ToJson, array, id_text, optional};
+use super::json::{ToJson, array, optional};
+use super::members::{counts_value, put_counts, put_id, put_word};
 use crate::sight::{
     AskCounts, CallerCounts, EndCounts, HandoverCounts, NodeSight, OutboxSight, RingSight,
     SegmentSight, SessionCounts,
 };
-use serde_json::{Map, Value, json, put};
+use chord_ident::Span;
+use serde_json::{Map, Value, put};
 use std::alloc::{AllocError, Global};
+
+// Where the identifiers of a span lie.
+fn put_span(alloc: Global, span: Span, members: &mut Map<String, Value>) -> Result<(), AllocError>
+    ensures { OnOk result (members_view members.new.entries ≡ with_members (members_view members.old.entries) (span_members span)) }
+{
+    put_id(alloc, "after", span.after, members)?;
+    put_id(alloc, "upto", span.upto, members)
+}
 
 impl ToJson for SegmentSight {
     ghost data_of = { segment_data };
 
     fn to_json(&self, alloc: Global) -> Result<Value, AllocError> {
-        let after = id_text(alloc, self.span.after)?;
-        let upto = id_text(alloc, self.span.upto)?;
-        json!(in alloc; {"after": after, "upto": upto, "kept": self.kept})
+        let mut members = Map::new(alloc);
+        put_span(alloc, self.span, &mut members)?;
+        put_counts(alloc, &[("kept", self.kept)], &mut members)?;
+        Ok(Value::Object(members))
     }
 }
 
@@ -26,15 +37,15 @@ impl ToJson for OutboxSight {
     ghost data_of = { outbox_data };
 
     fn to_json(&self, alloc: Global) -> Result<Value, AllocError> {
-        let after = id_text(alloc, self.span.after)?;
-        let upto = id_text(alloc, self.span.upto)?;
-        json!(in alloc; {
-            "to": self.to,
-            "number": self.number,
-            "after": after,
-            "upto": upto,
-            "pairs": self.pairs
-        })
+        let mut members = Map::new(alloc);
+        put_counts(
+            alloc,
+            &[("to", self.to), ("number", self.number)],
+            &mut members,
+        )?;
+        put_span(alloc, self.span, &mut members)?;
+        put_counts(alloc, &[("pairs", self.pairs)], &mut members)?;
+        Ok(Value::Object(members))
     }
 }
 
@@ -42,12 +53,13 @@ impl ToJson for AskCounts {
     ghost data_of = { asks_data };
 
     fn to_json(&self, alloc: Global) -> Result<Value, AllocError> {
-        json!(in alloc; {
-            "told": self.told,
-            "forwarded": self.forwarded,
-            "dropped": self.dropped,
-            "full": self.full
-        })
+        let counts = [
+            ("told", self.told),
+            ("forwarded", self.forwarded),
+            ("dropped", self.dropped),
+            ("full", self.full),
+        ];
+        counts_value(alloc, &counts)
     }
 }
 
@@ -55,18 +67,19 @@ impl ToJson for EndCounts {
     ghost data_of = { ends_data };
 
     fn to_json(&self, alloc: Global) -> Result<Value, AllocError> {
-        json!(in alloc; {
-            "ended": self.ended,
-            "truncated": self.truncated,
-            "malformed": self.malformed,
-            "protocol": self.protocol,
-            "read": self.read,
-            "write": self.write,
-            "turnsspent": self.turns_spent,
-            "memory": self.memory,
-            "callersspent": self.callers_spent,
-            "idle": self.idle
-        })
+        let counts = [
+            ("ended", self.ended),
+            ("truncated", self.truncated),
+            ("malformed", self.malformed),
+            ("protocol", self.protocol),
+            ("read", self.read),
+            ("write", self.write),
+            ("turnsspent", self.turns_spent),
+            ("memory", self.memory),
+            ("callersspent", self.callers_spent),
+            ("idle", self.idle),
+        ];
+        counts_value(alloc, &counts)
     }
 }
 
@@ -74,12 +87,13 @@ impl ToJson for SessionCounts {
     ghost data_of = { sessions_data };
 
     fn to_json(&self, alloc: Global) -> Result<Value, AllocError> {
-        json!(in alloc; {
-            "kept": self.kept,
-            "resumed": self.resumed,
-            "dropped": self.dropped,
-            "refused": self.refused
-        })
+        let counts = [
+            ("kept", self.kept),
+            ("resumed", self.resumed),
+            ("dropped", self.dropped),
+            ("refused", self.refused),
+        ];
+        counts_value(alloc, &counts)
     }
 }
 
@@ -87,11 +101,12 @@ impl ToJson for HandoverCounts {
     ghost data_of = { handovers_data };
 
     fn to_json(&self, alloc: Global) -> Result<Value, AllocError> {
-        json!(in alloc; {
-            "given": self.given,
-            "taken": self.taken,
-            "declined": self.declined
-        })
+        let counts = [
+            ("given", self.given),
+            ("taken", self.taken),
+            ("declined", self.declined),
+        ];
+        counts_value(alloc, &counts)
     }
 }
 
@@ -99,7 +114,7 @@ impl ToJson for CallerCounts {
     ghost data_of = { callers_data };
 
     fn to_json(&self, alloc: Global) -> Result<Value, AllocError> {
-        json!(in alloc; {"open": self.open, "all": self.all})
+        counts_value(alloc, &[("open", self.open), ("all", self.all)])
     }
 }
 
@@ -112,11 +127,9 @@ fn put_name(
     ensures { OnOk result (members_view members.new.entries ≡ with_members (members_view members.old.entries) (name_members node.now)) }
 {
     put(members, alloc, "node", Value::from(node.node))?;
-    put(members, alloc, "id", node.id.to_json(alloc)?)?;
-    let phase = Value::try_from_str(alloc, node.phase.word())?;
-    put(members, alloc, "phase", phase)?;
-    let store = Value::try_from_str(alloc, node.store.word())?;
-    put(members, alloc, "store", store)
+    put_id(alloc, "id", node.id, members)?;
+    put_word(alloc, "phase", node.phase.word(), members)?;
+    put_word(alloc, "store", node.store.word(), members)
 }
 
 // Its links.
@@ -176,24 +189,32 @@ impl ToJson for NodeSight {
     }
 }
 
+// What a ring has beside its nodes.
+fn put_server(
+    alloc: Global,
+    ring: &RingSight,
+    members: &mut Map<String, Value>,
+) -> Result<(), AllocError>
+    ensures { OnOk result (members_view members.new.entries ≡ with_members (members_view members.old.entries) (server_members ring.now)) }
+{
+    let sizes = [("successors", ring.successors), ("slots", ring.slots)];
+    put_counts(alloc, &sizes, members)?;
+    put(members, alloc, "callers", ring.callers.to_json(alloc)?)?;
+    put_counts(alloc, &[("connections", ring.connections)], members)?;
+    put(members, alloc, "ends", ring.ends.to_json(alloc)?)?;
+    put(members, alloc, "sessions", ring.sessions.to_json(alloc)?)?;
+    put_counts(alloc, &[("uptime_ms", ring.uptime_ms)], members)
+}
+
 impl ToJson for RingSight {
     ghost data_of = { ring_data };
 
     fn to_json(&self, alloc: Global) -> Result<Value, AllocError> {
-        let callers = self.callers.to_json(alloc)?;
-        let ends = self.ends.to_json(alloc)?;
-        let sessions = self.sessions.to_json(alloc)?;
+        let mut members = Map::new(alloc);
+        put_server(alloc, self, &mut members)?;
         let nodes = array(alloc, &self.nodes)?;
-        json!(in alloc; {
-            "successors": self.successors,
-            "slots": self.slots,
-            "callers": callers,
-            "connections": self.connections,
-            "ends": ends,
-            "sessions": sessions,
-            "uptime_ms": self.uptime_ms,
-            "nodes": nodes
-        })
+        put(&mut members, alloc, "nodes", nodes)?;
+        Ok(Value::Object(members))
     }
 }
 

@@ -1,4 +1,4 @@
-use Rattle.chord_app_operator.specs.Json.{pair_line, pair_lines}
+use Rattle.chord_app_operator.specs.Json.{pair_line}
 use Rattle.chord_app_operator.proofs.Lines.{one_more_line}
 use Rattle.chord_app_operator.proofs.show.pairs_json.pair_lines.Goals as goal
 
