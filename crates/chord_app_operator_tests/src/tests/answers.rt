@@ -7,6 +7,8 @@ use chord_app_operator::{
     Holder, PairsRequest, ToJson, array, holder_value, id_text, metrics_text, optional, ring_text,
 };
 use chord_ident::Id;
+use serde_json::Value;
+use std::alloc::{AllocError, Global};
 use std::test::Fail;
 
 #[test]
@@ -19,6 +21,7 @@ fn a_ring_is_the_json_of_its_nodes(rt: HostRuntime) -> Result<(), Fail> {
     );
     assert!(rt; seen.ends(RING_JSON));
     assert!(rt; seen.asked(b"s"), "it looks once");
+    drop(seen);
     Ok(())
 }
 
@@ -30,6 +33,7 @@ fn metrics_are_those_of_the_ring(rt: HostRuntime) -> Result<(), Fail> {
     );
     assert!(rt; seen.ends(RING_METRICS));
     assert!(rt; seen.asked(b"s"), "it looks once");
+    drop(seen);
     Ok(())
 }
 
@@ -42,11 +46,18 @@ fn a_ring_with_a_staying_node_is_healthy(rt: HostRuntime) -> Result<(), Fail> {
         )
     );
     assert!(rt; seen.asked(b"h"));
+    drop(seen);
+    Ok(())
+}
+
+#[test]
+fn a_ring_without_a_staying_node_is_not_healthy(rt: HostRuntime) -> Result<(), Fail> {
     let mut operator = RingValue::new(rt.alloc());
     operator.is_healthy = false;
     let seen = ask(&rt, operator, "GET /health", "")?;
     assert!(rt; seen.begins("HTTP/1.1 503 Service Unavailable\r\n"));
     assert!(rt; seen.asked(b"h"));
+    drop(seen);
     Ok(())
 }
 
@@ -58,6 +69,7 @@ fn head_is_answered_as_get_without_the_body(rt: HostRuntime) -> Result<(), Fail>
             "HTTP/1.1 200 OK\r\ncontent-type: text/plain; charset=utf-8\r\ncache-control: no-store\r\ncontent-length: 3\r\n\r\n"
         )
     );
+    drop(seen);
     Ok(())
 }
 
@@ -71,34 +83,48 @@ fn the_page_asks_nothing_of_the_operator(rt: HostRuntime) -> Result<(), Fail> {
     );
     assert!(rt; seen.ends("</html>\n"));
     assert!(rt; seen.asked(b""));
+    drop(seen);
+    Ok(())
+}
+
+/// Who holds the key `abc`, and the end of the answer.
+const HOLDERS: &[(Holder, &str)] = &[
+    (
+        Holder::Node(3),
+        "\r\n\r\n{\"id\":\"a9993e364706816aba3e25717850c26c\",\"node\":3}",
+    ),
+    (
+        Holder::Handover {
+            from: 1,
+            to: 2,
+            number: 7,
+        },
+        "\r\n\r\n{\"from\":1,\"handover\":7,\"id\":\"a9993e364706816aba3e25717850c26c\",\"to\":2}",
+    ),
+    (Holder::Moved, "\r\n\r\nnull"),
+];
+
+#[test]
+fn a_holder_is_a_node_or_a_handover(rt: HostRuntime) -> Result<(), Fail> {
+    for (holder, end) in HOLDERS {
+        let mut operator = RingValue::new(rt.alloc());
+        operator.holder = *holder;
+        let seen = ask(&rt, operator, "GET /holder/abc", "")?;
+        let is_told = seen.ends(end) && seen.asked(b"o");
+        drop(seen);
+        assert!(rt; is_told, "{end}");
+    }
     Ok(())
 }
 
 #[test]
-fn a_holder_is_a_node_or_a_handover(rt: HostRuntime) -> Result<(), Fail> {
-    let alloc = rt.alloc();
+fn a_key_is_percent_encoded(rt: HostRuntime) -> Result<(), Fail> {
+    let seen = ask(&rt, RingValue::new(rt.alloc()), "GET /holder/a%62c", "")?;
+    let held = seen.operator.held;
+    drop(seen);
     // SHA-1 of `abc` begins with these bytes.
     let abc = Id::new(0xa9993e36_4706816a_ba3e2571_7850c26c);
-    let seen = ask(&rt, RingValue::new(alloc), "GET /holder/a%62c", "")?;
-    assert!(rt; seen.ends("\r\n\r\n{\"id\":\"a9993e364706816aba3e25717850c26c\",\"node\":3}"));
-    assert!(rt; seen.operator.held == Some(abc), "a key is percent-encoded");
-    let mut operator = RingValue::new(alloc);
-    operator.holder = Holder::Handover {
-        from: 1,
-        to: 2,
-        number: 7,
-    };
-    let seen = ask(&rt, operator, "GET /holder/abc", "")?;
-    assert!(rt;
-        seen.ends(
-            "{\"from\":1,\"handover\":7,\"id\":\"a9993e364706816aba3e25717850c26c\",\"to\":2}"
-        )
-    );
-    let mut operator = RingValue::new(alloc);
-    operator.holder = Holder::Moved;
-    let seen = ask(&rt, operator, "GET /holder/abc", "")?;
-    assert!(rt; seen.ends("\r\n\r\nnull"));
-    assert!(rt; seen.asked(b"o"));
+    assert!(rt; held == Some(abc));
     Ok(())
 }
 
@@ -120,42 +146,66 @@ fn pairs_are_lines_and_the_next_identifier(rt: HostRuntime) -> Result<(), Fail> 
         limit: 2,
     };
     assert!(rt; seen.operator.pairs == Some(asked));
+    drop(seen);
+    Ok(())
+}
+
+#[test]
+fn a_page_has_100_pairs_without_a_limit(rt: HostRuntime) -> Result<(), Fail> {
     let seen = ask(&rt, RingValue::new(rt.alloc()), "GET /pairs", "")?;
+    let pairs = seen.operator.pairs;
+    drop(seen);
     let asked = PairsRequest {
         after: None,
         limit: 100,
     };
-    assert!(rt;
-        seen.operator.pairs == Some(asked),
-        "100 pairs without a limit"
-    );
+    assert!(rt; pairs == Some(asked));
     Ok(())
 }
 
+/// Whether the value is written so.
+fn is_written(alloc: Global, value: Result<Value, AllocError>, wanted: &str) -> Option<bool> {
+    let value = value.ok()?;
+    let text = value.to_string(alloc);
+    drop(value);
+    is_text(text, wanted)
+}
+
+/// Whether the text is this one.
+fn is_text(text: Result<String, AllocError>, wanted: &str) -> Option<bool> {
+    let text = text.ok()?;
+    let is_wanted = text.as_str() == wanted;
+    drop(text);
+    Some(is_wanted)
+}
+
+/// An identifier and its digits.
+const TEN: Id = Id { number: 10 };
+
+const DIGITS_OF_TEN: &str = "0000000000000000000000000000000a";
+
 #[test]
-fn values_are_those_of_their_types(rt: HostRuntime) -> Result<(), Fail> {
+fn values_are_those_of_their_types(rt: HostRuntime) {
     let alloc = rt.alloc();
     let list = [3u64, 4];
-    assert!(rt; array(alloc, &list)?.to_string(alloc)?.as_str() == "[3,4]");
-    assert!(rt; optional(Some(3)).to_string(alloc)?.as_str() == "3");
-    assert!(rt; optional(None).to_string(alloc)?.as_str() == "null");
-    let id = Id::new(10);
-    assert!(rt; id_text(alloc, id)?.as_str() == "0000000000000000000000000000000a");
-    assert!(rt;
-        id.to_json(alloc)?.to_string(alloc)?.as_str() == "\"0000000000000000000000000000000a\""
-    );
-    let held = holder_value(alloc, id, Holder::Node(2))?;
-    assert!(rt;
-        held.to_string(alloc)?.as_str()
-            == "{\"id\":\"0000000000000000000000000000000a\",\"node\":2}"
-    );
-    Ok(())
+    assert!(rt; is_written(alloc, array(alloc, &list), "[3,4]") == Some(true));
+    assert!(rt; is_written(alloc, Ok(optional(Some(3))), "3") == Some(true));
+    assert!(rt; is_written(alloc, Ok(optional(None)), "null") == Some(true));
+    let id = TEN.to_json(alloc);
+    assert!(rt; is_written(alloc, id, "\"0000000000000000000000000000000a\"") == Some(true));
+    let held = holder_value(alloc, TEN, Holder::Node(2));
+    let wanted = "{\"id\":\"0000000000000000000000000000000a\",\"node\":2}";
+    assert!(rt; is_written(alloc, held, wanted) == Some(true));
 }
 
 #[test]
 fn texts_are_those_of_the_answers(rt: HostRuntime) -> Result<(), Fail> {
+    assert!(rt; is_text(id_text(rt.alloc(), TEN), DIGITS_OF_TEN) == Some(true));
     let sight = ring(rt.alloc())?;
-    assert!(rt; ring_text(rt.alloc(), &sight)?.as_str() == RING_JSON);
-    assert!(rt; metrics_text(rt.alloc(), &sight)?.as_str() == RING_METRICS);
+    let is_ring = is_text(ring_text(rt.alloc(), &sight), RING_JSON);
+    let are_metrics = is_text(metrics_text(rt.alloc(), &sight), RING_METRICS);
+    drop(sight);
+    assert!(rt; is_ring == Some(true));
+    assert!(rt; are_metrics == Some(true));
     Ok(())
 }

@@ -1,6 +1,6 @@
 //! Calls that act.
 
-use super::devices::{CONFLICT, NOT_FOUND, ask, request, serve_text};
+use super::devices::{CONFLICT, NOT_FOUND, ask, serve_text};
 use super::operators::RingValue;
 use chord_app_operator::{
     CrashRefusal, CrashRequest, JoinRefusal, JoinRequest, LeaveRefusal, StoreKind,
@@ -36,6 +36,7 @@ fn a_join_has_what_its_body_says(rt: HostRuntime) -> Result<(), Fail> {
         via: Some(2),
     };
     assert!(rt; seen.operator.join == Some(asked));
+    drop(seen);
     Ok(())
 }
 
@@ -43,26 +44,29 @@ fn a_join_has_what_its_body_says(rt: HostRuntime) -> Result<(), Fail> {
 fn a_join_may_say_nothing(rt: HostRuntime) -> Result<(), Fail> {
     for body in ["", "{}", " { } "] {
         let seen = ask(&rt, RingValue::new(rt.alloc()), "POST /nodes", body)?;
-        assert!(rt; seen.operator.join == Some(PLAIN_JOIN), "{body}");
+        let join = seen.operator.join;
         drop(seen);
+        assert!(rt; join == Some(PLAIN_JOIN), "{body}");
     }
     Ok(())
 }
 
+/// Why a join is refused, and the status and the name of the answer.
+const JOIN_REFUSALS: &[(JoinRefusal, &str, &str)] = &[
+    (JoinRefusal::IdTaken, CONFLICT, "IdTaken"),
+    (JoinRefusal::NoSlot, CONFLICT, "NoSlot"),
+    (JoinRefusal::NoStore, CONFLICT, "NoStore"),
+    (JoinRefusal::Unsettled, CONFLICT, "Unsettled"),
+    (JoinRefusal::NoSuchNode, CONFLICT, "NoSuchNode"),
+    (JoinRefusal::Stopped, CONFLICT, "Stopped"),
+    (JoinRefusal::Memory, NO_MEMORY, "Memory"),
+];
+
 #[test]
 fn a_join_is_refused_by_its_name(rt: HostRuntime) -> Result<(), Fail> {
-    let rows = [
-        (JoinRefusal::IdTaken, CONFLICT, "IdTaken"),
-        (JoinRefusal::NoSlot, CONFLICT, "NoSlot"),
-        (JoinRefusal::NoStore, CONFLICT, "NoStore"),
-        (JoinRefusal::Unsettled, CONFLICT, "Unsettled"),
-        (JoinRefusal::NoSuchNode, CONFLICT, "NoSuchNode"),
-        (JoinRefusal::Stopped, CONFLICT, "Stopped"),
-        (JoinRefusal::Memory, NO_MEMORY, "Memory"),
-    ];
-    for (refusal, status, name) in rows {
+    for (refusal, status, name) in JOIN_REFUSALS {
         let mut operator = RingValue::new(rt.alloc());
-        operator.joined = Err(refusal);
+        operator.joined = Err(*refusal);
         let seen = ask(&rt, operator, "POST /nodes", "")?;
         let is_refused = seen.is_refused(rt.alloc(), status, name);
         let asks_once = seen.asked(b"j");
@@ -79,18 +83,21 @@ fn a_node_leaves(rt: HostRuntime) -> Result<(), Fail> {
     assert!(rt; seen.ends("\r\n\r\n{\"node\":12}"));
     assert!(rt; seen.operator.left == Some(12));
     assert!(rt; seen.asked(b"l"));
+    drop(seen);
     Ok(())
 }
 
+/// The same of a leave.
+const LEAVE_REFUSALS: &[(LeaveRefusal, &str, &str)] = &[
+    (LeaveRefusal::NotStaying, CONFLICT, "NotStaying"),
+    (LeaveRefusal::NoSuchNode, NOT_FOUND, "NoSuchNode"),
+];
+
 #[test]
 fn a_leave_is_refused_by_its_name(rt: HostRuntime) -> Result<(), Fail> {
-    let rows = [
-        (LeaveRefusal::NotStaying, CONFLICT, "NotStaying"),
-        (LeaveRefusal::NoSuchNode, NOT_FOUND, "NoSuchNode"),
-    ];
-    for (refusal, status, name) in rows {
+    for (refusal, status, name) in LEAVE_REFUSALS {
         let mut operator = RingValue::new(rt.alloc());
-        operator.leaves = Err(refusal);
+        operator.leaves = Err(*refusal);
         let seen = ask(&rt, operator, "POST /nodes/12/leave", "")?;
         let is_refused = seen.is_refused(rt.alloc(), status, name);
         drop(seen);
@@ -99,16 +106,21 @@ fn a_leave_is_refused_by_its_name(rt: HostRuntime) -> Result<(), Fail> {
     Ok(())
 }
 
+/// Bodies of a crash, and whether it is forced.
+const CRASHES: &[(&str, bool)] = &[
+    ("", false),
+    ("{\"force\":false}", false),
+    ("{\"force\":true}", true),
+];
+
 #[test]
 fn a_node_crashes_forced_or_not(rt: HostRuntime) -> Result<(), Fail> {
-    let rows = [
-        ("", false),
-        ("{\"force\":false}", false),
-        ("{\"force\":true}", true),
-    ];
-    for (body, is_forced) in rows {
+    for (body, is_forced) in CRASHES {
         let seen = ask(&rt, RingValue::new(rt.alloc()), "POST /nodes/3/crash", body)?;
-        let asked = CrashRequest { node: 3, is_forced };
+        let asked = CrashRequest {
+            node: 3,
+            is_forced: *is_forced,
+        };
         let is_as_said = seen.operator.crash == Some(asked)
             && seen.asked(b"c")
             && seen.begins("HTTP/1.1 200 OK\r\n")
@@ -119,16 +131,18 @@ fn a_node_crashes_forced_or_not(rt: HostRuntime) -> Result<(), Fail> {
     Ok(())
 }
 
+/// The same of a crash.
+const CRASH_REFUSALS: &[(CrashRefusal, &str, &str)] = &[
+    (CrashRefusal::Unsafe, CONFLICT, "Unsafe"),
+    (CrashRefusal::NotLive, CONFLICT, "NotLive"),
+    (CrashRefusal::NoSuchNode, NOT_FOUND, "NoSuchNode"),
+];
+
 #[test]
 fn a_crash_is_refused_by_its_name(rt: HostRuntime) -> Result<(), Fail> {
-    let rows = [
-        (CrashRefusal::Unsafe, CONFLICT, "Unsafe"),
-        (CrashRefusal::NotLive, CONFLICT, "NotLive"),
-        (CrashRefusal::NoSuchNode, NOT_FOUND, "NoSuchNode"),
-    ];
-    for (refusal, status, name) in rows {
+    for (refusal, status, name) in CRASH_REFUSALS {
         let mut operator = RingValue::new(rt.alloc());
-        operator.crashes = Err(refusal);
+        operator.crashes = Err(*refusal);
         let seen = ask(&rt, operator, "POST /nodes/3/crash", "")?;
         let is_refused = seen.is_refused(rt.alloc(), status, name);
         drop(seen);
@@ -146,17 +160,23 @@ fn a_server_stops(rt: HostRuntime) -> Result<(), Fail> {
         )
     );
     assert!(rt; seen.asked(b"t"));
+    drop(seen);
     Ok(())
 }
 
+/// Three requests, one behind the other.
+const THREE_REQUESTS: &str = concat!(
+    "GET /health HTTP/1.1\r\nHost: 127.0.0.1:7001\r\nContent-Length: 0\r\n\r\n",
+    "POST /nodes HTTP/1.1\r\nHost: 127.0.0.1:7001\r\nContent-Length: 2\r\n\r\n{}",
+    "POST /stop HTTP/1.1\r\nHost: 127.0.0.1:7001\r\nContent-Length: 0\r\n\r\n",
+);
+
 #[test]
 fn requests_of_one_connection_are_asked_in_order(rt: HostRuntime) -> Result<(), Fail> {
-    let alloc = rt.alloc();
-    let mut sent = request(alloc, "GET /health", "", "")?;
-    sent.push_str(&request(alloc, "POST /nodes", "", "{}")?)?;
-    sent.push_str(&request(alloc, "POST /stop", "", "")?)?;
-    let seen = serve_text(&rt, RingValue::new(alloc), &sent)?;
-    assert!(rt; seen.asked(b"hjt"));
+    let seen = serve_text(&rt, RingValue::new(rt.alloc()), THREE_REQUESTS)?;
+    let are_asked = seen.asked(b"hjt");
+    drop(seen);
+    assert!(rt; are_asked);
     Ok(())
 }
 

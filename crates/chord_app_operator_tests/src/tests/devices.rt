@@ -39,9 +39,21 @@ impl Exchange {
 
     /// Whether the client was refused with this status, by this name.
     pub fn is_refused(&self, alloc: Global, status: &str, name: &str) -> Result<bool, Fail> {
+        Ok(self.has_status(alloc, status)? && self.has_name(alloc, name)?)
+    }
+
+    fn has_status(&self, alloc: Global, status: &str) -> Result<bool, Fail> {
         let head = format!(in alloc; "HTTP/1.1 {status}\r\n")?;
+        let begins = self.begins(&head);
+        drop(head);
+        Ok(begins)
+    }
+
+    fn has_name(&self, alloc: Global, name: &str) -> Result<bool, Fail> {
         let end = format!(in alloc; "\r\n\r\n{{\"refused\":\"{name}\"}}")?;
-        Ok(self.begins(&head) && self.ends(&end))
+        let ends = self.ends(&end);
+        drop(end);
+        Ok(ends)
     }
 
     /// Whether the operator was asked for these calls and no others, by their letters.
@@ -59,22 +71,39 @@ pub fn serve_text(rt: &HostRuntime, operator: RingValue, sent: &str) -> Result<E
 pub fn serve_bytes(rt: &HostRuntime, operator: RingValue, sent: &[u8]) -> Result<Exchange, Fail> {
     let alloc = rt.alloc();
     let mut service = OperatorService::new(alloc, PORT, operator)?;
+    let mut got = Vec::new(alloc);
+    let served = serve_over(rt, &mut service, sent, &mut got);
+    let operator = service.into_operator();
+    match served {
+        Ok(()) => Ok(Exchange { got, operator }),
+        Err(fail) => {
+            drop(got);
+            drop(operator);
+            Err(fail)
+        }
+    }
+}
+
+/// Serves one connection, and puts what its client gets into `got`.
+fn serve_over(
+    rt: &HostRuntime,
+    service: &mut OperatorService<RingValue>,
+    sent: &[u8],
+    got: &mut Vec<u8>,
+) -> Result<(), Fail> {
     let config = Config {
         max_body_len: 8192,
         ..Config::default()
     };
-    let mut connection = Connection::new(alloc, RandomState::new(rt)?, config);
+    let mut connection = Connection::new(rt.alloc(), RandomState::new(rt)?, config);
     let mut reader = sent;
-    let mut got = Vec::new(alloc);
-    serve(&mut connection, &mut service, &mut reader, &mut got)?;
-    Ok(Exchange {
-        got,
-        operator: service.into_operator(),
-    })
+    let served = serve(&mut connection, service, &mut reader, got);
+    drop(connection);
+    Ok(served?)
 }
 
 /// A request to the port's own host.
-pub fn request(alloc: Global, line: &str, fields: &str, body: &str) -> Result<String, Fail> {
+fn request(alloc: Global, line: &str, fields: &str, body: &str) -> Result<String, Fail> {
     let len = body.len();
     Ok(format!(in alloc;
         "{line} HTTP/1.1\r\nHost: 127.0.0.1:7001\r\n{fields}Content-Length: {len}\r\n\r\n{body}"
@@ -88,6 +117,23 @@ pub fn ask(
     line: &str,
     body: &str,
 ) -> Result<Exchange, Fail> {
-    let sent = request(rt.alloc(), line, "", body)?;
-    serve_text(rt, operator, &sent)
+    match request(rt.alloc(), line, "", body) {
+        Ok(sent) => {
+            let seen = serve_text(rt, operator, &sent);
+            drop(sent);
+            seen
+        }
+        Err(fail) => {
+            drop(operator);
+            Err(fail)
+        }
+    }
+}
+
+/// Serves one request that has these fields and no body.
+pub fn ask_with_fields(rt: &HostRuntime, line: &str, fields: &str) -> Result<Exchange, Fail> {
+    let sent = request(rt.alloc(), line, fields, "")?;
+    let seen = serve_text(rt, RingValue::new(rt.alloc()), &sent);
+    drop(sent);
+    seen
 }

@@ -8,44 +8,45 @@ use chord_app_operator_testkit::empty_node;
 use chord_ident::{Id, Span};
 use std::alloc::{AllocError, Global};
 
-fn staying(alloc: Global) -> Result<NodeSight, AllocError> {
+/// Puts in the lists of the node that stays.
+fn fill(node: &mut NodeSight) -> Result<(), AllocError> {
     let span = Span::new(Id::new(16), Id::new(32));
-    let mut successors = Vec::new(alloc);
-    successors.push(1)?;
-    successors.push(0)?;
-    let mut segments = Vec::new(alloc);
-    segments.push(SegmentSight { span, kept: 12 })?;
-    let mut outbox = Vec::new(alloc);
-    outbox.push(OutboxSight {
+    node.successors.push(1)?;
+    node.successors.push(0)?;
+    node.segments.push(SegmentSight { span, kept: 12 })?;
+    let item = OutboxSight {
         to: 2,
         number: 1,
         span,
         pairs: 64,
-    })?;
-    Ok(NodeSight {
-        node: 0,
-        id: Id::new(32),
-        phase: Phase::Staying,
-        store: StoreKind::Tree,
-        predecessor: Some(1),
-        successors,
-        fingers: 7,
-        segments,
-        pairs: 1234,
-        outbox,
-        asks: AskCounts {
-            told: 100,
-            forwarded: 3,
-            dropped: 2,
-            full: 1,
-        },
-        handovers: HandoverCounts {
-            given: 1,
-            taken: 2,
-            declined: 0,
-        },
-        ticks: 42,
-    })
+    };
+    Ok(node.outbox.push(item)?)
+}
+
+fn staying(alloc: Global) -> Result<NodeSight, AllocError> {
+    let mut node = empty_node(alloc, 0, 32, Phase::Staying);
+    node.predecessor = Some(1);
+    node.fingers = 7;
+    node.pairs = 1234;
+    node.asks = AskCounts {
+        told: 100,
+        forwarded: 3,
+        dropped: 2,
+        full: 1,
+    };
+    node.handovers = HandoverCounts {
+        given: 1,
+        taken: 2,
+        declined: 0,
+    };
+    node.ticks = 42;
+    match fill(&mut node) {
+        Ok(()) => Ok(node),
+        Err(refused) => {
+            drop(node);
+            Err(refused)
+        }
+    }
 }
 
 fn crashed(alloc: Global) -> NodeSight {
@@ -55,12 +56,15 @@ fn crashed(alloc: Global) -> NodeSight {
     node
 }
 
-/// The ring.
-pub fn ring(alloc: Global) -> Result<RingSight, AllocError> {
-    let mut nodes = Vec::new(alloc);
+/// Puts in both nodes.
+fn put_nodes(alloc: Global, nodes: &mut Vec<NodeSight>) -> Result<(), AllocError> {
     nodes.push(staying(alloc)?)?;
-    nodes.push(crashed(alloc))?;
-    Ok(RingSight {
+    Ok(nodes.push(crashed(alloc))?)
+}
+
+/// The ring without nodes.
+fn empty_ring(alloc: Global) -> RingSight {
+    RingSight {
         successors: 4,
         slots: 16,
         callers: CallerCounts { open: 3, all: 64 },
@@ -84,8 +88,20 @@ pub fn ring(alloc: Global) -> Result<RingSight, AllocError> {
             refused: 23,
         },
         uptime_ms: 12345,
-        nodes,
-    })
+        nodes: Vec::new(alloc),
+    }
+}
+
+/// The ring.
+pub fn ring(alloc: Global) -> Result<RingSight, AllocError> {
+    let mut ring = empty_ring(alloc);
+    match put_nodes(alloc, &mut ring.nodes) {
+        Ok(()) => Ok(ring),
+        Err(refused) => {
+            drop(ring);
+            Err(refused)
+        }
+    }
 }
 
 /// The same as JSON, each object's members in the order of their names.

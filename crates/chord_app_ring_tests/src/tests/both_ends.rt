@@ -2,17 +2,18 @@
 
 use super::answers::told;
 use super::operators::NotingOperator;
-use super::requests::{CRASH, FORCED_CRASH, PLAIN_JOIN, WHOLE_JOIN};
+use super::requests::{CRASH, FORCED_CRASH, PLAIN_JOIN, WHOLE_JOIN, bytes_of};
 use super::streams::MadeStream;
-use chord_app_operator::{CrashRequest, OperatorService};
+use chord_app_operator::{CrashRequest, OperatorService, PairsRequest};
 use chord_app_ring::{
-    RingCommand, RingFault, Told, exchange_pairs, insert_of_line, page_of, pairs_bytes,
-    request_behind, request_bytes,
+    Page, RingCommand, RingFault, Told, exchange_pairs, insert_of_line, page_of, pairs_bytes,
+    request_behind,
 };
 use chord_ident::Id;
 use chord_map::Request;
 use http_server::{Config, Connection, serve};
 use http1::{Client, Limits};
+use std::alloc::{AllocError, Global};
 use std::hash::RandomState;
 use std::test::Fail;
 
@@ -23,55 +24,115 @@ struct Served {
     operator: NotingOperator,
 }
 
-/// Serves what is sent for the command.
-fn serve_command(rt: &HostRuntime, command: &RingCommand) -> Result<Served, Fail> {
-    let mut client = Client::new(Limits::default());
-    let sent = request_bytes(rt.alloc(), &mut client, 7001, command)?;
-    serve_bytes(rt, &sent)
-}
-
 /// Serves what is sent.
 fn serve_bytes(rt: &HostRuntime, sent: &[u8]) -> Result<Served, Fail> {
     let alloc = rt.alloc();
     let mut service = OperatorService::new(alloc, 7001, NotingOperator::new())?;
-    let mut connection = Connection::new(alloc, RandomState::new(rt)?, Config::default());
-    let mut reader = sent;
     let mut got = Vec::new(alloc);
-    serve(&mut connection, &mut service, &mut reader, &mut got)?;
-    Ok(Served {
-        got,
-        operator: service.into_operator(),
-    })
+    let served = serve_over(rt, &mut service, sent, &mut got);
+    let operator = service.into_operator();
+    match served {
+        Ok(()) => Ok(Served { got, operator }),
+        Err(fail) => {
+            drop(got);
+            Err(fail)
+        }
+    }
+}
+
+/// Serves what is sent over one connection, and puts what its client gets into `got`.
+fn serve_over(
+    rt: &HostRuntime,
+    service: &mut OperatorService<NotingOperator>,
+    sent: &[u8],
+    got: &mut Vec<u8>,
+) -> Result<(), Fail> {
+    let mut connection = Connection::new(rt.alloc(), RandomState::new(rt)?, Config::default());
+    let mut reader = sent;
+    let served = serve(&mut connection, service, &mut reader, got);
+    drop(connection);
+    Ok(served?)
+}
+
+/// What a client is told.
+#[derive(Clone, Copy, PartialEq, Eq)]
+enum Heard {
+    /// A ring of this many nodes.
+    Ring(usize),
+    Joined(u64),
+    Leaving(u64),
+    Crashed(u64),
+    Stopping,
+    /// The refusal of a leave.
+    NotStaying,
+    /// The refusal of a crash.
+    Unsafe,
+    Other,
+}
+
+/// What a client is told that gets this for its command.
+fn hear(alloc: Global, command: &RingCommand, got: &[u8]) -> Heard {
+    let told = told(alloc, command, got, 100);
+    let heard = match &told {
+        Ok(Told::Ring(ring)) => Heard::Ring(ring.nodes.len()),
+        Ok(Told::Joined(node)) => Heard::Joined(*node),
+        Ok(Told::Leaving(node)) => Heard::Leaving(*node),
+        Ok(Told::Crashed(node)) => Heard::Crashed(*node),
+        Ok(Told::Stopping) => Heard::Stopping,
+        Err(RingFault::Refused(name)) => refused_by(name),
+        Err(_) => Heard::Other,
+    };
+    drop(told);
+    heard
+}
+
+/// The refusal with this name.
+fn refused_by(name: &str) -> Heard {
+    match name {
+        "NotStaying" => Heard::NotStaying,
+        "Unsafe" => Heard::Unsafe,
+        _ => Heard::Other,
+    }
+}
+
+/// What the operator was asked for, and what the client heard then.
+#[derive(Clone, Copy)]
+struct Exchange {
+    operator: NotingOperator,
+    heard: Heard,
+}
+
+/// Serves what is sent for the command.
+fn exchange(rt: &HostRuntime, command: &RingCommand) -> Result<Exchange, Fail> {
+    let sent = bytes_of(rt.alloc(), command)?;
+    let served = serve_bytes(rt, &sent);
+    drop(sent);
+    let Served { got, operator } = served?;
+    let heard = hear(rt.alloc(), command, &got);
+    drop(got);
+    Ok(Exchange { operator, heard })
 }
 
 #[test]
 fn a_join_comes_through(rt: HostRuntime) -> Result<(), Fail> {
     for request in [PLAIN_JOIN, WHOLE_JOIN] {
-        let command = RingCommand::Join(request);
-        let served = serve_command(&rt, &command)?;
-        assert!(rt; served.operator.join == Some(request));
-        let told = told(rt.alloc(), &command, &served.got, 100);
-        assert!(rt; matches!(&told, Ok(Told::Joined(4))));
-        drop(told);
-        drop(served);
+        let seen = exchange(&rt, &RingCommand::Join(request))?;
+        assert!(rt; seen.operator.join == Some(request));
+        assert!(rt; seen.heard == Heard::Joined(4));
     }
     Ok(())
 }
 
 #[test]
 fn a_leave_comes_through(rt: HostRuntime) -> Result<(), Fail> {
-    for (node, is_done) in [(2, true), (3, false), (9_999_999_999, true)] {
-        let command = RingCommand::Leave(node);
-        let served = serve_command(&rt, &command)?;
-        assert!(rt; served.operator.left == Some(node));
-        let told = told(rt.alloc(), &command, &served.got, 100);
-        assert!(rt; matches!(&told, Ok(Told::Leaving(named)) if *named == node) == is_done);
-        assert!(rt;
-            matches!(&told, Err(RingFault::Refused(name)) if name.as_str() == "NotStaying")
-                != is_done
-        );
-        drop(told);
-        drop(served);
+    for (node, heard) in [
+        (2, Heard::Leaving(2)),
+        (3, Heard::NotStaying),
+        (9_999_999_999, Heard::Leaving(9_999_999_999)),
+    ] {
+        let seen = exchange(&rt, &RingCommand::Leave(node))?;
+        assert!(rt; seen.operator.left == Some(node));
+        assert!(rt; seen.heard == heard);
     }
     Ok(())
 }
@@ -82,31 +143,78 @@ fn a_crash_comes_through(rt: HostRuntime) -> Result<(), Fail> {
         node: 2,
         is_forced: false,
     };
-    for (request, is_done) in [(CRASH, true), (FORCED_CRASH, true), (unforced, false)] {
-        let command = RingCommand::Crash(request);
-        let served = serve_command(&rt, &command)?;
-        assert!(rt; served.operator.crash == Some(request));
-        let told = told(rt.alloc(), &command, &served.got, 100);
-        assert!(rt; matches!(&told, Ok(Told::Crashed(7))) == is_done);
-        drop(told);
-        drop(served);
+    for (request, heard) in [
+        (CRASH, Heard::Crashed(7)),
+        (FORCED_CRASH, Heard::Crashed(7)),
+        (unforced, Heard::Unsafe),
+    ] {
+        let seen = exchange(&rt, &RingCommand::Crash(request))?;
+        assert!(rt; seen.operator.crash == Some(request));
+        assert!(rt; seen.heard == heard);
     }
     Ok(())
 }
 
 #[test]
 fn a_look_and_a_stop_come_through(rt: HostRuntime) -> Result<(), Fail> {
-    let served = serve_command(&rt, &RingCommand::Show)?;
-    let told_ring = told(rt.alloc(), &RingCommand::Show, &served.got, 100);
-    assert!(rt; matches!(&told_ring, Ok(Told::Ring(ring)) if ring.nodes.len() == 4));
-    drop(told_ring);
-    drop(served);
-    let served = serve_command(&rt, &RingCommand::Stop)?;
-    assert!(rt; served.operator.is_stopped);
-    let told_stop = told(rt.alloc(), &RingCommand::Stop, &served.got, 100);
-    assert!(rt; matches!(&told_stop, Ok(Told::Stopping)));
-    drop(told_stop);
+    let seen = exchange(&rt, &RingCommand::Show)?;
+    assert!(rt; seen.heard == Heard::Ring(4));
+    let seen = exchange(&rt, &RingCommand::Stop)?;
+    assert!(rt; seen.operator.is_stopped);
+    assert!(rt; seen.heard == Heard::Stopping);
     Ok(())
+}
+
+/// What is sent for a page.
+fn page_bytes_of(alloc: Global, request: PairsRequest) -> Result<Vec<u8>, AllocError> {
+    let mut client = Client::new(Limits::default());
+    pairs_bytes(alloc, &mut client, 7001, request)
+}
+
+/// The page that a client gets.
+fn page_in(alloc: Global, request: PairsRequest, got: &[u8]) -> Result<Page, RingFault> {
+    let mut stream = MadeStream::new(alloc, got, 100);
+    let answer = exchange_pairs(alloc, &mut stream, 7001, request);
+    drop(stream);
+    page_of(answer?)
+}
+
+/// Whether the line is the insert of `x` under `a`.
+fn inserts_x(alloc: Global, line: &[u8]) -> bool {
+    let read = insert_of_line(alloc, line);
+    let is_its = matches!(
+        &read,
+        Ok(Request::Insert { key, value })
+            if key.as_slice() == b"a".as_slice() && value.as_slice() == b"x".as_slice()
+    );
+    drop(read);
+    is_its
+}
+
+/// What the operator was asked for, and what the page is that the client got.
+#[derive(Clone, Copy)]
+struct PageSeen {
+    asked: Option<PairsRequest>,
+    next: Option<Id>,
+    inserts_x: bool,
+}
+
+/// Asks for a page.
+fn exchange_page(rt: &HostRuntime, request: PairsRequest) -> Result<PageSeen, Fail> {
+    let sent = page_bytes_of(rt.alloc(), request)?;
+    let served = serve_bytes(rt, &sent);
+    drop(sent);
+    let Served { got, operator } = served?;
+    let page = page_in(rt.alloc(), request, &got);
+    drop(got);
+    let page = page?;
+    let seen = PageSeen {
+        asked: operator.pairs,
+        next: page.next,
+        inserts_x: inserts_x(rt.alloc(), &page.lines),
+    };
+    drop(page);
+    Ok(seen)
 }
 
 #[test]
@@ -114,19 +222,10 @@ fn a_page_comes_through(rt: HostRuntime) -> Result<(), Fail> {
     let a = Id::of_bytes(b"a");
     for after in [None, Some(Id { number: 7 }), Some(a)] {
         let request = request_behind(after);
-        let mut client = Client::new(Limits::default());
-        let sent = pairs_bytes(rt.alloc(), &mut client, 7001, request)?;
-        let served = serve_bytes(&rt, &sent)?;
-        drop(sent);
-        assert!(rt; served.operator.pairs == Some(request));
-        let mut stream = MadeStream::new(rt.alloc(), &served.got, 100);
-        let page = page_of(exchange_pairs(rt.alloc(), &mut stream, 7001, request)?)?;
-        assert!(rt; page.next == Some(a));
-        let insert = insert_of_line(rt.alloc(), &page.lines)?;
-        assert!(rt; insert == Request::insert(rt.alloc(), b"a", b"x")?);
-        drop(page);
-        drop(stream);
-        drop(served);
+        let seen = exchange_page(&rt, request)?;
+        assert!(rt; seen.asked == Some(request));
+        assert!(rt; seen.next == Some(a));
+        assert!(rt; seen.inserts_x);
     }
     Ok(())
 }

@@ -10,7 +10,7 @@ use std::alloc::{AllocError, Global};
 
 /// It does what it is asked for, and notes it. Only node 2 may not crash unforced, and node 3 not
 /// leave.
-#[derive(Drop)]
+#[derive(Clone, Copy)]
 pub struct NotingOperator {
     pub join: Option<JoinRequest>,
     pub left: Option<u64>,
@@ -30,6 +30,26 @@ impl NotingOperator {
             is_stopped: false,
         }
     }
+}
+
+/// `x` under `a`.
+fn pair(alloc: Global) -> Result<Pair, AllocError> {
+    let key = Vec::from_slice(alloc, b"a")?;
+    match Vec::from_slice(alloc, b"x") {
+        Ok(value) => Ok(Pair {
+            id: Id::of_bytes(b"a"),
+            key,
+            value,
+        }),
+        Err(refused) => {
+            drop(key);
+            Err(refused)
+        }
+    }
+}
+
+fn put_pair(alloc: Global, pairs: &mut Vec<Pair>) -> Result<(), AllocError> {
+    Ok(pairs.push(pair(alloc)?)?)
 }
 
 impl Operator for NotingOperator {
@@ -70,15 +90,17 @@ impl Operator for NotingOperator {
 
     fn pairs(&mut self, alloc: Global, request: PairsRequest) -> Result<PairsPage, AllocError> {
         self.pairs = Some(request);
-        let key = Vec::from_slice(alloc, b"a")?;
-        let value = Vec::from_slice(alloc, b"x")?;
-        let id = Id::of_bytes(&key);
-        let mut pairs = Vec::new(alloc);
-        pairs.push(Pair { id, key, value })?;
-        Ok(PairsPage {
-            pairs,
-            next: Some(id),
-        })
+        let mut page = PairsPage {
+            pairs: Vec::new(alloc),
+            next: Some(Id::of_bytes(b"a")),
+        };
+        match put_pair(alloc, &mut page.pairs) {
+            Ok(()) => Ok(page),
+            Err(refused) => {
+                drop(page);
+                Err(refused)
+            }
+        }
     }
 
     fn stop(&mut self) {

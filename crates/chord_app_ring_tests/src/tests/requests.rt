@@ -73,7 +73,7 @@ const SENT: [(RingCommand, &str); 7] = [
 ];
 
 /// What is sent for a command.
-fn bytes_of(alloc: Global, command: &RingCommand) -> Result<Vec<u8>, AllocError> {
+pub fn bytes_of(alloc: Global, command: &RingCommand) -> Result<Vec<u8>, AllocError> {
     let mut client = Client::new(Limits::default());
     request_bytes(alloc, &mut client, 7001, command)
 }
@@ -82,8 +82,9 @@ fn bytes_of(alloc: Global, command: &RingCommand) -> Result<Vec<u8>, AllocError>
 fn each_command_sends_its_request(rt: HostRuntime) -> Result<(), Fail> {
     for (command, text) in SENT {
         let sent = bytes_of(rt.alloc(), &command)?;
-        assert!(rt; sent.as_slice() == text.as_bytes(), "{text}");
+        let is_its = sent.as_slice() == text.as_bytes();
         drop(sent);
+        assert!(rt; is_its, "{text}");
     }
     Ok(())
 }
@@ -92,8 +93,13 @@ fn each_command_sends_its_request(rt: HostRuntime) -> Result<(), Fail> {
 fn paths_and_bodies(rt: HostRuntime) -> Result<(), Fail> {
     let command = RingCommand::Crash(FORCED_CRASH);
     let path = request_path(rt.alloc(), &command)?;
+    let is_path = path.as_str() == "/nodes/7/crash";
+    drop(path);
+    assert!(rt; is_path);
     let body = request_body(rt.alloc(), &command)?;
-    assert!(rt; path.as_str() == "/nodes/7/crash" && body.as_str() == "{\"force\":true}");
+    let is_body = body.as_str() == "{\"force\":true}";
+    drop(body);
+    assert!(rt; is_body);
     assert!(rt; command.method() == "POST" && command.good_status() == 200);
     Ok(())
 }
@@ -120,23 +126,36 @@ const PAGES: [(PairsRequest, &str); 2] = [
 fn paths_of_pages(rt: HostRuntime) -> Result<(), Fail> {
     for (request, wanted) in PAGES {
         let path = pairs_path(rt.alloc(), request)?;
-        assert!(rt; path.as_str() == wanted, "{wanted}");
+        let is_its = path.as_str() == wanted;
         drop(path);
+        assert!(rt; is_its, "{wanted}");
     }
     Ok(())
 }
 
-/// The request goes out whole before the answer is read; a stream that takes nothing is lost.
+/// Whether the command is lost over this stream.
+fn is_lost(alloc: Global, stream: &mut MadeStream<'_>, command: &RingCommand) -> bool {
+    let answer = exchange(alloc, stream, 7001, command);
+    let is_lost = matches!(&answer, Err(RingFault::Lost));
+    drop(answer);
+    is_lost
+}
+
+/// The request goes out whole before the answer is read.
 #[test]
-fn a_request_goes_over_the_stream(rt: HostRuntime) -> Result<(), Fail> {
+fn a_request_goes_over_the_stream(rt: HostRuntime) {
     let mut stream = MadeStream::new(rt.alloc(), b"", 100);
-    let answer = exchange(rt.alloc(), &mut stream, 7001, &RingCommand::Leave(12));
-    assert!(rt; matches!(&answer, Err(RingFault::Lost)));
-    drop(answer);
-    assert!(rt; stream.sent.as_slice() == SENT[3].1.as_bytes());
+    let is_lost = is_lost(rt.alloc(), &mut stream, &RingCommand::Leave(12));
+    let is_sent = stream.sent.as_slice() == SENT[3].1.as_bytes();
+    drop(stream);
+    assert!(rt; is_lost);
+    assert!(rt; is_sent);
+}
+
+#[test]
+fn a_stream_that_takes_nothing_is_lost(rt: HostRuntime) {
     let mut deaf = MadeStream::deaf(rt.alloc());
-    let answer = exchange(rt.alloc(), &mut deaf, 7001, &RingCommand::Show);
-    assert!(rt; matches!(&answer, Err(RingFault::Lost)));
-    drop(answer);
-    Ok(())
+    let is_lost = is_lost(rt.alloc(), &mut deaf, &RingCommand::Show);
+    drop(deaf);
+    assert!(rt; is_lost);
 }

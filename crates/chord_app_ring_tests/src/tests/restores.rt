@@ -98,13 +98,22 @@ const WRONG: &[(&str, PairFault)] = &[
     ),
 ];
 
+/// How restoring ends with this line behind one that is inserted.
+fn restores_behind_a_pair(
+    alloc: Global,
+    line: &str,
+) -> Result<(Result<u64, Unrestored>, Option<usize>), Fail> {
+    let input = format!(in alloc; "{FIRST_PAIR}{line}\n{FIRST_PAIR}")?;
+    let restored = restores(alloc, input.as_bytes(), ANSWERS);
+    drop(input);
+    Ok(restored)
+}
+
 /// Each is told with its number, behind a line that is inserted.
 #[test]
 fn wrong_lines(rt: HostRuntime) -> Result<(), Fail> {
     for (line, why) in WRONG {
-        let input = format!(in rt.alloc(); "{FIRST_PAIR}{line}\n{FIRST_PAIR}")?;
-        let restored = restores(rt.alloc(), input.as_bytes(), ANSWERS);
-        drop(input);
+        let restored = restores_behind_a_pair(rt.alloc(), line)?;
         let wanted = Unrestored {
             line: 2,
             fault: RestoreFault::Pair(*why),
@@ -117,21 +126,26 @@ fn wrong_lines(rt: HostRuntime) -> Result<(), Fail> {
     Ok(())
 }
 
-/// A line that is cut, and one that is longer than any pair.
 #[test]
-fn lines_without_an_end(rt: HostRuntime) -> Result<(), Fail> {
+fn a_line_that_is_cut(rt: HostRuntime) {
     let cut = restores(rt.alloc(), &PAIRS.as_bytes()[..PAIRS.len() - 1], ANSWERS);
     let wanted = Unrestored {
         line: 2,
         fault: RestoreFault::Pair(PairFault::LineCut),
     };
     assert!(rt; cut == (Err(wanted), Some(FIRST_FRAME)), "{cut:?}");
-    let long = vec![in rt.alloc(); b' '; LINE_BYTES + 1]?;
+}
+
+#[test]
+fn a_line_that_is_longer_than_any_pair(rt: HostRuntime) -> Result<(), Fail> {
+    let input = vec![in rt.alloc(); b' '; LINE_BYTES + 1]?;
+    let long = restores(rt.alloc(), &input, ANSWERS);
+    drop(input);
     let wanted = Unrestored {
         line: 1,
         fault: RestoreFault::Pair(PairFault::LineLong),
     };
-    assert!(rt; restores(rt.alloc(), &long, ANSWERS) == (Err(wanted), Some(0)));
+    assert!(rt; long == (Err(wanted), Some(0)));
     Ok(())
 }
 
@@ -168,12 +182,16 @@ const REFUSED: &[(&[u8], InsertFault)] = &[
     (b"\x01\x81\x00\x00", InsertFault::Lost),
 ];
 
+/// The first answer, and behind it this one.
+fn answers_with(alloc: Global, answer: &[u8]) -> Result<Vec<u8>, AllocError> {
+    let parts = [&ANSWERS[..FIRST_ANSWER], b"\x00\x00\x00\x0b", answer];
+    parts.concat(alloc)
+}
+
 #[test]
 fn refused_inserts(rt: HostRuntime) -> Result<(), Fail> {
     for (answer, why) in REFUSED {
-        let mut answers = ANSWERS[..FIRST_ANSWER].to_vec(rt.alloc())?;
-        answers.extend_from_slice(b"\x00\x00\x00\x0b")?;
-        answers.extend_from_slice(answer)?;
+        let answers = answers_with(rt.alloc(), answer)?;
         let restored = restores(rt.alloc(), PAIRS.as_bytes(), &answers);
         drop(answers);
         let wanted = Unrestored {
@@ -191,37 +209,84 @@ fn refused_inserts(rt: HostRuntime) -> Result<(), Fail> {
 /// A pair whose key and value have these lengths.
 fn pair_of(alloc: Global, key: usize, value: usize) -> Result<Pair, AllocError> {
     let key = vec![in alloc; b'k'; key]?;
-    let value = vec![in alloc; 0xf0; value]?;
-    Ok(Pair {
-        id: Id::of_bytes(&key),
-        key,
-        value,
-    })
+    match vec![in alloc; 0xf0; value] {
+        Ok(value) => Ok(Pair {
+            id: Id::of_bytes(&key),
+            key,
+            value,
+        }),
+        Err(refused) => {
+            drop(key);
+            Err(refused)
+        }
+    }
 }
 
-/// The lines of pairs as a server writes them, the shortest and the longest.
-#[test]
-fn a_copy_is_restored(rt: HostRuntime) -> Result<(), Fail> {
-    let alloc = rt.alloc();
-    let mut frames: Vec<u8> = Vec::new(alloc);
-    let mut pairs = Vec::new(alloc);
-    for (place, (key, value)) in [(1, 0), (255, 4096)].iter().enumerate() {
-        let pair = pair_of(alloc, *key, *value)?;
-        let request = Request::insert(alloc, &pair.key, &pair.value)?;
-        assert!(rt; request.check().is_ok());
-        let frame = write_request_2(alloc, place as u64 + 1, place as u64, &request)?;
-        frames.extend_from_slice(&frame)?;
+/// The frame of the insert of a pair, which is the one at this place.
+fn frame_of(alloc: Global, pair: &Pair, place: u64) -> Result<Vec<u8>, Fail> {
+    let request = Request::insert(alloc, &pair.key, &pair.value)?;
+    let is_request = request.check().is_ok();
+    let frame = write_request_2(alloc, place + 1, place, &request);
+    drop(request);
+    if !is_request {
         drop(frame);
-        drop(request);
-        pairs.push(pair)?;
+        return Err(Fail::from("a pair is no request"));
     }
-    let lines = pair_lines(alloc, &pairs)?;
+    Ok(frame?)
+}
+
+/// Puts the frame of the insert of a pair behind others.
+fn put_frame(alloc: Global, frames: &mut Vec<u8>, pair: &Pair, place: u64) -> Result<(), Fail> {
+    let frame = frame_of(alloc, pair, place)?;
+    let put = frames.extend_from_slice(&frame);
+    drop(frame);
+    Ok(put?)
+}
+
+/// Two pairs, the shortest and the longest, as a server writes them, and the frames of their
+/// inserts.
+#[derive(Drop)]
+struct Copied {
+    pairs: Vec<Pair>,
+    frames: Vec<u8>,
+}
+
+fn put_pairs(alloc: Global, copied: &mut Copied) -> Result<(), Fail> {
+    let shortest = pair_of(alloc, 1, 0)?;
+    copied.pairs.push(shortest)?;
+    let longest = pair_of(alloc, 255, 4096)?;
+    copied.pairs.push(longest)?;
+    for (place, pair) in copied.pairs.iter().enumerate() {
+        put_frame(alloc, &mut copied.frames, pair, place as u64)?;
+    }
+    Ok(())
+}
+
+/// Whether the lines of the pairs are restored by these frames.
+fn is_restored(alloc: Global, copied: &Copied) -> Result<bool, Fail> {
+    let lines = pair_lines(alloc, &copied.pairs)?;
     let mut input = lines.as_bytes();
     let mut answers = ANSWERS;
     let mut written: Vec<u8> = Vec::new(alloc);
     let restored = restore(alloc, &mut input, &mut answers, &mut written);
-    assert!(rt; restored == Ok(2), "{restored:?}");
-    assert!(rt; written.as_slice() == frames.as_slice());
+    let are_frames = written.as_slice() == copied.frames.as_slice();
+    drop(written);
+    drop(lines);
+    Ok(restored == Ok(2) && are_frames)
+}
+
+#[test]
+fn a_copy_is_restored(rt: HostRuntime) -> Result<(), Fail> {
+    let alloc = rt.alloc();
+    let mut copied = Copied {
+        pairs: Vec::new(alloc),
+        frames: Vec::new(alloc),
+    };
+    let put = put_pairs(alloc, &mut copied);
+    let is_restored = is_restored(alloc, &copied);
+    drop(copied);
+    put?;
+    assert!(rt; is_restored?);
     Ok(())
 }
 

@@ -22,6 +22,7 @@ fn the_ring_is_shown_again(rt: HostRuntime) -> Result<(), std::alloc::AllocError
     let look: &[u8] = b"GET /ring HTTP/1.1\r\n";
     let talks = [(look, EMPTY), (look, EMPTY)];
     let ran = command.run_at(&rt, rt.alloc(), &talks, (&twice, ""));
+    drop(twice);
     assert!(rt; ran == Some((Ok(Finish::Done), true, true)), "{ran:?}");
     Ok(())
 }

@@ -16,17 +16,14 @@ pub fn span(after: u128, upto: u128) -> Span {
     Span::new(Id::new(after), Id::new(upto))
 }
 
-fn giving(alloc: Global) -> Result<NodeSight, AllocError> {
-    let mut node = empty_node(alloc, 0, QUARTER, Phase::Staying);
-    node.predecessor = Some(1);
+/// Puts in the lists of the node that gives.
+fn fill_giving(node: &mut NodeSight) -> Result<(), AllocError> {
     node.successors.push(1)?;
     node.successors.push(0)?;
-    node.fingers = 7;
     node.segments.push(SegmentSight {
         span: span(2 * QUARTER, QUARTER),
         kept: 12,
     })?;
-    node.pairs = 1234;
     for (to, number) in [(1, 3), (2, 4)] {
         node.outbox.push(OutboxSight {
             to,
@@ -35,6 +32,14 @@ fn giving(alloc: Global) -> Result<NodeSight, AllocError> {
             pairs: 64,
         })?;
     }
+    Ok(())
+}
+
+fn giving(alloc: Global) -> Result<NodeSight, AllocError> {
+    let mut node = empty_node(alloc, 0, QUARTER, Phase::Staying);
+    node.predecessor = Some(1);
+    node.fingers = 7;
+    node.pairs = 1234;
     node.asks = AskCounts {
         told: 100,
         forwarded: 3,
@@ -47,33 +52,58 @@ fn giving(alloc: Global) -> Result<NodeSight, AllocError> {
         declined: 5,
     };
     node.ticks = u64::MAX;
-    Ok(node)
+    filled(fill_giving(&mut node), node)
+}
+
+/// The node, if it got its lists.
+fn filled(outcome: Result<(), AllocError>, node: NodeSight) -> Result<NodeSight, AllocError> {
+    match outcome {
+        Ok(()) => Ok(node),
+        Err(refused) => {
+            drop(node);
+            Err(refused)
+        }
+    }
+}
+
+/// Puts in the segments of the node that leaves.
+fn fill_leaving(node: &mut NodeSight) -> Result<(), AllocError> {
+    node.segments.push(SegmentSight {
+        span: span(QUARTER + 16, QUARTER + 32),
+        kept: 0,
+    })?;
+    Ok(
+        node.segments.push(SegmentSight {
+            span: span(QUARTER + 32, 2 * QUARTER),
+            kept: 1,
+        })?,
+    )
 }
 
 fn leaving(alloc: Global) -> Result<NodeSight, AllocError> {
     let mut node = empty_node(alloc, 1, 2 * QUARTER, Phase::Leaving);
     node.store = StoreKind::List;
-    node.segments.push(SegmentSight {
-        span: span(QUARTER + 16, QUARTER + 32),
-        kept: 0,
-    })?;
-    node.segments.push(SegmentSight {
-        span: span(QUARTER + 32, 2 * QUARTER),
-        kept: 1,
-    })?;
-    Ok(node)
+    filled(fill_leaving(&mut node), node)
 }
 
-/// The ring.
-pub fn ring(alloc: Global) -> Result<RingSight, AllocError> {
-    let mut nodes = Vec::new(alloc);
+/// A node that crashed.
+fn crashed(alloc: Global) -> NodeSight {
+    let mut node = empty_node(alloc, 2, u128::MAX, Phase::Crashed);
+    node.store = StoreKind::Capped;
+    node
+}
+
+/// Puts in all nodes.
+fn put_nodes(alloc: Global, nodes: &mut Vec<NodeSight>) -> Result<(), AllocError> {
     nodes.push(giving(alloc)?)?;
     nodes.push(leaving(alloc)?)?;
-    let mut crashed = empty_node(alloc, 2, u128::MAX, Phase::Crashed);
-    crashed.store = StoreKind::Capped;
-    nodes.push(crashed)?;
-    nodes.push(empty_node(alloc, 3, 0, Phase::Gone))?;
-    Ok(RingSight {
+    nodes.push(crashed(alloc))?;
+    Ok(nodes.push(empty_node(alloc, 3, 0, Phase::Gone))?)
+}
+
+/// The ring without nodes.
+fn empty_ring(alloc: Global) -> RingSight {
+    RingSight {
         successors: 4,
         slots: 16,
         callers: CallerCounts { open: 3, all: 64 },
@@ -97,6 +127,18 @@ pub fn ring(alloc: Global) -> Result<RingSight, AllocError> {
             refused: 33,
         },
         uptime_ms: 12_345,
-        nodes,
-    })
+        nodes: Vec::new(alloc),
+    }
+}
+
+/// The ring.
+pub fn ring(alloc: Global) -> Result<RingSight, AllocError> {
+    let mut ring = empty_ring(alloc);
+    match put_nodes(alloc, &mut ring.nodes) {
+        Ok(()) => Ok(ring),
+        Err(refused) => {
+            drop(ring);
+            Err(refused)
+        }
+    }
 }

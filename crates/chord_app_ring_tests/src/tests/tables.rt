@@ -5,26 +5,25 @@ use chord_app_operator::SegmentSight;
 use chord_app_ring::{RingTable, Stretch, hundredths};
 use std::test::Fail;
 
+/// The table of the ring of these tests.
+const TABLE: &str = concat!(
+    "up 12 s, 4 of 16 slots used, 4 successors, 5 connections, 3 of 64 callers open\n",
+    "node  identifier                        phase      share      pairs  segments  outbox\n",
+    "   0  40000000000000000000000000000000  staying   75.00%       1234         1  64 to 1, 64 to 2\n",
+    "   1  80000000000000000000000000000000  leaving   24.99%          0         2  -\n",
+    "   2  ffffffffffffffffffffffffffffffff  crashed    0.00%          0         0  -\n",
+    "   3  00000000000000000000000000000000  gone       0.00%          0         0  -\n",
+);
+
 #[test]
 fn the_table_of_a_ring(rt: HostRuntime) -> Result<(), Fail> {
     let sight = ring(rt.alloc())?;
-    let text = RingTable(&sight).to_string(rt.alloc())?;
-    let wanted = [
-        "up 12 s, 4 of 16 slots used, 4 successors, 5 connections, 3 of 64 callers open\n",
-        "node  identifier                        phase      share      pairs  segments  outbox\n",
-        "   0  40000000000000000000000000000000  staying   75.00%       1234         1  64 to 1, 64 to 2\n",
-        "   1  80000000000000000000000000000000  leaving   24.99%          0         2  -\n",
-        "   2  ffffffffffffffffffffffffffffffff  crashed    0.00%          0         0  -\n",
-        "   3  00000000000000000000000000000000  gone       0.00%          0         0  -\n",
-    ];
-    let mut rest = text.as_str();
-    for line in wanted {
-        let Some(behind) = rest.strip_prefix(line) else {
-            return Err(Fail::from("a line differs"));
-        };
-        rest = behind;
-    }
-    assert!(rt; rest.is_empty());
+    let text = RingTable(&sight).to_string(rt.alloc());
+    drop(sight);
+    let text = text?;
+    let is_table = text.as_str() == TABLE;
+    drop(text);
+    assert!(rt; is_table);
     Ok(())
 }
 
