@@ -30,7 +30,7 @@ pub fn small_number(word: &str) -> Option<u16>
 
 /// An option for a number from `least` to `most`. `clap` takes its word as plain text, also one
 /// below 0, so that the fault of a number names its range.
-#[derive(Clone, Copy, Debug)]
+#[derive(Clone, Copy)]
 pub struct NumberOption {
     pub name: &'static str,
     /// What usage and help call its value.
@@ -42,7 +42,7 @@ pub struct NumberOption {
 }
 
 /// A word that is none of the numbers that its option takes.
-#[derive(Clone, Copy, Debug)]
+#[derive(Clone, Copy)]
 pub struct WrongNumber<'a> {
     option: NumberOption,
     word: &'a str,

@@ -1,10 +1,10 @@
 //! Commands put together from their parts.
 
-use clap::{Arg, Command};
+use clap::{Arg, ArgGroup, Command};
 use std::alloc::AllocError;
 
 /// Both results, or the fault of the first that failed.
-pub fn both<A: Drop, B: Drop>(
+fn both<A: Drop, B: Drop>(
     a: Result<A, AllocError>,
     b: Result<B, AllocError>,
 ) -> Result<(A, B), AllocError> {
@@ -32,4 +32,22 @@ pub fn with_argument<'a>(
             Err(refused)
         }
     }
+}
+
+/// A command with an argument added that is itself put together.
+pub fn with_made_argument<'a>(
+    command: Result<Command<'a>, AllocError>,
+    argument: Result<Arg<'a>, AllocError>,
+) -> Result<Command<'a>, AllocError> {
+    let (command, argument) = both(command, argument)?;
+    command.arg(argument)
+}
+
+/// A command with a group of arguments added.
+pub fn with_group<'a>(
+    command: Result<Command<'a>, AllocError>,
+    group: Result<ArgGroup<'a>, AllocError>,
+) -> Result<Command<'a>, AllocError> {
+    let (command, group) = both(command, group)?;
+    command.group(group)
 }

@@ -65,7 +65,7 @@ const VIA: NumberOption = NumberOption {
 };
 
 /// What is wrong with a value of `ring`.
-#[derive(Clone, Copy, Debug)]
+#[derive(Clone, Copy)]
 enum RingWrong<'a> {
     Number(WrongNumber<'a>),
     /// The word is no identifier.

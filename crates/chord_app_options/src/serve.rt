@@ -2,7 +2,7 @@
 
 use crate::faults::fault_of;
 use crate::number::{NumberOption, WrongNumber};
-use crate::parts::both;
+use crate::parts::{with_argument, with_group, with_made_argument};
 use crate::shared::{plan_option, plan_path_of};
 use clap::{Arg, ArgAction, ArgGroup, ArgMatches, Command};
 use std::alloc::{AllocError, Global};
@@ -114,20 +114,19 @@ fn until_group<'a>(alloc: Global) -> Result<ArgGroup<'a>, AllocError> {
 pub fn serve_command<'a>(alloc: Global) -> Result<Command<'a>, AllocError> {
     let serve = Command::new(alloc, "serve")
         .about("Serves clients over loopback, and writes how each connection ended")
-        .arg(plan_option(alloc, "The ring's numbers and nodes, as TOML"))?
-        .arg(PORT.argument(alloc))?
-        .arg(REDIS.argument(alloc))?
-        .arg(CONNECTIONS.argument(alloc))?
-        .arg(stay_option(alloc))?
-        .arg(notes_option(alloc));
-    let (serve, idle) = both(serve, staying(alloc, IDLE))?;
-    let (serve, keep) = both(serve.arg(idle), staying(alloc, KEEP))?;
-    let (serve, operator) = both(serve.arg(keep), staying(alloc, OPERATOR))?;
-    let (serve, slots) = both(serve.arg(operator), staying(alloc, SLOTS))?;
-    let (serve, callers) = both(serve.arg(slots), staying(alloc, CALLERS))?;
-    let (serve, ports) = both(serve.arg(callers), ports_group(alloc))?;
-    let (serve, until) = both(serve.group(ports), until_group(alloc))?;
-    serve.group(until)
+        .arg(plan_option(alloc, "The ring's numbers and nodes, as TOML"));
+    let serve = with_argument(serve, PORT.argument(alloc));
+    let serve = with_argument(serve, REDIS.argument(alloc));
+    let serve = with_argument(serve, CONNECTIONS.argument(alloc));
+    let serve = with_argument(serve, stay_option(alloc));
+    let serve = with_argument(serve, notes_option(alloc));
+    let serve = with_made_argument(serve, staying(alloc, IDLE));
+    let serve = with_made_argument(serve, staying(alloc, KEEP));
+    let serve = with_made_argument(serve, staying(alloc, OPERATOR));
+    let serve = with_made_argument(serve, staying(alloc, SLOTS));
+    let serve = with_made_argument(serve, staying(alloc, CALLERS));
+    let serve = with_group(serve, ports_group(alloc));
+    with_group(serve, until_group(alloc))
 }
 
 /// What a command line of `serve` says.

@@ -47,7 +47,7 @@ pub fn names_stores(word: &str) -> bool
 }
 
 /// A word that names no stores.
-#[derive(Clone, Copy, Debug)]
+#[derive(Clone, Copy)]
 struct NoStores<'a> {
     word: &'a str,
 }

@@ -11,15 +11,15 @@ use std::fmt;
 pub struct RingTable<'a>(pub &'a RingSight);
 
 /// A share of the circle in percent.
-#[derive(Clone, Copy, Debug)]
+#[derive(Clone, Copy)]
 struct Share(u128);
 
 /// Handovers, each as its pairs and the node that gets them; `-` for none.
-#[derive(Clone, Copy, Debug)]
+#[derive(Clone, Copy)]
 struct Outbox<'a>(&'a [OutboxSight]);
 
 /// The row of a node.
-#[derive(Clone, Copy, Debug)]
+#[derive(Clone, Copy)]
 struct Row<'a>(&'a NodeSight);
 
 impl fmt::Display for Share {

@@ -57,7 +57,7 @@ fn options_of_ask(rt: HostRuntime) {
 }
 
 /// Whether a client begins a session.
-#[derive(Clone, Copy, Debug, PartialEq, Eq)]
+#[derive(Clone, Copy, PartialEq, Eq)]
 struct SessionLine {
     is_wanted: bool,
 }

@@ -108,7 +108,7 @@ fn refused_memory_is_written_nowhere(rt: HostRuntime) {
 }
 
 /// How a command line ended where one of the streams had no room.
-#[derive(Clone, Copy, Debug, PartialEq, Eq)]
+#[derive(Clone, Copy, PartialEq, Eq)]
 struct Ends {
     without_output: Result<Finish, Finish>,
     without_errors: Result<Finish, Finish>,
