@@ -18,6 +18,10 @@ struct Share(u128);
 #[derive(Clone, Copy)]
 struct Outbox<'a>(&'a [OutboxSight]);
 
+/// A handover, as its pairs and the node that gets them.
+#[derive(Clone, Copy)]
+struct Given<'a>(&'a OutboxSight);
+
 /// The row of a node.
 #[derive(Clone, Copy)]
 struct Row<'a>(&'a NodeSight);
@@ -30,18 +34,22 @@ impl fmt::Display for Share {
     }
 }
 
+impl fmt::Display for Given<'_> {
+    fn fmt<W: fmt::Write>(&self, f: &mut fmt::Formatter<W>) -> fmt::Result {
+        let pairs = self.0.pairs;
+        let to = self.0.to;
+        write!(f, "{pairs} to {to}")
+    }
+}
+
 impl fmt::Display for Outbox<'_> {
     fn fmt<W: fmt::Write>(&self, f: &mut fmt::Formatter<W>) -> fmt::Result {
-        if self.0.is_empty() {
+        let Some((first, rest)) = self.0.split_first() else {
             return f.write_str("-");
-        }
-        for (place, item) in self.0.iter().enumerate() {
-            if place > 0 {
-                f.write_str(", ")?;
-            }
-            let pairs = item.pairs;
-            let to = item.to;
-            write!(f, "{pairs} to {to}")?;
+        };
+        write!(f, "{}", Given(first))?;
+        for item in rest {
+            write!(f, ", {}", Given(item))?;
         }
         Ok(())
     }

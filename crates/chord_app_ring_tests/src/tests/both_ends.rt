@@ -103,7 +103,7 @@ struct Exchange {
 }
 
 /// Serves what is sent for the command.
-fn exchange(rt: &HostRuntime, command: &RingCommand) -> Result<Exchange, Fail> {
+fn ask(rt: &HostRuntime, command: &RingCommand) -> Result<Exchange, Fail> {
     let sent = bytes_of(rt.alloc(), command)?;
     let served = serve_bytes(rt, &sent);
     drop(sent);
@@ -116,7 +116,7 @@ fn exchange(rt: &HostRuntime, command: &RingCommand) -> Result<Exchange, Fail> {
 #[test]
 fn a_join_comes_through(rt: HostRuntime) -> Result<(), Fail> {
     for request in [PLAIN_JOIN, WHOLE_JOIN] {
-        let seen = exchange(&rt, &RingCommand::Join(request))?;
+        let seen = ask(&rt, &RingCommand::Join(request))?;
         assert!(rt; seen.operator.join == Some(request));
         assert!(rt; seen.heard == Heard::Joined(4));
     }
@@ -130,7 +130,7 @@ fn a_leave_comes_through(rt: HostRuntime) -> Result<(), Fail> {
         (3, Heard::NotStaying),
         (9_999_999_999, Heard::Leaving(9_999_999_999)),
     ] {
-        let seen = exchange(&rt, &RingCommand::Leave(node))?;
+        let seen = ask(&rt, &RingCommand::Leave(node))?;
         assert!(rt; seen.operator.left == Some(node));
         assert!(rt; seen.heard == heard);
     }
@@ -148,7 +148,7 @@ fn a_crash_comes_through(rt: HostRuntime) -> Result<(), Fail> {
         (FORCED_CRASH, Heard::Crashed(7)),
         (unforced, Heard::Unsafe),
     ] {
-        let seen = exchange(&rt, &RingCommand::Crash(request))?;
+        let seen = ask(&rt, &RingCommand::Crash(request))?;
         assert!(rt; seen.operator.crash == Some(request));
         assert!(rt; seen.heard == heard);
     }
@@ -157,9 +157,9 @@ fn a_crash_comes_through(rt: HostRuntime) -> Result<(), Fail> {
 
 #[test]
 fn a_look_and_a_stop_come_through(rt: HostRuntime) -> Result<(), Fail> {
-    let seen = exchange(&rt, &RingCommand::Show)?;
+    let seen = ask(&rt, &RingCommand::Show)?;
     assert!(rt; seen.heard == Heard::Ring(4));
-    let seen = exchange(&rt, &RingCommand::Stop)?;
+    let seen = ask(&rt, &RingCommand::Stop)?;
     assert!(rt; seen.operator.is_stopped);
     assert!(rt; seen.heard == Heard::Stopping);
     Ok(())
@@ -200,7 +200,7 @@ struct PageSeen {
 }
 
 /// Asks for a page.
-fn exchange_page(rt: &HostRuntime, request: PairsRequest) -> Result<PageSeen, Fail> {
+fn ask_page(rt: &HostRuntime, request: PairsRequest) -> Result<PageSeen, Fail> {
     let sent = page_bytes_of(rt.alloc(), request)?;
     let served = serve_bytes(rt, &sent);
     drop(sent);
@@ -222,7 +222,7 @@ fn a_page_comes_through(rt: HostRuntime) -> Result<(), Fail> {
     let a = Id::of_bytes(b"a");
     for after in [None, Some(Id { number: 7 }), Some(a)] {
         let request = request_behind(after);
-        let seen = exchange_page(&rt, request)?;
+        let seen = ask_page(&rt, request)?;
         assert!(rt; seen.asked == Some(request));
         assert!(rt; seen.next == Some(a));
         assert!(rt; seen.inserts_x);

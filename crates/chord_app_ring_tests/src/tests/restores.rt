@@ -222,48 +222,67 @@ fn pair_of(alloc: Global, key: usize, value: usize) -> Result<Pair, AllocError> 
     }
 }
 
-/// The frame of the insert of a pair, which is the one at this place.
-fn frame_of(alloc: Global, pair: &Pair, place: u64) -> Result<Vec<u8>, Fail> {
-    let request = Request::insert(alloc, &pair.key, &pair.value)?;
-    let is_request = request.check().is_ok();
-    let frame = write_request_2(alloc, place + 1, place, &request);
-    drop(request);
-    if !is_request {
-        drop(frame);
-        return Err(Fail::from("a pair is no request"));
-    }
-    Ok(frame?)
-}
-
-/// Puts the frame of the insert of a pair behind others.
-fn put_frame(alloc: Global, frames: &mut Vec<u8>, pair: &Pair, place: u64) -> Result<(), Fail> {
-    let frame = frame_of(alloc, pair, place)?;
-    let put = frames.extend_from_slice(&frame);
-    drop(frame);
-    Ok(put?)
-}
-
 /// Two pairs, the shortest and the longest, as a server writes them, and the frames of their
 /// inserts.
 #[derive(Drop)]
 struct Copied {
     pairs: Vec<Pair>,
     frames: Vec<u8>,
+    /// Whether each has its frame.
+    have_frames: bool,
 }
 
-fn put_pairs(alloc: Global, copied: &mut Copied) -> Result<(), Fail> {
-    let shortest = pair_of(alloc, 1, 0)?;
-    copied.pairs.push(shortest)?;
-    let longest = pair_of(alloc, 255, 4096)?;
-    copied.pairs.push(longest)?;
-    for (place, pair) in copied.pairs.iter().enumerate() {
-        put_frame(alloc, &mut copied.frames, pair, place as u64)?;
+/// The frame of an insert behind as many others, if it is a request.
+fn frame_of(alloc: Global, request: &Request, others: usize) -> Option<Vec<u8>> {
+    if others > 9 || request.check().is_err() {
+        return None;
     }
-    Ok(())
+    write_request_2(alloc, others as u64 + 1, others as u64, request).ok()
+}
+
+/// Puts in the frame of an insert.
+fn put_frame(alloc: Global, copied: &mut Copied, request: &Request) -> Result<(), AllocError> {
+    let Some(frame) = frame_of(alloc, request, copied.pairs.len()) else {
+        copied.have_frames = false;
+        return Ok(());
+    };
+    let put = copied.frames.extend_from_slice(&frame);
+    drop(frame);
+    Ok(put?)
+}
+
+/// Puts in the frame of the insert of the next pair.
+fn put_insert(alloc: Global, copied: &mut Copied, pair: &Pair) -> Result<(), AllocError> {
+    let request = Request::insert(alloc, &pair.key, &pair.value)?;
+    let put = put_frame(alloc, copied, &request);
+    drop(request);
+    put
+}
+
+/// Puts in a pair whose key and value have these lengths, and its frame.
+fn put_pair(
+    alloc: Global,
+    copied: &mut Copied,
+    key: usize,
+    value: usize,
+) -> Result<(), AllocError> {
+    let pair = pair_of(alloc, key, value)?;
+    match put_insert(alloc, copied, &pair) {
+        Ok(()) => Ok(copied.pairs.push(pair)?),
+        Err(refused) => {
+            drop(pair);
+            Err(refused)
+        }
+    }
+}
+
+fn put_pairs(alloc: Global, copied: &mut Copied) -> Result<(), AllocError> {
+    put_pair(alloc, copied, 1, 0)?;
+    put_pair(alloc, copied, 255, 4096)
 }
 
 /// Whether the lines of the pairs are restored by these frames.
-fn is_restored(alloc: Global, copied: &Copied) -> Result<bool, Fail> {
+fn is_restored(alloc: Global, copied: &Copied) -> Result<bool, AllocError> {
     let lines = pair_lines(alloc, &copied.pairs)?;
     let mut input = lines.as_bytes();
     let mut answers = ANSWERS;
@@ -281,11 +300,14 @@ fn a_copy_is_restored(rt: HostRuntime) -> Result<(), Fail> {
     let mut copied = Copied {
         pairs: Vec::new(alloc),
         frames: Vec::new(alloc),
+        have_frames: true,
     };
     let put = put_pairs(alloc, &mut copied);
+    let have_frames = copied.have_frames;
     let is_restored = is_restored(alloc, &copied);
     drop(copied);
     put?;
+    assert!(rt; have_frames);
     assert!(rt; is_restored?);
     Ok(())
 }
