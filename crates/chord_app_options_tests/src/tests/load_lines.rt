@@ -49,44 +49,50 @@ fn drops(alloc: Global, line: &'static str) -> Option<Option<Drops>> {
     Some(load.drops)
 }
 
+/// Lines, and how often each cuts its connections.
+const CUTS: &[(&str, Option<Drops>)] = &[
+    ("chord load --port 1", None),
+    ("chord load --port 1 --seed 7", None),
+    (
+        "chord load --port 1 --drop 50",
+        Some(Drops { every: 50, seed: 1 }),
+    ),
+    (
+        "chord load --port 1 --drop 1 --seed 18446744073709551615",
+        Some(Drops {
+            every: 1,
+            seed: u64::MAX,
+        }),
+    ),
+];
+
 #[test]
 fn cuts_of_load(rt: HostRuntime) {
-    for (line, wanted) in [
-        ("chord load --port 1", None),
-        ("chord load --port 1 --seed 7", None),
-        (
-            "chord load --port 1 --drop 50",
-            Some(Drops { every: 50, seed: 1 }),
-        ),
-        (
-            "chord load --port 1 --drop 1 --seed 18446744073709551615",
-            Some(Drops {
-                every: 1,
-                seed: u64::MAX,
-            }),
-        ),
-    ] {
-        assert!(rt; drops(rt.alloc(), line) == Some(wanted), "{line}");
+    for (line, wanted) in CUTS {
+        assert!(rt; drops(rt.alloc(), *line) == Some(*wanted), "{line}");
     }
 }
 
+/// Lines that are refused.
+const REFUSED: &[&str] = &[
+    "chord load --port 1 --connections 65",
+    "chord load --port 1 --in-flight 17",
+    "chord load --port 1 --keys 0",
+    "chord load --port 1 --value-size 4097",
+    "chord load --port 1 --kind remove",
+    "chord load --port 1 --seconds 3601",
+    "chord load --port 1 --requests 0",
+    "chord load --port 1 --drop 0",
+    "chord load --port 1 --drop 1000001",
+    "chord load --port 1 --drop 5 --seed -1",
+    "chord load --port 1 --drop 5 --no-session",
+    "chord load --port 1 --drop 5 --kind insert --value-size 15",
+];
+
 #[test]
 fn refused_options_of_load(rt: HostRuntime) {
-    for line in [
-        "chord load --port 1 --connections 65",
-        "chord load --port 1 --in-flight 17",
-        "chord load --port 1 --keys 0",
-        "chord load --port 1 --value-size 4097",
-        "chord load --port 1 --kind remove",
-        "chord load --port 1 --seconds 3601",
-        "chord load --port 1 --requests 0",
-        "chord load --port 1 --drop 0",
-        "chord load --port 1 --drop 1000001",
-        "chord load --port 1 --drop 5 --seed -1",
-        "chord load --port 1 --drop 5 --no-session",
-        "chord load --port 1 --drop 5 --kind insert --value-size 15",
-    ] {
-        assert!(rt; refused(rt.alloc(), line) == Some(2), "{line}");
+    for line in REFUSED {
+        assert!(rt; refused(rt.alloc(), *line) == Some(2), "{line}");
     }
 }
 

@@ -45,7 +45,7 @@ const FORCED_CRASH: CrashRequest = CrashRequest {
 };
 
 /// Command lines, and what each asks for once.
-const LINES: [(&str, RingCommand); 7] = [
+const LINES: &[(&str, RingCommand)] = &[
     ("chord ring --operator 9", RingCommand::Show),
     (
         "chord ring --operator 9 join",
@@ -65,7 +65,7 @@ const LINES: [(&str, RingCommand); 7] = [
 ];
 
 /// Command lines that show the ring, and how often.
-const SHOWN: [(&str, u64); 3] = [
+const SHOWN: &[(&str, u64)] = &[
     ("chord ring --operator 9 --watch", u64::MAX),
     ("chord ring --operator 9 --times 3", 3),
     ("chord ring --watch --times 3 --operator 9", 3),
@@ -83,16 +83,16 @@ fn asked(command: RingCommand, times: u64) -> RingTask {
 #[test]
 fn lines_of_ring(rt: HostRuntime) {
     for (line, command) in LINES {
-        let task = read_line::<RingTask>(rt.alloc(), line);
-        assert!(rt; task == Some(asked(command, 1)), "{line}");
+        let task = read_line::<RingTask>(rt.alloc(), *line);
+        assert!(rt; task == Some(asked(*command, 1)), "{line}");
     }
 }
 
 #[test]
 fn lines_that_show_the_ring_often(rt: HostRuntime) {
     for (line, times) in SHOWN {
-        let task = read_line::<RingTask>(rt.alloc(), line);
-        assert!(rt; task == Some(asked(RingCommand::Show, times)), "{line}");
+        let task = read_line::<RingTask>(rt.alloc(), *line);
+        assert!(rt; task == Some(asked(RingCommand::Show, *times)), "{line}");
     }
 }
 
@@ -104,67 +104,73 @@ fn lines_of_copies(rt: HostRuntime) {
     assert!(rt; restore == Some(RingTask::Restore(7)));
 }
 
+/// Lines that are refused.
+const REFUSED: &[&str] = &[
+    "chord ring",
+    "chord ring --operator 0",
+    "chord ring --operator 65536",
+    "chord ring --operator 9 --times 0",
+    "chord ring --operator 9 --watch stop",
+    "chord ring --operator 9 --times 1 leave 2",
+    "chord ring --operator 9 join 00ab",
+    "chord ring --operator 9 join --store noted",
+    "chord ring --operator 9 join --limit 3",
+    "chord ring --operator 9 join --store capped --limit -1",
+    "chord ring --operator 9 join --via x",
+    "chord ring --operator 9 leave",
+    "chord ring --operator 9 leave x",
+    "chord ring --operator 9 leave 10000000000000000000",
+    "chord ring --operator 9 leave 2 --force",
+    "chord ring --operator 9 crash",
+    "chord ring --operator 9 copy",
+    "chord ring --operator 9 dump 3",
+    "chord ring --operator 9 --watch dump",
+    "chord ring --operator 9 --times 2 dump",
+    "chord ring --port 9 dump",
+    "chord ring --port 7 --operator 9 dump",
+    "chord ring dump",
+    "chord ring --operator 9 restore",
+    "chord ring --port 7 --operator 9 restore",
+    "chord ring --port 0 restore",
+    "chord ring --port 7 --watch restore",
+    "chord ring restore",
+    "chord ring --port 7",
+    "chord ring --port 7 leave 2",
+];
+
 #[test]
 fn refused_lines_of_ring(rt: HostRuntime) {
-    for line in [
-        "chord ring",
-        "chord ring --operator 0",
-        "chord ring --operator 65536",
-        "chord ring --operator 9 --times 0",
-        "chord ring --operator 9 --watch stop",
-        "chord ring --operator 9 --times 1 leave 2",
-        "chord ring --operator 9 join 00ab",
-        "chord ring --operator 9 join --store noted",
-        "chord ring --operator 9 join --limit 3",
-        "chord ring --operator 9 join --store capped --limit -1",
-        "chord ring --operator 9 join --via x",
-        "chord ring --operator 9 leave",
-        "chord ring --operator 9 leave x",
-        "chord ring --operator 9 leave 10000000000000000000",
-        "chord ring --operator 9 leave 2 --force",
-        "chord ring --operator 9 crash",
-        "chord ring --operator 9 copy",
-        "chord ring --operator 9 dump 3",
-        "chord ring --operator 9 --watch dump",
-        "chord ring --operator 9 --times 2 dump",
-        "chord ring --port 9 dump",
-        "chord ring --port 7 --operator 9 dump",
-        "chord ring dump",
-        "chord ring --operator 9 restore",
-        "chord ring --port 7 --operator 9 restore",
-        "chord ring --port 0 restore",
-        "chord ring --port 7 --watch restore",
-        "chord ring restore",
-        "chord ring --port 7",
-        "chord ring --port 7 leave 2",
-    ] {
-        assert!(rt; refused(rt.alloc(), line) == Some(2), "{line}");
+    for line in REFUSED {
+        assert!(rt; refused(rt.alloc(), *line) == Some(2), "{line}");
     }
 }
 
 const USAGE: &str = "chord ring [OPTIONS] [COMMAND]";
 
+/// Lines, and what is told of each.
+const FAULTS: &[(&str, &str)] = &[
+    (
+        "chord ring --operator 9 leave x",
+        "error: invalid value 'x' for '<NODE>': the number of a node",
+    ),
+    (
+        "chord ring --operator 9 join 00ab",
+        "error: invalid value '00ab' for '[ID]': 32 hexadecimal digits",
+    ),
+    (
+        "chord ring --operator 9 join --limit 3",
+        "error: '--limit <N>' is only for '--store capped'",
+    ),
+    (
+        "chord ring --operator 9 restore",
+        "error: restore has '--port <N>', and all else has '--operator <PORT>'",
+    ),
+];
+
 #[test]
 fn texts_of_refused_lines(rt: HostRuntime) {
-    for (line, text) in [
-        (
-            "chord ring --operator 9 leave x",
-            "error: invalid value 'x' for '<NODE>': the number of a node",
-        ),
-        (
-            "chord ring --operator 9 join 00ab",
-            "error: invalid value '00ab' for '[ID]': 32 hexadecimal digits",
-        ),
-        (
-            "chord ring --operator 9 join --limit 3",
-            "error: '--limit <N>' is only for '--store capped'",
-        ),
-        (
-            "chord ring --operator 9 restore",
-            "error: restore has '--port <N>', and all else has '--operator <PORT>'",
-        ),
-    ] {
-        let printed = prints_usage(rt.alloc(), line, text, USAGE);
+    for (line, text) in FAULTS {
+        let printed = prints_usage(rt.alloc(), *line, text, USAGE);
         assert!(rt; printed == Some((true, 2)), "{line}");
     }
 }

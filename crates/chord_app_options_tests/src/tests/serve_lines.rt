@@ -8,48 +8,51 @@ use std::process::Abort;
 
 const USAGE: &str = "chord serve --plan <FILE> <--port <N>|--redis <N>> <--connections <K>|--stay>";
 
+/// Lines, and what is told of each.
+const FAULTS: &[(&str, &str)] = &[
+    (
+        "chord serve --port 7 --stay",
+        "error: the following required arguments were not provided:\n  --plan <FILE>",
+    ),
+    (
+        "chord serve --plan p --stay",
+        "error: the following required arguments were not provided:\n  <--port <N>|--redis <N>>",
+    ),
+    (
+        "chord serve --plan p --port 7",
+        "error: the following required arguments were not provided:\n  <--connections <K>|--stay>",
+    ),
+    (
+        "chord serve --plan p --port 7 --connections 1 --stay",
+        "error: the argument '--connections <K>' cannot be used with '--stay'",
+    ),
+    (
+        "chord serve --plan p --port 7 --connections 1 --idle 2",
+        "error: the argument '--connections <K>' cannot be used with '--idle <SECONDS>'",
+    ),
+    (
+        "chord serve --plan p --port 7 --connections 1 --keep 2",
+        "error: the argument '--connections <K>' cannot be used with '--keep <SECONDS>'",
+    ),
+    (
+        "chord serve --plan p --port 7 --connections 1 --operator 2",
+        "error: the argument '--connections <K>' cannot be used with '--operator <N>'",
+    ),
+    (
+        "chord serve --plan p --port 7 --connections 1 --slots 2",
+        "error: the argument '--connections <K>' cannot be used with '--slots <N>'",
+    ),
+    (
+        "chord serve --plan p --port 7 --connections 1 --callers 2",
+        "error: the argument '--connections <K>' cannot be used with '--callers <N>'",
+    ),
+];
+
 /// `serve` requires a plan, a port of at least one protocol, and one of `--connections` and `--stay`.
 #[test]
 fn faults_of_serve(rt: HostRuntime) {
-    for (line, text) in [
-        (
-            "chord serve --port 7 --stay",
-            "error: the following required arguments were not provided:\n  --plan <FILE>",
-        ),
-        (
-            "chord serve --plan p --stay",
-            "error: the following required arguments were not provided:\n  <--port <N>|--redis <N>>",
-        ),
-        (
-            "chord serve --plan p --port 7",
-            "error: the following required arguments were not provided:\n  <--connections <K>|--stay>",
-        ),
-        (
-            "chord serve --plan p --port 7 --connections 1 --stay",
-            "error: the argument '--connections <K>' cannot be used with '--stay'",
-        ),
-        (
-            "chord serve --plan p --port 7 --connections 1 --idle 2",
-            "error: the argument '--connections <K>' cannot be used with '--idle <SECONDS>'",
-        ),
-        (
-            "chord serve --plan p --port 7 --connections 1 --keep 2",
-            "error: the argument '--connections <K>' cannot be used with '--keep <SECONDS>'",
-        ),
-        (
-            "chord serve --plan p --port 7 --connections 1 --operator 2",
-            "error: the argument '--connections <K>' cannot be used with '--operator <N>'",
-        ),
-        (
-            "chord serve --plan p --port 7 --connections 1 --slots 2",
-            "error: the argument '--connections <K>' cannot be used with '--slots <N>'",
-        ),
-        (
-            "chord serve --plan p --port 7 --connections 1 --callers 2",
-            "error: the argument '--connections <K>' cannot be used with '--callers <N>'",
-        ),
-    ] {
-        let printed = prints_usage(rt.alloc(), line, text, USAGE);
+    for (line, text) in FAULTS {
+        let printed = prints_usage(rt.alloc(), *line, text, USAGE);
         assert!(rt; printed == Some((true, 2)), "{line}");
     }
 }
@@ -150,18 +153,21 @@ fn numbers_of_serve(rt: HostRuntime) {
     }
 }
 
+/// Words, and the number from 3 to 9 that each is, if any.
+const WITHIN_3_TO_9: &[(&str, Option<u64>)] = &[
+    ("2", None),
+    ("3", Some(3)),
+    ("+007", Some(7)),
+    ("9", Some(9)),
+    ("10", None),
+    ("18446744073709551616", None),
+];
+
 /// A number within limits is one of those between them, and each of them.
 #[test]
 fn numbers_within_limits(rt: HostRuntime) {
-    for (word, number) in [
-        ("2", None),
-        ("3", Some(3)),
-        ("+007", Some(7)),
-        ("9", Some(9)),
-        ("10", None),
-        ("18446744073709551616", None),
-    ] {
-        assert!(rt; number_from(word, 3, 9) == number, "{word}");
+    for (word, number) in WITHIN_3_TO_9 {
+        assert!(rt; number_from(word, 3, 9) == *number, "{word}");
     }
     assert!(rt; number_from("18446744073709551615", 0, u64::MAX) == Some(u64::MAX));
 }

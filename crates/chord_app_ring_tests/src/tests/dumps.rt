@@ -121,26 +121,40 @@ fn a_page_under_way_may_never_come(rt: HostRuntime) {
     };
     let mut written: Vec<u8> = Vec::new(rt.alloc());
     let dumped = dump(&mut pages, &mut written);
-    assert!(rt; matches!(&dumped, Err(DumpFault::UnderWay)));
-    assert!(rt; pages.asked == PAGE_TRIES && written.is_empty());
+    let is_under_way = matches!(&dumped, Err(DumpFault::UnderWay));
     drop(dumped);
+    let is_empty = written.is_empty();
+    drop(written);
+    assert!(rt; is_under_way);
+    assert!(rt; pages.asked == PAGE_TRIES && is_empty);
+}
+
+/// Identifiers behind which a page is asked for, and what follows it if it goes on behind 5 and has
+/// no pairs.
+const TURNS: &[(Option<u128>, Option<PageTurn>)] = &[
+    (None, Some(PageTurn::On(Id { number: 5 }))),
+    (Some(4), Some(PageTurn::On(Id { number: 5 }))),
+    (Some(5), Some(PageTurn::UnderWay)),
+    (Some(6), None),
+    (Some(u128::MAX), Some(PageTurn::On(Id { number: 5 }))),
+];
+
+/// What follows that page.
+fn turn(alloc: Global, after: Option<Id>) -> Option<PageTurn> {
+    let page = Page {
+        lines: Vec::new(alloc),
+        next: Some(Id { number: 5 }),
+    };
+    let turn = page.turn(after);
+    drop(page);
+    turn
 }
 
 #[test]
 fn what_follows_a_page(rt: HostRuntime) {
-    let page = Page {
-        lines: Vec::new(rt.alloc()),
-        next: Some(Id { number: 5 }),
-    };
-    for (after, turn) in [
-        (None, Some(PageTurn::On(Id { number: 5 }))),
-        (Some(4), Some(PageTurn::On(Id { number: 5 }))),
-        (Some(5), Some(PageTurn::UnderWay)),
-        (Some(6), None),
-        (Some(u128::MAX), Some(PageTurn::On(Id { number: 5 }))),
-    ] {
-        let after = after.map(Id::new);
-        assert!(rt; page.turn(after) == turn, "{after:?}");
+    for (after, wanted) in TURNS {
+        let turn = turn(rt.alloc(), after.map(Id::new));
+        assert!(rt; turn == *wanted, "{after:?}");
     }
 }
 

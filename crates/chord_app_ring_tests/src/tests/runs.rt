@@ -27,22 +27,25 @@ fn the_ring_is_shown_again(rt: HostRuntime) -> Result<(), std::alloc::AllocError
     Ok(())
 }
 
+/// Answers to the leave of node 3, what is written and told then, and how the command ends.
+const ENDS: &[(&[u8], (&str, &str), Result<Finish, Finish>)] = &[
+    (
+        b"HTTP/1.1 202 Accepted\r\ncontent-length: 10\r\n\r\n{\"node\":3}",
+        ("node 3 begins to leave\n", ""),
+        Ok(Finish::Done),
+    ),
+    (REFUSED, ("", "refused NotStaying\n"), Err(Finish::Refused)),
+    (b"", ("", ""), Err(Finish::Fault(Fault::Lost))),
+    (b"220 mail\r\n", ("", ""), Err(Finish::Fault(Fault::Answer))),
+];
+
 #[test]
 fn ends_of_the_command(rt: HostRuntime) {
     let leave = Command::Ask(RingCommand::Leave(3), 1);
     let asked: &[u8] = b"POST /nodes/3/leave HTTP/1.1\r\n";
-    for (answer, lines, finish) in [
-        (
-            b"HTTP/1.1 202 Accepted\r\ncontent-length: 10\r\n\r\n{\"node\":3}".as_slice(),
-            ("node 3 begins to leave\n", ""),
-            Ok(Finish::Done),
-        ),
-        (REFUSED, ("", "refused NotStaying\n"), Err(Finish::Refused)),
-        (b"", ("", ""), Err(Finish::Fault(Fault::Lost))),
-        (b"220 mail\r\n", ("", ""), Err(Finish::Fault(Fault::Answer))),
-    ] {
-        let ran = leave.run_at(&rt, rt.alloc(), &[(asked, answer)], lines);
-        assert!(rt; ran == Some((finish, true, true)), "{ran:?}");
+    for (answer, lines, finish) in ENDS {
+        let ran = leave.run_at(&rt, rt.alloc(), &[(asked, *answer)], *lines);
+        assert!(rt; ran == Some((*finish, true, true)), "{ran:?}");
     }
 }
 
