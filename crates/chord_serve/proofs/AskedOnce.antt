@@ -4,15 +4,15 @@ use Rattle.std.proofs.lemmas.Bool.{ltb-false, or_parts, cases_Bool}
 use Rattle.std.proofs.lemmas.List.{length-append, length-drop, append-nil}
 use Rattle.chord_map.specs.declared.request.Request.{Request}
 use Rattle.chord_wire.specs.declared.request.WireRequest.{WireRequest}
+use Rattle.chord_session.specs.declared.asked_request.AskedRequest.{AskedRequest}
+use Rattle.chord_session.specs.declared.session.Move.{Move}
+use Rattle.chord_session.specs.declared.session.Move.TheVariants.{Refuse, Again, Ask, Retry}
+use Rattle.chord_session.specs.SessionState.{SessionState}
+use Rattle.chord_session.specs.Session.{last_number, answered_of, answered_floor, is_out, raised, with_accepted, move_of, with_open_request, frame_at}
 use Rattle.chord_serve.specs.declared.asker.Asked.{Asked}
 use Rattle.chord_serve.specs.declared.asker.Asked.TheVariants as asked
-use Rattle.chord_serve.specs.declared.asked_request.AskedRequest.{AskedRequest}
-use Rattle.chord_serve.specs.declared.session.Move.{Move}
-use Rattle.chord_serve.specs.declared.session.Move.TheVariants.{Refuse, Again, Ask, Retry}
 use Rattle.chord_serve.specs.Question.{Question, asked_with}
 use Rattle.chord_serve.specs.Question as question
-use Rattle.chord_serve.specs.SessionState.{SessionState}
-use Rattle.chord_serve.specs.Session.{last_number, answered_of, answered_floor, is_out, raised, with_accepted, move_of, with_open_request, frame_at}
 use Rattle.chord_serve.specs.Output.{after_answer, react, question_of, and_then, questions, state_after, asked_anew, AreAnswers}
 
 -- ---- the last number

@@ -7,12 +7,12 @@ use Rattle.chord_wire.specs.declared.request.WireRequest.{WireRequest}
 use Rattle.chord_wire.specs.declared.fault.WireFault.{WireFault}
 use Rattle.chord_wire.specs.Spelling.{IsWireRequest}
 use Rattle.chord_wire.specs.Reading.{next_request, body_at}
+use Rattle.chord_session.specs.SessionState.{SessionState}
 use Rattle.chord_serve.specs.declared.asker.Asked.{Asked}
 use Rattle.chord_serve.specs.declared.served.Served.{Served}
 use Rattle.chord_serve.specs.declared.served.Served.TheVariants as served
 use Rattle.std.specs.declared.alloc.AllocError.{AllocError}
 use Rattle.chord_serve.specs.Question.{Question}
-use Rattle.chord_serve.specs.SessionState.{SessionState}
 use Rattle.chord_serve.specs.Output.{bytes_written, state_after, questions}
 use Rattle.chord_serve.specs.Steps.{Step, Deals}
 use Rattle.chord_serve.proofs.Serving.{Serves, Serves-append, as_function, serves}

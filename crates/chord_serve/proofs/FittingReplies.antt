@@ -9,15 +9,15 @@ use Rattle.chord_map.specs.Same.{same_request, same_request-Decides}
 use Rattle.chord_wire.specs.declared.request.WireRequest.{WireRequest}
 use Rattle.chord_wire.specs.declared.fault.FaultCode.TheVariants.{BadNumber, NumberReused}
 use Rattle.chord_wire.specs.Spelling.{IsWireRequest}
+use Rattle.chord_session.specs.declared.asked_request.AskedRequest.{AskedRequest}
+use Rattle.chord_session.specs.declared.session.Move.{Move}
+use Rattle.chord_session.specs.declared.session.Move.TheVariants.{Refuse, Again, Ask, Retry}
+use Rattle.chord_session.specs.SessionState.{SessionState}
+use Rattle.chord_session.specs.Session.{with_accepted, with_open_request, answered_floor, answered_of, answered_at, frame_at, is_out, last_number, move_at, move_of, place_of, raised, first_state}
 use Rattle.chord_serve.specs.declared.asker.Asked.{Asked}
 use Rattle.chord_serve.specs.declared.asker.Asked.TheVariants as asked
-use Rattle.chord_serve.specs.declared.asked_request.AskedRequest.{AskedRequest}
-use Rattle.chord_serve.specs.declared.session.Move.{Move}
-use Rattle.chord_serve.specs.declared.session.Move.TheVariants.{Refuse, Again, Ask, Retry}
 use Rattle.chord_serve.specs.Question.{Question, IsReplyTo, asked_with, request_at, request_asked}
 use Rattle.chord_serve.specs.Question as question
-use Rattle.chord_serve.specs.SessionState.{SessionState}
-use Rattle.chord_serve.specs.Session.{with_accepted, with_open_request, answered_floor, answered_of, answered_at, frame_at, is_out, last_number, move_at, move_of, place_of, raised, first_state}
 use Rattle.chord_serve.specs.Output.{reaction, react, after_answer, question_of, and_then, and_pair, answered_requests, questions, AreAnswers, IsPaired}
 
 abbrev request_in : AskedRequest → Request

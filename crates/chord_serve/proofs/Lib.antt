@@ -1,5 +1,4 @@
 pub mod Prefixes
-pub mod Places
 pub mod StepLaws
 pub mod Conversing
 pub mod Serving

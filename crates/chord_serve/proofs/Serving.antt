@@ -1,13 +1,13 @@
 -- One request after another, step by step; and that this is what the functions of a session say.
 use Rattle.std.proofs.Common.{◌≡◌, ℕ, List, [], ◌∷◌, ◌++◌, Option, Some, refl, sym, ap, subst, ◌∙◌, append_assoc}
 use Rattle.chord_wire.specs.declared.request.WireRequest.{WireRequest}
+use Rattle.chord_session.specs.declared.session.Move.{Move}
+use Rattle.chord_session.specs.declared.session.Move.TheVariants.{Refuse, Again, Ask, Retry}
+use Rattle.chord_session.specs.SessionState.{SessionState}
+use Rattle.chord_session.specs.Session.{with_accepted, with_open_request, move_of}
 use Rattle.chord_serve.specs.declared.asker.Asked.{Asked}
-use Rattle.chord_serve.specs.declared.session.Move.{Move}
-use Rattle.chord_serve.specs.declared.session.Move.TheVariants.{Refuse, Again, Ask, Retry}
 use Rattle.chord_serve.specs.Question.{Question}
 use Rattle.chord_serve.specs.Question as question
-use Rattle.chord_serve.specs.SessionState.{SessionState}
-use Rattle.chord_serve.specs.Session.{with_accepted, with_open_request, move_of}
 use Rattle.chord_serve.specs.Output.{Reaction, reaction, react, question_of, and_then, after_answer, bytes_written, state_after, questions, AreAnswers}
 use Rattle.chord_serve.specs.Steps.{Asks, Does, Step}
 

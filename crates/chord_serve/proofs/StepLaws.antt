@@ -8,16 +8,16 @@ use Rattle.chord_wire.specs.declared.request.WireRequest.{WireRequest}
 use Rattle.chord_wire.specs.declared.fault.FaultCode.{FaultCode}
 use Rattle.chord_wire.specs.Spelling.{frame}
 use Rattle.chord_wire.specs.Replies.{fault_body}
+use Rattle.chord_session.specs.declared.asked_request.AskedRequest.{AskedRequest}
+use Rattle.chord_session.specs.declared.session.Move.{Move}
+use Rattle.chord_session.specs.declared.session.Move.TheVariants.{Refuse, Again, Ask, Retry}
+use Rattle.chord_session.specs.SessionState.{SessionState}
+use Rattle.chord_session.specs.Session.{with_accepted, with_open_request, frame_again, move_of}
 use Rattle.chord_serve.specs.declared.asker.Asked.{Asked}
 use Rattle.chord_serve.specs.declared.asker.Asked.TheVariants as asked
-use Rattle.chord_serve.specs.declared.asked_request.AskedRequest.{AskedRequest}
-use Rattle.chord_serve.specs.declared.session.Move.{Move}
-use Rattle.chord_serve.specs.declared.session.Move.TheVariants.{Refuse, Again, Ask, Retry}
 use Rattle.std.specs.declared.alloc.AllocError.{AllocError}
 use Rattle.chord_serve.specs.Question.{Question}
 use Rattle.chord_serve.specs.Question as question
-use Rattle.chord_serve.specs.SessionState.{SessionState}
-use Rattle.chord_serve.specs.Session.{with_accepted, with_open_request, frame_again, move_of}
 use Rattle.chord_serve.specs.Writes.{Joins}
 use Rattle.chord_serve.specs.Output.{frame_of, after_answer, question_of}
 use Rattle.chord_serve.specs.Steps.{Asks, Does, Step, MayAsk, Deals}

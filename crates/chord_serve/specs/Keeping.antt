@@ -3,9 +3,9 @@ use Rattle.std.specs.Prelude.{◌≡◌, ℕ, Bool, ◌&&◌, not, nat_le, ◌+�
 use Rattle.std.specs.List.{position, remove}
 use Rattle.std.specs.Str.{bytes_eq}
 use Rattle.chord_wire.specs.declared.token.Token.{Token}
+use Rattle.chord_session.specs.Session.{bytes_held}
 use Rattle.chord_serve.specs.declared.client_session.ClientSession.{ClientSession}
 use Rattle.chord_serve.specs.declared.kept_sessions.KeptSession.{KeptSession}
-use Rattle.chord_serve.specs.Session.{bytes_held}
 
 -- the index of the session of this token, compared whole
 abbrev pub place_of : {A : Type 0} → Token → List (KeptSession A) → Option ℕ

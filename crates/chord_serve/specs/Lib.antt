@@ -1,6 +1,4 @@
 pub mod Question
-pub mod SessionState
-pub mod Session
 pub mod Output
 pub mod Writes
 pub mod Steps

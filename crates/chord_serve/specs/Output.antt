@@ -6,14 +6,14 @@ use Rattle.chord_wire.specs.declared.request.WireRequest.{WireRequest}
 use Rattle.chord_wire.specs.declared.fault.FaultCode.TheVariants as fault
 use Rattle.chord_wire.specs.Spelling.{frame}
 use Rattle.chord_wire.specs.Replies.{reply_body, fault_body}
+use Rattle.chord_session.specs.declared.session.Move.{Move}
+use Rattle.chord_session.specs.declared.session.Move.TheVariants.{Refuse, Again, Ask, Retry}
+use Rattle.chord_session.specs.SessionState.{SessionState}
+use Rattle.chord_session.specs.Session.{with_accepted, with_open_request, answered_at, frame_again, move_of}
 use Rattle.chord_serve.specs.declared.asker.Asked.{Asked}
 use Rattle.chord_serve.specs.declared.asker.Asked.TheVariants as asked
-use Rattle.chord_serve.specs.declared.session.Move.{Move}
-use Rattle.chord_serve.specs.declared.session.Move.TheVariants.{Refuse, Again, Ask, Retry}
 use Rattle.chord_serve.specs.Question.{Question, IsReplyTo}
 use Rattle.chord_serve.specs.Question as question
-use Rattle.chord_serve.specs.SessionState.{SessionState}
-use Rattle.chord_serve.specs.Session.{with_accepted, with_open_request, answered_at, frame_again, move_of}
 
 -- the frame of an asker's answer
 abbrev pub frame_of : ℕ → Asked → List ℕ

@@ -1,6 +1,6 @@
 -- What is left of a session behind a connection. Source: our own.
 use Rattle.std.specs.Prelude.{ℕ, Bool, true, false, Option}
-use Rattle.chord_serve.specs.SessionState.{SessionState}
+use Rattle.chord_session.specs.SessionState.{SessionState}
 use Rattle.chord_serve.specs.declared.client_session.ClientSession.{ClientSession}
 use Rattle.chord_serve.specs.declared.parted.Parted.{Parted}
 use Rattle.chord_serve.specs.declared.parted.Parted.TheVariants as parted

@@ -12,6 +12,8 @@ use Rattle.chord_wire.specs.Spelling.{frame}
 use Rattle.chord_wire.specs.Streams.{Spells}
 use Rattle.chord_wire.specs.Replies.{fault_body}
 use Rattle.chord_wire.specs.Reading.{next_request}
+use Rattle.chord_session.specs.SessionState.{SessionState}
+use Rattle.chord_session.specs.Session.{move_of}
 use Rattle.chord_serve.specs.declared.asker.Asked.{Asked}
 use Rattle.chord_serve.specs.declared.served.Served.{Served}
 use Rattle.chord_serve.specs.declared.served.Served.TheVariants as served
@@ -20,8 +22,6 @@ use Rattle.chord_serve.specs.declared.parted.Parted.{Parted}
 use Rattle.chord_serve.specs.declared.parted.Parted.TheVariants as parted
 use Rattle.chord_serve.specs.Parting.{client, asker_of, KeptAs, OverAs}
 use Rattle.chord_serve.specs.Question.{Question}
-use Rattle.chord_serve.specs.SessionState.{SessionState}
-use Rattle.chord_serve.specs.Session.{move_of}
 use Rattle.chord_serve.specs.Output.{bytes_written, state_after, questions, question_of, AreAnswers}
 use Rattle.chord_serve.specs.Steps.{MayAsk}
 

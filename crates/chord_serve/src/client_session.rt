@@ -1,13 +1,13 @@
 //! What a client's session has beyond its connections.
 ghost use Rattle.std.specs.Prelude.{◌≡◌, None, Some};
 ghost use Rattle.chord_wire.specs.Spelling.{IsWireRequest};
-ghost use Rattle.chord_serve.specs.Session.{first_state, last_number, bytes_held};
+ghost use Rattle.chord_session.specs.Session.{first_state, last_number, bytes_held};
 ghost use Rattle.chord_serve.specs.Steps.{Deals};
 
 use crate::asker::Asker;
 use crate::due::Due;
-use crate::session::Session;
 use crate::step::answer_one;
+use chord_session::Session;
 use chord_wire::WireRequest;
 use std::alloc::{AllocError, Global};
 

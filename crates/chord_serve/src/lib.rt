@@ -13,7 +13,6 @@
 //! [`laws`] says that the output does not depend on how the input was cut.
 #![tactic(auto)]
 
-mod asked_request;
 mod asker;
 mod calls;
 mod client_session;
@@ -29,7 +28,6 @@ mod parted;
 mod read_size;
 mod served;
 mod server;
-mod session;
 mod session_table;
 mod step;
 mod told;

@@ -3,7 +3,7 @@ ghost use Rattle.std.specs.Prelude.{◌≢◌};
 ghost use Rattle.chord_wire.specs.Spelling.{frame};
 ghost use Rattle.chord_wire.specs.Replies.{fault_body};
 ghost use Rattle.chord_wire.specs.SessionSpelling.{opened_frame};
-ghost use Rattle.chord_serve.specs.Session.{last_number};
+ghost use Rattle.chord_session.specs.Session.{last_number};
 ghost use Rattle.chord_serve.specs.Writes.{Writes};
 
 use crate::client_session::ClientSession;

@@ -1,9 +1,9 @@
 //! The server of a connection that speaks in frames.
 ghost use Rattle.std.specs.Prelude.{◌≡◌, ◌*◌, ◌++◌, List, ℕ, None, true};
 ghost use Rattle.std.specs.Io.KnownBytes.{Appends, Consumes};
+ghost use Rattle.chord_session.specs.Session.{first_state};
 ghost use Rattle.chord_serve.specs.BytesRead.{ReadsBetween, most_bytes};
 ghost use Rattle.chord_serve.specs.Ends.{EndsInput};
-ghost use Rattle.chord_serve.specs.Session.{first_state};
 ghost use Rattle.chord_serve.specs.Served.{IsParted, IsServed};
 
 use crate::asker::Asker;

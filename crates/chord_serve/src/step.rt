@@ -1,8 +1,8 @@
 //! One request of a session.
 ghost use Rattle.std.specs.Prelude.{◌≡◌, ◌≢◌, ◌<◌, ◌≤◌, OnOk};
 ghost use Rattle.chord_wire.specs.Spelling.{IsWireRequest};
+ghost use Rattle.chord_session.specs.Session.{last_number};
 ghost use Rattle.chord_serve.specs.Question.{IsAnswer};
-ghost use Rattle.chord_serve.specs.Session.{last_number};
 ghost use Rattle.chord_serve.specs.Output.{frame_of, after_answer};
 ghost use Rattle.chord_serve.specs.Steps.{Deals};
 ghost use Rattle.chord_serve.specs.Writes.{Joins};
@@ -10,8 +10,8 @@ ghost use Rattle.chord_serve.specs.declared.asker.Asked.TheVariants as asked;
 
 use crate::asker::{Asked, Asker};
 use crate::due::Due;
-use crate::session::{Move, Session};
 use chord_map::Bytes;
+use chord_session::{Move, Session};
 use chord_wire::{FaultCode, WireRequest, write_fault, write_reply};
 use std::alloc::{AllocError, Global};
 

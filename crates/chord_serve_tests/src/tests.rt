@@ -13,4 +13,5 @@ mod resumed;
 mod script;
 mod session_table;
 mod sessions;
+mod sessions_alone;
 mod turns;

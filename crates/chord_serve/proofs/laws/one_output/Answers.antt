@@ -1,5 +1,5 @@
 use Rattle.std.proofs.Common.{ap₂, sym, ◌∙◌}
-use Rattle.chord_serve.specs.Session.{first_state}
+use Rattle.chord_session.specs.Session.{first_state}
 use Rattle.chord_serve.specs.Output.{bytes_written}
 use Rattle.chord_serve.proofs.laws.one_output.Goals as goal
 

@@ -1,7 +1,7 @@
 use Rattle.std.proofs.Common.{◌≡◌, ap, subst}
 use Rattle.chord_wire.specs.Spelling.{frame}
 use Rattle.chord_wire.specs.Replies.{fault_body}
-use Rattle.chord_serve.specs.Session.{frame_again, bytes_of, with_open_request}
+use Rattle.chord_session.specs.Session.{frame_again, bytes_of, with_open_request}
 use Rattle.chord_serve.specs.Writes.{Joins}
 use Rattle.chord_serve.proofs.StepLaws.{newest_is, refuses, repeats, asks_new, asks_again}
 use Rattle.chord_serve.proofs.step.answer_one.Goals as goal

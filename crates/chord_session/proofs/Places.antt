@@ -1,8 +1,8 @@
 -- The reply frame at an index.
 use Rattle.std.proofs.Common.{◌≡◌, ℕ, zero, suc, ◌<◌, List, [], ◌∷◌, length, get_or, set, Some, ap, arith}
-use Rattle.chord_serve.specs.declared.asked_request.AskedRequest.{AskedRequest}
-use Rattle.chord_serve.specs.SessionState.{SessionState}
-use Rattle.chord_serve.specs.Session.{frame_at}
+use Rattle.chord_session.specs.declared.asked_request.AskedRequest.{AskedRequest}
+use Rattle.chord_session.specs.SessionState.{SessionState}
+use Rattle.chord_session.specs.Session.{frame_at}
 
 -- with this frame
 abbrev pub framed : AskedRequest → List ℕ → AskedRequest

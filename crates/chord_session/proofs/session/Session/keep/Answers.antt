@@ -1,8 +1,8 @@
 use Rattle.std.proofs.Common.{◌<◌, ℕ, length, ap, ◌∙◌, arith}
-use Rattle.chord_serve.specs.SessionState.{SessionState}
-use Rattle.chord_serve.specs.Session.{frame_at, place_of}
-use Rattle.chord_serve.proofs.Places.{set_frame, state_of}
-use Rattle.chord_serve.proofs.session.Session.keep.Goals as goal
+use Rattle.chord_session.specs.SessionState.{SessionState}
+use Rattle.chord_session.specs.Session.{frame_at, place_of}
+use Rattle.chord_session.proofs.Places.{set_frame, state_of}
+use Rattle.chord_session.proofs.session.Session.keep.Goals as goal
 
 pub returns : goal.returns
 returns c =

@@ -4,10 +4,10 @@ use Rattle.chord_map.specs.declared.request.Request.{Request}
 use Rattle.chord_map.specs.Same.{same_request}
 use Rattle.chord_wire.specs.declared.request.WireRequest.{WireRequest}
 use Rattle.chord_wire.specs.declared.fault.FaultCode.TheVariants.{BadNumber, NumberReused}
-use Rattle.chord_serve.specs.declared.asked_request.AskedRequest.{AskedRequest}
-use Rattle.chord_serve.specs.declared.session.Move.{Move}
-use Rattle.chord_serve.specs.declared.session.Move.TheVariants as moves
-use Rattle.chord_serve.specs.SessionState.{SessionState}
+use Rattle.chord_session.specs.declared.asked_request.AskedRequest.{AskedRequest}
+use Rattle.chord_session.specs.declared.session.Move.{Move}
+use Rattle.chord_session.specs.declared.session.Move.TheVariants as moves
+use Rattle.chord_session.specs.SessionState.{SessionState}
 
 -- a session before its first request
 abbrev pub first_state : SessionState

@@ -1,7 +1,7 @@
 //! The requests of a session and their reply frames.
 ghost use Rattle.chord_wire.specs.Spelling.{IsWireRequest};
 ghost use Rattle.std.specs.Prelude.{◌≡◌, ◌≢◌, IsSome, ◌≤◌, ◌^◌, slice_get, Some, ◌<◌, ◌-◌, ◌+◌, length, nat_lt, OnOk, OnErr};
-ghost use Rattle.chord_serve.specs.Session.{first_state, last_number, answered_floor, answered_of, is_out, raised, with_accepted, place_of, move_at, move_of, with_open_request, answered_at, frame_kept, frame_bytes, bytes_held};
+ghost use Rattle.chord_session.specs.Session.{first_state, last_number, answered_floor, answered_of, is_out, raised, with_accepted, place_of, move_at, move_of, with_open_request, answered_at, frame_kept, frame_bytes, bytes_held};
 ghost use Rattle.std.specs.Option.{option_map};
 
 use crate::asked_request::AskedRequest;
@@ -32,7 +32,7 @@ pub struct Session {
 
 impl Model for Session {
     ghost use Rattle.std.specs.Prelude.{◌+◌, ◌<◌, ◌^◌, vec_len};
-    ghost use Rattle.chord_serve.specs.SessionState.{SessionState};
+    ghost use Rattle.chord_session.specs.SessionState.{SessionState};
 
     ghost Value = { SessionState };
 

@@ -1,0 +1,2 @@
+pub mod SessionState
+pub mod Session
