@@ -69,7 +69,7 @@ pub fn one(alloc: Global, span: Span, key: &[u8]) -> Result<Segment, AllocError>
 }
 
 /// What a segment says of a call.
-#[derive(Clone, Copy, PartialEq, Eq)]
+#[derive(Clone, Copy, Debug, PartialEq, Eq)]
 enum Found {
     New,
     /// The call is at or below its caller's floor.
@@ -86,7 +86,7 @@ fn find(segment: &Segment, caller: u64, number: u64) -> Found {
 }
 
 /// What a segment has of the callers 0 and 1: their floors, and what it says of their calls.
-#[derive(Clone, Copy, PartialEq, Eq)]
+#[derive(Clone, Copy, Debug, PartialEq, Eq)]
 struct Shape {
     span: Span,
     floor_of_0: u64,
@@ -567,7 +567,7 @@ fn marks_are_raised(rt: HostRuntime) -> Result<(), Fail> {
 
 /// The number of the call that a copy of an entry keeps inside a span, if it is one call, and
 /// whether the entry and the copy keep a call in common before and after the others were dropped.
-#[derive(Clone, Copy, PartialEq, Eq)]
+#[derive(Clone, Copy, Debug, PartialEq, Eq)]
 struct Inside {
     number: Option<u64>,
     before: bool,

@@ -15,7 +15,7 @@ use std::sync::Wait;
 use std::time::Clock;
 
 /// Which callers are given back, and in which order.
-#[derive(Clone, Copy, PartialEq, Eq)]
+#[derive(Clone, Copy, Debug, PartialEq, Eq)]
 enum Back {
     Both,
     Swapped,
@@ -23,7 +23,7 @@ enum Back {
 }
 
 /// How a ring takes its callers back.
-#[derive(Clone, Copy, PartialEq, Eq)]
+#[derive(Clone, Copy, Debug, PartialEq, Eq)]
 enum Closing {
     /// By `close_with`, which wants them by number.
     ByNumber,

@@ -41,6 +41,7 @@ fn numbers_are_given_in_turn(rt: HostRuntime) {
 }
 
 /// What the numbers of nodes answer: how many nodes there are, and whether there is a slot.
+#[derive(Clone, Copy)]
 struct NodesNumbered {
     before: (usize, bool),
     first: Option<u64>,
@@ -51,6 +52,7 @@ struct NodesNumbered {
 }
 
 /// What the numbers of callers answer.
+#[derive(Clone, Copy)]
 struct CallersNumbered {
     first: Option<u64>,
     second: Option<u64>,
@@ -180,6 +182,7 @@ fn a_seated_core_submits_and_meets(rt: HostRuntime) {
 }
 
 /// What a core with its seat answers before and after it submits.
+#[derive(Clone, Copy)]
 struct SeatAsked {
     /// Its floor, the least number that waits, and whether 1 waits.
     before: (u64, Option<u64>, bool),
@@ -195,6 +198,7 @@ struct SeatAsked {
 }
 
 /// What a core with its seat knows before and after it met a note.
+#[derive(Clone, Copy)]
 struct SeatMet {
     /// How many calls it took, and how many it was told of.
     known: (usize, usize),

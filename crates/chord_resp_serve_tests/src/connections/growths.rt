@@ -97,7 +97,7 @@ fn roomy(alloc: Global) -> Result<Vec<u8>, AllocError> {
 }
 
 /// How a connection over all lines ended, and how many bytes of their answers it wrote.
-#[derive(Clone, Copy, PartialEq, Eq)]
+#[derive(Clone, Copy, Debug, PartialEq, Eq)]
 struct Seen {
     end: Served,
     written: Option<usize>,

@@ -47,7 +47,7 @@ const AMPLE: Conditions = Conditions {
 };
 
 /// What a connection did.
-#[derive(Clone, Copy, PartialEq, Eq)]
+#[derive(Clone, Copy, Debug, PartialEq, Eq)]
 struct Seen {
     /// How it ended.
     end: Served,

@@ -22,14 +22,14 @@ pub enum Deed {
     Declined(u64),
 }
 
-#[derive(Clone, Copy, PartialEq, Eq)]
+#[derive(Clone, Copy, Debug, PartialEq, Eq)]
 pub struct PayloadShown {
     pub span: Span,
     pub pairs: usize,
 }
 
 /// What a deed gives.
-#[derive(Clone, Copy, PartialEq, Eq)]
+#[derive(Clone, Copy, Debug, PartialEq, Eq)]
 pub enum Outcome {
     Reserved,
     /// The item has this number.
@@ -43,7 +43,7 @@ pub enum Outcome {
 }
 
 /// The receiver of an item, its number there, and the span of its segment.
-#[derive(Clone, Copy, PartialEq, Eq)]
+#[derive(Clone, Copy, Debug, PartialEq, Eq)]
 pub struct Name {
     pub to: u64,
     pub number: u64,
@@ -51,7 +51,7 @@ pub struct Name {
 }
 
 /// What the outbox shows.
-#[derive(Clone, Copy, PartialEq, Eq)]
+#[derive(Clone, Copy, Debug, PartialEq, Eq)]
 pub struct State {
     pub is_empty: bool,
     pub items: usize,

@@ -12,7 +12,7 @@ use std::test::Fail;
 
 /// Part `place` of `of` of a handover of node `from`. It has `count` pairs, whose values are the
 /// numbers from `first` on.
-#[derive(Clone, Copy, PartialEq, Eq)]
+#[derive(Clone, Copy, Debug, PartialEq, Eq)]
 pub struct PartRow {
     pub from: u64,
     pub number: u64,
@@ -173,7 +173,7 @@ fn the_only_part_of_an_empty_payload_has_its_segment(rt: HostRuntime) {
 }
 
 /// How many parts pairs make, and how many pairs each of the first three parts has.
-#[derive(Clone, Copy, PartialEq, Eq)]
+#[derive(Clone, Copy, Debug, PartialEq, Eq)]
 struct Chunks {
     parts: u64,
     pairs: [usize; 3],

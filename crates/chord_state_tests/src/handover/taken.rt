@@ -23,7 +23,7 @@ pub enum Deed {
 }
 
 /// What a part makes with the buffered ones.
-#[derive(Clone, Copy, PartialEq, Eq)]
+#[derive(Clone, Copy, Debug, PartialEq, Eq)]
 pub enum Made {
     More,
     Unfit,
@@ -33,7 +33,7 @@ pub enum Made {
 }
 
 /// What a deed gives.
-#[derive(Clone, Copy, PartialEq, Eq)]
+#[derive(Clone, Copy, Debug, PartialEq, Eq)]
 pub enum Outcome {
     Judged(Verdict),
     Reserved,
@@ -47,7 +47,7 @@ pub enum Outcome {
 }
 
 /// The numbers of the last handovers that were taken from nodes 0, 1 and 2.
-#[derive(Clone, Copy, PartialEq, Eq)]
+#[derive(Clone, Copy, Debug, PartialEq, Eq)]
 pub struct Last {
     pub of_0: u64,
     pub of_1: u64,

@@ -36,7 +36,7 @@ const EMPTIED: Shape = Shape {
 };
 
 /// What two segments are, and what made them so.
-#[derive(Clone, Copy, PartialEq, Eq)]
+#[derive(Clone, Copy, Debug, PartialEq, Eq)]
 struct Two<F> {
     done: Result<(), F>,
     first: Shape,
