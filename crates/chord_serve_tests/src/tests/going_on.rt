@@ -35,11 +35,12 @@ fn request_of(alloc: Global, number: u8) -> Result<Request, AllocError> {
     }
 }
 
-/// A client with what it did.
+/// A client with what it did, and the frames of all replies to the script.
 #[derive(Drop)]
 struct Journey {
     alloc: Global,
     client: WireClient,
+    wanted: Vec<u8>,
     /// How many requests of the script were sent.
     sent: u8,
     /// The frames of the replies that it received.
@@ -49,10 +50,15 @@ struct Journey {
 
 impl Journey {
     fn new(alloc: Global, window: u64) -> Option<Journey> {
-        let client = WireClient::new(alloc, 2, window)?;
+        let wanted = answers(alloc).ok()?;
+        let Some(client) = WireClient::new(alloc, 2, window) else {
+            drop(wanted);
+            return None;
+        };
         Some(Journey {
             alloc,
             client,
+            wanted,
             sent: 0,
             replies: Vec::new(alloc),
             connections: 0,
@@ -133,14 +139,40 @@ impl Journey {
         kept(visited.left)
     }
 
-    fn has_all(&self, wanted: &[u8]) -> bool {
-        self.replies.as_slice() == wanted
+    fn has_all(&self) -> bool {
+        self.replies.as_slice() == self.wanted.as_slice()
     }
+
+    /// Connections in a row, of which the one of this number, from 0, is cut, until all replies came;
+    /// eight at most.
+    fn go_on(
+        &mut self,
+        mut session: ClientSession<MapAsker>,
+        cut: usize,
+        way: Way,
+    ) -> Option<ClientSession<MapAsker>> {
+        for number in 0..8 {
+            if self.has_all() {
+                break;
+            }
+            let way = if number == cut { way } else { OPEN_WAY };
+            session = self.connect(session, way)?;
+        }
+        Some(session)
+    }
+}
+
+/// How many requests the asker of a session was asked, if the session went on to its end.
+fn asked_in(session: Option<ClientSession<MapAsker>>) -> Option<usize> {
+    let asker = session?.into_asker();
+    let asked = asker.requests.len();
+    drop(asker);
+    Some(asked)
 }
 
 /// Whether a client got all answers, over how many connections, and how many requests its server's
 /// asker was asked.
-#[derive(Clone, Copy, Debug, PartialEq, Eq)]
+#[derive(Clone, Copy, PartialEq, Eq)]
 struct Arrival {
     is_whole: bool,
     connections: usize,
@@ -149,27 +181,16 @@ struct Arrival {
 
 /// The script with this window, over connections of which the one of this number, from 0, is cut.
 fn travel(alloc: Global, window: u64, cut: usize, way: Way) -> Option<Arrival> {
-    let wanted = answers(alloc).ok()?;
     let mut journey = Journey::new(alloc, window)?;
-    let mut session = new_session(alloc);
-    for number in 0..8 {
-        if journey.has_all(&wanted) {
-            break;
-        }
-        let way = if number == cut { way } else { OPEN_WAY };
-        session = journey.connect(session, way)?;
-    }
-    let asker = session.into_asker();
-    let asked = asker.requests.len();
-    drop(asker);
-    let arrival = Arrival {
-        is_whole: journey.has_all(&wanted),
-        connections: journey.connections,
-        asked,
-    };
+    let session = journey.go_on(new_session(alloc), cut, way);
+    let (is_whole, connections) = (journey.has_all(), journey.connections);
     drop(journey);
-    drop(wanted);
-    Some(arrival)
+    let asked = asked_in(session)?;
+    Some(Arrival {
+        is_whole,
+        connections,
+        asked,
+    })
 }
 
 /// A client of window 4 gets four answers over each connection here.
@@ -182,52 +203,51 @@ fn a_client_goes_on_over_connections_in_a_row(rt: HostRuntime) {
             connections,
             asked: 12,
         };
-        assert!(rt; arrival == Some(wanted), "window {window}: {arrival:?}");
+        assert!(rt; arrival == Some(wanted), "window {window}");
     }
 }
 
-fn is_whole(arrival: Option<Arrival>) -> bool {
-    arrival.is_some_and(|arrival| arrival.is_whole & (arrival.asked == 12))
+/// Which bytes of a connection are cut.
+#[derive(Clone, Copy)]
+enum Side {
+    In,
+    Out,
+}
+
+fn cut_way(side: Side, most: usize) -> Way {
+    match side {
+        Side::In => Way {
+            most_in: most,
+            ..OPEN_WAY
+        },
+        Side::Out => Way {
+            most_out: most,
+            ..OPEN_WAY
+        },
+    }
+}
+
+/// Whether a client gets all answers, and each request is asked once, wherever the connection of this
+/// number, from 0, is cut in its first `bytes` bytes.
+fn arrives(alloc: Global, window: u64, cut: usize, side: Side, bytes: usize) -> bool {
+    let mut arrives = true;
+    for most in 0..=bytes {
+        let arrival = travel(alloc, window, cut, cut_way(side, most));
+        arrives &= arrival.is_some_and(|arrival| arrival.is_whole & (arrival.asked == 12));
+    }
+    arrives
 }
 
 /// Each byte of what the client writes over its first or second connection, where the second begins
 /// with requests that are written again.
 #[test]
 fn a_client_cut_while_it_writes_resumes(rt: HostRuntime) {
-    for most_in in 0..=348 {
-        let way = Way {
-            most_in,
-            ..OPEN_WAY
-        };
-        let arrival = travel(rt.alloc(), 16, 0, way);
-        assert!(rt; is_whole(arrival), "{most_in} bytes: {arrival:?}");
-    }
-    for most_in in 0..=147 {
-        let way = Way {
-            most_in,
-            ..OPEN_WAY
-        };
-        let arrival = travel(rt.alloc(), 4, 1, way);
-        assert!(rt; is_whole(arrival), "second, {most_in} bytes: {arrival:?}");
-    }
+    assert!(rt; arrives(rt.alloc(), 16, 0, Side::In, 348), "the first");
+    assert!(rt; arrives(rt.alloc(), 4, 1, Side::In, 147), "the second");
 }
 
 #[test]
 fn a_client_cut_while_it_is_answered_resumes(rt: HostRuntime) {
-    for most_out in 0..=237 {
-        let way = Way {
-            most_out,
-            ..OPEN_WAY
-        };
-        let arrival = travel(rt.alloc(), 16, 0, way);
-        assert!(rt; is_whole(arrival), "{most_out} bytes: {arrival:?}");
-    }
-    for most_out in 0..=100 {
-        let way = Way {
-            most_out,
-            ..OPEN_WAY
-        };
-        let arrival = travel(rt.alloc(), 4, 1, way);
-        assert!(rt; is_whole(arrival), "second, {most_out} bytes: {arrival:?}");
-    }
+    assert!(rt; arrives(rt.alloc(), 16, 0, Side::Out, 237), "the first");
+    assert!(rt; arrives(rt.alloc(), 4, 1, Side::Out, 100), "the second");
 }

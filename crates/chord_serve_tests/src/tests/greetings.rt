@@ -10,7 +10,7 @@ use chord_wire::{Opening, SessionFrames};
 use std::alloc::Global;
 
 /// How a connection with this input begins, and how many bytes are left for its server.
-#[derive(Clone, Copy, Debug, PartialEq, Eq)]
+#[derive(Clone, Copy)]
 struct Beginning {
     opening: Result<Option<Opening>, Served>,
     left: usize,
@@ -51,33 +51,46 @@ fn an_open_is_taken_and_what_is_behind_it_stays(rt: HostRuntime) {
     let (at_once, in_steps) = (begun(alloc, &input, 100, 10), begun(alloc, &input, 13, 10));
     drop(input);
     let resumed = begun(alloc, &OPEN, 100, 10);
-    assert!(rt; is_open(at_once.opening, false), "{at_once:?}");
-    assert!(rt; at_once.left == 27, "the request is left: {at_once:?}");
-    assert!(rt; is_open(in_steps.opening, false), "{in_steps:?}");
-    assert!(rt; (in_steps.left, in_steps.reads) == (0, 3), "{in_steps:?}");
-    assert!(rt; is_open(resumed.opening, true), "{resumed:?}");
+    assert!(rt; is_open(at_once.opening, false), "it begins a session");
+    assert!(rt; at_once.left == 27, "the request is left");
+    assert!(rt; is_open(in_steps.opening, false), "in steps too");
+    assert!(rt;
+        (in_steps.left, in_steps.reads) == (0, 3),
+        "nothing is read behind the open"
+    );
+    assert!(rt; is_open(resumed.opening, true), "it resumes one");
 }
+
+/// Beginnings that are no open: the input, the most bytes of a read, and how much was read when that
+/// was known. The fourth neither begins nor resumes, the fifth has a length that is refused, and the
+/// last three end too early.
+const NO_OPENS: &[(&[u8], usize, usize)] = &[
+    (&INSERT, 100, 19),
+    (&INSERT, 1, 6),
+    (&CLOSE, 1, 6),
+    (
+        b"\x00\x00\x00\x23\x02\x04\x00\x00\x00\x00\x00\x00\x00\x00\x00\x00\x00\x00\x00\x00\x00\x00\x01\x02\x03\x04\x05\x06\x07\x08\x09\x0a\x0b\x0c\x0d\x0e\x0f\x10\x02",
+        100,
+        39,
+    ),
+    (b"\x00\x00\x00\x01\x02\x04\x00\x00", 1, 4),
+    (b"", 1, 0),
+    (b"\x00\x00\x00\x23\x02", 1, 5),
+    (
+        b"\x00\x00\x00\x23\x02\x04\x00\x00\x00\x00\x00\x00\x00\x00\x00\x00\x00\x00\x00\x00\x00\x00\x01\x02\x03\x04\x05\x06\x07\x08\x09\x0a\x0b\x0c\x0d\x0e\x0f\x10",
+        100,
+        38,
+    ),
+];
 
 #[test]
 fn another_beginning_is_left_as_it_is(rt: HostRuntime) {
-    let alloc = rt.alloc();
-    let mut bad_flag = OPEN;
-    bad_flag[38] = 2;
-    // Input, step, and how much was read when it was known to be no open.
-    for (input, step, left) in [
-        (INSERT.as_slice(), 100, 19),
-        (&INSERT, 1, 6),
-        (&CLOSE, 1, 6),
-        (&bad_flag, 100, 39),
-        // A length that is refused is known by four bytes.
-        (&[0, 0, 0, 1, 2, 4, 0, 0], 1, 4),
-        // The input ends.
-        (&[], 1, 0),
-        (&OPEN[..5], 1, 5),
-        (&OPEN[..38], 100, 38),
-    ] {
-        let seen = begun(alloc, input, step, 100);
-        assert!(rt; (seen.opening, seen.left) == (Ok(None), left), "{seen:?}");
+    for (input, step, left) in NO_OPENS {
+        let seen = begun(rt.alloc(), input, *step, 100);
+        assert!(rt;
+            (seen.opening, seen.left) == (Ok(None), *left),
+            "{left} bytes"
+        );
     }
 }
 
@@ -87,13 +100,13 @@ fn a_beginning_that_does_not_come(rt: HostRuntime) {
     let seen = begun(alloc, &OPEN, 1, 5);
     assert!(rt;
         (seen.opening, seen.reads) == (Err(Served::TurnsSpent), 5),
-        "{seen:?}"
+        "five reads are not enough"
     );
     let mut reader = Cut::new(OPEN.as_slice(), 20);
     let mut frames = SessionFrames::new(alloc);
     let opening = greet(&mut reader, &mut frames, 10);
     drop(frames);
-    assert!(rt; opening == Err(Served::Read), "{opening:?}");
+    assert!(rt; opening == Err(Served::Read), "the reader fails");
 }
 
 /// How a connection that began without an open ended, whether it wrote exactly these frames, and
@@ -130,7 +143,10 @@ fn a_connection_without_an_open_is_served_as_ever(rt: HostRuntime) {
     let input = joined(alloc, &[&INSERT, &INSERT]).expect(&rt, "memory for two frames");
     let seen = plain(alloc, &input, &[&ADDED, &ADDED]);
     drop(input);
-    assert!(rt; seen == Some((Served::Ended, true, 1)), "{seen:?}");
+    assert!(rt;
+        seen == Some((Served::Ended, true, 1)),
+        "the same number is asked once and answered twice"
+    );
 }
 
 #[test]
@@ -140,7 +156,7 @@ fn a_close_without_a_session_is_refused(rt: HostRuntime) {
     let seen = plain(alloc, &CLOSE, &[&fault(0, 16)]);
     assert!(rt;
         seen == Some((Served::Malformed(code), true, 0)),
-        "{seen:?}"
+        "a close is out of place"
     );
     let second = change(1, 1, 0, b'a', b'x');
     let input = joined(alloc, &[&second, &OPEN]).expect(&rt, "memory for two frames");
@@ -148,24 +164,31 @@ fn a_close_without_a_session_is_refused(rt: HostRuntime) {
     drop(input);
     assert!(rt;
         late == Some((Served::Malformed(code), true, 1)),
-        "{late:?}"
+        "so is an open behind a request"
     );
+}
+
+fn is_told_known(alloc: Global) -> bool {
+    let mut told = Vec::new(alloc);
+    let is_told = tell_session_known(alloc, &mut told).is_ok();
+    let is_fault = told.as_slice() == fault(0, 13).as_slice();
+    drop(told);
+    is_told & is_fault
+}
+
+fn is_told_none(alloc: Global) -> bool {
+    let mut told = Vec::new(alloc);
+    let is_told = tell_no_session(alloc, &mut told).is_ok();
+    let is_fault = told.as_slice() == fault(0, 14).as_slice();
+    drop(told);
+    is_told & is_fault
 }
 
 #[test]
 fn a_client_is_told_why_no_session_begins(rt: HostRuntime) {
     let alloc = rt.alloc();
-    let mut known = Vec::new(alloc);
-    let mut none = Vec::new(alloc);
-    let are_told = tell_session_known(alloc, &mut known).is_ok()
-        & tell_no_session(alloc, &mut none).is_ok();
-    let is_known = known.as_slice() == fault(0, 13).as_slice();
-    let is_none = none.as_slice() == fault(0, 14).as_slice();
-    drop(known);
-    drop(none);
-    assert!(rt; are_told, "there is memory for two frames");
-    assert!(rt; is_known, "the session is known already");
-    assert!(rt; is_none, "no such session is kept");
+    assert!(rt; is_told_known(alloc), "the session is known already");
+    assert!(rt; is_told_none(alloc), "no such session is kept");
 }
 
 #[test]
@@ -176,5 +199,5 @@ fn a_session_of_a_connection_has_no_version_yet(rt: HostRuntime) {
     let asker = client.into_asker();
     let asked = asker.requests.len();
     drop(asker);
-    assert!(rt; (numbers, asked) == ((0, 0), 0), "{numbers:?}");
+    assert!(rt; (numbers, asked) == ((0, 0), 0), "nothing was asked");
 }

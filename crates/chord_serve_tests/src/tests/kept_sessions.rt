@@ -5,7 +5,7 @@ use chord_wire::Token;
 use std::alloc::Global;
 
 /// An asker with a number, which may have a pending request.
-#[derive(Clone, Copy, Debug, PartialEq, Eq)]
+#[derive(Clone, Copy)]
 struct Numbered {
     number: u8,
     is_pending: bool,
@@ -74,15 +74,18 @@ fn a_session_is_found_by_its_whole_token(rt: HostRuntime) {
     let first = number_of(kept.take(token(1)));
     let left = kept.len();
     drop(kept);
-    assert!(rt; knows == (true, false, false), "{knows:?}");
-    assert!(rt; none == None, "one byte differs: {none:?}");
-    assert!(rt; second == Some(2), "{second:?}");
-    assert!(rt; again == None, "it is taken once: {again:?}");
+    assert!(rt;
+        knows == (true, false, false),
+        "it knows 2, not 5, and no token of which one byte differs"
+    );
+    assert!(rt; none == None, "one byte differs");
+    assert!(rt; second == Some(2), "it is taken by its token");
+    assert!(rt; again == None, "it is taken once");
     assert!(rt;
         first == Some(1),
-        "a pending request does not keep a client away: {first:?}"
+        "a pending request does not keep a client away"
     );
-    assert!(rt; left == 2, "{left}");
+    assert!(rt; left == 2, "two of four were taken");
 }
 
 #[test]
@@ -98,28 +101,29 @@ fn the_oldest_session_is_taken_first_and_no_pending_one(rt: HostRuntime) {
     drop(kept);
     assert!(rt;
         early == None,
-        "the first is pending, the others are younger: {early:?}"
+        "the first is pending, the others are younger"
     );
     assert!(rt;
         (second, third) == (Some(2), Some(3)),
-        "{second:?}, {third:?}"
+        "the oldest of those that are not pending comes first"
     );
-    assert!(rt; young == None, "the fourth is younger: {young:?}");
-    assert!(rt; fourth == Some(4), "{fourth:?}");
-    assert!(rt; pending == None, "the first stays: {pending:?}");
-    assert!(rt; left == 1, "{left}");
+    assert!(rt; young == None, "the fourth is younger");
+    assert!(rt; fourth == Some(4), "then it is old enough");
+    assert!(rt; pending == None, "the first stays");
+    assert!(rt; left == 1, "three of four were taken");
 }
 
 #[test]
 fn the_first_session_is_taken_though_it_is_pending(rt: HostRuntime) {
     let mut kept = four(rt.alloc()).expect(&rt, "memory for four sessions");
+    let mut are_in_order = true;
     for number in 1..=4u8 {
-        let taken = number_of(kept.take_first());
-        assert!(rt; taken == Some(number), "not {number}, but {taken:?}");
+        are_in_order &= number_of(kept.take_first()) == Some(number);
     }
     let none = number_of(kept.take_first());
     drop(kept);
-    assert!(rt; none == None, "no session is left: {none:?}");
+    assert!(rt; are_in_order, "the first is taken first, though pending");
+    assert!(rt; none == None, "no session is left");
 }
 
 /// The sessions 1 to 200, of which each tenth has a pending request.
@@ -139,16 +143,17 @@ fn two_hundred(alloc: Global) -> Option<KeptSessions<Numbered>> {
 #[test]
 fn two_hundred_sessions_are_dropped_in_order(rt: HostRuntime) {
     let mut kept = two_hundred(rt.alloc()).expect(&rt, "memory for 200 sessions");
+    let mut are_in_order = true;
     for number in 1..=200u8 {
         if number % 10 != 0 {
-            let taken = number_of(kept.take_oldest(200));
-            assert!(rt; taken == Some(number), "not {number}, but {taken:?}");
+            are_in_order &= number_of(kept.take_oldest(200)) == Some(number);
         }
     }
     let none = number_of(kept.take_oldest(200));
     let (left, gone) = (kept.len(), kept.knows(token(11)));
     drop(kept);
-    assert!(rt; none == None, "those that are left are pending: {none:?}");
-    assert!(rt; left == 20, "{left}");
+    assert!(rt; are_in_order, "the oldest first, and no pending one");
+    assert!(rt; none == None, "those that are left are pending");
+    assert!(rt; left == 20, "each tenth is left");
     assert!(rt; !gone, "a dropped session is not known");
 }

@@ -2,14 +2,14 @@
 
 use super::askers::OutOfMemoryAt;
 use super::script::{
-    ANSWERS, CLOSE, CLOSED, Line, OPEN, REQUESTS, answers, change, kept, new_session, one_value,
-    opened, requests, retrieve, status, visit, whole,
+    ANSWERS, CLOSE, CLOSED, Line, OPEN, REQUESTS, Visited, answers, change, kept, new_session,
+    one_value, opened, requests, retrieve, status, visit, whole,
 };
-use super::sessions::{INSERT, fault, joined};
+use super::sessions::{Frames, INSERT, fault, joined};
 use chord_serve::{ClientSession, KeptSessions, Parted, Served, SessionTable, laws};
 use chord_serve_testkit::MapAsker;
 use chord_wire::Token;
-use std::alloc::Global;
+use std::alloc::{AllocError, Global};
 
 /// What a session of two connections did.
 #[derive(Clone, Copy, Debug, PartialEq, Eq)]
@@ -127,6 +127,40 @@ struct Outcome {
     is_kept: bool,
 }
 
+/// How many requests were asked in what a connection left.
+fn asked_in(left: Parted<MapAsker>) -> usize {
+    let asker = left.into_asker();
+    let asked = asker.requests.len();
+    drop(asker);
+    asked
+}
+
+/// A connection of this session with these frames, an open first.
+fn outcome_of(
+    alloc: Global,
+    client: ClientSession<MapAsker>,
+    (input, wanted): (&[u8], &[u8]),
+) -> Outcome {
+    let Visited { end, written, left } = visit(alloc, Line::whole(input), client);
+    let is_wanted = written.as_slice() == wanted;
+    drop(written);
+    let is_kept = matches!(&left, Parted::Kept(_));
+    Outcome {
+        end,
+        is_wanted,
+        asked: asked_in(left),
+        is_kept,
+    }
+}
+
+/// An open with these frames behind it, and the frames that should be written.
+fn behind_open(alloc: Global, frames: &[&[u8]], wanted: &[&[u8]]) -> Result<Frames, AllocError> {
+    let behind = joined(alloc, frames)?;
+    let whole = Frames::new(alloc, &[&OPEN, &behind], wanted);
+    drop(behind);
+    whole
+}
+
 /// A connection of this session with these frames behind its open.
 fn told(
     alloc: Global,
@@ -134,26 +168,13 @@ fn told(
     frames: &[&[u8]],
     wanted: &[&[u8]],
 ) -> Option<Outcome> {
-    let behind = joined(alloc, frames).ok()?;
-    let input = joined(alloc, &[&OPEN, &behind]).ok();
-    drop(behind);
-    let input = input?;
-    let told = visit(alloc, Line::whole(&input), client);
-    drop(input);
-    let wanted = joined(alloc, wanted).ok()?;
-    let is_wanted = told.written.as_slice() == wanted.as_slice();
-    drop(wanted);
-    drop(told.written);
-    let is_kept = matches!(&told.left, Parted::Kept(_));
-    let asker = told.left.into_asker();
-    let asked = asker.requests.len();
-    drop(asker);
-    Some(Outcome {
-        end: told.end,
-        is_wanted,
-        asked,
-        is_kept,
-    })
+    let Ok(script) = behind_open(alloc, frames, wanted) else {
+        drop(client);
+        return None;
+    };
+    let told = outcome_of(alloc, client, script.both());
+    drop(script);
+    Some(told)
 }
 
 #[test]
@@ -178,7 +199,10 @@ fn kept_answers_are_given_again(rt: HostRuntime) {
         asked: 3,
         is_kept: true,
     };
-    assert!(rt; seen == Some(wanted), "{seen:?}");
+    assert!(rt;
+        seen == Some(wanted),
+        "answers come again, and the next number is asked"
+    );
 }
 
 #[test]
@@ -207,7 +231,10 @@ fn a_number_at_the_floor_is_refused_over_a_new_connection(rt: HostRuntime) {
         asked: 4,
         is_kept: true,
     };
-    assert!(rt; seen == Some(wanted), "{seen:?}");
+    assert!(rt;
+        seen == Some(wanted),
+        "1 and 2 are at the floor or below it"
+    );
 }
 
 #[test]
@@ -226,7 +253,7 @@ fn another_request_under_a_known_number_is_refused_over_a_new_connection(rt: Hos
         asked: 1,
         is_kept: true,
     };
-    assert!(rt; seen == Some(wanted), "{seen:?}");
+    assert!(rt; seen == Some(wanted), "the number was another request's");
 }
 
 #[test]
@@ -249,7 +276,10 @@ fn a_closed_session_is_over(rt: HostRuntime) {
         asked: 1,
         is_kept: false,
     };
-    assert!(rt; seen == Some(wanted), "{seen:?}");
+    assert!(rt;
+        seen == Some(wanted),
+        "what is behind the close is not read"
+    );
 }
 
 /// A session that is left after a frame is refused with this code.
@@ -295,7 +325,7 @@ fn a_close_that_cannot_be_told_ends_the_session(rt: HostRuntime) {
     drop(told.written);
     let is_kept = matches!(&told.left, Parted::Kept(_));
     drop(told.left);
-    assert!(rt; told.end == Served::Write, "{:?}", told.end);
+    assert!(rt; told.end == Served::Write, "the writer fails");
     assert!(rt; !is_kept, "the close was read");
 }
 
@@ -310,7 +340,7 @@ fn a_session_whose_asker_runs_out_of_memory_is_over(rt: HostRuntime) {
     drop(told.written);
     let is_kept = matches!(&told.left, Parted::Kept(_));
     drop(told.left);
-    assert!(rt; told.end == Served::Memory, "{:?}", told.end);
+    assert!(rt; told.end == Served::Memory, "the asker has none left");
     assert!(rt; !is_kept, "nobody knows whether the request acted");
 }
 
@@ -326,8 +356,8 @@ fn a_session_tells_its_floor_and_its_last_number(rt: HostRuntime) {
     let asker = client.into_asker();
     let asked = asker.requests.len();
     drop(asker);
-    assert!(rt; numbers == (1, 2), "{numbers:?}");
-    assert!(rt; asked == 2, "{asked}");
+    assert!(rt; numbers == (1, 2), "floor 1, and 2 is the last number");
+    assert!(rt; asked == 2, "each is asked once");
 }
 
 #[test]
@@ -357,7 +387,7 @@ fn bytes_kept(alloc: Global, frames: &[&[u8]]) -> Option<(u64, u64)> {
 
 /// How many bytes of answers are kept where there is no session, where there are two with the same
 /// answers, and once one of them was taken.
-#[derive(Clone, Copy, Debug, PartialEq, Eq)]
+#[derive(Clone, Copy, PartialEq, Eq)]
 struct KeptBytes {
     of_none: u64,
     of_two: u64,
@@ -393,7 +423,7 @@ fn answers_of_sessions_without_a_connection_are_counted(rt: HostRuntime) {
         of_two: 72,
         of_one: 36,
     };
-    assert!(rt; seen == Some(wanted), "15 bytes and 21 each: {seen:?}");
+    assert!(rt; seen == Some(wanted), "15 bytes and 21 each");
 }
 
 /// An answer is kept until a floor passes its request.
@@ -403,7 +433,7 @@ fn kept_answers_are_counted(rt: HostRuntime) {
     let second = retrieve(2, 0, b'a');
     let third = retrieve(3, 1, b'a');
     let two = bytes_kept(rt.alloc(), &[&insert, &second]);
-    assert!(rt; two == Some((36, 72)), "15 bytes and 21: {two:?}");
+    assert!(rt; two == Some((36, 72)), "15 bytes and 21");
     let three = bytes_kept(rt.alloc(), &[&insert, &second, &third]);
-    assert!(rt; three == Some((42, 84)), "21 bytes and 21: {three:?}");
+    assert!(rt; three == Some((42, 84)), "21 bytes and 21");
 }

@@ -6,7 +6,7 @@ use chord_wire::Token;
 use std::alloc::Global;
 
 /// An asker with a number, which has no pending request.
-#[derive(Clone, Copy, Debug, PartialEq, Eq)]
+#[derive(Clone, Copy, PartialEq, Eq)]
 struct Numbered(u8);
 
 impl MayBePending for Numbered {
@@ -18,7 +18,7 @@ impl MayBePending for Numbered {
 }
 
 /// What a resumed session is, with its asker's number if it goes on.
-#[derive(Clone, Copy, Debug, PartialEq, Eq)]
+#[derive(Clone, Copy, PartialEq, Eq)]
 enum Found {
     Here(u8),
     Elsewhere(u64),
@@ -78,17 +78,17 @@ fn a_token_begins_one_session(rt: HostRuntime) {
     let again = table.begin(token(1), 40);
     let has_it = table.connection_of(token(1));
     drop(table);
+    assert!(rt; held == Err(BeginRefusal::Known), "a connection has it");
+    assert!(rt; kept == Err(BeginRefusal::Known), "it is kept");
     assert!(rt;
-        held == Err(BeginRefusal::Known),
-        "a connection has it: {held:?}"
+        connections == (Some(10), None, None),
+        "the first has a connection, the second lost it, there is no third"
     );
-    assert!(rt; kept == Err(BeginRefusal::Known), "it is kept: {kept:?}");
-    assert!(rt; connections == (Some(10), None, None), "{connections:?}");
-    assert!(rt; count == 1, "{count}");
-    assert!(rt; ended == None, "{ended:?}");
+    assert!(rt; count == 1, "the second is kept");
+    assert!(rt; ended == None, "the first ended");
     assert!(rt;
         (again, has_it) == (Ok(()), Some(40)),
-        "{again:?}, {has_it:?}"
+        "its token begins another"
     );
 }
 
@@ -105,16 +105,13 @@ fn a_session_is_resumed_over_one_connection(rt: HostRuntime) {
     let again = resume(&mut table, 2, 40);
     let counted = table.kept_count();
     drop(table);
-    assert!(rt; elsewhere == Found::Elsewhere(10), "{elsewhere:?}");
-    assert!(rt; here == Found::Here(2), "{here:?}");
-    assert!(rt;
-        newer == Found::Elsewhere(30),
-        "an older connection has it: {newer:?}"
-    );
-    assert!(rt; unknown == Found::Unknown, "{unknown:?}");
-    assert!(rt; is_parted && left == None, "{left:?}");
-    assert!(rt; again == Found::Here(2), "{again:?}");
-    assert!(rt; counted == 0, "{counted}");
+    assert!(rt; elsewhere == Found::Elsewhere(10), "connection 10 has it");
+    assert!(rt; here == Found::Here(2), "no connection had it");
+    assert!(rt; newer == Found::Elsewhere(30), "an older connection has it");
+    assert!(rt; unknown == Found::Unknown, "there is no third");
+    assert!(rt; is_parted && left == None, "connection 30 was lost");
+    assert!(rt; again == Found::Here(2), "so it goes on over another");
+    assert!(rt; counted == 0, "none is kept without a connection");
 }
 
 #[test]
@@ -130,16 +127,13 @@ fn the_oldest_kept_session_is_dropped(rt: HostRuntime) {
     let none = table.drop_oldest(u64::MAX);
     drop(table);
     assert!(rt; is_parted, "there was memory");
-    assert!(rt; bytes == 0, "no request was answered: {bytes}");
-    assert!(rt;
-        young == None,
-        "both lost their connections later: {young:?}"
-    );
-    assert!(rt; oldest == Some(Numbered(2)), "{oldest:?}");
-    assert!(rt; gone == Found::Unknown, "{gone:?}");
+    assert!(rt; bytes == 0, "no request was answered");
+    assert!(rt; young == None, "both lost their connections later");
+    assert!(rt; oldest == Some(Numbered(2)), "the second lost it first");
+    assert!(rt; gone == Found::Unknown, "it was dropped");
     assert!(rt;
         (next, none) == (Some(Numbered(1)), None),
-        "{next:?}, {none:?}"
+        "then the first is dropped, and none is left"
     );
 }
 
@@ -155,7 +149,7 @@ fn all_kept_sessions_are_dropped_in_order(rt: HostRuntime) {
     assert!(rt; is_parted, "there was memory");
     assert!(rt;
         (first, second) == (Some(Numbered(2)), Some(Numbered(1))),
-        "{first:?}, {second:?}"
+        "the second lost its connection first"
     );
-    assert!(rt; none == None, "no session is left: {none:?}");
+    assert!(rt; none == None, "no session is left");
 }

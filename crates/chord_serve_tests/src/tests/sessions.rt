@@ -192,16 +192,25 @@ fn late(alloc: Global, at_first: AtFirst, input: &[&[u8]], output: &[&[u8]]) -> 
     })
 }
 
+/// An insert of x under number 1, twice; one of y under it; and a retrieve under number 3.
+const REPEATED: &[&[u8]] = &[
+    &INSERT,
+    &INSERT,
+    b"\x00\x00\x00\x0f\x01\x01\x00\x00\x00\x00\x00\x00\x00\x01\x01a\x00\x01y",
+    b"\x00\x00\x00\x0c\x01\x02\x00\x00\x00\x00\x00\x00\x00\x03\x01a",
+];
+
+/// Added, twice; the number is another request's; the number is out of line.
+const ANSWERED_ONCE: &[&[u8]] = &[
+    &ADDED,
+    &ADDED,
+    b"\x00\x00\x00\x0b\x01\xff\x00\x00\x00\x00\x00\x00\x00\x01\x08",
+    b"\x00\x00\x00\x0b\x01\xff\x00\x00\x00\x00\x00\x00\x00\x03\x09",
+];
+
 #[test]
 fn a_number_is_one_requests_and_is_asked_once(rt: HostRuntime) {
-    let mut other = INSERT;
-    other[18] = 0x79;
-    let mut far = RETRIEVE;
-    far[13] = 3;
-    let (reused, too_far) = (fault(1, 8), fault(3, 9));
-    let input = [INSERT.as_slice(), &INSERT, &other, &far];
-    let output = [ADDED.as_slice(), &ADDED, &reused, &too_far];
-    let talk = mapped(rt.alloc(), &input, &output).expect(&rt, "memory for four frames");
+    let talk = mapped(rt.alloc(), REPEATED, ANSWERED_ONCE).expect(&rt, "memory for four frames");
     assert!(rt;
         talk.seen.end == Served::Ended,
         "the session goes on to the end of the input"
@@ -216,12 +225,25 @@ fn a_number_is_one_requests_and_is_asked_once(rt: HostRuntime) {
     );
 }
 
+/// The same insert, three times.
+const THREE_TIMES: &[&[u8]] = &[&INSERT, &INSERT, &INSERT];
+
+/// The store is full, or no answer came in time; and then it is added.
+const FULL_FIRST: &[&[u8]] = &[
+    b"\x00\x00\x00\x0b\x01\xff\x00\x00\x00\x00\x00\x00\x00\x01\x0a",
+    &ADDED,
+    &ADDED,
+];
+
+const LATE_FIRST: &[&[u8]] = &[
+    b"\x00\x00\x00\x0b\x01\xff\x00\x00\x00\x00\x00\x00\x00\x01\x0b",
+    &ADDED,
+    &ADDED,
+];
+
 #[test]
 fn a_request_that_got_a_fault_is_asked_again(rt: HostRuntime) {
-    let input = [INSERT.as_slice(), &INSERT, &INSERT];
-    let full_store = fault(1, 10);
-    let output = [full_store.as_slice(), &ADDED, &ADDED];
-    let talk = late(rt.alloc(), AtFirst::Full, &input, &output);
+    let talk = late(rt.alloc(), AtFirst::Full, THREE_TIMES, FULL_FIRST);
     let talk = talk.expect(&rt, "memory for three frames");
     assert!(rt;
         talk.seen.end == Served::Ended,
@@ -237,10 +259,7 @@ fn a_request_that_got_a_fault_is_asked_again(rt: HostRuntime) {
 
 #[test]
 fn a_request_without_an_answer_gets_fault_11(rt: HostRuntime) {
-    let input = [INSERT.as_slice(), &INSERT, &INSERT];
-    let no_answer = fault(1, 11);
-    let output = [no_answer.as_slice(), &ADDED, &ADDED];
-    let talk = late(rt.alloc(), AtFirst::NoAnswer, &input, &output);
+    let talk = late(rt.alloc(), AtFirst::NoAnswer, THREE_TIMES, LATE_FIRST);
     let talk = talk.expect(&rt, "memory for three frames");
     assert!(rt;
         talk.seen.end == Served::Ended,
@@ -257,34 +276,30 @@ fn a_request_without_an_answer_gets_fault_11(rt: HostRuntime) {
     );
 }
 
+/// Requests 1 and 2 have no reply, so floor 1 is refused until 1 has one.
+const FLOORS: &[&[u8]] = &[
+    &INSERT_2,
+    b"\x00\x00\x00\x17\x02\x01\x00\x00\x00\x00\x00\x00\x00\x02\x00\x00\x00\x00\x00\x00\x00\x00\x01a\x00\x01x",
+    b"\x00\x00\x00\x17\x02\x01\x00\x00\x00\x00\x00\x00\x00\x02\x00\x00\x00\x00\x00\x00\x00\x01\x01a\x00\x01x",
+    b"\x00\x00\x00\x17\x02\x01\x00\x00\x00\x00\x00\x00\x00\x03\x00\x00\x00\x00\x00\x00\x00\x02\x01a\x00\x01x",
+    &INSERT_2,
+    b"\x00\x00\x00\x17\x02\x01\x00\x00\x00\x00\x00\x00\x00\x02\x00\x00\x00\x00\x00\x00\x00\x01\x01a\x00\x01x",
+    &INSERT_2,
+];
+
+const FLOORS_ANSWERED: &[&[u8]] = &[
+    b"\x00\x00\x00\x0b\x01\xff\x00\x00\x00\x00\x00\x00\x00\x01\x0a",
+    b"\x00\x00\x00\x0b\x01\xff\x00\x00\x00\x00\x00\x00\x00\x02\x0a",
+    b"\x00\x00\x00\x0b\x01\xff\x00\x00\x00\x00\x00\x00\x00\x02\x09",
+    b"\x00\x00\x00\x0b\x01\xff\x00\x00\x00\x00\x00\x00\x00\x03\x09",
+    &ADDED,
+    b"\x00\x00\x00\x0b\x01\x81\x00\x00\x00\x00\x00\x00\x00\x02\x01",
+    b"\x00\x00\x00\x0b\x01\xff\x00\x00\x00\x00\x00\x00\x00\x01\x09",
+];
+
 #[test]
 fn no_floor_is_above_a_number_without_a_reply(rt: HostRuntime) {
-    let mut second = INSERT_2;
-    second[13] = 2;
-    let mut above = second;
-    above[21] = 1;
-    let mut third = INSERT_2;
-    third[13] = 3;
-    third[21] = 2;
-    let mut added = ADDED;
-    added[13] = 2;
-    // Requests 1 and 2 have no reply, so floor 1 is refused until 1 has one.
-    let talk = late(
-        rt.alloc(),
-        AtFirst::Full,
-        &[
-            &INSERT_2, &second, &above, &third, &INSERT_2, &above, &INSERT_2,
-        ],
-        &[
-            &fault(1, 10),
-            &fault(2, 10),
-            &fault(2, 9),
-            &fault(3, 9),
-            &ADDED,
-            &added,
-            &fault(1, 9),
-        ],
-    );
+    let talk = late(rt.alloc(), AtFirst::Full, FLOORS, FLOORS_ANSWERED);
     let talk = talk.expect(&rt, "memory for seven frames");
     assert!(rt;
         talk.seen.end == Served::Ended,
@@ -298,21 +313,28 @@ fn no_floor_is_above_a_number_without_a_reply(rt: HostRuntime) {
     assert!(rt; talk.retried == 2, "each is asked again once");
 }
 
+/// An input, how it ends, its answers, and how many requests are asked.
+const INPUTS: &[(&[u8], Served, &[u8], usize)] = &[
+    (b"", Served::Ended, b"", 0),
+    (b"\x00\x00\x00", Served::Truncated, b"", 0),
+    (&INSERT, Served::Ended, &ADDED, 1),
+    (&INSERT_2, Served::Ended, &ADDED, 1),
+];
+
 #[test]
 fn a_session_ends_with_its_input(rt: HostRuntime) {
-    for (input, end, output, asked) in [
-        ([].as_slice(), Served::Ended, [].as_slice(), 0),
-        ([0u8, 0, 0].as_slice(), Served::Truncated, [].as_slice(), 0),
-        (INSERT.as_slice(), Served::Ended, ADDED.as_slice(), 1),
-        (INSERT_2.as_slice(), Served::Ended, ADDED.as_slice(), 1),
-    ] {
+    for (input, end, output, asked) in INPUTS {
         let talk = mapped(rt.alloc(), &[input], &[output]).expect(&rt, "memory for a frame");
         let seen = Seen {
-            end,
+            end: *end,
             is_whole: true,
             ..talk.seen
         };
-        assert!(rt; talk == Talk { seen, asked }, "{input:?}: {talk:?}");
+        let wanted = Talk {
+            seen,
+            asked: *asked,
+        };
+        assert!(rt; talk == wanted, "{} bytes: {talk:?}", input.len());
     }
 }
 
@@ -332,21 +354,28 @@ fn changed(alloc: Global, change: Change<'_>, output: &[u8]) -> Option<Talk> {
     mapped(alloc, &[head, &[change.byte], tail], &[output])
 }
 
+/// A frame with one byte of it changed, by its place, and the fault, by its number and its code.
+const FAULTY: &[(&[u8], (usize, u8), FaultCode, (u8, u8))] = &[
+    (&RETRIEVE, (4, 9), FaultCode::BadVersion, (0, 2)),
+    (&RETRIEVE, (5, 4), FaultCode::BadOperation, (0, 3)),
+    (&RETRIEVE, (14, 0), FaultCode::BadKey, (2, 4)),
+    (&INSERT, (17, 2), FaultCode::BadValue, (1, 5)),
+    (&INSERT, (17, 0), FaultCode::Trailing, (1, 6)),
+    (&INSERT_2, (21, 1), FaultCode::BadFloor, (1, 12)),
+];
+
 #[test]
 fn a_faulty_frame_ends_the_session_with_its_fault(rt: HostRuntime) {
-    for (frame, (place, byte), why, (number, code)) in [
-        (RETRIEVE.as_slice(), (4, 9), FaultCode::BadVersion, (0, 2)),
-        (RETRIEVE.as_slice(), (5, 4), FaultCode::BadOperation, (0, 3)),
-        (RETRIEVE.as_slice(), (14, 0), FaultCode::BadKey, (2, 4)),
-        (INSERT.as_slice(), (17, 2), FaultCode::BadValue, (1, 5)),
-        (INSERT.as_slice(), (17, 0), FaultCode::Trailing, (1, 6)),
-        (INSERT_2.as_slice(), (21, 1), FaultCode::BadFloor, (1, 12)),
-    ] {
-        let change = Change { frame, place, byte };
-        let talk = changed(rt.alloc(), change, &fault(number, code));
+    for (frame, (place, byte), why, (number, code)) in FAULTY {
+        let change = Change {
+            frame,
+            place: *place,
+            byte: *byte,
+        };
+        let talk = changed(rt.alloc(), change, &fault(*number, *code));
         let talk = talk.expect(&rt, "memory for a frame");
         let seen = Seen {
-            end: Served::Malformed(why),
+            end: Served::Malformed(*why),
             is_whole: true,
             ..talk.seen
         };
@@ -601,7 +630,7 @@ struct Line {
 }
 
 /// Why a call gave no answer, if it gave none, and the reads that it made.
-#[derive(Clone, Copy, Debug, PartialEq, Eq)]
+#[derive(Clone, Copy, PartialEq, Eq)]
 struct Unanswered {
     why: Option<CallFault>,
     reads: u64,
@@ -628,33 +657,55 @@ fn called_over(alloc: Global, version: u8, input: &[u8], line: Line) -> Option<U
 /// A request takes three writes in version 1 and four in version 2, and an answer three reads.
 const VERSIONS: [(u8, u64); 2] = [(1, 3), (2, 4)];
 
+// Number 1 was added; and the same in a version that answers do not have.
+const WHOLE: &[u8] = b"\x00\x00\x00\x0b\x01\x81\x00\x00\x00\x00\x00\x00\x00\x01\x01";
+
+const WRONG: &[u8] = b"\x00\x00\x00\x0b\x02\x81\x00\x00\x00\x00\x00\x00\x00\x01\x01";
+
+/// Calls without an answer: the input, the reads that do not fail, how many writes less than those
+/// that the request takes do not fail, the reads that the call may make, why it has no answer, and
+/// the reads that it makes.
+const UNANSWERED: [(&[u8], u64, u64, u64, CallFault, u64); 8] = [
+    (b"", 9, 0, 9, CallFault::Ended, 1),
+    (WHOLE, 1, 0, 9, CallFault::Read, 1),
+    (WHOLE, 0, 0, 9, CallFault::Read, 0),
+    (WHOLE, 9, 1, 9, CallFault::Write, 0),
+    (WHOLE, 9, 4, 9, CallFault::Write, 0),
+    (WHOLE, 9, 0, 2, CallFault::TurnsSpent, 2),
+    (WHOLE, 9, 0, 0, CallFault::TurnsSpent, 0),
+    (
+        WRONG,
+        9,
+        0,
+        9,
+        CallFault::Malformed(FaultCode::BadVersion),
+        3,
+    ),
+];
+
+/// Whether a call in this version, whose request takes so many writes, goes as the row says.
+fn is_unanswered(
+    alloc: Global,
+    (version, needed): (u8, u64),
+    (input, reads, less, turns, why, made): (&[u8], u64, u64, u64, CallFault, u64),
+) -> bool {
+    let line = Line {
+        reads,
+        writes: needed.saturating_sub(less),
+        turns,
+    };
+    let wanted = Unanswered {
+        why: Some(why),
+        reads: made,
+    };
+    called_over(alloc, version, input, line) == Some(wanted)
+}
+
 #[test]
 fn a_call_says_why_it_has_no_answer(rt: HostRuntime) {
-    let mut wrong = ADDED;
-    wrong[4] = 2;
-    let bad_version = CallFault::Malformed(FaultCode::BadVersion);
-    for (version, needed) in VERSIONS {
-        for (input, (reads, writes), turns, why, made) in [
-            ([].as_slice(), (9, needed), 9, CallFault::Ended, 1),
-            (ADDED.as_slice(), (1, needed), 9, CallFault::Read, 1),
-            (ADDED.as_slice(), (0, needed), 9, CallFault::Read, 0),
-            (ADDED.as_slice(), (9, needed - 1), 9, CallFault::Write, 0),
-            (ADDED.as_slice(), (9, 0), 9, CallFault::Write, 0),
-            (ADDED.as_slice(), (9, needed), 2, CallFault::TurnsSpent, 2),
-            (ADDED.as_slice(), (9, needed), 0, CallFault::TurnsSpent, 0),
-            (wrong.as_slice(), (9, needed), 9, bad_version, 3),
-        ] {
-            let line = Line {
-                reads,
-                writes,
-                turns,
-            };
-            let seen = called_over(rt.alloc(), version, input, line);
-            let wanted = Unanswered {
-                why: Some(why),
-                reads: made,
-            };
-            assert!(rt; seen == Some(wanted), "version {version}: not {wanted:?}");
+    for (row, seen) in UNANSWERED.iter().enumerate() {
+        for version in VERSIONS {
+            assert!(rt; is_unanswered(rt.alloc(), version, *seen), "row {row}");
         }
     }
 }
@@ -672,7 +723,7 @@ fn a_call_makes_no_read_more_than_it_needs(rt: HostRuntime) {
             why: None,
             reads: 3,
         };
-        assert!(rt; seen == Some(answered), "version {version}: {seen:?}");
+        assert!(rt; seen == Some(answered), "version {version}");
     }
 }
 

@@ -16,21 +16,15 @@ struct Coming {
     reply: Option<u8>,
 }
 
-/// The floor of a session, its last number, and how many bytes its reply frames have.
-#[derive(Clone, Copy, Debug, PartialEq, Eq)]
-struct Kept {
-    floor: u64,
-    last: u64,
-    bytes: u64,
-}
-
 /// What is done with a request, and what is there then.
-#[derive(Clone, Copy, Debug, PartialEq, Eq)]
+#[derive(Clone, Copy, PartialEq, Eq)]
 struct Seen {
     does: Move,
     /// The first byte of the reply frame of the request's number.
     frame: Option<u8>,
-    kept: Kept,
+    floor: u64,
+    last: u64,
+    bytes: u64,
 }
 
 /// What is done with the request, which is added if it is to be asked.
@@ -73,14 +67,6 @@ fn first_of_frame(session: &Session, number: u64) -> Option<u8> {
     session.frame_of(number)?.as_slice().first().copied()
 }
 
-fn kept_by(session: &Session) -> Kept {
-    Kept {
-        floor: session.floor(),
-        last: session.last(),
-        bytes: session.bytes(),
-    }
-}
-
 /// What is seen of the session as the request comes.
 fn meet(alloc: Global, session: &mut Session, coming: Coming) -> Option<Seen> {
     let does = accepted(alloc, session, coming)?;
@@ -90,7 +76,9 @@ fn meet(alloc: Global, session: &mut Session, coming: Coming) -> Option<Seen> {
     Some(Seen {
         does,
         frame: first_of_frame(session, coming.number),
-        kept: kept_by(session),
+        floor: session.floor(),
+        last: session.last(),
+        bytes: session.bytes(),
     })
 }
 
@@ -128,13 +116,11 @@ fn each_request_has_its_move(rt: HostRuntime) {
         let wanted = Seen {
             does,
             frame: reply,
-            kept: Kept {
-                floor: low,
-                last,
-                bytes,
-            },
+            floor: low,
+            last,
+            bytes,
         };
-        assert!(rt; seen == Some(wanted), "{number} above {floor}: {seen:?}");
+        assert!(rt; seen == Some(wanted), "request {number}, floor {floor}");
     }
     drop(session);
 }

@@ -318,5 +318,5 @@ fn output_above_64_kib_is_full(rt: HostRuntime) {
 #[test]
 fn output_that_is_due_is_written(rt: HostRuntime) {
     let seen = writes_what_is_due(rt.alloc());
-    assert!(rt; seen == Some((true, true)), "all of it, and once: {seen:?}");
+    assert!(rt; seen == Some((true, true)), "all of it, and once");
 }
