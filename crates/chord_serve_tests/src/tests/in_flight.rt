@@ -535,7 +535,7 @@ fn slow_and_failing_readers(rt: HostRuntime) {
 }
 
 /// A client whose writer failed behind 7 bytes of its first request.
-#[derive(Clone, Copy, PartialEq, Eq)]
+#[derive(Clone, Copy)]
 struct InPart {
     /// What sending was answered.
     sent: Result<u64, SendFault>,

@@ -35,6 +35,49 @@ fn resumed(alloc: Global, most_in: usize, most_out: usize) -> Option<OverTwo> {
     told
 }
 
+/// The first connection of the script: how it ended, how many of its answers the client has whole,
+/// how many bytes these have, and whether they are the first wanted; and what it left.
+#[derive(Drop)]
+struct First {
+    end: Served,
+    answered: usize,
+    heard: usize,
+    is_begun: bool,
+    left: Parted<MapAsker>,
+}
+
+fn visit_first(alloc: Global, line: Line<'_>, wanted: &[u8]) -> First {
+    let Visited { end, written, left } = visit(alloc, line, new_session(alloc));
+    // The client has the whole answers behind the opened.
+    let (answered, heard) = whole(&ANSWERS, written.len().saturating_sub(30));
+    let is_begun = written
+        .get(30..heard.saturating_add(30))
+        .is_none_or(|told| wanted.starts_with(told));
+    drop(written);
+    First {
+        end,
+        answered,
+        heard,
+        is_begun,
+        left,
+    }
+}
+
+/// The second connection, with this input, which should be told this floor and last number and the
+/// rest of the answers: whether it is, and how many requests were asked in all.
+fn visit_again(
+    alloc: Global,
+    client: ClientSession<MapAsker>,
+    input: &[u8],
+    (opened, rest): (&[u8], Option<&[u8]>),
+) -> (bool, bool, usize) {
+    let Visited { written, left, .. } = visit(alloc, Line::whole(input), client);
+    let is_opened = written.starts_with(opened);
+    let is_ended = written.get(30..) == rest;
+    drop(written);
+    (is_opened, is_ended, asked_in(left))
+}
+
 fn twice(
     alloc: Global,
     (script, wanted): (&[u8], &[u8]),
@@ -47,28 +90,23 @@ fn twice(
         most_in: most_in.saturating_add(OPEN.len()),
         most_out,
     };
-    let first = visit(alloc, line, new_session(alloc));
+    let First {
+        end,
+        answered,
+        heard,
+        is_begun,
+        left,
+    } = visit_first(alloc, line, wanted);
     drop(input);
-    // The client has the whole answers behind the opened.
-    let (answered, heard) = whole(&ANSWERS, first.written.len().saturating_sub(30));
-    let is_begun = first
-        .written
-        .get(30..heard.saturating_add(30))
-        .is_none_or(|told| wanted.starts_with(told));
-    let end = first.end;
-    let client = kept(first.left)?;
-    let (_, sent) = whole(REQUESTS.get(..answered)?, usize::MAX);
-    let rest = joined(alloc, &[&OPEN, script.get(sent..)?]).ok()?;
-    let second = visit(alloc, Line::whole(&rest), client);
-    drop(rest);
+    let (_, sent) = whole(REQUESTS.get(..answered).unwrap_or(&[]), usize::MAX);
     // A server that could not write the opened had read no request.
     let read = if most_out < 30 { 0 } else { most_in };
-    let last = u8::try_from(whole(&REQUESTS, read).0).ok()?;
-    let is_opened = second.written.starts_with(&opened(0, last));
-    let is_ended = second.written.get(30..) == wanted.get(heard..);
-    let asker = second.left.into_asker();
-    let asked = asker.requests.len();
-    drop(asker);
+    let last = u8::try_from(whole(&REQUESTS, read).0).unwrap_or(u8::MAX);
+    let rest = joined(alloc, &[&OPEN, script.get(sent..).unwrap_or(&[])]);
+    let (client, rest) = kept(left).zip(rest.ok())?;
+    let told = (opened(0, last), wanted.get(heard..));
+    let (is_opened, is_ended, asked) = visit_again(alloc, client, &rest, (&told.0, told.1));
+    drop(rest);
     Some(OverTwo {
         first: end,
         is_whole: is_begun & is_ended,
