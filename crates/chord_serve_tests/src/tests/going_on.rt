@@ -143,8 +143,8 @@ impl Journey {
         self.replies.as_slice() == self.wanted.as_slice()
     }
 
-    /// Connections in a row, of which the one of this number, from 0, is cut, until all replies came;
-    /// eight at most.
+    /// Connections in a row, of which the one of this number, from 0, is cut, until all replies
+    /// came; eight at most.
     fn go_on(
         &mut self,
         mut session: ClientSession<MapAsker>,
@@ -227,8 +227,8 @@ fn cut_way(side: Side, most: usize) -> Way {
     }
 }
 
-/// Whether a client gets all answers, and each request is asked once, wherever the connection of this
-/// number, from 0, is cut in its first `bytes` bytes.
+/// Whether a client gets all answers, and each request is asked once, wherever the connection of
+/// this number, from 0, is cut in its first `bytes` bytes.
 fn arrives(alloc: Global, window: u64, cut: usize, side: Side, bytes: usize) -> bool {
     let mut arrives = true;
     for most in 0..=bytes {

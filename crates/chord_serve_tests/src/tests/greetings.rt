@@ -61,9 +61,9 @@ fn an_open_is_taken_and_what_is_behind_it_stays(rt: HostRuntime) {
     assert!(rt; is_open(resumed.opening, true), "it resumes one");
 }
 
-/// Beginnings that are no open: the input, the most bytes of a read, and how much was read when that
-/// was known. The fourth neither begins nor resumes, the fifth has a length that is refused, and the
-/// last three end too early.
+/// Beginnings that are no open: the input, the most bytes of a read, and how much was read when
+/// that was known. The fourth neither begins nor resumes, the fifth has a length that is refused,
+/// and the last three end too early.
 const NO_OPENS: &[(&[u8], usize, usize)] = &[
     (&INSERT, 100, 19),
     (&INSERT, 1, 6),
