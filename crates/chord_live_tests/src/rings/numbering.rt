@@ -7,7 +7,7 @@ use chord_caller::{CallerCore, SubmitFault};
 use chord_ident::Id;
 use chord_links::Links;
 use chord_live_steps::{Numbers, SeatedCore};
-use chord_live_types::OpenClientFault;
+use chord_live_types::{OpenClientFault, WaitFault};
 use chord_map::Request;
 use chord_node::Message;
 use chord_store::CappedStore;
@@ -161,6 +161,10 @@ fn a_seated_core_submits_and_meets(rt: HostRuntime) {
     assert!(rt; asked.before == (0, None, false), "it waits for nothing");
     assert!(rt; asked.sent == (1, Some(1)), "its first call has number 1");
     assert!(rt;
+        asked.heard == Some(WaitFault::NoAnswer),
+        "its own call is no reply"
+    );
+    assert!(rt;
         asked.after == (Some(1), true, true),
         "which waits, and was submitted"
     );
@@ -188,6 +192,8 @@ struct SeatAsked {
     before: (u64, Option<u64>, bool),
     /// The number that it gives, and the number of the call that is sent.
     sent: (u64, Option<u64>),
+    /// How it takes its own call.
+    heard: Option<WaitFault>,
     /// The least number that waits, whether 1 waits, and whether 1 was submitted.
     after: (Option<u64>, bool, bool),
     refusal: Option<SubmitFault>,
@@ -245,7 +251,7 @@ fn asked_by<J: Naming>(
     let before = (own.floor(), own.pending(), own.is_pending(1));
     let (number, envelope) = own.submit(table, insert(alloc)?).ok()?;
     let sent = (number, call_in(envelope.message()));
-    drop(envelope);
+    let heard = own.take(table, envelope, 1).err();
     let after = (own.pending(), own.is_pending(1), own.was_submitted(1));
     let request = insert(alloc)?;
     let refusal = own.refusal(&request);
@@ -258,6 +264,7 @@ fn asked_by<J: Naming>(
     Some(SeatAsked {
         before,
         sent,
+        heard,
         after,
         refusal,
         again,
