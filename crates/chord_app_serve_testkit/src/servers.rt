@@ -13,7 +13,7 @@ use std::io::{self, PipeReader};
 use std::net::{Net, SocketAddr, TcpListener, TcpStream};
 
 /// What clients speak at the doors of a server.
-#[derive(Clone, Copy, PartialEq, Eq)]
+#[derive(Clone, Copy, Debug, PartialEq, Eq)]
 pub enum Speech {
     Frames,
     Redis,
@@ -237,7 +237,7 @@ impl Written {
 }
 
 /// What a test finds.
-#[derive(Clone, Copy, PartialEq, Eq)]
+#[derive(Clone, Copy, Debug, PartialEq, Eq)]
 pub struct Found {
     /// Whether each was answered as it expects.
     pub is_answered: bool,

@@ -232,7 +232,7 @@ fn operate_to_the_end<R: Net + Clock>(
 }
 
 /// How a server was operated while two clients asked.
-#[derive(Drop)]
+#[derive(Debug, Drop)]
 pub struct Joined {
     /// How many rounds each client asked.
     x: io::Result<u64>,

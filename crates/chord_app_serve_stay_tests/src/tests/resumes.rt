@@ -100,7 +100,7 @@ fn number_at(table: &[u8], word: &str) -> Option<u64> {
 }
 
 /// How a load went.
-#[derive(Drop)]
+#[derive(Debug, Drop)]
 pub struct Loaded {
     finish: Result<Finish, Finish>,
     /// How many requests had a reply.

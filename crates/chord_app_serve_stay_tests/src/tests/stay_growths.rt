@@ -66,7 +66,7 @@ fn three_clients<R: Net>(rt: &R, address: SocketAddr, input: PipeWriter) -> io::
 }
 
 /// How a server of three clients ended.
-#[derive(Drop)]
+#[derive(Debug, Drop)]
 struct Ended {
     stayed: Result<(), Finish>,
     answered: usize,
