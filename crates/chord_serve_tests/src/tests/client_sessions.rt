@@ -207,8 +207,7 @@ fn clients_that_have_no_session(rt: HostRuntime) {
     assert!(rt; resumed_in_version_1(alloc) == Some((Err(ResumeFault::Version), 0)));
 }
 
-/// Whether these are the first bytes of an open and of an insert that is written again, so many of
-/// them.
+/// Whether `written` is the first `most` bytes of an open and of an insert that is written again.
 fn is_begun(alloc: Global, written: &[u8], most: usize) -> bool {
     let Ok(wanted) = joined(alloc, &[&OPEN, &change(1, 1, 0, b'a', b'x')]) else {
         return false;
@@ -218,8 +217,8 @@ fn is_begun(alloc: Global, written: &[u8], most: usize) -> bool {
     is_begun
 }
 
-/// What a client that awaits an answer is told where it resumes over a writer that fails behind so
-/// many bytes, whether it wrote the first bytes of an open and of its request again, and how many
+/// A client that awaits an answer resumes over a writer that fails after `most` bytes. This is what
+/// it is told, whether it wrote the first bytes of an open and of its request again, and how many
 /// answers it waits for then.
 fn cut(alloc: Global, most: usize) -> Option<(Result<(), ResumeFault>, bool, usize)> {
     let mut client = after_one(alloc, 2)?;

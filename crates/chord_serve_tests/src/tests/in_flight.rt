@@ -134,7 +134,8 @@ enum Line {
     Again(u64, Result<(), AgainFault>),
     /// A server over a plain map answers all that was written.
     Served,
-    /// One over a store that is full at first does, and so many bytes of it came before.
+    /// A server over a store that is full at first answers all that was written. The client read
+    /// this many bytes of its answers before.
     ServedLate(usize),
     /// These bytes come from its server.
     Comes(&'static [u8]),

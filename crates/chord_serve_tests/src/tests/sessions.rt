@@ -683,7 +683,7 @@ const UNANSWERED: [(&[u8], u64, u64, u64, CallFault, u64); 8] = [
     ),
 ];
 
-/// Whether a call in this version, whose request takes so many writes, goes as the row says.
+/// Whether a call in this version goes as the row says. Its request takes `needed` writes.
 fn is_unanswered(
     alloc: Global,
     (version, needed): (u8, u64),
