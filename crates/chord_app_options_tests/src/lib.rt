@@ -1,5 +1,7 @@
-//! The tests of `chord_app_text` and of `chord_app_options`.
+//! The tests of `chord_app_text`, of `chord_app_plan` and of `chord_app_options`.
 #![tactic(auto)]
 
+#[cfg(test)]
+mod plan;
 #[cfg(test)]
 mod tests;

@@ -1,5 +1,7 @@
-//! The tests of `chord_node`.
+//! The tests of `chord_node`, and of `chord_table`, whose seats show nodes.
 #![tactic(auto)]
 
+#[cfg(test)]
+mod table;
 #[cfg(test)]
 mod tests;

@@ -1,5 +1,7 @@
-//! The tests of `chord_serve`.
+//! The tests of frames, `chord_wire`, and of sessions over them, `chord_session` and `chord_serve`.
 #![tactic(auto)]
 
 #[cfg(test)]
 mod tests;
+#[cfg(test)]
+mod wire;

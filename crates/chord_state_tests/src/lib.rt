@@ -1,9 +1,12 @@
-//! The tests of the map, its stores and what a node keeps of them: `chord_map`, `chord_store`,
-//! `chord_segment`, `chord_handover` and `chord_caller`.
+//! The tests of the circle (`chord_ident`, `chord_links`, `chord_route`, `chord_ring`), and of the
+//! map, its stores and what a node keeps of them (`chord_map`, `chord_store`, `chord_segment`,
+//! `chord_handover`, `chord_caller`).
 #![tactic(auto)]
 
 #[cfg(test)]
 mod caller;
+#[cfg(test)]
+mod circle;
 #[cfg(test)]
 mod handover;
 #[cfg(test)]

@@ -121,8 +121,8 @@ impl SmallServer {
         }
     }
 
-    /// Accepts as many connections as there are visits, unless a session is closed before. From then
-    /// on nobody can connect.
+    /// Accepts as many connections as there are visits, unless a session is closed before. From
+    /// then on nobody can connect.
     pub fn run(&mut self, listener: TcpListener, visits: &[Visit<'_>]) -> io::Result<()> {
         for (visit, accepted) in visits.iter().zip(listener.incoming()) {
             let stream = accepted?;

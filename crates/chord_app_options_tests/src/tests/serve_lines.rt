@@ -48,7 +48,8 @@ const FAULTS: &[(&str, &str)] = &[
     ),
 ];
 
-/// `serve` requires a plan, a port of at least one protocol, and one of `--connections` and `--stay`.
+/// `serve` requires a plan, a port of at least one protocol, and one of `--connections` and
+/// `--stay`.
 #[test]
 fn faults_of_serve(rt: HostRuntime) {
     for (line, text) in FAULTS {
@@ -218,8 +219,8 @@ fn the_port_and_idle_clients_of_serve(rt: HostRuntime) {
     );
 }
 
-/// Sessions without a connection are kept for 600 seconds unless the line says another number; for 0
-/// none is kept.
+/// Sessions without a connection are kept for 600 seconds unless the line says another number; for
+/// 0 none is kept.
 const KEPT: &[(&str, LineOfP)] = &[
     (
         "chord serve --plan p --port 7 --stay --keep 0",
@@ -290,8 +291,8 @@ fn the_operator_of_serve(rt: HostRuntime) {
     );
 }
 
-/// A server that stays has the plan's numbers of nodes and callers, or those of its line, each from 1
-/// to 4,096.
+/// A server that stays has the plan's numbers of nodes and callers, or those of its line, each from
+/// 1 to 4,096.
 const SIZES: &[(&str, LineOfP)] = &[
     (
         "chord serve --plan p --port 7 --stay --slots 4096 --callers 4096",

@@ -74,7 +74,8 @@ struct Talk {
     answer: &'static [u8],
 }
 
-/// Whether the next client sends what it must. It is answered then. From then on nobody can connect.
+/// Whether the next client sends what it must. It is answered then. From then on nobody can
+/// connect.
 fn talks(listener: TcpListener, alloc: Global, talk: Talk) -> io::Result<bool> {
     let (mut stream, _) = listener.accept()?;
     let mut asked = vec![in alloc; 0u8; talk.asked.len()]?;
@@ -134,7 +135,8 @@ const PAGE: Talk = Talk {
     answer: b"HTTP/1.1 200 OK\r\ncontent-length: 0\r\n\r\n",
 };
 
-/// An open of a session that begins, up to its token. It is refused, as by a server that keeps none.
+/// An open of a session that begins, up to its token. It is refused, as by a server that keeps
+/// none.
 const OPEN: Talk = Talk {
     asked: b"\x00\x00\x00\x23\x02\x04\x00\x00\x00\x00\x00\x00\x00\x00\x00\x00\x00\x00\x00\x00\x00\x00",
     answer: b"\x00\x00\x00\x0b\x01\xff\x00\x00\x00\x00\x00\x00\x00\x00\x10",

@@ -1,10 +1,10 @@
 //! A ring of two nodes, one of which gives the other a part of what it holds, and one that crashed.
 
+use crate::samples::empty_node;
 use chord_app_operator::{
     AskCounts, CallerCounts, EndCounts, HandoverCounts, NodeSight, OutboxSight, Phase, RingSight,
     SegmentSight, SessionCounts, StoreKind,
 };
-use chord_app_operator_testkit::empty_node;
 use chord_ident::{Id, Span};
 use std::alloc::{AllocError, Global};
 

@@ -184,7 +184,8 @@ fn ask_round<R: Net>(
     Ok(())
 }
 
-/// A client asks rounds until it is told to end. Gives how many; an error if one answer was another.
+/// A client asks rounds until it is told to end. Gives how many; an error if one answer was
+/// another.
 fn ask_rounds<R: Net>(
     rt: &R,
     alloc: Global,

@@ -81,7 +81,8 @@ impl Client {
     }
 }
 
-/// Where SADD of two words and an inline PING are cut: behind each of their fields, and within each.
+/// Where SADD of two words and an inline PING are cut: behind each of their fields, and within
+/// each.
 const CUTS: &[&[u8]] = &[
     b"*",
     b"*3",

@@ -106,8 +106,9 @@ fn served<R: Handle + Net<Listener = TcpListener, Stream = TcpStream>>(
 }
 
 /// A refused growth ends at most one connection, with `memory`, unless the server needed it to
-/// start. A client that has no answer is that connection's. It may have its answer, since the growth
-/// may be one at the connection's end. If memory is refused to the test itself, it begins again.
+/// start. A client that has no answer is that connection's. It may have its answer, since the
+/// growth may be one at the connection's end. If memory is refused to the test itself, it begins
+/// again.
 #[test]
 fn a_refused_growth_ends_one_connection(rt: HostRuntime) -> Result<(), Fail> {
     let ended = match served(&rt, rt.alloc(), io::pipe(&rt)?) {

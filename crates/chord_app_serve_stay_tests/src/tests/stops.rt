@@ -16,8 +16,8 @@ use std::net::{Net, SocketAddr, TcpStream};
 use std::test::Fail;
 use std::time::Clock;
 
-/// Asks 224 times for all 32 values, in one write of 4,032 bytes, which the server reads at once. The
-/// answers have 28 MiB together, which is more than a connection can hold.
+/// Asks 224 times for all 32 values, in one write of 4,032 bytes, which the server reads at once.
+/// The answers have 28 MiB together, which is more than a connection can hold.
 fn ask_for_all<S: Write>(alloc: Global, stream: &mut S) -> io::Result<()> {
     let request = retrieve(alloc)?;
     let mut frames = Vec::new(alloc);

@@ -381,8 +381,8 @@ const THE_SAME: Acts = &[
     (0, Act::Leave),
 ];
 
-/// A client reads the length of an answer, and closes its connection while the rest of it is unread:
-/// that resets the connection. Another client is served.
+/// A client reads the length of an answer, and closes its connection while the rest of it is
+/// unread: that resets the connection. Another client is served.
 fn resets<R: Net>(rt: &R, alloc: Global, address: SocketAddr) -> io::Result<()> {
     let mut hasty = TcpStream::connect(rt, address)?;
     hasty.write_all(INSERT_A)?;

@@ -46,7 +46,8 @@ fn gap(after: u128, width: u128) -> Gap {
     }
 }
 
-/// A gap ends before the next identifier, and is the whole circle but one point where there is none.
+/// A gap ends before the next identifier, and is the whole circle but one point where there is
+/// none.
 #[test]
 fn gaps_between_identifiers(rt: HostRuntime) {
     let (a, b, c) = (Id::new(A), Id::new(B), Id::new(C));

@@ -23,8 +23,8 @@ pub struct Script {
 }
 
 impl Script {
-    /// The new request of this number gets this in place of its reply. It is sent again `vain` times
-    /// in vain.
+    /// The new request of this number gets this in place of its reply. It is sent again `vain`
+    /// times in vain.
     pub fn new(number: usize, trouble: Trouble, vain: u64) -> Script {
         Script {
             number,

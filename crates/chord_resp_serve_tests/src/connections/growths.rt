@@ -1,5 +1,5 @@
-//! Each growth is refused in turn: a connection writes whole answers up to the command that found no
-//! memory, and a command that found none adds nothing.
+//! Each growth is refused in turn: a connection writes whole answers up to the command that found
+//! no memory, and a command that found none adds nothing.
 // With ample memory nothing is refused. What was refused is made again.
 
 use super::askers::Scripted;

@@ -1,5 +1,5 @@
-//! Items for node 1 in the outbox of node 3. Each is the whole circle with a kept call and two pairs,
-//! and is so in its copy and when it comes back.
+//! Items for node 1 in the outbox of node 3. Each is the whole circle with a kept call and two
+//! pairs, and is so in its copy and when it comes back.
 
 use super::CIRCLE;
 use super::parts::{FIRST, PartRow, are_from_zero, pairs_of};
@@ -113,8 +113,8 @@ fn is_whole(payload: Option<Payload>, wanted: &Segment) -> bool {
     is_segment && are_two
 }
 
-/// Whether the first of two items is whole as a copy and when it was got, and the second when it was
-/// declined.
+/// Whether the first of two items is whole as a copy and when it was got, and the second when it
+/// was declined.
 #[derive(Clone, Copy)]
 struct Whole {
     copied: bool,

@@ -31,7 +31,8 @@ fn bytes_compare_one_by_one(rt: HostRuntime) {
     assert!(rt; found == [same, less, Some((Ordering::Greater, false)), less]);
 }
 
-// Sixteen bytes are stored inline, more in a block of 63, 127 or 255, and more than that in a vector.
+// Sixteen bytes are stored inline, more in a block of 63, 127 or 255, and more than that in a
+// vector.
 #[test]
 fn short_and_long_bytes_compare(rt: HostRuntime) {
     let alloc = rt.alloc();

@@ -132,8 +132,8 @@ fn rests_agree<S: EntryStore>(
     Ok(is_left)
 }
 
-// Whether the cut leaves at least `least` pairs before it, and at most `most` or a key less would not;
-// or whether the span has too few pairs before its end, which is a key.
+// Whether the cut leaves at least `least` pairs before it, and at most `most` or a key less would
+// not; or whether the span has too few pairs before its end, which is a key.
 fn is_cut_right<S: EntryStore>(store: &S, span: Span, least: u64, most: u64) -> bool
     requires { 0 < least }
 {

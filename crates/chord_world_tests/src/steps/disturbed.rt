@@ -1,5 +1,5 @@
-//! Messages are lost, repeated, late or out of order: each identifier has one holder, and the history
-//! is that of one map.
+//! Messages are lost, repeated, late or out of order: each identifier has one holder, and the
+//! history is that of one map.
 ghost use Rattle.std.specs.Prelude.{◌≡◌, [], IfOk};
 ghost use Rattle.std.specs.List.{All};
 

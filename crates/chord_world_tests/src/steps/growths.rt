@@ -1,6 +1,6 @@
-//! A growth is refused: its step answers Memory and changes nothing. It is done again, or left out as
-//! if it were not in the script. With ample memory nothing is refused; the tests are also run with
-//! each growth refused in turn.
+//! A growth is refused: its step answers Memory and changes nothing. It is done again, or left out
+//! as if it were not in the script. With ample memory nothing is refused; the tests are also run
+//! with each growth refused in turn.
 ghost use Rattle.std.specs.Prelude.{◌≡◌, [], IfOk};
 ghost use Rattle.std.specs.List.{All};
 
@@ -335,8 +335,8 @@ fn steps_at_last(alloc: Global, script: &[Deed]) -> Result<Vec<Step>, AllocError
 /// A world after a script, and the answers to its steps.
 type After = (Box<World<CappedStore>>, Vec<StepResult>);
 
-/// Does the script over two stores with room for `room` pairs each. A step that is refused memory is
-/// left out.
+/// Does the script over two stores with room for `room` pairs each. A step that is refused memory
+/// is left out.
 fn after(alloc: Global, room: u64, script: &[Deed]) -> Result<After, AllocError> {
     let steps = steps_at_last(alloc, script)?;
     let mut stores = stores_at_last(alloc, room)?;

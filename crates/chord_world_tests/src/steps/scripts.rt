@@ -224,8 +224,8 @@ pub const ANSWERS_TO_TWO_PARTS: &[StepResult] = &[
 /// 65 values of one byte: one more than fits into a part of a handover.
 pub const VALUES: &[u8] = b"ABCDEFGHIJKLMNOPQRSTUVWXYZabcdefghijklmnopqrstuvwxyz0123456789+-*";
 
-/// Caller 0 of a new node inserts each of the values under `a`, and is answered; then its node hands
-/// half of the circle over.
+/// Caller 0 of a new node inserts each of the values under `a`, and is answered; then its node
+/// hands half of the circle over.
 pub fn sixty_five_and_two_parts(alloc: Global) -> Result<Vec<Deed>, AllocError> {
     let mut deeds = Vec::new(alloc);
     deeds.push(Deed::Create(A))?;

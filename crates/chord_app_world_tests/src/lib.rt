@@ -1,5 +1,0 @@
-//! The tests of `chord_app_world`.
-#![tactic(auto)]
-
-#[cfg(test)]
-mod tests;

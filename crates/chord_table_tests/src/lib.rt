@@ -1,5 +1,0 @@
-//! The tests of `chord_table`.
-#![tactic(auto)]
-
-#[cfg(test)]
-mod tests;

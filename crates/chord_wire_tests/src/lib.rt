@@ -1,5 +1,0 @@
-//! The tests of `chord_wire`.
-#![tactic(auto)]
-
-#[cfg(test)]
-mod tests;
