@@ -36,7 +36,8 @@ unfolding numbers_below
 below_next numbers count number same are =
     ap (λ ns. ns ++ number ∷ []) are ∙ ap (λ n. numbers_below count ++ n ∷ []) same ∙ ap numbers_below (let e : suc count ≡ count + 1 = omega arith in e)
 
--- with the next caller admitted, the callers are those below the number after it, and the nodes are as before
+-- with the next caller admitted, the callers are those below the number after it, and the nodes are
+-- as before
 pub caller_counted : (old new : Register) (nodes callers : ℕ) → new ≡ record old { callers = old.callers ++ callers ∷ [] }
     → length old.nodes ≡ nodes → All (λ no. no < nodes) old.nodes → All (λ no. no < callers) old.callers → old.nodes ≡ numbers_below nodes → old.callers ≡ numbers_below callers
     → (length new.nodes ≡ nodes) × All (λ no. no < nodes) new.nodes × All (λ no. no < callers + 1) new.callers × (new.nodes ≡ numbers_below nodes) × (new.callers ≡ numbers_below (callers + 1))

@@ -23,7 +23,8 @@ abbrev pub NoneGoesOn : Span → ℕ → Id → List Segment → ℕ → Type 0
 NoneGoesOn own place end held upto =
     (k : ℕ) → k < upto → (segment : Segment) → slice_get held k ≡ Some segment → goes_on own place end k segment.span ≡ false
 
--- no two held segments inside the node's own span adjoin, of those whose first stands before an index
+-- no two held segments inside the node's own span adjoin, of those whose first stands before an
+-- index
 abbrev pub NoneAdjoin : Span → List Segment → ℕ → Type 0
 NoneAdjoin own held upto =
     (k : ℕ) → k < upto → (segment : Segment) → slice_get held k ≡ Some segment → is_inside own segment.span ≡ true

@@ -70,8 +70,8 @@ fulls_at (Err wait.Memory) = 0
 
 -- ---- both
 
--- A wait for the reply to the request of the number ended. The caller is then as `ends` says. If the
--- wait ended as Full, one message said so of that request, else none did.
+-- A wait for the reply to the request of the number ended. The caller is then as `ends` says. If
+-- the wait ended as Full, one message said so of that request, else none did.
 pub record Ended (ends : ℕ → Caller → Result Reply WaitFault → Caller → Type 0) (number : ℕ) (old : CallerSight) (answer : Result Reply WaitFault) (new : CallerSight) : Type 0 where
   pub change : ends number old.caller answer new.caller
   pub came : TookMessages old new

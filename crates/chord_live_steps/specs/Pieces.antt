@@ -1,4 +1,5 @@
--- How a node gives a segment in pieces, so that its lock is held for a moment only. Source: our own.
+-- How a node gives a segment in pieces, so that its lock is held for a moment only. Source: our
+-- own.
 use Rattle.std.specs.Prelude.{◌≡◌, ◌⊎◌, ℕ, ◌<◌, ◌+◌, ◌/◌, ◌==◌, Bool, true, false, Option, None, Some, List, length, Result, Ok, Err, slice_get}
 use Rattle.std.specs.declared.alloc.AllocError.{AllocError}
 use Rattle.chord_handover.specs.Handover.{Item, Part}
@@ -37,7 +38,8 @@ TrimSteps old result new = new ≡ old
 abbrev pub Gives : ℕ → ℕ → Node → Node → Type 0
 Gives place to old new = (part : Part) × GiveIs place to old (Ok part) new
 
--- the held segment at this index is cut as above, if that is to be done, and then goes into the outbox
+-- the held segment at this index is cut as above, if that is to be done, and then goes into the
+-- outbox
 abbrev pub GivesPiece : ℕ → ℕ → ℕ → Node → Node → Type 0
 GivesPiece place to most old new = (cut : Bool) × (trimmed : Node) × TrimIs place most old (Ok cut) trimmed × Gives place to trimmed new
 

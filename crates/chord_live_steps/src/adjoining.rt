@@ -36,8 +36,8 @@ fn find_next<S: EntryStore>(
     None
 }
 
-/// The indices of two held segments inside the node's own span, of which the second begins where the
-/// first ends.
+/// The indices of two held segments inside the node's own span, of which the second begins where
+/// the first ends.
 fn find_adjoining<S: EntryStore>(node: &Node<S>, own: Span) -> Option<(usize, usize)>
     ensures some { IfSome result (λ found. Adjoin own node.now.held found.0 found.1) }
     ensures none { result ≡ None → NoneAdjoin own node.now.held (2 ^ 64 - 1) }

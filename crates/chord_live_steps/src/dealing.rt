@@ -1,5 +1,5 @@
 //! What a node does with a message.
-ghost use Rattle.std.specs.Prelude.{◌≡◌, ℕ, IsTrue, IfOk, IfSome, OnErr};
+ghost use Rattle.std.specs.Prelude.{◌≡◌, ◌↔◌, ℕ, IsTrue, IfOk, IfSome, OnErr};
 ghost use Rattle.chord_live_steps.specs.Dealt.{IsFor, DealIs, DealSteps, answer_to, confirmation_of};
 ghost use Rattle.chord_live_steps.specs.Keys.{IsKeyId};
 ghost use Rattle.chord_model.specs.declared.message.Message.TheVariants.{Ask as AskMessage};
@@ -16,7 +16,7 @@ use std::alloc::AllocError;
 
 /// Whether a message is for the node of this number.
 pub fn is_for(message: &Message, number: u64) -> bool
-    ensures { IsTrue result → IsFor message.now number }
+    ensures { IsTrue result ↔ IsFor message.now number }
 {
     match message {
         Message::Ask(_) => true,

@@ -84,7 +84,7 @@ impl<J: Naming> Numbers<J> {
 
     /// Whether there is a free number for a node.
     pub fn has_slot(&self) -> bool
-        ensures { result ≡ true → self.now.nodes < J.name.slots }
+        ensures { IsTrue result ↔ self.now.nodes < J.name.slots }
     {
         self.nodes < self.slots
     }
@@ -114,6 +114,7 @@ impl<J: Naming> Numbers<J> {
         ensures shown { IfOk result (λ admitted. admitted.1 ≡ record { node = admitted.0; messages = [] }) }
         ensures err { IfErr result (λ back. back ≡ store) }
         ensures counted { OnOk result (self.new ≡ record self.old { nodes = 1; ids = self.old.ids ++ id ∷ [] }) }
+        ensures same { OnErr result (self.new ≡ self.old) }
     {
         if self.ids.reserve(1).is_err() {
             return Err(store);
@@ -126,8 +127,8 @@ impl<J: Naming> Numbers<J> {
         Ok((node, seat))
     }
 
-    /// Admits a later node with these links, and gives it with its seat. Gives its store back if out
-    /// of memory.
+    /// Admits a later node with these links, and gives it with its seat. Gives its store back if
+    /// out of memory.
     pub fn join<S: EntryStore>(
         &mut self,
         table: &Shared<J>,
@@ -143,6 +144,7 @@ impl<J: Naming> Numbers<J> {
         ensures shown { IfOk result (λ admitted. admitted.1 ≡ record { node = admitted.0; messages = [] }) }
         ensures err { IfErr result (λ back. back ≡ store) }
         ensures counted { OnOk result (self.new ≡ record self.old { nodes = self.old.nodes + 1; ids = self.old.ids ++ links.me.id ∷ [] }) }
+        ensures same { OnErr result (self.new ≡ self.old) }
     {
         if self.ids.reserve(1).is_err() {
             return Err(store);

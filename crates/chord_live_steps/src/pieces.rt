@@ -5,9 +5,10 @@ use chord_node::Node;
 use chord_store::EntryStore;
 use std::alloc::AllocError;
 
-/// Cuts a piece from the held segment at this index, if that has enough pairs, and answers whether it
-/// did. The piece stays at this index, and what is behind it gets the next one. A piece has more than
-/// half of `most` pairs, and at most `most`, unless the pairs of one identifier bring it above that.
+/// Cuts a piece from the held segment at this index, if that has enough pairs, and answers whether
+/// it did. The piece stays at this index, and what is behind it gets the next one. A piece has more
+/// than half of `most` pairs, and at most `most`, unless the pairs of one identifier bring it above
+/// that.
 pub fn trim<S: EntryStore>(node: &mut Node<S>, place: usize, most: u64) -> Result<bool, AllocError>
     ensures answer { TrimIs place most node.old result node.new }
     ensures step { TrimSteps node.old result node.new }

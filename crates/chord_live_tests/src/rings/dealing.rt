@@ -3,9 +3,11 @@ ghost use Rattle.std.specs.Prelude.{◌≤◌};
 
 use super::{C, ONE, Said, ZERO, said_in};
 use chord_caller::Ask;
+use chord_handover::Ticket;
 use chord_ident::Id;
 use chord_links::Links;
 use chord_live_ring::{Target, Tidied, deal, tidy};
+use chord_live_steps::{deal_by_id, is_for};
 use chord_map::Request;
 use chord_node::{Message, Node, NotStaying};
 use chord_store::CappedStore;
@@ -159,6 +161,93 @@ fn a_call_is_answered_to_its_caller(rt: HostRuntime) {
         number: 2,
     };
     assert!(rt; dealt.second == full, "so does that the store is full");
+}
+
+/// What the node sends for a call with this number and key that comes with its key's identifier.
+fn deal_ask_by_id(alloc: Global, node: &mut Node<CappedStore>, number: u64, key: &[u8]) -> Dealt
+    requires some { 1 ≤ number }
+    requires near { number ≤ 16 }
+{
+    let Ok(ask) = ask(alloc, number, key) else {
+        return Dealt::Memory;
+    };
+    let id = Id::of_bytes(ask.request.key());
+    dealt_by(deal_by_id(node, id, Message::Ask(ask)))
+}
+
+/// What a node sends for such a call that adds the only pair for which it has room.
+fn answers_by_id(alloc: Global) -> Option<Dealt> {
+    let mut node = founder(alloc, 1)?;
+    let dealt = deal_ask_by_id(alloc, &mut node, 1, b"abc");
+    drop(node);
+    Some(dealt)
+}
+
+#[test]
+fn a_call_with_its_identifier_is_answered(rt: HostRuntime) {
+    let dealt = answers_by_id(rt.alloc()).expect(&rt, "memory for a node");
+    let added = Dealt::Told {
+        to: 7,
+        caller: 7,
+        number: 1,
+        said: Said::Added,
+    };
+    assert!(rt; dealt == added, "its reply goes to its caller");
+}
+
+/// Which of nodes 0 and 1 a message is for.
+#[derive(Clone, Copy, PartialEq, Eq)]
+struct IsFor {
+    zero: bool,
+    one: bool,
+}
+
+fn is_for_each(message: Message) -> IsFor {
+    let each = IsFor {
+        zero: is_for(&message, 0),
+        one: is_for(&message, 1),
+    };
+    drop(message);
+    each
+}
+
+#[test]
+fn a_message_is_for_the_node_that_it_names(rt: HostRuntime) {
+    let ask = ask(rt.alloc(), 1, b"abc").expect(&rt, "memory for a call");
+    let any = IsFor {
+        zero: true,
+        one: true,
+    };
+    assert!(rt; is_for_each(Message::Ask(ask)) == any, "a call is for any");
+    let handover = Ticket {
+        from: 0,
+        to: 1,
+        number: 1,
+    };
+    let giver = IsFor {
+        zero: true,
+        one: false,
+    };
+    assert!(rt;
+        is_for_each(Message::Got(handover)) == giver,
+        "a Got is for the giver"
+    );
+    assert!(rt;
+        is_for_each(Message::Declined(handover)) == giver,
+        "a Declined is too"
+    );
+    let full = Message::Full {
+        caller: 0,
+        number: 1,
+    };
+    let none = IsFor {
+        zero: false,
+        one: false,
+    };
+    assert!(rt;
+        is_for_each(full) == none,
+        "what is for a caller is for none"
+    );
 }
 
 /// What a node that holds nothing and knows no other sends for a call.

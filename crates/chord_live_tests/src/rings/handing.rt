@@ -6,6 +6,7 @@ use chord_handover::{Part, Ticket};
 use chord_ident::Id;
 use chord_links::Links;
 use chord_live_ring::{Target, deal};
+use chord_live_steps::is_for;
 use chord_map::Request;
 use chord_node::{Message, Node};
 use chord_store::{CappedStore, EntryStore};
@@ -138,6 +139,17 @@ fn twice<S: EntryStore>(rt: &impl Abort, mut node: Node<S>, part: Part) -> (Sent
     let has = had_by(&node);
     drop(node);
     (first, second, has)
+}
+
+#[test]
+fn a_part_is_for_its_receiver(rt: HostRuntime) {
+    let (node, part) = giver(rt.alloc()).expect(&rt, "memory for a handover");
+    drop(node);
+    let message = Message::Part(part);
+    let is_for_giver = is_for(&message, 0);
+    let is_for_receiver = is_for(&message, 1);
+    drop(message);
+    assert!(rt; is_for_receiver && !is_for_giver);
 }
 
 #[test]

@@ -23,8 +23,8 @@ use std::thread;
 use std::thread::Threads;
 use std::time::{Clock, Duration};
 
-/// An identifier between those of `abc` and `eq`, whose first bytes are equal. Node 1 is there where
-/// a client guesses, else at C.
+/// An identifier between those of `abc` and `eq`, whose first bytes are equal. Node 1 is there
+/// where a client guesses, else at C.
 const M: u128 = 0xa99a0000000000000000000000000000;
 
 /// What a test does once the ring is settled.

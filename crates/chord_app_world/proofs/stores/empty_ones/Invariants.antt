@@ -1,6 +1,7 @@
-use Rattle.std.proofs.Common.{◌≡◌, ◌++◌, []}
+use Rattle.std.proofs.Common.{◌≡◌, ◌==◌, ◌++◌, [], length}
+use Rattle.std.specs.List.{filter}
 use Rattle.std.specs.Prelude.{All}
 use Rattle.chord_app_world.proofs.stores.empty_ones.Given as goal
 
 abbrev pub invariant-loop-store : goal.invariant-loop-store
-invariant-loop-store g l = (All (λ s. g.S.EntryStore.content s ≡ []) l.kept.items) × (All (λ s. g.S.EntryStore.content s ≡ []) l.fn.stores.items → l.kept.items ++ l.store-iterator.rest.items ≡ l.fn.stores.items)
+invariant-loop-store g l = (All (λ s. g.S.EntryStore.content s ≡ []) l.kept.items) × (l.kept.items ++ filter (λ s. length (g.S.EntryStore.content s) == 0) l.store-iterator.rest.items ≡ filter (λ s. length (g.S.EntryStore.content s) == 0) l.fn.stores.items)
