@@ -154,8 +154,8 @@ fn store_kind(plan: &Plan, number: usize) -> StoreKind {
     }
 }
 
-/// Does the command `run`, or `serve` if there are options for it. All stores are made here, so that
-/// what is proved of them does not rest on a function that hands them out.
+/// Does the command `run`, or `serve` if there are options for it. All stores are made here, so
+/// that what is proved of them does not rest on a function that hands them out.
 fn start_with_stores<T: Host>(
     rt: &HostRuntime,
     threads: &T,

@@ -37,8 +37,8 @@ pub record IsCounted (request : Request) (before : ℕ) (old : ClientState) (num
 abbrev pub MaySendNoMore : ClientState → Type 0
 MaySendNoMore client = (is_full client ≡ true) ⊎ (client.last + 1 ≡ 2 ^ 64)
 
--- Once its session ended, a request with no answer is given up if it has no tries left, or if it was
--- sent and may have changed something.
+-- Once its session ended, a request with no answer is given up if it has no tries left, or if it
+-- was sent and may have changed something.
 abbrev pub is_lost : Request → ℕ → ℕ → Bool
 is_lost request times tries = nat_le tries times || (not (times == 0) && may_change request)
 

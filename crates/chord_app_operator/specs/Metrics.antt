@@ -1,4 +1,5 @@
--- A ring in Prometheus's text format 0.0.4. Source: our own names; the format is that of Prometheus's documentation.
+-- A ring in Prometheus's text format 0.0.4. Source: our own names; the format is that of
+-- Prometheus's documentation.
 use Rattle.std.specs.Prelude.{ℕ, List, [], ◌∷◌, ◌++◌, length, codes, decimal, Bool, ◌==◌}
 use Rattle.std.specs.List.{flat_map, count_by}
 use Rattle.chord_app_operator.specs.declared.sight.phase.Phase.{Phase}

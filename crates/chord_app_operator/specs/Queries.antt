@@ -1,4 +1,5 @@
--- What the query of `/pairs` asks for. Source: our own; its syntax is that of forms (the URL Standard, section 5).
+-- What the query of `/pairs` asks for. Source: our own; its syntax is that of forms (the URL
+-- Standard, section 5).
 use Rattle.std.specs.Prelude.{ℕ, List, [], ◌∷◌, length, ◌&&◌, ◌==◌, option_and_then, nat_lt, nat_le, codes, bytes_eq, Option, Some, None, Result, Ok, Err, unwrap_or, if◌then◌else◌}
 use Rattle.std.specs.List.{list_all}
 use Rattle.std.specs.Char.{digit_value}

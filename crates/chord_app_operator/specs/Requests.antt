@@ -49,7 +49,8 @@ abbrev pub call_if_named : Parts → List ℕ → Option Resource → Result Ope
 call_if_named head body None = Err NoSuchPath
 call_if_named head body (Some resource) = allowed_call head body resource
 
--- The call that a request makes at a port. Nothing else of a request is looked at where its host or its origin is foreign.
+-- The call that a request makes at a port. Nothing else of a request is looked at where its host or
+-- its origin is foreign.
 abbrev pub requested : ℕ → Parts → List ℕ → Result OperatorCall Refusal
 requested port head body =
     if not (is_for_own_host port head) then Err ForeignHost

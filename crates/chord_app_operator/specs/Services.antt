@@ -1,4 +1,5 @@
--- What a service answers, and what it asks its operator: each request at most one question. Source: our own.
+-- What a service answers, and what it asks its operator: each request at most one question. Source:
+-- our own.
 use Rattle.std.specs.Prelude.{◌≡◌, ◌⊎◌, ℕ, List, Bool, ⊤, codes, Result, Ok, Err}
 use Rattle.std.specs.declared.alloc.AllocError.{AllocError}
 use Rattle.http.specs.declared.request.Request.{Request}
@@ -51,7 +52,8 @@ abbrev pub OrFull : Type 0 → Response → Type 0
 OrFull Shown response = Shown ⊎ IsFull response
 
 module _ {O : Type 0} (answers : O → Question → Answer → O → Type 0) where
-  -- The operator is asked the one question of a call, and the response shows its answer. The page asks nothing.
+  -- The operator is asked the one question of a call, and the response shows its answer. The page
+  -- asks nothing.
   abbrev pub IsAnswered : OperatorCall → O → Response → O → Type 0
   IsAnswered Call.Page old response new = (new ≡ old) × OrFull (IsPage response) response
   IsAnswered Call.Ring old response new =
@@ -78,7 +80,8 @@ module _ {O : Type 0} (answers : O → Question → Answer → O → Type 0) whe
   IsDealtWith (Err refusal) old response new = (new ≡ old) × OrFull (IsRefused refusal response) response
   IsDealtWith (Ok call) old response new = IsAnswered call old response new
 
-  -- What a service at a port does with a request: what the request is read as is what it asks for, unless memory ran out.
+  -- What a service at a port does with a request: what the request is read as is what it asks for,
+  -- unless memory ran out.
   abbrev pub IsServed : ℕ → O → Request (List ℕ) → Response → O → Type 0
   IsServed port old request response new =
       (read : Result OperatorCall Refusal) × UnlessMemory read (requested port (head_of request) (body_of request)) × IsDealtWith read old response new

@@ -1,4 +1,5 @@
--- Which hosts and origins are a port's own. Source: our own, over RFC 9110, section 7.2, and RFC 6454.
+-- Which hosts and origins are a port's own. Source: our own, over RFC 9110, section 7.2, and RFC
+-- 6454.
 use Rattle.std.specs.Prelude.{ℕ, List, ◌++◌, map, length, Bool, not, ◌&&◌, ◌||◌, ◌==◌, codes, bytes_eq, decimal}
 use Rattle.std.specs.List.{list_all}
 use Rattle.std.specs.Option.{option_to_list}
@@ -26,6 +27,7 @@ hosts_of head = option_to_list (uri_authority head.uri) ++ values_of (codes "hos
 abbrev pub is_for_own_host : ℕ → Parts → Bool
 is_for_own_host port head = not (length (hosts_of head) == 0) && list_all (is_own_host port) (hosts_of head)
 
--- each origin that a request names is the port's own; a request that is not sent by a page names none
+-- each origin that a request names is the port's own; a request that is not sent by a page names
+-- none
 abbrev pub is_from_own_origin : ℕ → Parts → Bool
 is_from_own_origin port head = list_all (is_own_origin port) (values_of (codes "origin") head)

@@ -1,4 +1,5 @@
--- The words of requests and answers, and the statuses. Source: our own, over RFC 9110 for methods and statuses.
+-- The words of requests and answers, and the statuses. Source: our own, over RFC 9110 for methods
+-- and statuses.
 use Rattle.std.specs.Prelude.{ℕ, List, Bool, ◌||◌, codes, bytes_eq, Option, Some, None, if◌then◌else◌}
 use Rattle.chord_app_operator.specs.declared.request.store_kind.StoreKind.{StoreKind}
 use Rattle.chord_app_operator.specs.declared.request.store_kind.StoreKind.TheVariants as Kind

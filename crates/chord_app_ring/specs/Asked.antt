@@ -1,4 +1,5 @@
--- What the server of an operator is asked for. Source: our own; the requests are HTTP/1.1 (RFC 9112), their bodies JSON (RFC 8259).
+-- What the server of an operator is asked for. Source: our own; the requests are HTTP/1.1 (RFC
+-- 9112), their bodies JSON (RFC 8259).
 use Rattle.std.specs.Prelude.{ℕ, List, [], ◌∷◌, ◌++◌, length, codes, decimal, true, Option, Some, None, option_map, if◌then◌else◌}
 use Rattle.serde_json.specs.Data.{Data, boolean, string, object, Members, no_members, put}
 use Rattle.serde_json.specs.Written.{compact_text}

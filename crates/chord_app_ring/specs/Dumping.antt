@@ -52,7 +52,8 @@ module _ {T : Type 0} (tells : T → PairsRequest → Result Page RingFault → 
   IsNextPage after first (Err UnderWay) last = Waits tells after first 100 last
   IsNextPage after first (Err Write) last = ⊥
 
--- these are the lines of the pages from the first one on, each asked for behind what the one before it names
+-- these are the lines of the pages from the first one on, each asked for behind what the one before
+-- it names
 pub data Follows {T : Type 0} (tells : T → PairsRequest → Result Page RingFault → T → Type 0) (first : T) : Option Id → List ℕ → T → Type 0 where
   Starts : Follows tells first None [] first
   GoesOn : (after : Option Id) (lines : List ℕ) (page : Page) (next : Id) (before now : T)

@@ -23,7 +23,8 @@ use Rattle.chord_app_text.specs.declared.pair_fault.InsertFault.TheVariants.{Ful
 use Rattle.chord_app_ring.specs.declared.fault.RestoreFault.{RestoreFault}
 use Rattle.chord_app_ring.specs.declared.fault.RestoreFault.TheVariants.{Pair, Insert, Read, Memory}
 
--- a client of version 2 with window 1 that got a reply to each of its requests, with bytes that it has not looked at
+-- a client of version 2 with window 1 that got a reply to each of its requests, with bytes that it
+-- has not looked at
 abbrev pub ready : ℕ → List ℕ → ClientState
 ready last bytes = record { version = 2; window = 1; last = last; awaited = []; refused = []; bytes = bytes }
 

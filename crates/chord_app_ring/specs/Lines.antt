@@ -38,7 +38,8 @@ HasNoLine KeyLength text left' = ⊥
 HasNoLine ValueLength text left' = ⊥
 HasNoLine OtherId text left' = ⊥
 
--- The next line of what was read before and what is read now; or there is none, at the end of the input.
+-- The next line of what was read before and what is read now; or there is none, at the end of the
+-- input.
 abbrev pub IsNextLine : Result (Option (Vec ℕ Global)) RestoreFault → (old : List ℕ) (left left' : Option (List ℕ)) (new : List ℕ) → Type 0
 IsNextLine (Ok (Some line)) old left left' new = (input : List ℕ) × Consumes left left' input × IsLine (old ++ input) line.items new
 IsNextLine (Ok None) old left left' new = (input : List ℕ) × Consumes left left' input × (old ++ input ≡ []) × (new ≡ []) × IsAtEnd left'

@@ -50,8 +50,9 @@ abbrev pub first_behind : Option Id → ℕ
 first_behind None = 0
 first_behind (Some after) = (after.number + 1) % 2 ^ 128
 
--- What follows a page that was asked for from the first identifier on. No pairs, and the identifier before the first:
--- the same page again. Else the page behind one that is not before the first, nor the greatest.
+-- What follows a page that was asked for from the first identifier on. No pairs, and the identifier
+-- before the first: the same page again. Else the page behind one that is not before the first, nor
+-- the greatest.
 abbrev pub turn_from : ℕ → Bool → Option Id → Option PageTurn
 turn_from first empty None = Some End
 turn_from first empty (Some next) =

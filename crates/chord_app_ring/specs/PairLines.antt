@@ -1,4 +1,5 @@
--- The insert that a line of a copy spells, or what is wrong with it. Source: our own, over JSON (RFC 8259).
+-- The insert that a line of a copy spells, or what is wrong with it. Source: our own, over JSON
+-- (RFC 8259).
 use Rattle.std.specs.Prelude.{◌≡◌, ◌⊎◌, ◌<◌, ◌^◌, ℕ, List, length, ◌==◌, ◌||◌, nat_lt, codes, Option, Some, None, Result, Ok, Err, MatchResult, option_and_then, if◌then◌else◌}
 use Rattle.serde_json.specs.Data.{Data}
 use Rattle.serde_json.specs.Find.{get, as_str, as_object}

@@ -21,8 +21,8 @@ RestoresLine (Err Read) line old left left' held held' new = ⊥
 RestoresLine (Ok done) line old left left' held held' new = (request : Request) × (insert_of_line line ≡ Ok request) × IsInserted (Ok done) request old left left' held held' new
 RestoresLine (Err (Insert why)) line old left left' held held' new = (request : Request) × (insert_of_line line ≡ Ok request) × IsInserted (Err (Insert why)) request old left left' held held' new
 
--- The lines of this text, their number, and the frames of the inserts that they spell, in order. The server answered to
--- each that the value is there.
+-- The lines of this text, their number, and the frames of the inserts that they spell, in order.
+-- The server answered to each that the value is there.
 pub data Restores (first : Option (List ℕ)) : (text : List ℕ) (count : ℕ) (frames bytes : List ℕ) (left : Option (List ℕ)) → Type 0 where
   Begins : Restores first [] 0 [] [] first
   Line : (text frames bytes bytes' line : List ℕ) (count : ℕ) (left left' : Option (List ℕ)) (request : Request)
@@ -71,7 +71,8 @@ EndsAt (Insert why) count given given' held held' last text frames bytes left = 
 EndsAt Read count given given' held held' last text frames bytes left = Appends held held' frames
 EndsAt Memory count given given' held held' last text frames bytes left = Unit {0}
 
--- What was asked for, and how it ended: each line's insert, in order, up to the end or to the first line that is not restored.
+-- What was asked for, and how it ended: each line's insert, in order, up to the end or to the first
+-- line that is not restored.
 abbrev pub IsRestored : Result ℕ Unrestored → (given given' left last held held' : Option (List ℕ)) → Type 0
 IsRestored (Ok count) given given' left last held held' = HasRestored count given left held (EndsWell given given' held held' last)
 IsRestored (Err stop) given given' left last held held' =

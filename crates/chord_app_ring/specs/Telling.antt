@@ -1,4 +1,5 @@
--- What an answer tells, by its status and its body. Source: our own, over RFC 9110 (section 15) and RFC 8259.
+-- What an answer tells, by its status and its body. Source: our own, over RFC 9110 (section 15) and
+-- RFC 8259.
 use Rattle.std.specs.Prelude.{◌≡◌, ◌⊎◌, ℕ, List, length, Bool, true, false, ◌==◌, ◌&&◌, nat_lt, nat_le, codes, Option, Some, None, option_map, option_and_then, Result, MatchResult, string_bytes, if◌then◌else◌}
 use Rattle.std.specs.List.{list_all}
 use Rattle.std.specs.Char.{is_ascii_alphabetic}
@@ -66,7 +67,8 @@ IsStrange Ask.Stop body = ⊥
 abbrev pub IsDone : RingCommand → List ℕ → Result Told ReadFault → Type 0
 IsDone command body result = MatchResult result (Tells command body) (λ fault. (fault ≡ Read.Memory) ⊎ ((fault ≡ Read.NotUnderstood) × IsStrange command body))
 
--- why an answer with another status tells nothing: it has the name of a refusal, or is not understood, or memory ran out
+-- why an answer with another status tells nothing: it has the name of a refusal, or is not
+-- understood, or memory ran out
 abbrev pub IsNamed : Option (List ℕ) → RingFault → Type 0
 IsNamed None fault = (fault ≡ NotUnderstood) ⊎ (fault ≡ Memory)
 IsNamed (Some name) fault = (fault ≡ Memory) ⊎ ((text : _) × (fault ≡ Refused text) × (string_bytes text ≡ name))

@@ -32,7 +32,8 @@ store_shown plan.List = kind.List
 store_shown plan.Noted = kind.List
 store_shown (plan.Capped limit) = kind.Capped
 
--- a spare store of this kind is one of the kind, and of the limit if there is one, that is asked for
+-- a spare store of this kind is one of the kind, and of the limit if there is one, that is asked
+-- for
 abbrev pub fits_spare : StoreKind → Option ℕ → PlanStore → Bool
 fits_spare kind.Tree limit plan.Tree = true
 fits_spare kind.List limit plan.List = true

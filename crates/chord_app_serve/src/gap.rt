@@ -27,7 +27,8 @@ impl Gap {
         Gap { after, width }
     }
 
-    /// The widest gap behind one of these identifiers that has none of them. None if there are none.
+    /// The widest gap behind one of these identifiers that has none of them. None if there are
+    /// none.
     pub fn widest(ids: &[Id]) -> Option<Gap>
         ensures { IfSome result (IsFree ids.now) }
     {

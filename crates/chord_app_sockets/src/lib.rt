@@ -2,8 +2,8 @@
 //! [`OperatorPort`]), the open connections ([`Clients`]), how long it waits for each
 //! ([`PatientReader`], [`PatientWriter`]), when a read polls and beside how many others
 //! ([`PollingReader`], [`Pollers`]), how each ends ([`Ended`]) and is closed ([`close_slowly`]),
-//! the lines that it writes ([`Lines`]), when it ends ([`Until`], [`Stop`]), and what its handle may
-//! do ([`Host`]).
+//! the lines that it writes ([`Lines`]), when it ends ([`Until`], [`Stop`]), and what its handle
+//! may do ([`Host`]).
 #![tactic(auto)]
 
 mod clients;

@@ -18,7 +18,8 @@ pub struct OperatorPort<'a> {
     pub keys: RandomState,
 }
 
-/// A plan, the settings of the ring, where clients and operators connect, and where to log how connections end.
+/// A plan, the settings of the ring, where clients and operators connect, and where to log how
+/// connections end.
 #[derive_where(Clone, Copy)]
 pub struct ServerSetup<'a, L> {
     pub alloc: Global,

@@ -1,7 +1,7 @@
 //! What the commands of the program share: how they end ([`Finish`]), the words of a line
-//! ([`Words`]), which word of a line is wrong ([`GrammarFault`]) or of a request ([`WordFault`]), why
-//! a line of a copy of pairs is not restored ([`PairFault`], [`InsertFault`]), and how a line shows
-//! replies ([`ReplyText`]).
+//! ([`Words`]), which word of a line is wrong ([`GrammarFault`]) or of a request ([`WordFault`]),
+//! why a line of a copy of pairs is not restored ([`PairFault`], [`InsertFault`]), and how a line
+//! shows replies ([`ReplyText`]).
 #![tactic(auto)]
 
 mod finish;

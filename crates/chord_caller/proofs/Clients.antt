@@ -21,7 +21,8 @@ use Rattle.chord_caller.proofs.Places.{got_last, got_set_same, got_set_other, ei
 abbrev pub with_waiting : Request → Client → Client
 with_waiting request client = record client { states = client.states ++ Waiting request ∷ [] }
 
--- the pending request of this number is over, no other changed, and the floor is as high as it can be
+-- the pending request of this number is over, no other changed, and the floor is as high as it can
+-- be
 pub record IsEnded (number : ℕ) (request : Request) (old new : Client) : Type 0 where
   pub place : ℕ
   pub number_is : number ≡ suc place

@@ -27,8 +27,8 @@ deed_at_ask (Some kind.Ask) = deed.Forwarded
 deed_at_ask (Some kind.Full) = deed.Full
 deed_at_ask other = deed.Dropped
 
--- What a node did with a message of this kind, by the kind of the message that it sent, and how many
--- segments it held before and after. It took a segment, or took one back, if it holds more.
+-- What a node did with a message of this kind, by the kind of the message that it sent, and how
+-- many segments it held before and after. It took a segment, or took one back, if it holds more.
 abbrev pub deed_of : MessageKind → Option MessageKind → ℕ → ℕ → Option Deed
 deed_of kind.Ask sent before after = Some (deed_at_ask sent)
 deed_of kind.Part sent before after = if nat_lt before after then Some deed.Took else None

@@ -121,8 +121,8 @@ impl<J: Naming> Gathering<J> {
         }
     }
 
-    /// Looks at all seats. They are whole if they are the ring's `nodes` nodes and `callers` callers,
-    /// each kind by rising number.
+    /// Looks at all seats. They are whole if they are the ring's `nodes` nodes and `callers`
+    /// callers, each kind by rising number.
     fn finish(self, table: &Shared<J>, nodes: u64, callers: u64) -> Closed<J>
         requires nodes { self.seats.register.nodes ≡ numbers_below nodes }
         requires callers { self.seats.register.callers ≡ numbers_below callers }
@@ -141,9 +141,9 @@ impl<J: Naming> Gathering<J> {
 }
 
 impl<J: Naming, S: EntryStore> Ring<J, S> {
-    /// Ends the ring. Its nodes are dropped, with their stores and the envelopes under way. One look
-    /// at all their seats and at those of these callers proves that they are of one reachable world,
-    /// and the whole of it if the callers are all that the ring admitted, by rising number.
+    /// Ends the ring. Its nodes are dropped, with their stores and the envelopes under way. One
+    /// look at all their seats and at those of these callers proves that they are of one reachable
+    /// world, and the whole of it if the callers are all that the ring admitted, by rising number.
     pub fn close_with(self, callers: Vec<ReturnedCaller<J>>) -> Closed<J>
         ensures callers { callers_among result.seats.taken ≡ map (λ (c : CallerSight). c.caller) callers.items }
         ensures shown { AssemblyShown result.seats }

@@ -35,8 +35,8 @@ const PIECE_PAIRS: u64 = 1024;
 const PARTS_A_TICK: u64 = 16;
 
 impl<J: Naming, S: EntryStore> Ring<J, S> {
-    /// Gives a piece of the held segment at this index, which ends here, to the node that it belongs
-    /// to, if that stays.
+    /// Gives a piece of the held segment at this index, which ends here, to the node that it
+    /// belongs to, if that stays.
     pub(crate) fn give_to_holder(
         &self,
         rt: &impl Wait,
@@ -74,8 +74,8 @@ impl<J: Naming, S: EntryStore> Ring<J, S> {
         }
     }
 
-    /// Puts a piece into the outbox, unless one that waits there goes to the same node: what is in an
-    /// outbox is held by nobody.
+    /// Puts a piece into the outbox, unless one that waits there goes to the same node: what is in
+    /// an outbox is held by nobody.
     fn give_first(
         &self,
         rt: &impl Wait,
@@ -101,8 +101,8 @@ impl<J: Naming, S: EntryStore> Ring<J, S> {
         }
     }
 
-    /// Sends parts of an outbox item, from this one on, `most` at most. Answers whether it sent that
-    /// many, so that there may be more.
+    /// Sends parts of an outbox item, from this one on, `most` at most. Answers whether it sent
+    /// that many, so that there may be more.
     fn send_parts(
         &self,
         rt: &impl Wait,

@@ -2,11 +2,11 @@
 //!
 //! A [`Ring`] has a slot for each node and an inbox for each node and each caller. It starts no
 //! thread: its user calls [`Ring::work`] for each node on a thread of its own, and [`Ring::tick`]
-//! for each now and then. Each node's lock holds the node with its seat of the table, and each message under
-//! way is an envelope.
+//! for each now and then. Each node's lock holds the node with its seat of the table, and each
+//! message under way is an envelope.
 //!
-//! Who asks the ring is admitted by [`Ring::admit_caller`] or [`Ring::admit_client`], which give the
-//! core of a caller and its seat. [`Ring::post`] and [`Ring::hear`] send and wait, and
+//! Who asks the ring is admitted by [`Ring::admit_caller`] or [`Ring::admit_client`], which give
+//! the core of a caller and its seat. [`Ring::post`] and [`Ring::hear`] send and wait, and
 //! [`Ring::carry`] does the nodes' events on the calling thread. `chord_live` has such callers.
 #![tactic(auto)]
 

@@ -27,8 +27,8 @@ use chord_table::{Envelope, Naming, NodeSeat, Shared};
 use std::alloc::{AllocError, Global};
 use std::marker::Model;
 
-/// A node, the seat that shows it, and counts of what it did. Contracts see what the seat shows, and
-/// the counts.
+/// A node, the seat that shows it, and counts of what it did. Contracts see what the seat shows,
+/// and the counts.
 #[derive(Drop)]
 pub struct SeatedNode<J: Naming, S: EntryStore> {
     node: Node<S>,
@@ -359,9 +359,9 @@ impl<J: Naming, S: EntryStore> SeatedNode<J, S> {
         Ok((number, envelope))
     }
 
-    /// Puts a piece of the held segment at this index into the outbox, or all of it if it has no more,
-    /// and sends the first part. A piece has at most `most` pairs, but for more of one identifier.
-    /// Gives the item's number with it.
+    /// Puts a piece of the held segment at this index into the outbox, or all of it if it has no
+    /// more, and sends the first part. A piece has at most `most` pairs, but for more of one
+    /// identifier. Gives the item's number with it.
     pub fn give_piece(
         &mut self,
         table: &Shared<J>,

@@ -80,8 +80,8 @@ impl<J: Naming, S: EntryStore> Ring<J, S> {
         }
     }
 
-    /// Takes in a node's envelopes and posts what it sends, until the ring is stopped or the node is
-    /// no member any more. From then on its ticks take in what comes.
+    /// Takes in a node's envelopes and posts what it sends, until the ring is stopped or the node
+    /// is no member any more. From then on its ticks take in what comes.
     pub fn work<R: Wait + Clock, G: Probe>(
         &self,
         rt: &R,

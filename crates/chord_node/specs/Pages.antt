@@ -40,8 +40,8 @@ rest_from first span = record {
   upto = if nat_le first.number span.upto.number then span.upto else last_id;
 }
 
--- A page of the span ends at the first identifier that makes it one of at least `limit` pairs, so all
--- pairs of an identifier are in one page; or at the end of the span, where none before it does.
+-- A page of the span ends at the first identifier that makes it one of at least `limit` pairs, so
+-- all pairs of an identifier are in one page; or at the end of the span, where none before it does.
 abbrev pub EndsAt : Span → ℕ → List Pair → Id → Type 0
 EndsAt span limit pairs end =
     ((cuts span end ≡ true) × (limit ≤ length (pairs_inside (part_up_to span end) pairs)) × CutsLeaveFewer (part_up_to span end) limit pairs)

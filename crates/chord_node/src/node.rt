@@ -262,8 +262,8 @@ impl<S: EntryStore> Node<S> {
         }
     }
 
-    /// Where a cut of the span leaves at least `n` and at most `most` of the node's pairs before it; or
-    /// else where the first cut leaves at least `n`, or none if no cut does.
+    /// Where a cut of the span leaves at least `n` and at most `most` of the node's pairs before
+    /// it; or else where the first cut leaves at least `n`, or none if no cut does.
     pub fn cut_after(&self, span: &Span, n: u64, most: u64) -> Option<Id>
         requires { 0 < n }
         ensures { CutAfterIs span.now n most self.now.entries result }
@@ -275,8 +275,8 @@ impl<S: EntryStore> Node<S> {
     }
 
     /// A page of the node's pairs from the identifier `first` on, if the node holds that. It has at
-    /// least `limit` pairs, or all that the held segment has up to the greatest identifier. The last
-    /// identifier alone may bring it above `limit`.
+    /// least `limit` pairs, or all that the held segment has up to the greatest identifier. The
+    /// last identifier alone may bring it above `limit`.
     pub fn pairs_from(
         &self,
         alloc: Global,

@@ -1,5 +1,5 @@
--- How a client writes a command. Source: the published RESP specification, version 2; the limits are
--- our own.
+-- How a client writes a command. Source: the published RESP specification, version 2; the limits
+-- are our own.
 use Rattle.std.specs.Prelude.{◌≢◌, ℕ, ◌<◌, ◌≤◌, List, [], ◌∷◌, ◌++◌, length, slice_index, decimal}
 use Rattle.std.specs.List.{flat_map, AllByRecursion}
 

@@ -94,8 +94,8 @@ module _ {A : Type 0} (answers : A → Question → Asked → A → Type 0) wher
   AsksOn more (Ok t) n a result n' a' = more t
   AsksOn more (Err s) n a result n' a' = (result ≡ Err s) × (n' ≡ n) × (a' ≡ a)
 
-  -- The requests are asked once each and in order, up to the first that is not done; with what their
-  -- answers come to, and the numbers afterwards.
+  -- The requests are asked once each and in order, up to the first that is not done; with what
+  -- their answers come to, and the numbers afterwards.
   abbrev pub AsksFrom : Numbers → A → Tally → List Request → Result Tally Stopped → Numbers → A → Type 0
   AsksFrom n a t [] result n' a' = (result ≡ Ok t) × (n' ≡ n) × (a' ≡ a)
   AsksFrom n a t (r ∷ rest) result n' a' = (answer : Asked) × (b : A) × answers a (Ask r) answer b

@@ -125,8 +125,9 @@ module _ {A : Type 0} (answers : A → Question → Asked → A → Type 0) (tel
     pub done : ((next : Reading) × (numbers : Numbers) × AnswersSome n a input whole next numbers a')
         ⊎ ((end : Served) × IsEnded end n a input whole a')
 
-  -- What a connection read and wrote when it ended in this way: the answers to the commands that its
-  -- input spells, each question asked once and in order. At Write it wrote a prefix of its output.
+  -- What a connection read and wrote when it ended in this way: the answers to the commands that
+  -- its input spells, each question asked once and in order. At Write it wrote a prefix of its
+  -- output.
   abbrev pub IsAnswered : Served → Numbers → A → List ℕ → List ℕ → A → Type 0
   IsAnswered served.Ended n a input output a' = (state : State) × (is_at_start state.phase ≡ true) × AnswersWhole n a input output state a'
   IsAnswered served.Truncated n a input output a' = (state : State) × (is_at_start state.phase ≡ false) × AnswersWhole n a input output state a'

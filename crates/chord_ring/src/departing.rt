@@ -95,8 +95,8 @@ fn has_principal<M: MemberReader>(members: &M, gone: u64) -> bool
     false
 }
 
-/// Whether node `number` is a member and, once it has departed, each member's list has a live entry and
-/// there is a principal. At worst it reads each list once for each member.
+/// Whether node `number` is a member and, once it has departed, each member's list has a live entry
+/// and there is a principal. At worst it reads each list once for each member.
 pub fn can_depart_in<M: MemberReader>(members: &M, number: u64) -> bool
     ensures { IsTrue result ↔ CanDepart (M.ring members.now).members number }
 {

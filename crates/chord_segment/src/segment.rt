@@ -57,8 +57,8 @@ impl Segment {
         Span::new(self.span.after, self.span.upto)
     }
 
-    /// The callers that the segment has room for or knows, sorted by number, each with its floor and
-    /// its kept calls.
+    /// The callers that the segment has room for or knows, sorted by number, each with its floor
+    /// and its kept calls.
     pub fn callers(&self) -> &[CallerReplies]
         ensures floors { marks_in result.now ≡ self.now.segment.floors }
         ensures kept { calls_in result.now ≡ self.now.segment.kept }

@@ -73,8 +73,8 @@ fn read_more<R: Read>(reader: &mut R, answers: &mut Answers) -> Result<Option<An
     }
 }
 
-// The first answer, in at most `turns` reads, of at most 4,096 bytes each. The contract counts bytes;
-// tests count reads.
+// The first answer, in at most `turns` reads, of at most 4,096 bytes each. The contract counts
+// bytes; tests count reads.
 pub(crate) fn await_answer<R: Read>(
     reader: &mut R,
     answers: &mut Answers,

@@ -8,7 +8,8 @@ use crate::due::Due;
 use crate::served::Served;
 use std::alloc::{AllocError, Global};
 
-/// One side of a connection: it takes bytes in, asks its asker, and adds the answers to what is due.
+/// One side of a connection: it takes bytes in, asks its asker, and adds the answers to what is
+/// due.
 pub trait Dialogue {
     /// A piece of the input came, which leaves the next state.
     ghost hears: { Self → List ℕ → Self → Type 0 };

@@ -3,14 +3,12 @@
 //! [`serve`] reads the frames of one connection, asks an [`Asker`] each request once, and writes
 //! the answers: a reply, a fault, or, for a number that was answered before, the same frame again.
 //! A session may outlive its connection: [`greet`] says how a connection begins, [`serve_session`]
-//! serves it with a [`ClientSession`] and gives this back, and a [`SessionTable`] has the sessions of
-//! a server: those that connections have, and those without one, the [`KeptSessions`].
+//! serves it with a [`ClientSession`] and gives this back, and a [`SessionTable`] has the sessions
+//! of a server: those that connections have, and those without one, the [`KeptSessions`].
 //! [`Served`] says why the session ended. [`tell_callers_spent`] is what a client is told whose
-//! connection is not served.
-//! The other end is [`call`], which sends one request and waits,
-//! or a [`WireClient`], which has up to 16 requests in flight, and whose session may go on over
-//! another connection.
-//! [`laws`] says that the output does not depend on how the input was cut.
+//! connection is not served. The other end is [`call`], which sends one request and waits, or a
+//! [`WireClient`], which has up to 16 requests in flight, and whose session may go on over another
+//! connection. [`laws`] says that the output does not depend on how the input was cut.
 #![tactic(auto)]
 
 mod asker;

@@ -97,9 +97,10 @@ fn take_turn<D: Dialogue, R: Read, W: Write>(
 }
 
 /// Answers the requests from the reader until the input ends, a request ends the dialogue,
-/// a call fails, or `turns` reads of this size were made; the contract says how many bytes these may
-/// take, and tests count the reads. The answers to the requests of one read are written together, or
-/// whenever they are more than 65,536 bytes. They are also written if a request ends the dialogue.
+/// a call fails, or `turns` reads of this size were made; the contract says how many bytes these
+/// may take, and tests count the reads. The answers to the requests of one read are written
+/// together, or whenever they are more than 65,536 bytes. They are also written if a request ends
+/// the dialogue.
 pub fn converse<D: Dialogue, R: Read, W: Write>(
     alloc: Global,
     dialogue: &mut D,

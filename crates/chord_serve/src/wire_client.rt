@@ -58,8 +58,8 @@ pub enum ReceiveFault {
     CallersSpent,
 }
 
-/// Has up to its window of requests in flight. After a fault of reading or writing the connection is
-/// of no more use; a session that an open began can be resumed over another one.
+/// Has up to its window of requests in flight. After a fault of reading or writing the connection
+/// is of no more use; a session that an open began can be resumed over another one.
 #[derive(Debug, Drop)]
 pub struct WireClient {
     version: u8,

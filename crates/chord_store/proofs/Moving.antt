@@ -9,7 +9,8 @@ use Rattle.chord_map.proofs.Equal.{eqb_same}
 use Rattle.chord_store.specs.declared.slot.Slot.{Slot}
 use Rattle.chord_store.specs.Shelf.{or_find}
 
--- each slot is in one of the two, the upper map has those from the number on alone, and what is done has left the lower
+-- each slot is in one of the two, the upper map has those from the number on alone, and what is
+-- done has left the lower
 pub record IsMoved (old low up : ℕ → Option Slot) (half : ℕ) (done : List ℕ) : Type 0 where
   pub both : (q : ℕ) → or_find (low q) (up q) ≡ old q
   pub above : (q : ℕ) → leb half q ≡ false → up q ≡ None

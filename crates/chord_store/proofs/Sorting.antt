@@ -14,7 +14,8 @@ use Rattle.chord_map.proofs.Ordered.{rises_from_rising}
 use Rattle.chord_map.proofs.Placed.{same_pairs}
 use Rattle.chord_store.specs.Copied.{AreCopies}
 
--- of two pairs that differ, the second of which is not below the first, the first is below the second
+-- of two pairs that differ, the second of which is not below the first, the first is below the
+-- second
 below_by : (x y : Pair) (r : Ordering) → pair_cmp x y ≡ r → is_lt (pair_cmp y x) ≡ false → same_pair x y ≡ false → pair_cmp x y ≡ Less
 below_by x y Less is ups apart = is
 below_by x y Equal is ups apart = absurd (true≢false (sym (is_same x y (tied_same x y is)) ∙ apart))

@@ -30,7 +30,8 @@ or_find None o = o
 abbrev pub Has : Shard → ℕ → Type 0
 Has shard id = IsSome (find nat_cmp id shard.slots.entries)
 
--- The shards rise by their firsts, and each has identifiers from its first up to the later ones alone.
+-- The shards rise by their firsts, and each has identifiers from its first up to the later ones
+-- alone.
 pub record InPlace (shards : List Shard) : Type 0 where
   pub rises : IsNonDecreasingBy first_of shards
   pub from : (i : ℕ) (d : Shard) (id : ℕ) → i < length shards → Has (slice_index_or shards i d) id → first_of (slice_index_or shards i d) ≤ id
@@ -44,7 +45,8 @@ slots_of shards = from_entries (entries_of shards)
 abbrev pub IsHome : List Shard → ℕ → ℕ → Type 0
 IsHome shards id place = (place < length shards) × IsPartitionPoint (λ s. leb (first_of s) id ≡ true) (λ s. leb (first_of s) id ≡ false) shards (place + 1)
 
--- What an insert does at an identifier: into its slot, or by a new slot; out of memory changes nothing.
+-- What an insert does at an identifier: into its slot, or by a new slot; out of memory changes
+-- nothing.
 abbrev pub OpensIs : {E : Type 0} → List ℕ → List ℕ → Option Slot → Result (Option Inserted) E → Option Slot → Type 0
 OpensIs key value (Some old) r (Some new) = SlotInsertIs key value old r new
 OpensIs key value (Some old) r None = ⊥
@@ -56,7 +58,8 @@ OpensIs key value None (Ok (Some Added)) None = ⊥
 OpensIs key value None (Err e) None = Unit {0}
 OpensIs key value None (Err e) (Some new) = ⊥
 
--- What a remove of a value, which is not the only one of its key, does at an identifier: the slot stays, with its key.
+-- What a remove of a value, which is not the only one of its key, does at an identifier: the slot
+-- stays, with its key.
 abbrev pub LosesIs : List ℕ → List ℕ → Option Slot → Option Slot → Type 0
 LosesIs key value (Some old) (Some new) =
     (new.key ≡ old.key) × Loses value (slot_values key (Some old)) (slot_values key (Some new))

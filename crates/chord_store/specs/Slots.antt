@@ -49,8 +49,8 @@ SlotInsertIs key value old (Ok None) new = (bytes_eq key old.key ≡ false) × (
 SlotInsertIs {E} key value old (Ok (Some did)) new = (new.key ≡ key) × (old.key ≡ key) × SetInsertIs {E = E} value old.set.values (Ok did) new.set.values
 SlotInsertIs key value old (Err e) new = (new.key ≡ key) × (old.key ≡ key) × SetInsertIs value old.set.values (Err e) new.set.values
 
--- An insert into the slots: none where another key has its identifier. Then they have nothing of the
--- key, and nothing changed.
+-- An insert into the slots: none where another key has its identifier. Then they have nothing of
+-- the key, and nothing changed.
 abbrev pub PlaceIs : {E : Type 0} → Pair → List Pair → Result (Option Inserted) E → List Pair → Type 0
 PlaceIs pair pairs (Ok None) pairs' = (values_at pair.key pairs ≡ []) × (pairs' ≡ pairs)
 PlaceIs {E} pair pairs (Ok (Some did)) pairs' = AddIs {E = E} pair pairs (Ok did) pairs'

@@ -83,9 +83,9 @@ fn steps_to<C: CountSpan>(counted: &C, after: Id, most: u128, n: u64, limit: u64
     high
 }
 
-/// An identifier of the span at which a cut leaves at least `n` and at most `limit` pairs before it;
-/// or else the first one at which a cut leaves at least `n`, or none where no cut does. It looks at
-/// parts of the span twice as large each time, and then at halves between them.
+/// An identifier of the span at which a cut leaves at least `n` and at most `limit` pairs before
+/// it; or else the first one at which a cut leaves at least `n`, or none where no cut does. It
+/// looks at parts of the span twice as large each time, and then at halves between them.
 pub fn cut_after<C: CountSpan>(counted: &C, span: Span, n: u64, limit: u64) -> Option<Id>
     requires { 0 < n }
     ensures cut { IfSome result (λ at. cuts span at ≡ true) }

@@ -1,10 +1,10 @@
 //! What running threads know of one world of nodes and callers.
 //!
 //! One table is shared by all threads. Each node and each caller has a seat of it ([`NodeSeat`],
-//! [`CallerSeat`]), and each message under way is a [`Envelope`] with a seat of its own. What a seat
-//! shows is data that only proofs see: the actor's state, and messages that were sent. The rule of
-//! the table is that at every moment its seats show a reachable world, so the theorem over worlds
-//! holds of what threads see.
+//! [`CallerSeat`]), and each message under way is a [`Envelope`] with a seat of its own. What a
+//! seat shows is data that only proofs see: the actor's state, and messages that were sent. The
+//! rule of the table is that at every moment its seats show a reachable world, so the theorem over
+//! worlds holds of what threads see.
 //!
 //! A [`Registrar`] admits nodes and callers. A node that answered a call says so to its seat, which
 //! gives the reply as an envelope: `let envelope = seat.send(&table, &node, Message::Told(told));`.

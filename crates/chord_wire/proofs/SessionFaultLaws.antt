@@ -98,7 +98,8 @@ module _ {X Y : Type 0} (is_own : ℕ → ℕ → Bool) (own_in : ℕ → List �
   own_reads : (version op : ℕ) (rest : List ℕ) → Own version op → in_session is_own own_in plain_in of_plain (version ∷ op ∷ rest) ≡ own_in op rest
   own_reads version op rest own = rw (test version op own) refl
 
-  -- a fault is one of a session's own frame, or of a plain one, and then no head of the bytes is that of an own one
+  -- a fault is one of a session's own frame, or of a plain one, and then no head of the bytes is
+  -- that of an own one
   either_fault : {least most : ℕ} {bytes : List ℕ} (head : Head least most bytes) (f : WireFault) → most < 2 ^ 32 → in_session is_own own_in plain_in of_plain (body_of head) ≡ Err f
       → (Own head.version head.op × (own_in head.op (to_be_bytes w64 head.number ++ head.fields) ≡ Err f))
       ⊎ (((there : Head least most bytes) → ¬ Own there.version there.op) × (plain_in (body_of head) ≡ Err f))

@@ -91,8 +91,8 @@ impl<'t, 's, 'r, J: Naming, S: EntryStore, R: Wait + Clock> RingOperator<'t, 's,
         }
     }
 
-    /// Makes a node join with a spare store. One node joins at a time. Who ticks the nodes starts its
-    /// worker.
+    /// Makes a node join with a spare store. One node joins at a time. Who ticks the nodes starts
+    /// its worker.
     pub fn join_one(&self, request: JoinRequest) -> Result<u64, JoinRefusal>
         ensures { IfOk result (λ number. (1 ≤ number) × (number < self.now.ring.now.slots)) }
     {

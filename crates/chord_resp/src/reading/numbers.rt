@@ -6,7 +6,8 @@ use crate::limits::{DIGITS, LONG_WORD_BYTES, WORDS};
 use crate::reading::phase::Phase;
 use crate::reading::protocol_error::ProtocolError;
 
-/// The number with one more digit. None if the byte is no digit or the number would be above `most`.
+/// The number with one more digit. None if the byte is no digit or the number would be above
+/// `most`.
 fn longer(most: u32, number: u32, byte: u8) -> Option<u32>
     ensures { result ≡ longer most number byte }
 {

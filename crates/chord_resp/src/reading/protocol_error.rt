@@ -7,6 +7,7 @@ pub enum ProtocolError {
     NoDollar(u8),
     /// The length of a word is no number or above 1,048,576, or no `\r\n` is behind the word.
     BadLength,
-    /// An inline command has more than 65,536 bytes or 1,024 words, or a number more than 32 digits.
+    /// An inline command has more than 65,536 bytes or 1,024 words, or a number more than 32
+    /// digits.
     TooLong,
 }
