@@ -1,9 +1,12 @@
 //! What tests of an operator and of `chord ring` share: a node that holds nothing, as
-//! `empty_node(alloc, 3, 0, Phase::Gone)`.
+//! `empty_node(alloc, 3, 0, Phase::Gone)`, and a ring without nodes.
 
-use chord_app_operator::{AskCounts, HandoverCounts, NodeSight, Phase, StoreKind};
+use chord_app_operator::{
+    AskCounts, CallerCounts, EndCounts, HandoverCounts, NodeSight, Phase, RingSight, SessionCounts,
+    StoreKind,
+};
 use chord_ident::Id;
-use std::alloc::Global;
+use std::alloc::{AllocError, Global};
 
 const NO_ASKS: AskCounts = AskCounts {
     told: 0,
@@ -34,5 +37,57 @@ pub fn empty_node(alloc: Global, node: u64, number: u128, phase: Phase) -> NodeS
         asks: NO_ASKS,
         handovers: NO_HANDOVERS,
         ticks: 0,
+    }
+}
+
+/// The node, if it got its lists.
+pub fn filled(outcome: Result<(), AllocError>, node: NodeSight) -> Result<NodeSight, AllocError> {
+    match outcome {
+        Ok(()) => Ok(node),
+        Err(refused) => {
+            drop(node);
+            Err(refused)
+        }
+    }
+}
+
+/// A ring without nodes, each of whose counts is another number.
+pub fn empty_ring(alloc: Global) -> RingSight {
+    RingSight {
+        successors: 4,
+        slots: 16,
+        callers: CallerCounts { open: 3, all: 64 },
+        connections: 5,
+        ends: EndCounts {
+            ended: 10,
+            truncated: 11,
+            malformed: 12,
+            protocol: 13,
+            read: 14,
+            write: 15,
+            turns_spent: 16,
+            memory: 17,
+            callers_spent: 18,
+            idle: 19,
+        },
+        sessions: SessionCounts {
+            kept: 20,
+            resumed: 21,
+            dropped: 22,
+            refused: 23,
+        },
+        uptime_ms: 12345,
+        nodes: Vec::new(alloc),
+    }
+}
+
+/// The ring, if it got its nodes.
+pub fn peopled(outcome: Result<(), AllocError>, ring: RingSight) -> Result<RingSight, AllocError> {
+    match outcome {
+        Ok(()) => Ok(ring),
+        Err(refused) => {
+            drop(ring);
+            Err(refused)
+        }
     }
 }

@@ -3,7 +3,7 @@ ghost use Rattle.std.specs.Prelude.{◌≡◌, ◌≢◌, ℕ, Contains, IfOk, R
 ghost use Rattle.chord_caller.specs.Answers.{is_pending, PendingIs, RefusalIs, ResendIs, SubmitIs};
 ghost use Rattle.chord_caller.specs.Caller.{Caller, floor_of, fresh_for};
 ghost use Rattle.chord_live_types.specs.declared.caller.WaitFault.{WaitFault};
-ghost use Rattle.chord_live_types.specs.declared.caller.WaitFault.TheVariants.{Full as WaitFull, NoAnswer as WaitNoAnswer};
+ghost use Rattle.chord_live_types.specs.declared.caller.WaitFault.TheVariants.{Full as WaitFull, Memory as WaitMemory, NoAnswer as WaitNoAnswer};
 ghost use Rattle.chord_map.specs.declared.reply.Reply.{Reply};
 ghost use Rattle.chord_model.specs.declared.message.Message.TheVariants.{Told as ToldMessage};
 
@@ -66,6 +66,7 @@ pub trait AskingCore: Drop {
         ensures messages { seat.new.messages ≡ seat.old.messages }
         ensures ends { ends number seat.old.caller result seat.new.caller }
         ensures not_full { result ≢ Err WaitFull }
+        ensures memory { result ≡ Err WaitMemory → told.number ≡ number }
         ensures answered { told.number ≡ number → result ≡ Err WaitNoAnswer → fresh_for told seat.old.caller ≡ None };
 
     /// A wait that changes nothing may end without a reply.

@@ -6,7 +6,7 @@ ghost use Rattle.chord_caller.specs.declared.told.Told.{Told as ToldOf};
 ghost use Rattle.chord_caller.specs.declared.ask.Ask.{Ask as AskOf};
 ghost use Rattle.chord_live_steps.specs.Begun.{IsCallOf, Submitted};
 ghost use Rattle.chord_live_steps.specs.Ending.{Ended};
-ghost use Rattle.chord_live_types.specs.declared.caller.WaitFault.TheVariants.{Full as WaitFull, NoAnswer as WaitNoAnswer};
+ghost use Rattle.chord_live_types.specs.declared.caller.WaitFault.TheVariants.{Full as WaitFull, Memory as WaitMemory, NoAnswer as WaitNoAnswer};
 ghost use Rattle.chord_model.specs.declared.message.Message.TheVariants.{Ask as AskMessage, Full as FullMessage, Told as ToldMessage};
 ghost use Rattle.chord_table.specs.Shown.{CallerShown};
 
@@ -148,6 +148,7 @@ impl<J: Naming, C: AskingCore> SeatedCore<J, C> {
         ensures change { C.ends number self.old.caller result self.new.caller }
         ensures full { (result ≡ Err WaitFull) ↔ (envelope ≡ FullMessage self.new.caller.number number) }
         ensures answered { (told : ToldOf) → envelope ≡ ToldMessage told → told.number ≡ number → result ≡ Err WaitNoAnswer → fresh_for told self.old.caller ≡ None }
+        ensures memory { result ≡ Err WaitMemory → (told : ToldOf) × (envelope ≡ ToldMessage told) × (told.number ≡ number) }
     {
         let own = self.core.number();
         match self.seat.receive(table, envelope) {
@@ -172,6 +173,7 @@ impl<J: Naming, C: AskingCore> SeatedCore<J, C> {
     ) -> Result<Reply, WaitFault>
         ensures ended { Ended C.ends number self.old result self.new }
         ensures answered { (told : ToldOf) → envelope ≡ ToldMessage told → told.number ≡ number → result ≡ Err WaitNoAnswer → fresh_for told self.old.caller ≡ None }
+        ensures memory { result ≡ Err WaitMemory → (told : ToldOf) × (envelope ≡ ToldMessage told) × (told.number ≡ number) }
     {
         self.receive(table, envelope, number)
     }

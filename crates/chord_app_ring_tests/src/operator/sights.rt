@@ -1,9 +1,8 @@
 //! A ring of one node, and one that crashed.
 
-use crate::samples::empty_node;
+use crate::samples::{empty_node, empty_ring, filled, peopled};
 use chord_app_operator::{
-    AskCounts, CallerCounts, EndCounts, HandoverCounts, NodeSight, OutboxSight, Phase, RingSight,
-    SegmentSight, SessionCounts, StoreKind,
+    AskCounts, HandoverCounts, NodeSight, OutboxSight, Phase, RingSight, SegmentSight, StoreKind,
 };
 use chord_ident::{Id, Span};
 use std::alloc::{AllocError, Global};
@@ -40,13 +39,7 @@ fn staying(alloc: Global) -> Result<NodeSight, AllocError> {
         declined: 0,
     };
     node.ticks = 42;
-    match fill(&mut node) {
-        Ok(()) => Ok(node),
-        Err(refused) => {
-            drop(node);
-            Err(refused)
-        }
-    }
+    filled(fill(&mut node), node)
 }
 
 fn crashed(alloc: Global) -> NodeSight {
@@ -62,46 +55,11 @@ fn put_nodes(alloc: Global, nodes: &mut Vec<NodeSight>) -> Result<(), AllocError
     Ok(nodes.push(crashed(alloc))?)
 }
 
-/// The ring without nodes.
-fn empty_ring(alloc: Global) -> RingSight {
-    RingSight {
-        successors: 4,
-        slots: 16,
-        callers: CallerCounts { open: 3, all: 64 },
-        connections: 5,
-        ends: EndCounts {
-            ended: 10,
-            truncated: 11,
-            malformed: 12,
-            protocol: 13,
-            read: 14,
-            write: 15,
-            turns_spent: 16,
-            memory: 17,
-            callers_spent: 18,
-            idle: 19,
-        },
-        sessions: SessionCounts {
-            kept: 20,
-            resumed: 21,
-            dropped: 22,
-            refused: 23,
-        },
-        uptime_ms: 12345,
-        nodes: Vec::new(alloc),
-    }
-}
-
 /// The ring.
 pub fn ring(alloc: Global) -> Result<RingSight, AllocError> {
     let mut ring = empty_ring(alloc);
-    match put_nodes(alloc, &mut ring.nodes) {
-        Ok(()) => Ok(ring),
-        Err(refused) => {
-            drop(ring);
-            Err(refused)
-        }
-    }
+    let outcome = put_nodes(alloc, &mut ring.nodes);
+    peopled(outcome, ring)
 }
 
 /// The same as JSON, each object's members in the order of their names.

@@ -1,9 +1,8 @@
 //! A ring of two nodes, one of which gives the other a part of what it holds, and one that crashed.
 
-use crate::samples::empty_node;
+use crate::samples::{empty_node, empty_ring, filled, peopled};
 use chord_app_operator::{
-    AskCounts, CallerCounts, EndCounts, HandoverCounts, NodeSight, OutboxSight, Phase, RingSight,
-    SegmentSight, SessionCounts, StoreKind,
+    AskCounts, HandoverCounts, NodeSight, OutboxSight, Phase, RingSight, SegmentSight, StoreKind,
 };
 use chord_ident::{Id, Span};
 use std::alloc::{AllocError, Global};
@@ -55,17 +54,6 @@ fn giving(alloc: Global) -> Result<NodeSight, AllocError> {
     filled(fill_giving(&mut node), node)
 }
 
-/// The node, if it got its lists.
-fn filled(outcome: Result<(), AllocError>, node: NodeSight) -> Result<NodeSight, AllocError> {
-    match outcome {
-        Ok(()) => Ok(node),
-        Err(refused) => {
-            drop(node);
-            Err(refused)
-        }
-    }
-}
-
 /// Puts in the segments of the node that leaves.
 fn fill_leaving(node: &mut NodeSight) -> Result<(), AllocError> {
     node.segments.push(SegmentSight {
@@ -101,44 +89,9 @@ fn put_nodes(alloc: Global, nodes: &mut Vec<NodeSight>) -> Result<(), AllocError
     Ok(nodes.push(empty_node(alloc, 3, 0, Phase::Gone))?)
 }
 
-/// The ring without nodes.
-fn empty_ring(alloc: Global) -> RingSight {
-    RingSight {
-        successors: 4,
-        slots: 16,
-        callers: CallerCounts { open: 3, all: 64 },
-        connections: 5,
-        ends: EndCounts {
-            ended: 20,
-            truncated: 21,
-            malformed: 22,
-            protocol: 23,
-            read: 24,
-            write: 25,
-            turns_spent: 26,
-            memory: 27,
-            callers_spent: 28,
-            idle: 29,
-        },
-        sessions: SessionCounts {
-            kept: 30,
-            resumed: 31,
-            dropped: 32,
-            refused: 33,
-        },
-        uptime_ms: 12_345,
-        nodes: Vec::new(alloc),
-    }
-}
-
 /// The ring.
 pub fn ring(alloc: Global) -> Result<RingSight, AllocError> {
     let mut ring = empty_ring(alloc);
-    match put_nodes(alloc, &mut ring.nodes) {
-        Ok(()) => Ok(ring),
-        Err(refused) => {
-            drop(ring);
-            Err(refused)
-        }
-    }
+    let outcome = put_nodes(alloc, &mut ring.nodes);
+    peopled(outcome, ring)
 }

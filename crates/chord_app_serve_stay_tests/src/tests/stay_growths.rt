@@ -18,26 +18,47 @@ use std::thread;
 // server's.
 const INSERT: &[u8] = b"\x00\x00\x00\x0f\x01\x01\x00\x00\x00\x00\x00\x00\x00\x01\x01a\x00\x01x";
 
-/// Serves until the input ends, writing into these bytes, and then frees the port.
+/// How a server ended.
+#[derive(Drop)]
+struct Stayed {
+    end: Result<(), Finish>,
+    /// How many lines it wrote.
+    lines: usize,
+    /// How many of them say that memory ran out.
+    refused: usize,
+}
+
+/// How many times a byte occurs.
+fn count_of(bytes: &[u8], wanted: u8) -> usize {
+    bytes.iter().filter(|byte| **byte == wanted).count()
+}
+
+/// Serves until the input ends, and then frees the port.
 fn stays<R: Host>(
-    rt: &R,
+    rt: R,
     alloc: Global,
-    plan: &Plan,
+    plan: Plan,
     listener: TcpListener,
     input: PipeReader,
-    written: &mut [u8],
-) -> Result<(), Finish> {
-    stay_over(
-        rt,
+) -> Stayed {
+    let mut room = [0u8; 256];
+    let end = stay_over(
+        &rt,
         alloc,
-        plan,
+        &plan,
         Doors::Frames(&listener),
         4,
         WAITS,
         input,
         &Discard,
-        written,
-    )
+        room.as_mut_slice(),
+    );
+    Stayed {
+        end,
+        lines: count_of(&room, b'\n'),
+        // No other result has this letter: only `memory`.
+        refused: count_of(&room, b'y'),
+    }
 }
 
 /// Checks that the server answers an insert, and then closes the connection.
@@ -65,44 +86,21 @@ fn three_clients<R: Net>(rt: &R, address: SocketAddr, input: PipeWriter) -> io::
     Ok(answered.iter().filter(|is| **is).count())
 }
 
-/// How a server of three clients ended.
-#[derive(Debug, Drop)]
-struct Ended {
-    stayed: Result<(), Finish>,
-    answered: usize,
-    /// How many lines it wrote.
-    lines: usize,
-    /// How many of them say that memory ran out.
-    refused: usize,
-}
-
-/// How many times a byte occurs.
-fn count_of(bytes: &[u8], wanted: u8) -> usize {
-    bytes.iter().filter(|byte| **byte == wanted).count()
-}
-
-/// Serves three clients, and gives how that ended.
+/// Serves three clients. Gives how the server ended and how many clients were answered; none if the
+/// test itself has no memory, as for the server's thread.
 fn served<R: Handle + Net<Listener = TcpListener, Stream = TcpStream>>(
     rt: &R,
     alloc: Global,
     (reader, writer): (PipeReader, PipeWriter),
-) -> Option<Ended> {
+) -> Option<(Stayed, usize)> {
     let plan = plan_with(alloc, 3)?;
     let (listener, address) = bound(rt)?;
-    let mut room = [0u8; 256];
-    let written = room.as_mut_slice();
-    let (stayed, answered) = thread::join(
-        rt,
-        move || stays(rt, alloc, &plan, listener, reader, written),
-        move || three_clients(rt, address, writer),
-    );
-    Some(Ended {
-        stayed,
-        answered: answered.unwrap_or(0),
-        lines: count_of(&room, b'\n'),
-        // No other result has this letter: only `memory`.
-        refused: count_of(&room, b'y'),
-    })
+    let own = *rt;
+    let Ok(server) = thread::spawn(rt, move || stays(own, alloc, plan, listener, reader)) else {
+        return None;
+    };
+    let answered = three_clients(rt, address, writer);
+    Some((server.join(rt), answered.unwrap_or(0)))
 }
 
 /// A refused growth ends at most one connection, with `memory`, unless the server needed it to
@@ -111,17 +109,17 @@ fn served<R: Handle + Net<Listener = TcpListener, Stream = TcpStream>>(
 /// again.
 #[test]
 fn a_refused_growth_ends_one_connection(rt: HostRuntime) -> Result<(), Fail> {
-    let ended = match served(&rt, rt.alloc(), io::pipe(&rt)?) {
+    let (server, answered) = match served(&rt, rt.alloc(), io::pipe(&rt)?) {
         Some(ended) => ended,
         None => served(&rt, rt.alloc(), io::pipe(&rt)?).ok_or("not served")?,
     };
-    if ended.stayed.is_ok() {
-        let cut_off = 3usize.saturating_sub(ended.answered);
-        assert!(rt; ended.lines == 4);
-        assert!(rt; cut_off <= ended.refused);
-        assert!(rt; ended.refused <= 1);
+    if server.end.is_ok() {
+        let cut_off = 3usize.saturating_sub(answered);
+        assert!(rt; server.lines == 4);
+        assert!(rt; cut_off <= server.refused);
+        assert!(rt; server.refused <= 1);
     } else {
-        assert!(rt; ended.stayed == Err(Finish::OutOfMemory));
+        assert!(rt; server.end == Err(Finish::OutOfMemory));
     }
     Ok(())
 }
