@@ -4,7 +4,7 @@ ghost use Rattle.chord_map.specs.Checked.{IsRequest};
 
 use crate::faults::{fault_of, print_fault};
 use crate::number::{NumberOption, WrongNumber};
-use crate::parts::with_argument;
+use crate::parts::{with_argument, with_numbers};
 use crate::shared::{no_session_option, port_of, port_option, wants_session};
 use chord_app_ask::{ClientOptions, Tokens, ask_lines, ask_one, read_words};
 use chord_app_text::{Finish, WordFault};
@@ -63,9 +63,7 @@ pub fn ask_command<'a>(alloc: Global) -> Result<Command<'a>, AllocError> {
         .about("Asks a server, and writes one line for each request")
         .after_help(EXAMPLES)
         .arg(port_option(alloc));
-    let ask = with_argument(ask, WINDOW.argument(alloc));
-    let ask = with_argument(ask, PROTOCOL.argument(alloc));
-    let ask = with_argument(ask, TRIES.argument(alloc));
+    let ask = with_numbers(alloc, ask, &[WINDOW, PROTOCOL, TRIES]);
     let ask = with_argument(ask, no_session_option(alloc));
     with_argument(ask, words_argument(alloc))
 }

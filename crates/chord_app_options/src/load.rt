@@ -2,7 +2,7 @@
 
 use crate::faults::{fault_of, print_fault};
 use crate::number::{NumberOption, WrongNumber};
-use crate::parts::with_argument;
+use crate::parts::{with_argument, with_numbers};
 use crate::shared::{no_session_option, port_of, port_option, wants_session};
 use chord_app_ask::{Drops, Kind, Load, Tokens, UNIQUE_VALUE, Until, run_load};
 use chord_app_text::Finish;
@@ -109,15 +109,9 @@ pub fn load_command<'a>(alloc: Global) -> Result<Command<'a>, AllocError> {
     let load = Command::new(alloc, "load")
         .about("Asks a server many requests, and writes how long they took")
         .arg(port_option(alloc));
-    let load = with_argument(load, CONNECTIONS.argument(alloc));
-    let load = with_argument(load, IN_FLIGHT.argument(alloc));
-    let load = with_argument(load, KEYS.argument(alloc));
-    let load = with_argument(load, VALUE_SIZE.argument(alloc));
+    let load = with_numbers(alloc, load, &[CONNECTIONS, IN_FLIGHT, KEYS, VALUE_SIZE]);
     let load = with_argument(load, kind_option(alloc));
-    let load = with_argument(load, SECONDS.argument(alloc));
-    let load = with_argument(load, REQUESTS.argument(alloc));
-    let load = with_argument(load, DROP.argument(alloc));
-    let load = with_argument(load, SEED.argument(alloc));
+    let load = with_numbers(alloc, load, &[SECONDS, REQUESTS, DROP, SEED]);
     with_argument(load, no_session_option(alloc))
 }
 

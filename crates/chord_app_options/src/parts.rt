@@ -1,7 +1,8 @@
 //! Commands put together from their parts.
 
-use clap::{Arg, ArgGroup, Command};
-use std::alloc::AllocError;
+use crate::number::NumberOption;
+use clap::{Arg, ArgAction, ArgGroup, Command};
+use std::alloc::{AllocError, Global};
 
 /// Both results, or the fault of the first that failed.
 fn both<A: Drop, B: Drop>(
@@ -32,6 +33,27 @@ pub fn with_argument<'a>(
             Err(refused)
         }
     }
+}
+
+/// A command with options for numbers added, in this order.
+pub fn with_numbers<'a>(
+    alloc: Global,
+    command: Result<Command<'a>, AllocError>,
+    options: &[NumberOption],
+) -> Result<Command<'a>, AllocError> {
+    let mut command = command;
+    for option in options {
+        command = with_argument(command, option.argument(alloc));
+    }
+    command
+}
+
+/// An option without a value.
+pub fn flag<'a>(alloc: Global, name: &'a str, help: &'a str) -> Arg<'a> {
+    Arg::new(alloc, name)
+        .long(name)
+        .action(ArgAction::SetTrue)
+        .help(help)
 }
 
 /// A command with an argument added that is itself put together.

@@ -2,13 +2,13 @@
 
 use crate::faults::{fault_of, print_fault};
 use crate::number::{NumberOption, WrongNumber, number_from, small_number};
-use crate::parts::{with_argument, with_command};
+use crate::parts::{flag, with_argument, with_command, with_numbers};
 use crate::shared;
 use chord_app_operator::{CrashRequest, JoinRequest, StoreKind};
 use chord_app_ring::{RingCommand, RingLine, RingTask, run_dump, run_restore, run_ring};
 use chord_app_text::Finish;
 use chord_ident::Id;
-use clap::{Arg, ArgAction, ArgMatches, Command};
+use clap::{Arg, ArgMatches, Command};
 use std::alloc::{AllocError, Global};
 use std::fmt;
 use std::net::{Net, TcpStream};
@@ -133,8 +133,7 @@ fn join_command<'a>(alloc: Global) -> Result<Command<'a>, AllocError> {
     );
     let join = Command::new(alloc, "join").about("A node joins").arg(id);
     let join = with_argument(join, store_option(alloc));
-    let join = with_argument(join, LIMIT.argument(alloc));
-    with_argument(join, VIA.argument(alloc))
+    with_numbers(alloc, join, &[LIMIT, VIA])
 }
 
 fn leave_command<'a>(alloc: Global) -> Result<Command<'a>, AllocError> {
@@ -144,10 +143,11 @@ fn leave_command<'a>(alloc: Global) -> Result<Command<'a>, AllocError> {
 }
 
 fn crash_command<'a>(alloc: Global) -> Result<Command<'a>, AllocError> {
-    let force = Arg::new(alloc, "force")
-        .long("force")
-        .action(ArgAction::SetTrue)
-        .help("Also where the ring would not stand without it");
+    let force = flag(
+        alloc,
+        "force",
+        "Also where the ring would not stand without it",
+    );
     let crash = Command::new(alloc, "crash")
         .about("A node crashes, with what it holds")
         .arg(node_argument(alloc));
@@ -168,10 +168,11 @@ fn restore_command<'a>(alloc: Global) -> Command<'a> {
 
 /// The command `ring`, its arguments, and the commands below it.
 pub fn ring_command<'a>(alloc: Global) -> Result<Command<'a>, AllocError> {
-    let watch = Arg::new(alloc, "watch")
-        .long("watch")
-        .action(ArgAction::SetTrue)
-        .help("Shows the ring each second until the server is gone");
+    let watch = flag(
+        alloc,
+        "watch",
+        "Shows the ring each second until the server is gone",
+    );
     let ring = Command::new(alloc, "ring")
         .about("Shows the ring of a server to its operator, or changes it")
         .arg(OPERATOR.argument(alloc));

@@ -2,9 +2,9 @@
 
 use crate::faults::fault_of;
 use crate::number::{NumberOption, WrongNumber};
-use crate::parts::{with_argument, with_group, with_made_argument};
+use crate::parts::{flag, with_argument, with_group, with_made_argument, with_numbers};
 use crate::shared::{plan_option, plan_path_of};
-use clap::{Arg, ArgAction, ArgGroup, ArgMatches, Command};
+use clap::{ArgGroup, ArgMatches, Command};
 use std::alloc::{AllocError, Global};
 
 const PORT: NumberOption = NumberOption {
@@ -77,23 +77,24 @@ const CALLERS: NumberOption = NumberOption {
     ..SLOTS
 };
 
-fn stay_option<'a>(alloc: Global) -> Arg<'a> {
-    Arg::new(alloc, "stay")
-        .long("stay")
-        .action(ArgAction::SetTrue)
-        .help("Serves until standard input ends")
-}
+/// The help of `--stay`.
+const STAY: &str = "Serves until standard input ends";
 
-fn notes_option<'a>(alloc: Global) -> Arg<'a> {
-    Arg::new(alloc, "notes")
-        .long("notes")
-        .action(ArgAction::SetTrue)
-        .help("Notes on standard error how each connection ends, as it ends")
-}
+/// The help of `--notes`.
+const NOTES: &str = "Notes on standard error how each connection ends, as it ends";
 
-/// An option that only a server that stays has.
-fn staying<'a>(alloc: Global, option: NumberOption) -> Result<Arg<'a>, AllocError> {
-    option.argument(alloc).conflicts_with("connections")
+/// A command with options added, in this order, that only a server that stays has.
+fn with_staying<'a>(
+    alloc: Global,
+    command: Result<Command<'a>, AllocError>,
+    options: &[NumberOption],
+) -> Result<Command<'a>, AllocError> {
+    let mut command = command;
+    for option in options {
+        let staying = option.argument(alloc).conflicts_with("connections");
+        command = with_made_argument(command, staying);
+    }
+    command
 }
 
 /// Where to listen: at least one of the two options.
@@ -115,16 +116,10 @@ pub fn serve_command<'a>(alloc: Global) -> Result<Command<'a>, AllocError> {
     let serve = Command::new(alloc, "serve")
         .about("Serves clients over loopback, and writes how each connection ended")
         .arg(plan_option(alloc, "The ring's numbers and nodes, as TOML"));
-    let serve = with_argument(serve, PORT.argument(alloc));
-    let serve = with_argument(serve, REDIS.argument(alloc));
-    let serve = with_argument(serve, CONNECTIONS.argument(alloc));
-    let serve = with_argument(serve, stay_option(alloc));
-    let serve = with_argument(serve, notes_option(alloc));
-    let serve = with_made_argument(serve, staying(alloc, IDLE));
-    let serve = with_made_argument(serve, staying(alloc, KEEP));
-    let serve = with_made_argument(serve, staying(alloc, OPERATOR));
-    let serve = with_made_argument(serve, staying(alloc, SLOTS));
-    let serve = with_made_argument(serve, staying(alloc, CALLERS));
+    let serve = with_numbers(alloc, serve, &[PORT, REDIS, CONNECTIONS]);
+    let serve = with_argument(serve, flag(alloc, "stay", STAY));
+    let serve = with_argument(serve, flag(alloc, "notes", NOTES));
+    let serve = with_staying(alloc, serve, &[IDLE, KEEP, OPERATOR, SLOTS, CALLERS]);
     let serve = with_group(serve, ports_group(alloc));
     with_group(serve, until_group(alloc))
 }

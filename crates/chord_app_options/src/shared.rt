@@ -1,7 +1,8 @@
 //! The options that several commands have.
 
 use crate::number::{NumberOption, WrongNumber, small_number};
-use clap::{Arg, ArgAction, ArgMatches};
+use crate::parts::flag;
+use clap::{Arg, ArgMatches};
 use std::alloc::Global;
 
 /// The option for the port at which a server is asked.
@@ -30,10 +31,11 @@ pub fn port_of<'a>(found: &ArgMatches<'a>) -> Result<u16, WrongNumber<'a>> {
 
 /// The option of a client that wants no session.
 pub fn no_session_option<'a>(alloc: Global) -> Arg<'a> {
-    Arg::new(alloc, "no-session")
-        .long("no-session")
-        .action(ArgAction::SetTrue)
-        .help("Asks without a session: a connection that is lost does not go on over another one")
+    flag(
+        alloc,
+        "no-session",
+        "Asks without a session: a connection that is lost does not go on over another one",
+    )
 }
 
 /// Whether the command line of a client leaves it its session.

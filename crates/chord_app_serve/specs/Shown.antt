@@ -1,5 +1,5 @@
 -- How a node of a ring is shown to its operator, and what the operator is told. Source: our own.
-use Rattle.std.specs.Prelude.{◌≡◌, ℕ, ◌≤◌, ◌<◌, ◌==◌, Bool, true, false, map, Option, Some, None, All, Ok, Err}
+use Rattle.std.specs.Prelude.{◌≡◌, ℕ, ◌≤◌, ◌<◌, ◌==◌, Bool, true, false, map, slice_get, List, Option, Some, None, Ok, Err}
 use Rattle.chord_app_operator.specs.Questions.{Question, Sight, Crash, Join, ReadPairs, Answer, Seen, Joined, HasCrashed, PairsRead}
 use Rattle.chord_app_operator.specs.declared.operator.refusals.CrashRefusal.{CrashRefusal}
 use Rattle.chord_app_operator.specs.declared.operator.refusals.CrashRefusal.TheVariants as crash
@@ -12,6 +12,7 @@ use Rattle.chord_app_operator.specs.declared.sight.phase.Phase.{Phase}
 use Rattle.chord_app_operator.specs.declared.sight.phase.Phase.TheVariants as shown
 use Rattle.chord_app_operator.specs.declared.sight.counts.AskCounts.{AskCounts}
 use Rattle.chord_app_operator.specs.declared.sight.counts.HandoverCounts.{HandoverCounts}
+use Rattle.chord_app_plan.specs.declared.node.PlanNode.{PlanNode}
 use Rattle.chord_app_plan.specs.declared.store_kind.StoreKind.{StoreKind as PlanStore}
 use Rattle.chord_app_plan.specs.declared.store_kind.StoreKind.TheVariants as plan
 use Rattle.chord_live_ring.specs.declared.node_counts.AskCounts.{AskCounts as RingAsks}
@@ -31,6 +32,16 @@ store_shown plan.Tree = kind.Tree
 store_shown plan.List = kind.List
 store_shown plan.Noted = kind.List
 store_shown (plan.Capped limit) = kind.Capped
+
+-- the kind of a node's store: as the plan says of the node, and of one that the plan does not have
+-- that of the spare stores
+abbrev pub kind_of : Option PlanNode → PlanStore → PlanStore
+kind_of None spare = spare
+kind_of (Some node) spare = node.store
+
+-- the kind of the store of the node of a number
+abbrev pub store_of : List PlanNode → PlanStore → ℕ → StoreKind
+store_of nodes spare number = store_shown (kind_of (slice_get nodes number) spare)
 
 -- a spare store of this kind is one of the kind, and of the limit if there is one, that is asked
 -- for
@@ -61,11 +72,12 @@ asks_shown asks = record { told = asks.told; forwarded = asks.forwarded; dropped
 abbrev pub handovers_shown : RingHandovers → HandoverCounts
 handovers_shown handovers = record { given = handovers.given; taken = handovers.taken; declined = handovers.declined }
 
--- all that a ring tells of a node is shown, as it is
-pub record ShowsNode (sight : RingNode) (shown : NodeSight) : Type 0 where
+-- all that a ring tells of a node is shown, as it is, with the kind of its store
+pub record ShowsNode (sight : RingNode) (kind : StoreKind) (shown : NodeSight) : Type 0 where
   pub node : shown.node ≡ sight.number
   pub id : shown.id ≡ sight.id
   pub phase : shown.phase ≡ phase_shown sight.crashed sight.phase
+  pub store : shown.store ≡ kind
   pub predecessor : shown.predecessor ≡ sight.predecessor
   pub successors : shown.successors.items ≡ sight.successors.items
   pub fingers : shown.fingers ≡ sight.fingers
@@ -76,12 +88,16 @@ pub record ShowsNode (sight : RingNode) (shown : NodeSight) : Type 0 where
   pub handovers : shown.handovers ≡ handovers_shown sight.counts.handovers
   pub ticks : shown.ticks ≡ sight.counts.ticks
 
--- a node of some reachable world, of which the theorem holds, looks so
-pub record IsShownNode (shown : NodeSight) : Type 0 where
-  pub number : ℕ
+-- the node of this number of some reachable world, of which the theorem holds, looks so, and has a
+-- store of this kind
+pub record IsShownAs (number : ℕ) (store : StoreKind) (shown : NodeSight) : Type 0 where
   pub sight : RingNode
   pub seen : IsSightOf number sight
-  pub shows : ShowsNode sight shown
+  pub shows : ShowsNode sight store shown
+
+-- the nodes are those of the numbers 0, 1 and so on, each as it looks, with the kind of its store
+abbrev pub AreShown : (ℕ → StoreKind) → List NodeSight → Type 0
+AreShown stores nodes = (number : ℕ) (shown : NodeSight) → slice_get nodes number ≡ Some shown → IsShownAs number (stores number) shown
 
 -- why a node does not crash: it is no member, or the ring would not stand without it and the crash
 -- is not forced
@@ -91,12 +107,12 @@ crash_refusal true stands true = None
 crash_refusal true true false = None
 crash_refusal true false false = Some crash.Unsafe
 
--- What the operator of a ring with these settings may be told. The ring is shown with nodes of
--- reachable worlds, and pairs are those of one. A node that joins has a number of the ring that is
--- not 0. Unsafe is not told where a crash is forced.
-abbrev pub Tells : Settings → Question → Answer → Type 0
-Tells settings Sight (Seen (Ok sight)) = (sight.successors ≡ settings.successors) × (sight.slots ≡ settings.slots) × (sight.callers.all ≡ settings.callers) × All IsShownNode sight.nodes.items
-Tells settings (Join request) (Joined (Ok number)) = (1 ≤ number) × (number < settings.slots)
-Tells settings (Crash request) (HasCrashed (Err crash.Unsafe)) = request.is_forced ≡ false
-Tells settings (ReadPairs request) (PairsRead (Ok page)) = IsRead request page
-Tells settings question answer = Unit {0}
+-- What the operator of a ring with these settings and kinds of stores may be told. The ring is shown
+-- with its nodes by number, each as one of a reachable world, and pairs are those of one. A node that
+-- joins has a number of the ring that is not 0. Unsafe is not told where a crash is forced.
+abbrev pub Tells : Settings → (ℕ → StoreKind) → Question → Answer → Type 0
+Tells settings stores Sight (Seen (Ok sight)) = (sight.successors ≡ settings.successors) × (sight.slots ≡ settings.slots) × (sight.callers.all ≡ settings.callers) × AreShown stores sight.nodes.items
+Tells settings stores (Join request) (Joined (Ok number)) = (1 ≤ number) × (number < settings.slots)
+Tells settings stores (Crash request) (HasCrashed (Err crash.Unsafe)) = request.is_forced ≡ false
+Tells settings stores (ReadPairs request) (PairsRead (Ok page)) = IsRead request page
+Tells settings stores question answer = Unit {0}

@@ -2,4 +2,5 @@ pub mod Closings
 pub mod Deeds
 pub mod Parts
 pub mod Refused
+pub mod SeatedCalls
 pub mod Sights

@@ -1,14 +1,23 @@
 //! A node with its seat.
-ghost use Rattle.std.specs.Prelude.{◌≡◌, ◌≤◌, ◌<◌, ◌++◌, [], ◌∷◌, Ok, Some, None, IfOk, IfSome, IfNone, OnOk, OnErr};
+ghost use Rattle.std.specs.Prelude.{◌≡◌, ◌↔◌, ◌≤◌, ◌<◌, ◌++◌, [], ◌∷◌, Ok, Err, Some, None, false, length, slice_get, IsTrue, IsOk, IfOk, IfErr, IfSome, IfNone, OnOk, OnErr};
+ghost use Rattle.chord_handover.specs.Handover.{Part as PartOf};
+ghost use Rattle.chord_ident.specs.Circle.{IsBetween};
+ghost use Rattle.chord_links.specs.Fingers.{with_finger};
+ghost use Rattle.chord_links.specs.NodeLinks.{first_entry};
 ghost use Rattle.chord_live_steps.specs.Adjoining.{JoinIs};
 ghost use Rattle.chord_live_ring.specs.Deeds.{counted, no_counts};
 ghost use Rattle.chord_live_ring.specs.declared.deed.Deed.TheVariants.{Gave, Ticked};
-ghost use Rattle.chord_live_steps.specs.Pieces.{Gives, GivesNone, GivesPiece, GivesToIs, TrimIs};
+ghost use Rattle.chord_live_steps.specs.Pieces.{GivesToIs, TrimIs};
+ghost use Rattle.chord_live_ring.specs.SeatedCalls.{Gives, GivesNone, GivesPiece, RetirementIs, SendsNone, address_of, end_of, with_links};
 ghost use Rattle.chord_live_ring.specs.Sights.{HoldingIs, counts_after, kind_in, look_in, number_in, sight_of};
+ghost use Rattle.chord_live_steps.specs.Dealt.{DealIs, IsFor};
 ghost use Rattle.chord_live_steps.specs.Tidy.{TidyIs};
 ghost use Rattle.chord_model.specs.Node.{segment_with};
-ghost use Rattle.chord_node.specs.Moves.{LeaveIs, RetireIs};
+ghost use Rattle.chord_model.specs.declared.message.Message.TheVariants.{Part as PartMessage};
+ghost use Rattle.chord_node.specs.Moves.{GiveIs, LeaveIs, ResendIs, RetireIs};
 ghost use Rattle.chord_node.specs.Pages.{PairsFromIs};
+ghost use Rattle.chord_node.specs.View.{span_of};
+ghost use Rattle.chord_ring.specs.Steps.{candidate_of, gives_way, links_behind, rectified_links, without_head};
 ghost use Rattle.chord_table.specs.Shown.{NodeShown};
 
 use crate::deed::{Deed, MessageKind};
@@ -178,6 +187,8 @@ impl<J: Naming, S: EntryStore> SeatedNode<J, S> {
     /// did. A message is lost if it is not for the node, or if the node is out of memory.
     pub fn answer(&mut self, table: &Shared<J>, keyed: Keyed<J>) -> Option<(Target, Keyed<J>)>
         ensures messages { self.new.messages ≡ self.old.messages ++ keyed.envelope ∷ [] }
+        ensures some { IfSome result (λ sent. IsFor keyed.envelope self.old.node.number × DealIs keyed.envelope self.old.node (Ok (Some (sent.0, sent.1.envelope))) self.new.node) }
+        ensures none { IfNone result (SendsNone keyed.envelope self.old.node self.new.node) }
         ensures sent { IfSome result (λ sent. self.new.counts ≡ counts_after keyed.envelope (Some sent.1.envelope) self.old.node self.new.node self.old.counts) }
         ensures silent { IfNone result (self.new.counts ≡ counts_after keyed.envelope None self.old.node self.new.node self.old.counts) }
     {
@@ -192,6 +203,8 @@ impl<J: Naming, S: EntryStore> SeatedNode<J, S> {
     /// Takes a message in, makes the node's call for it, and sends the answer.
     fn deal_with(&mut self, table: &Shared<J>, keyed: Keyed<J>) -> Option<(Target, Keyed<J>)>
         ensures messages { self.new.messages ≡ self.old.messages ++ keyed.envelope ∷ [] }
+        ensures some { IfSome result (λ sent. IsFor keyed.envelope self.old.node.number × DealIs keyed.envelope self.old.node (Ok (Some (sent.0, sent.1.envelope))) self.new.node) }
+        ensures none { IfNone result (SendsNone keyed.envelope self.old.node self.new.node) }
         ensures counts { self.new.counts ≡ self.old.counts }
     {
         let Keyed { envelope, id } = keyed;
@@ -217,7 +230,7 @@ impl<J: Naming, S: EntryStore> SeatedNode<J, S> {
     fn set_links(&mut self, table: &Shared<J>, links: Links)
         requires me { links.me ≡ self.old.node.links.me }
         requires r { links.r ≡ self.old.node.links.r }
-        ensures { self.new ≡ record self.old { node = record self.old.node { links = links } } }
+        ensures { self.new ≡ with_links links self.old }
     {
         self.node.set_links(links);
         self.seat.local(table, &self.node);
@@ -231,8 +244,10 @@ impl<J: Naming, S: EntryStore> SeatedNode<J, S> {
         head: &Links,
         live: bool,
     ) -> Result<Option<Peer>, StabiliseFault>
-        ensures messages { self.new.messages ≡ self.old.messages }
-        ensures counts { self.new.counts ≡ self.old.counts }
+        ensures variant { IsOk result ↔ (IsTrue live × (first_entry self.old.node.links ≡ head.now.me)) }
+        ensures ok { IfOk result (λ candidate. candidate ≡ candidate_of self.old.node.links head.now) }
+        ensures done { OnOk result (self.new ≡ with_links (links_behind self.old.node.links head.now) self.old) }
+        ensures fault { IfErr result (λ fault. (fault ≡ StabiliseFault.HeadDead) ↔ (live ≡ false)) }
         ensures err { OnErr result (self.new ≡ self.old) }
     {
         let mut links = *self.node.links();
@@ -248,8 +263,10 @@ impl<J: Naming, S: EntryStore> SeatedNode<J, S> {
         candidate: &Links,
         live: bool,
     ) -> Result<(), CandidateFault>
-        ensures messages { self.new.messages ≡ self.old.messages }
-        ensures counts { self.new.counts ≡ self.old.counts }
+        ensures variant { IsOk result ↔ (IsTrue live
+            × IsBetween self.old.node.links.me.id.number candidate.now.me.id.number (first_entry self.old.node.links).id.number) }
+        ensures done { OnOk result (self.new ≡ with_links (links_behind self.old.node.links candidate.now) self.old) }
+        ensures fault { IfErr result (λ fault. (fault ≡ CandidateFault.Dead) ↔ (live ≡ false)) }
         ensures err { OnErr result (self.new ≡ self.old) }
     {
         let mut links = *self.node.links();
@@ -260,8 +277,9 @@ impl<J: Naming, S: EntryStore> SeatedNode<J, S> {
 
     /// Drops the dead first entry, if there is another.
     pub fn drop_dead(&mut self, table: &Shared<J>, head_live: bool) -> Result<(), DropFault>
-        ensures messages { self.new.messages ≡ self.old.messages }
-        ensures counts { self.new.counts ≡ self.old.counts }
+        ensures variant { IsOk result ↔ ((head_live ≡ false) × (1 < length self.old.node.links.entries)) }
+        ensures done { OnOk result (self.new ≡ with_links (without_head self.old.node.links) self.old) }
+        ensures fault { IfErr result (λ fault. (fault ≡ DropFault.HeadLive) ↔ IsTrue head_live) }
         ensures err { OnErr result (self.new ≡ self.old) }
     {
         let mut links = *self.node.links();
@@ -272,8 +290,8 @@ impl<J: Naming, S: EntryStore> SeatedNode<J, S> {
 
     /// Hears of a node that may be its predecessor, and says whether it is now.
     pub fn rectify(&mut self, table: &Shared<J>, notifier: Peer, predecessor_live: bool) -> bool
-        ensures messages { self.new.messages ≡ self.old.messages }
-        ensures counts { self.new.counts ≡ self.old.counts }
+        ensures answer { result ≡ gives_way self.old.node.links.me notifier predecessor_live self.old.node.links.predecessor }
+        ensures done { self.new ≡ with_links (rectified_links self.old.node.links notifier result) self.old }
     {
         let mut links = *self.node.links();
         let gives = chord_ring::rectify(&mut links, notifier, predecessor_live);
@@ -285,8 +303,7 @@ impl<J: Naming, S: EntryStore> SeatedNode<J, S> {
     pub fn set_finger(&mut self, table: &Shared<J>, finger: usize, to: Peer)
         requires low { 1 ≤ finger }
         requires high { finger ≤ 128 }
-        ensures messages { self.new.messages ≡ self.old.messages }
-        ensures counts { self.new.counts ≡ self.old.counts }
+        ensures { self.new ≡ with_links (record self.old.node.links { fingers = with_finger self.old.node.links.fingers finger to }) self.old }
     {
         let mut links = *self.node.links();
         links.set_finger(finger, to);
@@ -334,7 +351,9 @@ impl<J: Naming, S: EntryStore> SeatedNode<J, S> {
     }
 
     /// The end of the span of the held segment at this index.
-    pub fn end_of(&self, place: usize) -> Option<Id> {
+    pub fn end_of(&self, place: usize) -> Option<Id>
+        ensures { result ≡ end_of (span_of (slice_get self.now.node.held place)) }
+    {
         let span = self.node.span(place)?;
         Some(span.upto)
     }
@@ -349,8 +368,9 @@ impl<J: Naming, S: EntryStore> SeatedNode<J, S> {
     ) -> Result<(u64, Envelope<J>), GiveFault>
         ensures messages { self.new.messages ≡ self.old.messages }
         ensures counts { OnOk result (self.new.counts ≡ counted Gave self.old.counts) }
-        ensures answer { OnOk result (Gives place to self.old.node self.new.node) }
-        ensures err { OnErr result (self.new ≡ self.old) }
+        ensures ok { IfOk result (λ sent. Gives place to self.old.node sent.0 sent.1 self.new.node) }
+        ensures err { IfErr result (λ fault. GiveIs place to self.old.node (Err fault) self.new.node) }
+        ensures kept { OnErr result (self.new ≡ self.old) }
     {
         let part = self.node.give(place, to)?;
         let number = part.number;
@@ -371,14 +391,14 @@ impl<J: Naming, S: EntryStore> SeatedNode<J, S> {
     ) -> Result<(u64, Envelope<J>), GiveFault>
         ensures messages { self.new.messages ≡ self.old.messages }
         ensures counts { OnOk result (self.new.counts ≡ counted Gave self.old.counts) }
-        ensures piece { OnOk result (GivesPiece place to most self.old.node self.new.node) }
-        ensures none { OnErr result (GivesNone place most self.old.node self.new.node) }
+        ensures piece { IfOk result (λ sent. GivesPiece place to most self.old.node sent.0 sent.1 self.new.node) }
+        ensures none { IfErr result (λ fault. GivesNone place to most self.old.node fault self.new.node) }
         ensures kept { OnErr result (self.new.counts ≡ self.old.counts) }
     {
-        if self.trim(table, place, most).is_err() {
-            return Err(GiveFault::Memory);
+        match self.trim(table, place, most) {
+            Ok(_) => self.give(table, place, to),
+            Err(_) => Err(GiveFault::Memory),
         }
-        self.give(table, place, to)
     }
 
     /// Whether the outbox has an item that goes to this node.
@@ -389,7 +409,9 @@ impl<J: Naming, S: EntryStore> SeatedNode<J, S> {
     }
 
     /// The receiver and the number of the outbox item at this index, from 0 in the order given.
-    pub fn outbox_item(&self, place: u64) -> Option<(u64, u64)> {
+    pub fn outbox_item(&self, place: u64) -> Option<(u64, u64)>
+        ensures { result ≡ address_of (slice_get self.now.node.outbox place) }
+    {
         let (to, number, _) = self.node.outbox_item(place)?;
         Some((to, number))
     }
@@ -403,6 +425,8 @@ impl<J: Naming, S: EntryStore> SeatedNode<J, S> {
         part: u64,
     ) -> Result<Envelope<J>, ResendPartFault>
         ensures same { self.new ≡ self.old }
+        ensures ok { IfOk result (λ sent. (found : PartOf) × ResendIs to number part self.old.node (Ok found) × (sent ≡ PartMessage found)) }
+        ensures err { IfErr result (λ fault. ResendIs to number part self.old.node (Err fault)) }
     {
         let part = self.node.resend_part(to, number, part)?;
         Ok(self.seat.send(table, &self.node, Message::Part(part)))
@@ -420,11 +444,13 @@ impl<J: Naming, S: EntryStore> SeatedNode<J, S> {
     }
 
     /// Why the node would refuse to retire now.
-    pub fn retirement(&self) -> Option<RetireFault> {
+    pub fn retirement(&self) -> Option<RetireFault>
+        ensures { RetirementIs self.now.node result }
+    {
         if self.node.phase() != Phase::Leaving {
             return Some(RetireFault::NotLeaving);
         }
-        if self.node.span(0).is_some() || self.node.outbox_item(0).is_some() {
+        if self.node.held_count() != 0 || self.node.outbox_len() != 0 {
             return Some(RetireFault::NotEmpty);
         }
         None

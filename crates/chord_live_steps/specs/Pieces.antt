@@ -1,11 +1,11 @@
 -- How a node gives a segment in pieces, so that its lock is held for a moment only. Source: our
 -- own.
-use Rattle.std.specs.Prelude.{◌≡◌, ◌⊎◌, ℕ, ◌<◌, ◌+◌, ◌/◌, ◌==◌, Bool, true, false, Option, None, Some, List, length, Result, Ok, Err, slice_get}
+use Rattle.std.specs.Prelude.{◌≡◌, ℕ, ◌<◌, ◌+◌, ◌/◌, ◌==◌, Bool, true, false, Option, None, Some, List, length, Result, Ok, Err, slice_get}
 use Rattle.std.specs.declared.alloc.AllocError.{AllocError}
-use Rattle.chord_handover.specs.Handover.{Item, Part}
+use Rattle.chord_handover.specs.Handover.{Item}
 use Rattle.chord_ident.specs.declared.id.Id.{Id}
 use Rattle.chord_model.specs.Node.{Node, NodeStep, cut_held}
-use Rattle.chord_node.specs.Moves.{with_held, GiveIs}
+use Rattle.chord_node.specs.Moves.{with_held}
 use Rattle.chord_node.specs.Pieces.{CutAfterIs}
 use Rattle.chord_segment.specs.Segment.{Segment}
 use Rattle.chord_store.specs.Cut.{CutsLeaveFewer}
@@ -33,19 +33,6 @@ TrimIs place most old (Err fault) new = (segment : Segment) × (at : Id) × IsTr
 abbrev pub TrimSteps : Node → Result Bool AllocError → Node → Type 0
 TrimSteps old (Ok true) new = NodeStep old None new None None
 TrimSteps old result new = new ≡ old
-
--- the held segment at this index goes into the outbox, and its first part is sent
-abbrev pub Gives : ℕ → ℕ → Node → Node → Type 0
-Gives place to old new = (part : Part) × GiveIs place to old (Ok part) new
-
--- the held segment at this index is cut as above, if that is to be done, and then goes into the
--- outbox
-abbrev pub GivesPiece : ℕ → ℕ → ℕ → Node → Node → Type 0
-GivesPiece place to most old new = (cut : Bool) × (trimmed : Node) × TrimIs place most old (Ok cut) trimmed × Gives place to trimmed new
-
--- what is not given may have been cut
-abbrev pub GivesNone : ℕ → ℕ → Node → Node → Type 0
-GivesNone place most old new = (new ≡ old) ⊎ ((cut : Bool) × TrimIs place most old (Ok cut) new)
 
 -- whether an item, if there is one, goes to a node
 abbrev pub goes_to : ℕ → Option Item → Bool

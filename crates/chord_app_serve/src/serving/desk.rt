@@ -1,4 +1,6 @@
 //! What the operators of a server share.
+ghost use Rattle.std.specs.Prelude.{◌≡◌};
+ghost use Rattle.chord_app_serve.specs.Shown.{store_of};
 
 use crate::serving::shown::store_shown;
 use crate::serving::spares::Spares;
@@ -86,7 +88,9 @@ impl<'s, S: EntryStore> Desk<'s, S> {
     }
 
     /// The kind of a node's store.
-    pub fn store_of(&self, node: u64) -> StoreKind {
+    pub fn store_of(&self, node: u64) -> StoreKind
+        ensures { result ≡ store_of self.now.plan.now.nodes.items self.now.spares.kind node }
+    {
         match self.plan.nodes.get(node as usize) {
             Some(node) => store_shown(node.store),
             None => store_shown(self.spares.kind),

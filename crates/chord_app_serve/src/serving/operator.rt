@@ -1,7 +1,7 @@
 //! The operator of a server's ring.
-ghost use Rattle.std.specs.Prelude.{◌≡◌, false, All, Err, IfOk, IfSome};
+ghost use Rattle.std.specs.Prelude.{◌≡◌, false, Err, IfOk, IfSome};
 ghost use Rattle.chord_app_operator.specs.declared.operator.refusals.CrashRefusal.TheVariants as CrashRefusals;
-ghost use Rattle.chord_app_serve.specs.Shown.{crash_refusal, IsShownNode, Tells};
+ghost use Rattle.chord_app_serve.specs.Shown.{crash_refusal, store_of, AreShown, IsShownAs, Tells};
 
 use crate::serving::caller_pool::CallerPool;
 use crate::serving::desk::Desk;
@@ -49,7 +49,7 @@ impl<'t, 's, 'r, J: Naming, S: EntryStore, R: Wait + Clock> RingOperator<'t, 's,
 
     /// A node as it looks now, if it was admitted.
     fn node_at(&self, alloc: Global, number: u64) -> Result<Option<NodeSight>, AllocError>
-        ensures { IfOk result (λ found. IfSome found IsShownNode) }
+        ensures { IfOk result (λ found. IfSome found (IsShownAs number (store_of self.now.desk.now.plan.now.nodes.items self.now.desk.now.spares.kind number))) }
     {
         let Some(sight) = self.ring.sight(self.rt, alloc, number)? else {
             return Ok(None);
@@ -58,9 +58,9 @@ impl<'t, 's, 'r, J: Naming, S: EntryStore, R: Wait + Clock> RingOperator<'t, 's,
         Ok(Some(shown))
     }
 
-    /// The nodes that there are, each as it looks now.
+    /// The nodes that there are, by number, each as it looks now.
     fn nodes(&self, alloc: Global) -> Result<Vec<NodeSight>, AllocError>
-        ensures { IfOk result (λ nodes. All IsShownNode nodes.items) }
+        ensures { IfOk result (λ nodes. AreShown (store_of self.now.desk.now.plan.now.nodes.items self.now.desk.now.spares.kind) nodes.items) }
     {
         let mut nodes = Vec::new(alloc);
         for number in 0..self.ring.node_count() {
@@ -102,7 +102,7 @@ fn crash_refusal(is_member: bool, stands_without: bool, is_forced: bool) -> Opti
 }
 
 impl<'t, 's, 'r, J: Naming, S: EntryStore, R: Host> Operator for RingOperator<'t, 's, 'r, J, S, R> {
-    ghost answers = { λ old question answer new. (new ≡ old) × Tells old.ring.now question answer };
+    ghost answers = { λ old question answer new. (new ≡ old) × Tells old.ring.now (store_of old.desk.now.plan.now.nodes.items old.desk.now.spares.kind) question answer };
 
     fn sight(&mut self, alloc: Global) -> Result<RingSight, AllocError> {
         let nodes = self.nodes(alloc)?;

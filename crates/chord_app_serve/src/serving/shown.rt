@@ -94,7 +94,7 @@ pub fn node_shown(
     sight: chord_live_ring::NodeSight,
     store: StoreKind,
 ) -> Result<NodeSight, AllocError>
-    ensures { IfOk result (ShowsNode sight) }
+    ensures { IfOk result (ShowsNode sight store) }
 {
     let segments = segments_shown(alloc, &sight.segments)?;
     let outbox = outbox_shown(alloc, &sight.outbox)?;
