@@ -2,3 +2,4 @@ pub mod Counts
 pub mod Questions
 pub mod Recorded
 pub mod Histogram
+pub mod Shares

@@ -60,6 +60,11 @@ may_pass (answer.Fault number code.Full) = true
 may_pass (answer.Fault number code.NoAnswer) = true
 may_pass answer = false
 
+-- the request got a reply
+abbrev pub is_answered : AskOutcome → Bool
+is_answered (outcome.Reply reply) = true
+is_answered other = false
+
 -- the outcome once the server had no caller for it
 abbrev pub outcome_refused : Option AskOutcome → Option AskOutcome
 outcome_refused None = Some outcome.CallersSpent

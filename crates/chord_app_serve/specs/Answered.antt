@@ -11,7 +11,8 @@ use Rattle.chord_live_types.specs.declared.caller.WaitFault.TheVariants as wait
 use Rattle.chord_map.specs.Copies.{IsShortRequest}
 use Rattle.chord_map.specs.declared.reply.Reply.{Reply}
 use Rattle.chord_map.specs.declared.request.Request.{Request}
-use Rattle.chord_serve.specs.Question.{Question, Ask, Retry}
+use Rattle.chord_app_serve.specs.Asked.{AskerSight, asked_since}
+use Rattle.chord_serve.specs.Question.{Question, Ask, Retry, IsHeard}
 use Rattle.chord_serve.specs.declared.asker.Asked.{Asked}
 use Rattle.chord_serve.specs.declared.asker.Asked.TheVariants as asked
 use Rattle.chord_table.specs.Views.{CallerSight}
@@ -62,3 +63,10 @@ RetriedBy number old answer new =
 abbrev pub AnsweredBy : ℕ → Question → CallerSight → Asked → CallerSight → Type 0
 AnsweredBy before (Ask request) old answer new = AskedBy request old answer new
 AnsweredBy before (Retry number) old answer new = RetriedBy (before + number) old answer new
+
+-- how the asker of a session answers a question: what every asker promises, by one call of its
+-- caller, at the same node
+abbrev pub AnswersBy : AskerSight → Question → Asked → AskerSight → Type 0
+AnswersBy old question answer new =
+    IsHeard question answer (asked_since old.before old.caller) (asked_since new.before new.caller)
+    × (new.before ≡ old.before) × (new.via ≡ old.via) × AnsweredBy old.before question old.caller answer new.caller

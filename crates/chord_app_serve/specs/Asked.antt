@@ -21,3 +21,14 @@ pends_upto caller (suc number) = is_pending (suc number) caller || pends_upto ca
 -- whether a request of the caller is pending
 abbrev pub has_pending : Caller → Bool
 has_pending caller = pends_upto caller (length caller.submitted)
+
+-- a caller as the asker of a session: how many requests it had submitted when the session began,
+-- the node at which it asks, and what its seat shows
+pub record AskerSight : Type 0 where
+  pub before : ℕ
+  pub via : ℕ
+  pub caller : CallerSight
+
+-- the asker of a session that begins, at this node
+abbrev pub first_asker : CallerSight → ℕ → AskerSight
+first_asker sight via = record { before = length sight.caller.submitted; via = via; caller = sight }

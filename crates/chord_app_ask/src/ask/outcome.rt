@@ -1,4 +1,6 @@
 //! How a request ended.
+ghost use Rattle.std.specs.Prelude.{◌≡◌};
+ghost use Rattle.chord_app_ask.specs.Questions.{is_answered};
 
 use chord_app_text::ReplyText;
 use chord_map::Reply;
@@ -19,7 +21,9 @@ pub enum AskOutcome {
 }
 
 impl AskOutcome {
-    pub fn is_reply(&self) -> bool {
+    pub fn is_reply(&self) -> bool
+        ensures { result ≡ is_answered self.now }
+    {
         matches!(self, AskOutcome::Reply(_))
     }
 }

@@ -1,4 +1,6 @@
 //! The size and kind of a load.
+ghost use Rattle.std.specs.Prelude.{◌≡◌, ◌&&◌, nat_le};
+ghost use Rattle.chord_app_ask.specs.Shares.{inserts_under_cuts, share_of};
 
 use crate::ask::tokens::Tokens;
 
@@ -51,7 +53,9 @@ pub struct Load {
 
 impl Load {
     /// Whether nobody else inserts its values: an insert that finds its value there acted twice.
-    pub fn has_unique_values(&self) -> bool {
+    pub fn has_unique_values(&self) -> bool
+        ensures { result ≡ (inserts_under_cuts self.now && nat_le 16 self.now.value_size) }
+    {
         self.kind == Kind::Insert
             && self.drops.is_some()
             && self.tokens.is_some()
@@ -59,7 +63,9 @@ impl Load {
     }
 
     /// How many requests the connection of this number, from 0, sends at most.
-    pub fn share(&self, connection: u64) -> u64 {
+    pub fn share(&self, connection: u64) -> u64
+        ensures { result ≡ share_of self.now.until self.now.connections connection }
+    {
         match self.until {
             Until::Seconds(_) => u64::MAX,
             Until::Requests(count) => {

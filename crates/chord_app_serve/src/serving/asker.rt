@@ -1,8 +1,8 @@
 //! A caller of a ring, as the asker of a session.
-ghost use Rattle.std.specs.Prelude.{◌≡◌, ◌≤◌, [], length};
-ghost use Rattle.chord_app_serve.specs.Answered.{AnsweredBy, TellsCall, TellsReply, TellsRetry, told_of_wait};
-ghost use Rattle.chord_app_serve.specs.Asked.{asked_since, has_pending};
-ghost use Rattle.chord_serve.specs.Question.{IsAnswer, IsHeard};
+ghost use Rattle.std.specs.Prelude.{◌≡◌, []};
+ghost use Rattle.chord_app_serve.specs.Answered.{AnswersBy, TellsCall, TellsReply, TellsRetry, told_of_wait};
+ghost use Rattle.chord_app_serve.specs.Asked.{asked_since, first_asker, has_pending};
+ghost use Rattle.chord_serve.specs.Question.{IsAnswer};
 
 use crate::serving::idle::IdleCaller;
 use chord_live::RingClient;
@@ -12,6 +12,7 @@ use chord_serve::{Asked, Asker, MayBePending};
 use chord_store::EntryStore;
 use chord_table::Naming;
 use chord_wire::is_writable;
+use std::marker::Model;
 use std::sync::Wait;
 use std::time::Clock;
 
@@ -24,13 +25,23 @@ pub struct RingAsker<'a, J: Naming, S: EntryStore, R> {
     via: u64,
     /// How many requests the caller had submitted when the session began.
     before: u64,
-    ghost begun: { before ≤ length caller.caller.submitted },
+}
+
+impl<'a, J: Naming, S: EntryStore, R> Model for RingAsker<'a, J, S, R> {
+    ghost use Rattle.std.specs.Prelude.{◌≤◌, length};
+    ghost use Rattle.chord_app_serve.specs.Asked.{AskerSight};
+
+    ghost Value = { AskerSight };
+
+    ghost view = { λ a. record { before = a.before; via = a.via; caller = a.caller } };
+
+    ghost invariant = { λ a. a.before ≤ length a.caller.caller.submitted };
 }
 
 impl<'a, J: Naming, S: EntryStore, R: Wait + Clock> RingAsker<'a, J, S, R> {
     /// Asks at the node `via`. The session begins with no request.
     pub fn new(rt: &'a R, idle: IdleCaller<'a, J, S>, via: u64) -> RingAsker<'a, J, S, R>
-        ensures caller { result.caller ≡ idle.entry.caller }
+        ensures first { result ≡ first_asker idle.entry.caller via }
         ensures fresh { asked_since result.before result.caller ≡ [] }
     {
         let caller = idle.into_caller();
@@ -102,7 +113,7 @@ fn answer_of_retry(retried: Result<Reply, RetryFault>) -> Asked
 }
 
 impl<'a, J: Naming, S: EntryStore, R: Wait + Clock> Asker for RingAsker<'a, J, S, R> {
-    ghost answers = { λ a question answer b. IsHeard question answer (asked_since a.before a.caller) (asked_since b.before b.caller) × (b.before ≡ a.before) × (b.via ≡ a.via) × AnsweredBy a.before question a.caller answer b.caller };
+    ghost answers = { AnswersBy };
 
     ghost asked = { λ a. asked_since a.before a.caller };
 

@@ -1,5 +1,14 @@
 //! A running ring, shared by the connections of a server.
-ghost use Rattle.std.specs.Prelude.{◌≡◌, ◌%◌};
+ghost use Rattle.std.specs.Prelude.{◌≡◌, ◌*◌, ◌%◌, ◌++◌, ℕ, List, None};
+ghost use Rattle.std.specs.Io.KnownBytes.{Appends, Consumes};
+ghost use Rattle.chord_app_serve.specs.Answered.{AnswersBy};
+ghost use Rattle.chord_app_serve.specs.Asked.{AskerSight, first_asker};
+ghost use Rattle.chord_app_sockets.specs.Until.{read_size, turns_of};
+ghost use Rattle.chord_resp_serve.specs.Connections.{IsAnswered, first_numbers};
+ghost use Rattle.chord_serve.specs.BytesRead.{ReadsBetween, most_bytes};
+ghost use Rattle.chord_serve.specs.Ends.{EndsInput};
+ghost use Rattle.chord_serve.specs.Served.{IsServed};
+ghost use Rattle.chord_session.specs.Session.{first_state};
 
 use crate::nodes::Workers;
 use crate::serving::asker::RingAsker;
@@ -84,7 +93,14 @@ impl<'r, J: Naming, S: EntryStore, R: Wait + Clock, L: Log> Service<'r, J, S, R,
         reader: &mut I,
         writer: &mut O,
         until: Until<'_>,
-    ) -> (Served, RingClient<'r, J, S>) {
+    ) -> (Served, RingClient<'r, J, S>)
+        ensures end { EndsInput result.0 (I.remaining reader.new) }
+        ensures bytes { ReadsBetween 0 (most_bytes (read_size until.entry) * turns_of until.entry) (I.remaining reader.old) (I.remaining reader.new) }
+        // Each request is asked of this caller, in order, and answered by what it was told.
+        ensures served { (input : List ℕ) × (output : List ℕ) × (last : AskerSight) × Consumes (I.remaining reader.old) (I.remaining reader.new) input
+            × IsServed AnswersBy result.0 None first_state (first_asker idle.entry.caller via) (frames ++ input) output last
+            × Appends (O.contents writer.old) (O.contents writer.new) output × (result.1 ≡ last.caller) }
+    {
         let asker = RingAsker::new(self.rt, idle, via);
         let (served, asker) = serve_plain(
             self.alloc,
@@ -108,7 +124,15 @@ impl<'r, J: Naming, S: EntryStore, R: Wait + Clock, L: Log> Service<'r, J, S, R,
         reader: &mut I,
         writer: &mut O,
         until: Until<'_>,
-    ) -> (Served, RingClient<'r, J, S>) {
+    ) -> (Served, RingClient<'r, J, S>)
+        ensures end { EndsInput result.0 (I.remaining reader.new) }
+        ensures bytes { ReadsBetween 0 (most_bytes (read_size until.entry) * turns_of until.entry) (I.remaining reader.old) (I.remaining reader.new) }
+        // Each request of a command is asked of this caller, in order, and answered by what it was
+        // told.
+        ensures answered { (input : List ℕ) × (output : List ℕ) × (last : AskerSight) × Consumes (I.remaining reader.old) (I.remaining reader.new) input
+            × IsAnswered AnswersBy (N.tells server.entry.source.now) server.entry.number result.0 first_numbers (first_asker idle.entry.caller via) input output last
+            × Appends (O.contents writer.old) (O.contents writer.new) output × (result.1 ≡ last.caller) }
+    {
         let asker = RingAsker::new(self.rt, idle, via);
         let (size, turns) = (until.read_size(), until.turns());
         let (served, asker) = serve_commands(

@@ -1,12 +1,21 @@
-use Rattle.std.proofs.Common.{arith}
+use Rattle.std.proofs.Common.{ℕ, ap, ◌∙◌, arith}
 use Rattle.chord_app_serve.proofs.Idle.{idle_begins, idle_floor}
+use Rattle.chord_app_serve.specs.Asked.{AskerSight, first_asker}
+use Rattle.chord_table.specs.Views.{CallerSight}
 use Rattle.chord_app_serve.proofs.serving.asker.RingAsker.new.Goals as goal
 
 pub invariant_of-result : goal.invariant_of-result
 invariant_of-result g c =
     let all = idle_floor c.into_caller-caller.result.caller c.into_caller-caller.ensures.idle in
     let floor = c.floor-before.ensures in
-    record { begun = omega (arith, all, floor) }
+    omega (arith, all, floor)
+
+pub returns-clause-first : goal.returns-clause-first
+returns-clause-first g c =
+    let sight = c.into_caller-caller.result in
+    let all = idle_floor sight.caller c.into_caller-caller.ensures.idle in
+    ap (λ (before : ℕ). (let asker : AskerSight = record { before = before; via = c.args.via; caller = sight } in asker)) (c.floor-before.ensures ∙ all)
+    ∙ ap (λ (by : CallerSight). first_asker by c.args.via) c.into_caller-caller.ensures.same
 
 pub returns-clause-fresh : goal.returns-clause-fresh
 returns-clause-fresh g c = idle_begins c.floor-before.result c.into_caller-caller.result c.into_caller-caller.ensures.idle c.floor-before.ensures
